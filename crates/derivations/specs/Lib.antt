@@ -1,0 +1,3 @@
+pub mod Derivation
+pub mod Access
+pub mod Lockout

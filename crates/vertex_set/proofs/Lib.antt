@@ -1,3 +1,4 @@
 pub mod Cases
+pub mod Decisions
 pub mod Digits
 pub mod Sets

@@ -14,7 +14,7 @@ use Rattle.vertex_set.proofs.Cases.{byTest, less-or, same-or, false-true}
 use Rattle.sheet_format.specs.Text.{isEmpty, all}
 use Rattle.sheet_format.specs.Rows.{Each}
 use Rattle.sheet_format.specs.Fields.{isDigit, isNumber, valueBehind, numberOf, isNumberTo, digitsIn, decimal}
-use Rattle.sheet_format.proofs.Tests.{and-parts, and-both, or-parts, or-right, empty-decided}
+use Rattle.sheet_format.proofs.Tests.{and-parts, and-both, or-parts, or-right, empty-decided, all-append}
 
 -- ---- the digits of a number
 
@@ -54,11 +54,6 @@ value-digits (suc k) n h =
 digit-yes : (n : ℕ) → n < 10 → isDigit (48 + n) ≡ true
 unfolding isDigit
 digit-yes n h = and-both (leb 48 (48 + n)) (leb (48 + n) 57) (le-leb 48 (48 + n) (omega arith)) (le-leb (48 + n) 57 (omega arith))
-
-pub all-append : (test : ℕ → Bool) (s t : List ℕ) → all test s ≡ true → all test t ≡ true → all test (s ++ t) ≡ true
-unfolding all
-all-append test [] t p q = q
-all-append test (b ∷ s) t p q = let h = and-parts (test b) (all test s) p in and-both (test b) (all test (s ++ t)) (h .0) (all-append test s t (h .1) q)
 
 digits-digits : (k n : ℕ) → all isDigit (digitsIn k n) ≡ true
 unfolding all digitsIn

@@ -1,7 +1,7 @@
 -- What the tests on texts and rows decide.
 -- Assumes nothing.
 use mathlib.Core.Path.{_≡_, refl, sym, ap₂, _∙_, subst}
-use mathlib.Core.List.{List, [], _∷_, nil≢cons, cons≢nil, head-eq-of-cons-eq, tail-eq-of-cons-eq}
+use mathlib.Core.List.{List, [], _∷_, _++_, nil≢cons, cons≢nil, head-eq-of-cons-eq, tail-eq-of-cons-eq}
 use mathlib.Core.Bool.{Bool, true, false, not, _&&_, _||_}
 use mathlib.Core.Logic.{_⊎_, inl, inr, ⊎-elim}
 use Prim.Native.Nat.{ℕ}
@@ -83,6 +83,11 @@ pub all-decided : (test : ℕ → Bool) (s : List ℕ) → Decides (Each (λ b. 
 unfolding all
 all-decided test [] = decide-yes tt
 all-decided test (b ∷ s) = decide-and (test b) (all test s) (record { yes = λ e. e; no = λ e h. false-true (sym e ∙ h) }) (all-decided test s)
+
+pub all-append : (test : ℕ → Bool) (s t : List ℕ) → all test s ≡ true → all test t ≡ true → all test (s ++ t) ≡ true
+unfolding all
+all-append test [] t p q = q
+all-append test (b ∷ s) t p q = let h = and-parts (test b) (all test s) p in and-both (test b) (all test (s ++ t)) (h .0) (all-append test s t (h .1) q)
 
 -- ---- rows
 

@@ -64,6 +64,10 @@ digits-digits (suc k) n =
     (λ l. all-append isDigit (digitsIn k (n / 10)) ((48 + n % 10) ∷ []) (digits-digits k (n / 10))
     (and-both (isDigit (48 + n % 10)) true (digit-yes (n % 10) (omega arith)) refl))
 
+pub decimal-digits : (n : ℕ) → all isDigit (decimal n) ≡ true
+unfolding decimal
+decimal-digits n = digits-digits 20 n
+
 -- A text that begins with another byte than `0`.
 Leads : List ℕ → Type 0
 Leads f = (b : ℕ) × (s : List ℕ) × (f ≡ b ∷ s) × (b ≡ 48 → ⊥)
@@ -94,7 +98,7 @@ value-decimal n h = value-digits 20 n h
 
 -- ---- what is read writes back
 
-digit-range : (b : ℕ) → isDigit b ≡ true → (48 ≤ b) × (b ≤ 57)
+pub digit-range : (b : ℕ) → isDigit b ≡ true → (48 ≤ b) × (b ≤ 57)
 unfolding isDigit
 digit-range b e = let h = and-parts (leb 48 b) (leb b 57) e in (leb-true 48 b (h .0), leb-true b 57 (h .1))
 

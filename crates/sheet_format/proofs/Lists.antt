@@ -24,6 +24,10 @@ pub each-map : {A : Type 0} (P Q : A → Type 0) → ((x : A) → P x → Q x) �
 each-map P Q f [] h = tt
 each-map P Q f (x ∷ xs) h = (f x (h .0), each-map P Q f xs (h .1))
 
+pub each-image : {A B : Type 0} (P : B → Type 0) (f : A → B) (xs : List A) → Each (λ x. P (f x)) xs → Each P (map f xs)
+each-image P f [] h = tt
+each-image P f (x ∷ xs) h = (h .0, each-image P f xs (h .1))
+
 module _ {A : Type 0} (R : A → A → Type 0) where
   -- What stands in front of y is apart from it.
   pub apart-at : (xs : List A) (y : A) (ys : List A) → Apart R (xs ++ (y ∷ ys)) → Each (λ x. R x y → ⊥) xs

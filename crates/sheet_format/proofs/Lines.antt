@@ -4,7 +4,9 @@ use mathlib.Core.Path.{_≡_, refl, sym, ap, ap₂, _∙_, subst}
 use mathlib.Core.List.{List, [], _∷_, _++_, append-assoc}
 use mathlib.Core.Bool.{Bool, true, false, cond, _&&_, _||_}
 use mathlib.Core.Logic.{_⊎_, inl, inr, ⊎-elim}
-use Prim.Native.Nat.{ℕ}
+use Prim.Native.Nat.{ℕ, _<_}
+use native.Mathlib.Omega.{arith}
+use lib.ListN.{length}
 use lib.Dec.{eqb}
 use borrow.Author.Tests.{eqb-true}
 use Rattle.vertex_set.proofs.Cases.{byTest, false-true}
@@ -58,7 +60,7 @@ joined-lines (b ∷ s) e =
     (λ h. joined-more b s (λ n. h) (joined-lines s h))
     (or-parts (isEmpty s && eqb b 10) (endsInLF s) e)
 
-pub ends-append : (s t : List ℕ) → endsInLF t ≡ true → endsInLF (s ++ t) ≡ true
+ends-append : (s t : List ℕ) → endsInLF t ≡ true → endsInLF (s ++ t) ≡ true
 unfolding endsInLF
 ends-append [] t e = e
 ends-append (b ∷ s) t e = or-right (isEmpty (s ++ t) && eqb b 10) (endsInLF (s ++ t)) (ends-append s t e)
@@ -69,8 +71,9 @@ behind-lf [] = refl
 behind-lf (l ∷ ls) = ends-append (10 ∷ l) (10 ∷ joined ls) (behind-lf ls)
 
 -- Lines put together, of which there is one, end in LF.
-pub joined-ends : (l : List ℕ) (ls : List (List ℕ)) → endsInLF (joined (l ∷ ls)) ≡ true
-joined-ends l ls = ends-append l (10 ∷ joined ls) (behind-lf ls)
+joined-ends : (ls : List (List ℕ)) → 0 < length ls → endsInLF (joined ls) ≡ true
+joined-ends [] h = absurd (omega arith)
+joined-ends (l ∷ ls) h = ends-append l (10 ∷ joined ls) (behind-lf ls)
 
 joined-bytes : (ls : List (List ℕ)) → Each (λ l. all isTextByte l ≡ true) ls → all isTextByte (joined ls) ≡ true
 unfolding all isTextByte
@@ -78,9 +81,9 @@ joined-bytes [] h = refl
 joined-bytes (l ∷ ls) h = all-append isTextByte l (10 ∷ joined ls) (h .0) (joined-bytes ls (h .1))
 
 -- Lines of bytes 32 to 126, of which there is one, are the lines of a text.
-pub joined-text : (l : List ℕ) (ls : List (List ℕ)) → Each (λ l. all isTextByte l ≡ true) (l ∷ ls) → question2 (joined (l ∷ ls)) ≡ true
+pub joined-text : (ls : List (List ℕ)) → 0 < length ls → Each (λ l. all isTextByte l ≡ true) ls → question2 (joined ls) ≡ true
 unfolding question2
-joined-text l ls h = and-both (all isTextByte (joined (l ∷ ls))) (endsInLF (joined (l ∷ ls))) (joined-bytes (l ∷ ls) h) (joined-ends l ls)
+joined-text ls n h = and-both (all isTextByte (joined ls)) (endsInLF (joined ls)) (joined-bytes ls h) (joined-ends ls n)
 
 pub joined-append : (ls ms : List (List ℕ)) → joined (ls ++ ms) ≡ joined ls ++ joined ms
 joined-append [] ms = refl

@@ -2,24 +2,23 @@
 -- Assumes nothing.
 use mathlib.Core.Path.{_≡_, refl, sym, ap, ap₂, _∙_, subst}
 use mathlib.Core.List.{List, [], _∷_, _++_, map, append-assoc, append-nil}
-use mathlib.Core.Bool.{Bool, true, false, cond, not, _&&_}
-use mathlib.Core.Logic.{_⊎_, inl, inr, ⊎-elim}
-use Prim.Native.Nat.{ℕ, zero, suc, _+_, _≤_, _<_}
+use mathlib.Core.Bool.{true, false, not}
+use mathlib.Core.Logic.{⊎-elim}
+use Prim.Native.Nat.{ℕ, suc, _+_, _≤_}
 use native.Mathlib.Omega.{arith}
 use lib.ListN.{length, length-append}
 use lib.Seq.{append-snoc}
-use lib.Dec.{eqb, leb}
-use borrow.Author.Tests.{le-leb, leb-true, not-true}
-use Rattle.vertex_set.proofs.Cases.{byTest, false-true}
+use lib.Dec.{eqb}
+use borrow.Author.Tests.{le-leb, not-true}
 use Rattle.setup.specs.Setup.{given, total}
 use Rattle.sheet_format.specs.Text.{isEmpty, all, fieldsOf}
 use Rattle.sheet_format.specs.Fields.{isName}
 use Rattle.sheet_format.specs.Rows.{ItemRow, EdgeRow, Doc, Each, Apart, Known, SameName, SameEdge, ValidItem, ValidEdge, startCount, lossCount, firstHeader, secondHeader, itemFields, edgeFields, itemLines, edgeLines, render, Valid}
-use Rattle.sheet_format.specs.Questions.{isTextByte, question3, question4, question5Item, question5Edge, question6, question7Item, question7Edge, question8, question9, question10, isKnown, isRepeated, itemOf, edgeOf}
-use Rattle.sheet_format.specs.Read.{Phase, AtFirstHeader, AmongItems, AtSecondHeader, AmongEdges, Place, ask, noRows, withItem, withRow, itemQuestions, edgeQuestions, questionsOf, behind}
-use Rattle.sheet_format.specs.Meaning.{start, askedAt, next, OnlyYeses, Passed}
-use Rattle.sheet_format.proofs.Lists.{each-append, each-left, each-right, each-map, each-image, apart-at, apart-more, total-append}
-use Rattle.sheet_format.proofs.Tests.{and-parts, and-both, yes-of, text-decided, same-refl, all-decided, known-decided, fresh-decided, single-decided}
+use Rattle.sheet_format.specs.Questions.{isTextByte, question3, question6, question7Item, question7Edge, question8, question9, question10, isKnown, isRepeated}
+use Rattle.sheet_format.specs.Read.{Phase, AmongItems, AmongEdges, Place, withItem, withRow, itemQuestions, edgeQuestions, questionsOf, behind}
+use Rattle.sheet_format.specs.Meaning.{start, askedAt, OnlyYeses, Passed}
+use Rattle.sheet_format.proofs.Lists.{each-append, each-right, each-map, each-image, apart-at, total-append}
+use Rattle.sheet_format.proofs.Tests.{and-both, yes-of, same-refl, all-decided, known-decided, fresh-decided, single-decided}
 use Rattle.sheet_format.proofs.Lines.{Without, joined, joined-append, spaced, line-text}
 use Rattle.sheet_format.proofs.Fields.{Plain}
 use Rattle.sheet_format.proofs.Rows.{plain-line, plain-bytes, plain-fields, plain-some, plain-yes4, itemLine, item-plain, item-written, item-yes5, edgeLine, NamedEdge, edge-plain, edge-written, edge-yes5}

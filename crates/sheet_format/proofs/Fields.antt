@@ -1,10 +1,10 @@
 -- The fields of a row: what is written reads back, and what is read writes back.
 -- Assumes nothing.
 use mathlib.Core.Path.{_≡_, refl, sym, ap, _∙_, subst}
-use mathlib.Core.List.{List, [], _∷_, _++_}
-use mathlib.Core.Bool.{Bool, true, false, cond, not, _&&_, _||_}
-use mathlib.Core.Logic.{_⊎_, inl, inr, ⊎-elim}
-use Prim.Native.Nat.{ℕ, zero, suc, _+_, _^_, _≤_, _<_}
+use mathlib.Core.List.{List, [], _∷_}
+use mathlib.Core.Bool.{Bool, true, false, _&&_, _||_}
+use mathlib.Core.Logic.{⊎-elim}
+use Prim.Native.Nat.{ℕ, _^_, _≤_, _<_}
 use native.Mathlib.Omega.{arith}
 use lib.ListN.{length}
 use lib.Dec.{eqb, leb}
@@ -20,8 +20,8 @@ use Rattle.sheet_format.specs.Fields.{isDigit, isNameByte, isName, isNum
 use Rattle.sheet_format.specs.Rows.{Each}
 use Rattle.sheet_format.specs.Questions.{isTextByte}
 use Rattle.sheet_format.proofs.Lists.{each-map}
-use Rattle.sheet_format.proofs.Tests.{and-parts, and-both, or-parts, or-left, or-right, yes-of, no-of, text-decided, same-refl, all-decided}
-use Rattle.sheet_format.proofs.Numbers.{digit-range, decimal-digits, number-decimal, value-decimal, number-to, NumberTo, to-number}
+use Rattle.sheet_format.proofs.Tests.{and-parts, and-both, or-parts, or-left, or-right, no-of, text-decided, same-refl, all-decided}
+use Rattle.sheet_format.proofs.Numbers.{digit-range, decimal-digits, number-decimal, value-decimal, number-to, to-number}
 use Rattle.sheet_format.proofs.Lines.{Without}
 
 -- ---- bytes that may stand in a field

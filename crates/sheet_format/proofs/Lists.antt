@@ -12,10 +12,6 @@ module _ {A : Type 0} (P : A → Type 0) where
   each-append [] ys p q = q
   each-append (x ∷ xs) ys p q = (p .0, each-append xs ys (p .1) q)
 
-  pub each-left : (xs ys : List A) → Each P (xs ++ ys) → Each P xs
-  each-left [] ys h = tt
-  each-left (x ∷ xs) ys h = (h .0, each-left xs ys (h .1))
-
   pub each-right : (xs ys : List A) → Each P (xs ++ ys) → Each P ys
   each-right [] ys h = h
   each-right (x ∷ xs) ys h = each-right xs ys (h .1)

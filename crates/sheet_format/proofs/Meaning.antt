@@ -1,21 +1,20 @@
 -- The theorems of specs/Meaning: what is accepted is the written form of valid rows, and what a refusal says.
 -- Assumes nothing.
 use mathlib.Core.Path.{_≡_, refl, sym, ap, _∙_, subst}
-use mathlib.Core.List.{List, []}
-use mathlib.Core.Bool.{true, _&&_}
+use mathlib.Core.List.{List}
+use mathlib.Core.Bool.{true}
 use mathlib.Core.Logic.{_⊎_, inl, inr}
 use Prim.Native.Nat.{ℕ, _≤_}
 use native.Mathlib.Omega.{arith}
 use lib.ListN.{length}
 use borrow.Author.Tests.{le-leb, leb-true}
-use Rattle.vertex_set.specs.Set.{Iff}
 use Rattle.setup.specs.declared.Setup.{Setup}
 use Rattle.sheet_format.specs.declared.Reading.{Reading}
 use Rattle.sheet_format.specs.Text.{linesOf, all}
-use Rattle.sheet_format.specs.Rows.{Doc, Valid, render, setupOf}
+use Rattle.sheet_format.specs.Rows.{Doc, Valid, render, verticesOf, withEdges, recoveryRows, setupOf}
 use Rattle.sheet_format.specs.Questions.{question1, isTextByte, endsInLF, question2}
-use Rattle.sheet_format.specs.Read.{AmongEdges, Place, noRows, accepted, refused, question11, readSheet}
-use Rattle.sheet_format.specs.Meaning.{AcceptedOfValid, ValidOfAccepted, Refusal, RefusalLaw, RefusalUnique, Accepted, Refused, AcceptedOrRefused}
+use Rattle.sheet_format.specs.Read.{AmongEdges, Place, noRows, refused, question11, readSheet}
+use Rattle.sheet_format.specs.Meaning.{AcceptedOfValid, ValidOfAccepted, Refusal, RefusalLaw, RefusalUnique, EmptySetup, Accepted, Refused, AcceptedOrRefused}
 use Rattle.sheet_format.proofs.Lists.{each-map}
 use Rattle.sheet_format.proofs.Tests.{and-parts}
 use Rattle.sheet_format.proofs.Lines.{Without, joined, lines-joined, joined-lines, joined-text}
@@ -110,6 +109,11 @@ refusal-law s q k = record { to = λ a. by a (ending s); from = read-refused s q
 -- Number and line are determined.
 pub refusal-unique : RefusalUnique
 refusal-unique s q k q′ k′ a b = number-same q k q′ k′ (readSheet s) (read-refused s q k a) (read-refused s q′ k′ b)
+
+-- The setup of a refused sheet.
+pub empty-setup : EmptySetup
+unfolding setupOf verticesOf withEdges recoveryRows
+empty-setup = refl
 
 -- Every text is accepted or refused, and none is both.
 pub accepted-or-refused : AcceptedOrRefused

@@ -1,18 +1,17 @@
 -- Numbers as they are written and read: each undoes the other.
 -- Assumes nothing.
 use mathlib.Core.Path.{_≡_, refl, sym, ap, ap₂, _∙_, subst}
-use mathlib.Core.List.{List, [], _∷_, _++_, append-nil, append-assoc}
-use mathlib.Core.Bool.{Bool, true, false, cond, not, _&&_, _||_}
-use mathlib.Core.Logic.{_⊎_, inl, inr, ⊎-elim}
+use mathlib.Core.List.{List, [], _∷_, _++_, append-nil, append-assoc, nil≢cons, head-eq-of-cons-eq}
+use mathlib.Core.Bool.{true, not, _&&_, _||_}
+use mathlib.Core.Logic.{⊎-elim}
 use Prim.Native.Nat.{ℕ, zero, suc, _+_, _-_, _*_, _/_, _%_, _^_, _≤_, _<_}
 use native.Mathlib.Nat.{pow-suc, pow-succ', pow-le-pow-right, mul-assoc, mul-le-mul-right, add-zero, zero-add, add-suc, suc-add}
 use native.Mathlib.Omega.{arith}
 use lib.ListN.{length}
-use lib.Dec.{eqb, leb, ltb}
-use borrow.Author.Tests.{ltb-true, ltb-false, lt-ltb, le-ltb, leb-true, le-leb, eqb-true, eqb-false, ne-eqb, not-true}
-use Rattle.vertex_set.proofs.Cases.{byTest, less-or, same-or, false-true}
+use lib.Dec.{eqb, leb}
+use borrow.Author.Tests.{lt-ltb, le-ltb, leb-true, le-leb, eqb-false, ne-eqb, not-true}
+use Rattle.vertex_set.proofs.Cases.{less-or, false-true}
 use Rattle.sheet_format.specs.Text.{isEmpty, all}
-use Rattle.sheet_format.specs.Rows.{Each}
 use Rattle.sheet_format.specs.Fields.{isDigit, isNumber, valueBehind, numberOf, isNumberTo, digitsIn, decimal}
 use Rattle.sheet_format.proofs.Tests.{and-parts, and-both, or-parts, or-right, empty-decided, all-append}
 
@@ -82,10 +81,10 @@ digits-lead (suc k) n p h =
 
 number-lead : (f : List ℕ) → all isDigit f ≡ true → Leads f → isNumber f ≡ true
 unfolding Leads isNumber
-number-lead [] d t = absurd (mathlib.Core.List.nil≢cons (t .2))
+number-lead [] d t = absurd (nil≢cons (t .2))
 number-lead (b ∷ s) d t =
     and-both (all isDigit (b ∷ s)) (isEmpty s || not (eqb b 48)) d
-    (or-right (isEmpty s) (not (eqb b 48)) (ap not (ne-eqb b 48 (λ e. t .3 (sym (mathlib.Core.List.head-eq-of-cons-eq (t .2)) ∙ e)))))
+    (or-right (isEmpty s) (not (eqb b 48)) (ap not (ne-eqb b 48 (λ e. t .3 (sym (head-eq-of-cons-eq (t .2)) ∙ e)))))
 
 pub number-decimal : (n : ℕ) → n < 10 ^ 20 → isNumber (decimal n) ≡ true
 unfolding decimal digitsIn isNumber all isDigit isEmpty

@@ -2,23 +2,22 @@
 -- Assumes nothing.
 use mathlib.Core.Path.{_≡_, refl, sym, ap, ap₂, _∙_, subst}
 use mathlib.Core.List.{List, [], _∷_, _++_, map, map-append, append-assoc, append-nil}
-use mathlib.Core.Bool.{Bool, true, false, cond, not, _&&_}
-use mathlib.Core.Logic.{_⊎_, inl, inr, ⊎-elim}
-use Prim.Native.Nat.{ℕ, zero, suc, _+_, _≤_, _<_}
+use mathlib.Core.Bool.{true, _&&_}
+use Prim.Native.Nat.{ℕ, suc, _+_, _≤_}
 use native.Mathlib.Omega.{arith}
 use lib.ListN.{length, length-append}
-use lib.Dec.{eqb, leb}
+use lib.Dec.{leb}
 use borrow.Author.Tests.{leb-true}
-use Rattle.vertex_set.proofs.Cases.{byTest, false-true}
+use Rattle.vertex_set.proofs.Cases.{false-true}
 use Rattle.setup.specs.Setup.{given, total}
 use Rattle.sheet_format.specs.Text.{isEmpty, fieldsOf}
-use Rattle.sheet_format.specs.Rows.{ItemRow, EdgeRow, Doc, Each, SameName, SameEdge, ValidItem, ValidEdge, startCount, lossCount, firstHeader, secondHeader}
-use Rattle.sheet_format.specs.Questions.{question3, question6, question7Item, question7Edge, question8, question9, question10, isKnown, isRepeated, itemOf, edgeOf}
-use Rattle.sheet_format.specs.Read.{Phase, AtFirstHeader, AmongItems, AtSecondHeader, AmongEdges, Place, noRows, withItem, withRow, itemQuestions, edgeQuestions, questionsOf, behind, question11}
-use Rattle.sheet_format.specs.Meaning.{start, askedAt, next, OnlyYeses, Passed}
+use Rattle.sheet_format.specs.Rows.{ItemRow, EdgeRow, Doc, SameName, SameEdge, ValidItem, ValidEdge, startCount, lossCount, firstHeader, secondHeader}
+use Rattle.sheet_format.specs.Questions.{question3, question6, question7Item, question7Edge, question8, question9, question10, isKnown, itemOf, edgeOf}
+use Rattle.sheet_format.specs.Read.{Phase, AtFirstHeader, AmongItems, AtSecondHeader, AmongEdges, Place, noRows, itemQuestions, edgeQuestions, questionsOf, behind, question11}
+use Rattle.sheet_format.specs.Meaning.{start, next, OnlyYeses, Passed}
 use Rattle.sheet_format.proofs.Lists.{each-append, apart-more, total-append}
 use Rattle.sheet_format.proofs.Tests.{and-parts, text-decided, known-decided, fresh-decided, single-decided}
-use Rattle.sheet_format.proofs.Rows.{itemLine, ItemRead, item-read, item-line, edgeLine, NamedEdge, EdgeRead, edge-read, edge-line}
+use Rattle.sheet_format.proofs.Rows.{itemLine, item-read, item-line, edgeLine, NamedEdge, edge-read, edge-line}
 use Rattle.sheet_format.proofs.Documents.{docLines, ItemsHold, EdgesHold}
 
 -- ---- one row more

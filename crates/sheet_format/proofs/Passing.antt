@@ -2,17 +2,17 @@
 -- Assumes nothing.
 use mathlib.Core.Path.{_≡_, refl, sym, ap, _∙_, subst}
 use mathlib.Core.List.{List, [], _∷_, _++_}
-use mathlib.Core.Bool.{Bool, true, false, cond}
+use mathlib.Core.Bool.{true, false}
 use mathlib.Core.Logic.{_⊎_, inl, inr, ⊎-elim}
-use Prim.Native.Nat.{ℕ, zero, suc, _+_, _≤_, _<_}
+use Prim.Native.Nat.{ℕ, zero, suc, _+_, _≤_}
 use native.Mathlib.Nat.{add-zero, add-suc, suc-add}
 use native.Mathlib.Omega.{arith}
 use lib.ListN.{length}
-use Rattle.vertex_set.proofs.Cases.{byTest, false-true}
+use Rattle.vertex_set.proofs.Cases.{byTest}
 use Rattle.sheet_format.specs.declared.Reading.{Reading}
-use Rattle.sheet_format.specs.Text.{isEmpty, fieldsOf}
+use Rattle.sheet_format.specs.Text.{isEmpty}
 use Rattle.sheet_format.specs.Rows.{Doc, Each}
-use Rattle.sheet_format.specs.Read.{Phase, AtFirstHeader, AmongItems, AtSecondHeader, AmongEdges, Place, Asked, ask, itemQuestions, edgeQuestions, questionsOf, behind, firstNo, unless, readLines, refused}
+use Rattle.sheet_format.specs.Read.{Phase, AtFirstHeader, AmongItems, AtSecondHeader, AmongEdges, Place, Asked, ask, itemQuestions, edgeQuestions, questionsOf, firstNo, unless, readLines, refused}
 use Rattle.sheet_format.specs.Meaning.{askedAt, next, OnlyYeses, Passed, FirstNo}
 use Rattle.sheet_format.proofs.Lists.{each-right}
 

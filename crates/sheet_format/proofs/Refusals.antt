@@ -1,22 +1,20 @@
 -- How a reading ends: every line is passed and the second header came, or there is a refusal as the paper means it.
 -- Assumes nothing.
-use mathlib.Core.Path.{_≡_, refl, sym, ap, _∙_, subst}
-use mathlib.Core.List.{List, [], _∷_, _++_, append-nil}
-use mathlib.Core.Bool.{Bool, true, false, cond}
-use mathlib.Core.Logic.{_⊎_, inl, inr, ⊎-elim}
-use Prim.Native.Nat.{ℕ, suc, _+_, _≤_, _<_}
+use mathlib.Core.Path.{_≡_, refl, sym, ap, _∙_}
+use mathlib.Core.List.{List, [], _∷_, append-nil}
+use mathlib.Core.Bool.{Bool, true, cond}
+use mathlib.Core.Logic.{⊎-elim}
+use Prim.Native.Nat.{ℕ, suc, _+_, _≤_}
 use native.Mathlib.Omega.{arith}
 use lib.ListN.{length}
-use lib.Dec.{leb}
 use borrow.Author.Tests.{lt-leb, leb-false}
 use Rattle.vertex_set.proofs.Cases.{byTest}
-use Rattle.sheet_format.specs.declared.Reading.{Reading}
 use Rattle.sheet_format.specs.Text.{linesOf}
 use Rattle.sheet_format.specs.Rows.{setupOf}
 use Rattle.sheet_format.specs.Questions.{question1, question2}
 use Rattle.sheet_format.specs.Read.{AtFirstHeader, Place, noRows, accepted, refused, question11, readLines, readSheet}
 use Rattle.sheet_format.specs.Meaning.{start, askedAt, Passed, TooLong, NoText, NoAtLine, NoAtEnd, Refusal, too-long, no-text, at-line, at-end}
-use Rattle.sheet_format.proofs.Passing.{of-line, no-of-line, passed-read, stopped-read, Stopped, course}
+use Rattle.sheet_format.proofs.Passing.{of-line, no-of-line, passed-read, stopped-read, course}
 
 -- The questions 1 and 2 are yeses.
 read-lines : (s : List ℕ) → question1 s ≡ true → question2 s ≡ true → readSheet s ≡ readLines AtFirstHeader noRows 1 (linesOf s)

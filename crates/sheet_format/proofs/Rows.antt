@@ -1,25 +1,24 @@
 -- Rows as lines: a valid row's line has its fields, and the questions 4 and 5 of it are yeses; a line with those yeses is its row's line.
 -- Assumes nothing.
-use mathlib.Core.Path.{_≡_, refl, sym, ap, _∙_, subst}
+use mathlib.Core.Path.{_≡_, refl, sym, ap, _∙_}
 use mathlib.Core.List.{List, [], _∷_, _++_}
-use mathlib.Core.Bool.{Bool, true, false, cond, not, _&&_, _||_}
-use mathlib.Core.Logic.{_⊎_, inl, inr, ⊎-elim}
-use Prim.Native.Nat.{ℕ, zero, suc, _+_, _^_, _≤_, _<_}
+use mathlib.Core.Bool.{Bool, true, false, cond, not, _&&_}
+use Prim.Native.Nat.{ℕ, _≤_}
 use native.Mathlib.Omega.{arith}
-use lib.ListN.{length, getD, drop, drop-of-length-le}
+use lib.ListN.{length, drop-of-length-le}
 use lib.Seq.{drop-cons}
-use lib.Dec.{eqb, leb}
-use borrow.Author.Tests.{leb-true, le-leb, eqb-true, eqb-false, eq-eqb, ne-eqb}
+use lib.Dec.{eqb}
+use borrow.Author.Tests.{eqb-true, eqb-false, eq-eqb}
 use Rattle.vertex_set.proofs.Cases.{byTest, false-true}
 use Rattle.sheet_format.specs.Text.{isEmpty, all, fieldsOf}
-use Rattle.sheet_format.specs.Fields.{isName, isNumberTo, numberOf, decimal, kindText, isKind, kindOf, isValue, valueOf, valueText}
+use Rattle.sheet_format.specs.Fields.{isName, isNumberTo, numberOf, decimal, isKind, isValue}
 use Rattle.sheet_format.specs.Rows.{ItemRow, EdgeRow, Each, ValidItem, itemFields, edgeFields}
 use Rattle.sheet_format.specs.Questions.{isTextByte, field, noneEmpty, question4, question5Item, question5Edge, itemOf, edgeOf}
 use Rattle.sheet_format.proofs.Lists.{each-append, each-map}
 use Rattle.sheet_format.proofs.Tests.{and-parts, and-both, all-decided, yes-of}
-use Rattle.sheet_format.proofs.Numbers.{value-decimal, number-to, NumberTo, to-number}
+use Rattle.sheet_format.proofs.Numbers.{value-decimal, number-to, to-number}
 use Rattle.sheet_format.proofs.Lines.{Without, spaced, fields-spaced, spaced-fields}
-use Rattle.sheet_format.proofs.Fields.{Visible, Plain, visible-without, visible-text, name-plain, decimal-plain, kind-yes, kind-written, kind-read, kind-plain, value-yes, value-written, ValueRead, value-read, value-plain}
+use Rattle.sheet_format.proofs.Fields.{Plain, visible-without, visible-text, name-plain, decimal-plain, kind-yes, kind-written, kind-read, kind-plain, value-yes, value-written, value-read, value-plain}
 
 -- ---- fields that can be written, as a line
 

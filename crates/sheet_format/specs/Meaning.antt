@@ -2,14 +2,15 @@
 -- Statements only; proofs/Meaning.antt and proofs/Refusals.antt have the theorems.
 use mathlib.Core.Path.{_≡_}
 use mathlib.Core.List.{List, [], _∷_, _++_}
-use mathlib.Core.Bool.{Bool, true, false}
+use mathlib.Core.Bool.{true, false}
 use mathlib.Core.Logic.{_⊎_}
 use Prim.Native.Nat.{ℕ, suc, _≤_, _<_}
-use lib.ListN.{length}
+use lib.ListN.{length, replicate}
 use Rattle.vertex_set.specs.Set.{Iff}
 use Rattle.setup.specs.declared.Setup.{Setup}
+use Rattle.setup.specs.Setup.{unusedVertex}
 use Rattle.sheet_format.specs.Text.{linesOf}
-use Rattle.sheet_format.specs.Rows.{Doc, Each, Valid, render, setupOf}
+use Rattle.sheet_format.specs.Rows.{Doc, Each, Valid, render, emptyGraph, setupOf}
 use Rattle.sheet_format.specs.Questions.{question1, question2}
 use Rattle.sheet_format.specs.Read.{AtFirstHeader, Place, Asked, ask, noRows, questionsOf, behind, question11, accepted, refused, readSheet}
 
@@ -108,7 +109,11 @@ pub record Accepted (s : List ℕ) : Type 0 where
   pub setup : Setup
   pub reading : readSheet s ≡ accepted setup
 
--- s is refused, with a number from 1 to 11 and the setup of 0 items.
+-- A refused sheet gives a setup of 0 items with no place in use.
+abbrev pub EmptySetup : Type 0
+EmptySetup = setupOf noRows ≡ record { count = 0; vertices = replicate 64 unusedVertex; graph = emptyGraph; recovery = emptyGraph }
+
+-- s is refused, with a number from 1 to 11 and that setup.
 pub record Refused (s : List ℕ) : Type 0 where
   pub number : ℕ
   pub line : ℕ

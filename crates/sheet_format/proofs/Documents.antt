@@ -102,13 +102,19 @@ clean-second : Clean secondHeader
 unfolding all isTextByte secondHeader
 clean-second = record { without = no-lf secondHeader refl; bytes = refl }
 
+items-clean : (xs : List ItemRow) → Each ValidItem xs → Each Clean (map itemLine xs)
+items-clean xs h =
+    each-image Clean itemLine xs (each-map ValidItem (λ x. Clean (itemLine x)) (λ x v. plain-clean (itemFields x) (item-plain x v)) xs h)
+
+edges-clean : (xs : List ItemRow) (es : List EdgeRow) → Each ValidItem xs → Each (ValidEdge xs) es → Each Clean (map edgeLine es)
+edges-clean xs es i h =
+    each-image Clean edgeLine es
+    (each-map (ValidEdge xs) (λ e. Clean (edgeLine e)) (λ e v. plain-clean (edgeFields e) (edge-plain e (named-edge xs e i v))) es h)
+
 pub doc-clean : (d : Doc) → Valid d → Each Clean (docLines d)
 doc-clean d v =
-    (clean-first, each-append Clean (map itemLine (d .items)) ([] ∷ secondHeader ∷ map edgeLine (d .edges))
-    (each-image Clean itemLine (d .items) (each-map ValidItem (λ x. Clean (itemLine x)) (λ x h. plain-clean (itemFields x) (item-plain x h)) (d .items) (v .items)))
-    (clean-empty, (clean-second,
-    each-image Clean edgeLine (d .edges)
-    (each-map (ValidEdge (d .items)) (λ e. Clean (edgeLine e)) (λ e h. plain-clean (edgeFields e) (edge-plain e (named-edge (d .items) e (v .items) h))) (d .edges) (v .edges)))))
+    let edges = edges-clean (d .items) (d .edges) (v .items) (v .edges) in
+    (clean-first, each-append Clean (map itemLine (d .items)) _ (items-clean (d .items) (v .items)) (clean-empty, (clean-second, edges)))
 
 -- ---- valid item rows are passed
 
@@ -151,10 +157,11 @@ items-passed : (p xs : List ItemRow) (es : List EdgeRow) (rest : List (List ℕ)
 items-passed p [] es rest q h r = subst (λ (ys : List ItemRow). Passed (place AmongItems ys es) rest q) (append-nil p) r
 items-passed p (x ∷ xs) es rest q h r =
     let v = each-right ValidItem p (x ∷ xs) (h .items) .0 in
-    let e = sym (append-snoc p x xs) in
-    (item-yeses p es x xs h,
-    subst (λ (m : Place). Passed m (map itemLine xs ++ rest) q) (sym (next-item (record { items = p; edges = es }) x v))
-    (items-passed (p ++ (x ∷ [])) xs es rest q (subst ItemsHold e h) (subst (λ (ys : List ItemRow). Passed (place AmongItems ys es) rest q) e r)))
+    let e = sym (append-snoc p x xs) in (
+      item-yeses p es x xs h,
+      subst (λ (m : Place). Passed m (map itemLine xs ++ rest) q) (sym (next-item (record { items = p; edges = es }) x v))
+          (items-passed (p ++ (x ∷ [])) xs es rest q (subst ItemsHold e h) (subst (λ (ys : List ItemRow). Passed (place AmongItems ys es) rest q) e r)),
+    )
 
 -- ---- valid edge rows are passed
 
@@ -194,11 +201,12 @@ edges-passed : (xs : List ItemRow) (p es : List EdgeRow) → Each ValidItem xs �
 edges-passed xs p [] i h = ap (place AmongEdges xs) (sym (append-nil p))
 edges-passed xs p (e ∷ es) i h =
     let v = each-right (ValidEdge xs) p (e ∷ es) (h .edges) .0 in
-    let s = append-snoc p e es in
-    (edge-yeses xs p e es i h,
-    subst (λ (m : Place). Passed m (map edgeLine es) (place AmongEdges xs (p ++ (e ∷ es)))) (sym (next-edge (record { items = xs; edges = p }) e (named-edge xs e i v)))
-    (subst (λ (fs : List EdgeRow). Passed (place AmongEdges xs (p ++ (e ∷ []))) (map edgeLine es) (place AmongEdges xs fs)) s
-    (edges-passed xs (p ++ (e ∷ [])) es i (subst (EdgesHold xs) (sym s) h))))
+    let s = append-snoc p e es in (
+      edge-yeses xs p e es i h,
+      subst (λ (m : Place). Passed m (map edgeLine es) (place AmongEdges xs (p ++ (e ∷ es)))) (sym (next-edge (record { items = xs; edges = p }) e (named-edge xs e i v)))
+          (subst (λ (fs : List EdgeRow). Passed (place AmongEdges xs (p ++ (e ∷ []))) (map edgeLine es) (place AmongEdges xs fs)) s
+          (edges-passed xs (p ++ (e ∷ [])) es i (subst (EdgesHold xs) (sym s) h))),
+    )
 
 -- ---- the whole
 

@@ -51,11 +51,14 @@ edges-more d e h n q8 q9 q7 =
     let k = and-parts (isKnown (d .items) (e .from)) (isKnown (d .items) (e .to)) q8 in
     let m = leb-true (suc (length (d .edges))) 256 q7 in
     record {
-      edges = each-append (ValidEdge (d .items)) (d .edges) (e ∷ []) (h .edges) (record {
-        from = known-decided (d .items) (e .from) .yes (k .0);
-        to = known-decided (d .items) (e .to) .yes (k .1);
-        colour = n .colour;
-      }, tt);
+      edges = each-append (ValidEdge (d .items)) (d .edges) (e ∷ []) (h .edges) (
+        record {
+          from = known-decided (d .items) (e .from) .yes (k .0);
+          to = known-decided (d .items) (e .to) .yes (k .1);
+          colour = n .colour;
+        },
+        tt,
+      );
       rows = apart-more SameEdge (d .edges) e (h .rows) (single-decided (d .edges) e .yes q9);
       many = rw (length-append (d .edges) (e ∷ [])) (omega arith);
     }

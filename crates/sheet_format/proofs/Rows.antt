@@ -70,9 +70,10 @@ itemLine x = spaced (itemFields x)
 
 pub item-plain : (x : ItemRow) → ValidItem x → Each Plain (itemFields x)
 item-plain x v =
-    let r = v .rank in
-    (name-plain (x .name) (v .name),
-    (kind-plain (x .kind), (value-plain (x .start) (v .start), (value-plain (x .loss) (v .loss), (decimal-plain (x .rank) (omega arith), tt)))))
+    let r = v .rank in (
+      name-plain (x .name) (v .name),
+      (kind-plain (x .kind), (value-plain (x .start) (v .start), (value-plain (x .loss) (v .loss), (decimal-plain (x .rank) (omega arith), tt)))),
+    )
 
 pub item-written : (x : ItemRow) → ValidItem x → itemOf (itemFields x) ≡ x
 unfolding itemOf
@@ -140,9 +141,10 @@ mark-small false = omega arith
 pub edge-plain : (e : EdgeRow) → NamedEdge e → Each Plain (edgeFields e)
 edge-plain e v =
     let c = v .colour in
-    let m = mark-small (e .rec) in
-    (name-plain (e .from) (v .from),
-    (name-plain (e .to) (v .to), (decimal-plain (e .colour) (omega arith), (decimal-plain (cond (e .rec) 1 0) (omega arith), tt))))
+    let m = mark-small (e .rec) in (
+      name-plain (e .from) (v .from),
+      (name-plain (e .to) (v .to), (decimal-plain (e .colour) (omega arith), (decimal-plain (cond (e .rec) 1 0) (omega arith), tt))),
+    )
 
 mark-written : (r : Bool) → eqb (numberOf (decimal (cond r 1 0))) 1 ≡ r
 mark-written true = rw (value-decimal 1 (omega arith))

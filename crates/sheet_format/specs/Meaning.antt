@@ -1,5 +1,5 @@
 -- What reading a sheet means: which texts are accepted and what they yield, and what a refusal's number and line say.
--- Statements only; proofs/Meaning.antt and proofs/Refusals.antt have the theorems.
+-- Statements only; proofs/Meaning.antt has the theorems.
 use mathlib.Core.Path.{_≡_}
 use mathlib.Core.List.{List, [], _∷_, _++_}
 use mathlib.Core.Bool.{true, false}

@@ -1,0 +1,94 @@
+-- The numbers and the vertices of item rows.
+-- Assumes nothing.
+use mathlib.Core.Path.{_≡_, refl, sym, ap, subst, _∙_}
+use mathlib.Core.Bool.{Bool, true, false, cond, _&&_}
+use mathlib.Core.List.{List, [], _∷_, _++_, map}
+use mathlib.Core.Logic.{_⊎_, inl, inr, ⊎-elim}
+use Prim.Native.Nat.{ℕ, zero, suc, _+_, _-_, _≤_, _<_}
+use native.Mathlib.Omega.{arith}
+use lib.ListN.{length, getD, replicate, length-append, length-map, length-replicate, getD-replicate, List·getD-eq-default}
+use lib.Dec.{eqb}
+use borrow.Author.Tests.{eqb-true, eq-eqb}
+use Rattle.vertex_set.proofs.Cases.{byTest, less-or, false-true}
+use Rattle.setup.specs.declared.Value.{Value}
+use Rattle.setup.specs.declared.Vertex.{Vertex}
+use Rattle.setup.specs.Setup.{unusedVertex, total, given}
+use Rattle.setup.specs.WellFormed.{ValidVertex}
+use Rattle.sheet_format.specs.Text.{sameText}
+use Rattle.sheet_format.specs.Rows.{ItemRow, EdgeRow, Each, Known, ValidItem, numberIn, vertexOf, verticesOf}
+
+-- ---- names
+
+pub text-same : (a : List ℕ) → sameText a a ≡ true
+unfolding sameText
+text-same [] = refl
+text-same (x ∷ a) = rw (eq-eqb x x refl) (text-same a)
+
+pub same-text : (a b : List ℕ) → sameText a b ≡ true → a ≡ b
+unfolding sameText
+same-text [] [] e = refl
+same-text [] (y ∷ b) e = absurd (false-true e)
+same-text (x ∷ a) [] e = absurd (false-true e)
+same-text (x ∷ a) (y ∷ b) e =
+    byTest (eqb x y)
+    (λ t. let p = eqb-true x y t in let q = same-text a b (rw t at e) in cc)
+    (λ t. absurd (false-true (rw t at e)))
+
+-- the number of a name is that of an item
+pub known-number : (xs : List ItemRow) (n : List ℕ) → Known xs n → numberIn xs n < length xs
+unfolding numberIn
+known-number [] n k = absurd k
+known-number (x ∷ xs) n k =
+    byTest (sameText (x .name) n)
+    (λ t. rw t (omega arith))
+    (λ t. rw t (⊎-elim
+        (λ e. absurd (false-true (sym t ∙ rw (← e) (text-same (x .name)))))
+        (λ h. let l = known-number xs n h in omega arith)
+        k))
+
+-- ---- vertices
+
+pub vertices-length : (xs : List ItemRow) → length xs ≤ 64 → length (verticesOf xs) ≡ 64
+unfolding verticesOf
+vertices-length xs l =
+    rw (length-append (map vertexOf xs) (replicate (64 - length xs) unusedVertex), length-map xs vertexOf, length-replicate (64 - length xs) unusedVertex) (omega arith)
+
+unused-many : (n v : ℕ) → getD (replicate n unusedVertex) v unusedVertex ≡ unusedVertex
+unused-many n v =
+    ⊎-elim
+    (λ l. getD-replicate n v unusedVertex unusedVertex l)
+    (λ l. List·getD-eq-default (replicate n unusedVertex) unusedVertex (let k = length-replicate n unusedVertex in omega arith))
+    (less-or v n)
+
+-- a place behind the items is not in use
+behind : (xs : List ItemRow) (n v : ℕ) → length xs ≤ v → getD (map vertexOf xs ++ replicate n unusedVertex) v unusedVertex ≡ unusedVertex
+behind [] n v l = unused-many n v
+behind (x ∷ xs) n zero l = absurd (omega arith)
+behind (x ∷ xs) n (suc v) l = behind xs n v (omega arith)
+
+pub vertex-unused : (xs : List ItemRow) (v : ℕ) → length xs ≤ v → getD (verticesOf xs) v unusedVertex ≡ unusedVertex
+unfolding verticesOf
+vertex-unused xs v l = behind xs (64 - length xs) v l
+
+-- the place of an item has its vertex
+pub vertex-used : (P : Vertex → Type 0) (xs : List ItemRow) (v : ℕ) → v < length xs → Each (λ x. P (vertexOf x)) xs → P (getD (verticesOf xs) v unusedVertex)
+unfolding verticesOf
+vertex-used P xs v l h = inside xs v (64 - length xs) l h
+  where
+    inside : (xs : List ItemRow) (v n : ℕ) → v < length xs → Each (λ x. P (vertexOf x)) xs → P (getD (map vertexOf xs ++ replicate n unusedVertex) v unusedVertex)
+    inside [] v n l h = absurd (omega arith)
+    inside (x ∷ xs) zero n l h = h .0
+    inside (x ∷ xs) (suc v) n l h = inside xs v n (omega arith) (h .1)
+
+-- what a place not in use adds nothing to is added up over the items
+pub vertices-total : (h : Vertex → ℕ) (xs : List ItemRow) → h unusedVertex ≡ 0 → total h (verticesOf xs) ≡ total (λ x. h (vertexOf x)) xs
+unfolding verticesOf
+vertices-total h xs z = go xs (64 - length xs)
+  where
+    none : (n : ℕ) → total h (replicate n unusedVertex) ≡ 0
+    none zero = refl
+    none (suc n) = let e = none n in omega arith
+
+    go : (xs : List ItemRow) (n : ℕ) → total h (map vertexOf xs ++ replicate n unusedVertex) ≡ total (λ x. h (vertexOf x)) xs
+    go [] n = none n
+    go (x ∷ xs) n = let e = go xs n in omega arith

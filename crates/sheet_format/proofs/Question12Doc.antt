@@ -5,13 +5,13 @@ use mathlib.Core.Bool.{Bool, true, false, cond, _&&_, _||_}
 use mathlib.Core.List.{List, [], _∷_, _++_, map, List·Memᴰ·head, List·Memᴰ·tail, List·Memᴰ·not-nil, List·Memᴰ·cases-cons, List·Memᴰ·eq-of-singleton}
 use mathlib.Core.Logic.{_⊎_, inl, inr, ⊎-elim}
 use Prim.Native.Nat.{ℕ, zero, suc, _+_, _-_, _*_, _/_, _%_, _^_, _≤_, _<_}
-use native.Mathlib.Nat.{add-zero}
+use native.Mathlib.Nat.{add-zero, mod-eq-of-lt}
 use native.Mathlib.Omega.{arith}
 use lib.ListN.{length, getD, take, length-append}
 use lib.Seq.{take-all, ext-getD}
 use lib.Count.{ones}
 use lib.Dec.{eqb, leb}
-use borrow.Author.Tests.{le-leb, lt-leb, eqb-true}
+use borrow.Author.Tests.{le-leb, eqb-true, eqb-false}
 use Rattle.vertex_set.specs.Set.{Member, Iff, Decides}
 use Rattle.vertex_set.proofs.Cases.{byTest, less-or, false-true}
 use Rattle.vertex_set.proofs.Digits.{digit, digit-lt}
@@ -147,3 +147,77 @@ edges-in s f v c lf lv lc m =
     (in-collect (edgeIf s v c) 64 f (edgeAt s v c f) lf (byTest (eqb (digit (row (s .graph) v c) f) 1)
     (λ t. rw t (List·Memᴰ·head refl))
     (λ t. absurd (member-decided (row (s .graph) v c) f .no t m)))))
+
+-- no two of them are of one edge
+one-if : (s : Setup) (v c f : ℕ) → Apart SameEdge (edgeIf s v c f)
+unfolding edgeIf
+one-if s v c f = byTest (eqb (digit (row (s .graph) v c) f) 1) (λ t. rw t (tt, tt)) (λ t. rw t tt)
+
+from-colour : (s : Setup) (v c : ℕ) (e : EdgeRow) → In e (colourEdges s v c) → (f : ℕ) × (e ≡ edgeAt s v c f)
+unfolding colourEdges
+from-colour s v c e m = let x = collected (edgeIf s v c) 64 e m in (x .part, in-if s v c (x .part) e (x .stands) .1)
+
+from-vertex : (s : Setup) (v : ℕ) (e : EdgeRow) → In e (vertexEdges s v) → (c f : ℕ) × (e ≡ edgeAt s v c f)
+unfolding vertexEdges
+from-vertex s v e m =
+    let x = collected (colourEdges s v) 8 e m in
+    let h = from-colour s v (x .part) e (x .stands) in
+    (x .part, h .0, h .1)
+
+colour-apart : (s : Setup) (v c : ℕ) → Apart SameEdge (colourEdges s v c)
+unfolding colourEdges edgeAt
+colour-apart s v c =
+    apart-collect SameEdge (edgeIf s v c) 64 (λ f l. one-if s v c f) (λ i j l k x y m n e.
+    let p = in-if s v c i x m .1 in
+    let q = in-if s v c j y n .1 in
+    let z = name-one i j (sym (ap (λ (r : EdgeRow). r .from) p) ∙ e .0 ∙ ap (λ (r : EdgeRow). r .from) q) in
+    omega arith)
+
+vertex-apart : (s : Setup) (v : ℕ) → Apart SameEdge (vertexEdges s v)
+unfolding vertexEdges edgeAt
+vertex-apart s v =
+    apart-collect SameEdge (colourEdges s v) 8 (λ c l. colour-apart s v c) (λ i j l k x y m n e.
+    let p = from-colour s v i x m .1 in
+    let q = from-colour s v j y n .1 in
+    let z : i ≡ j = sym (ap (λ (r : EdgeRow). r .colour) p) ∙ e .2 ∙ ap (λ (r : EdgeRow). r .colour) q in
+    omega arith)
+
+pub edges-apart : (s : Setup) → Apart SameEdge (edgesOf s)
+unfolding edgesOf edgeAt
+edges-apart s =
+    apart-collect SameEdge (vertexEdges s) 64 (λ v l. vertex-apart s v) (λ i j l k x y m n e.
+    let p = from-vertex s i x m .2 in
+    let q = from-vertex s j y n .2 in
+    let z = name-one i j (sym (ap (λ (r : EdgeRow). r .to) p) ∙ e .1 ∙ ap (λ (r : EdgeRow). r .to) q) in
+    omega arith)
+
+-- as many as the graph has edges
+if-length : (s : Setup) (v c f : ℕ) → length (edgeIf s v c f) ≡ digit (row (s .graph) v c) f
+unfolding edgeIf
+if-length s v c f =
+    byTest (eqb (digit (row (s .graph) v c) f) 1)
+    (λ t. rw t (sym (eqb-true (digit (row (s .graph) v c) f) 1 t)))
+    (λ t. rw t (let l = digit-lt (row (s .graph) v c) f in let n = eqb-false (digit (row (s .graph) v c) f) 1 t in omega (arith, n)))
+
+module _ (s : Setup) (w : WellFormed s) where
+  row-lt : (v c : ℕ) → row (s .graph) v c < 2 ^ 64
+  row-lt v c = bounded-by-members 64 (row (s .graph) v c) (λ f m. let h = w .ends f v c m .0 in let k = w .most in omega arith)
+
+  colour-length : (v c : ℕ) → length (colourEdges s v c) ≡ ones (row (s .graph) v c)
+  unfolding colourEdges
+  colour-length v c =
+      length-collect-ones (edgeIf s v c) (row (s .graph) v c) 64 (λ f. if-length s v c f) ∙ ap ones (mod-eq-of-lt (row-lt v c))
+
+  vertex-length : (v : ℕ) → v < 64 → length (vertexEdges s v) ≡ total ones (rowsAt (s .graph) v .needs)
+  unfolding vertexEdges
+  vertex-length v l =
+      let k = w .shaped .graph .colours v l in
+      length-collect (colourEdges s v) ones (rowsAt (s .graph) v .needs) 0 8 (omega arith) (λ c b. colour-length v c)
+      ∙ ap (total ones) (take-all 8 (rowsAt (s .graph) v .needs) (omega arith))
+
+  pub edges-length : length (edgesOf s) ≡ edgeCount (s .graph)
+  unfolding edgesOf edgeCount
+  edges-length =
+      let k = w .shaped .graph .places in
+      length-collect (vertexEdges s) (λ r. total ones (r .needs)) (s .graph .rows) (record { needs = [] }) 64 (omega arith) vertex-length
+      ∙ ap (total (λ r. total ones (r .needs))) (take-all 64 (s .graph .rows) (omega arith))

@@ -1,29 +1,27 @@
 -- Rows for a well formed setup: an item row for each vertex, and an edge row for each edge.
 -- Assumes nothing.
-use mathlib.Core.Path.{_≡_, refl, sym, ap, subst, _∙_}
-use mathlib.Core.Bool.{Bool, true, false, cond, _&&_, _||_}
-use mathlib.Core.List.{List, [], _∷_, _++_, map, List·Memᴰ·head, List·Memᴰ·tail, List·Memᴰ·not-nil, List·Memᴰ·cases-cons, List·Memᴰ·eq-of-singleton}
-use mathlib.Core.Logic.{_⊎_, inl, inr, ⊎-elim}
-use Prim.Native.Nat.{ℕ, zero, suc, _+_, _-_, _*_, _/_, _%_, _^_, _≤_, _<_}
+use mathlib.Core.Path.{_≡_, refl, sym, ap, _∙_}
+use mathlib.Core.Bool.{true, false, cond}
+use mathlib.Core.List.{List, [], _∷_, List·Memᴰ·head, List·Memᴰ·not-nil, List·Memᴰ·eq-of-singleton}
+use mathlib.Core.Logic.{inl, inr}
+use Prim.Native.Nat.{ℕ, zero, suc, _+_, _/_, _%_, _^_, _≤_, _<_}
 use native.Mathlib.Nat.{add-zero, mod-eq-of-lt}
 use native.Mathlib.Omega.{arith}
-use lib.ListN.{length, getD, take, length-append}
-use lib.Seq.{take-all, ext-getD}
+use lib.ListN.{length}
+use lib.Seq.{take-all}
 use lib.Count.{ones}
-use lib.Dec.{eqb, leb}
+use lib.Dec.{eqb}
 use borrow.Author.Tests.{le-leb, eqb-true, eqb-false}
-use Rattle.vertex_set.specs.Set.{Member, Iff, Decides}
-use Rattle.vertex_set.proofs.Cases.{byTest, less-or, false-true}
+use Rattle.vertex_set.proofs.Cases.{byTest}
 use Rattle.vertex_set.proofs.Digits.{digit, digit-lt}
 use Rattle.vertex_set.proofs.Sets.{member-decided, bounded-by-members}
-use Rattle.setup.specs.declared.Rows.{Rows}
 use Rattle.setup.specs.declared.Setup.{Setup}
-use Rattle.setup.specs.Setup.{unusedVertex, vertexAt, rowsAt, row, Edge, total, edgeCount}
-use Rattle.setup.specs.WellFormed.{ValidVertex, WellFormed}
+use Rattle.setup.specs.Setup.{vertexAt, rowsAt, row, Edge, total, edgeCount}
+use Rattle.setup.specs.WellFormed.{WellFormed}
 use Rattle.sheet_format.specs.Text.{sameText, all}
-use Rattle.sheet_format.specs.Fields.{isDigit, isNameByte, isName}
-use Rattle.sheet_format.specs.Rows.{ItemRow, EdgeRow, Each, Apart, Known, SameName, SameEdge, ValidItem, numberIn, vertexOf, verticesOf}
-use Rattle.sheet_format.proofs.Question12Lists.{In, each-of, collect, Collected, in-collect, collected, apart-collect, length-collect, length-collect-ones}
+use Rattle.sheet_format.specs.Fields.{isNameByte, isName}
+use Rattle.sheet_format.specs.Rows.{ItemRow, EdgeRow, Each, Apart, Known, SameName, SameEdge, numberIn}
+use Rattle.sheet_format.proofs.Question12Lists.{In, collect, in-collect, collected, apart-collect, length-collect, length-collect-ones}
 use Rattle.sheet_format.proofs.Question12Items.{text-same, same-text}
 
 -- ---- names: two letters for each number below 64
@@ -39,18 +37,19 @@ pub name-form : (i : ℕ) → i < 64 → isName (nameOf i) ≡ true
 unfolding isName nameOf all
 name-form i l = rw (letter (97 + i / 8) (omega arith) (omega arith), letter (97 + i % 8) (omega arith) (omega arith))
 
-pub name-one : (i j : ℕ) → nameOf i ≡ nameOf j → i ≡ j
+name-one : (i j : ℕ) → nameOf i ≡ nameOf j → i ≡ j
 unfolding nameOf
 name-one i j e =
     let p : 97 + i / 8 ≡ 97 + j / 8 = cc in
     let q : 97 + i % 8 ≡ 97 + j % 8 = cc in
     omega arith
 
-pub name-other : (i j : ℕ) → (i ≡ j → ⊥) → sameText (nameOf i) (nameOf j) ≡ false
+name-other : (i j : ℕ) → (i ≡ j → ⊥) → sameText (nameOf i) (nameOf j) ≡ false
 name-other i j d = byTest (sameText (nameOf i) (nameOf j)) (λ t. absurd (d (name-one i j (same-text (nameOf i) (nameOf j) t)))) (λ t. t)
 
 -- ---- items
 
+-- The row for the vertex v.
 unfoldable pub itemAt : Setup → ℕ → ItemRow
 itemAt s v =
     record { name = nameOf v; kind = vertexAt s v .kind; start = vertexAt s v .start; loss = vertexAt s v .loss; rank = vertexAt s v .rank }
@@ -96,20 +95,22 @@ known-at s v (suc n) (suc k) l = let e : v + suc k ≡ suc v + k = omega arith i
 
 -- ---- edges
 
+-- The row for the edge of colour c from f to v, marked where it is a recovery edge.
 unfoldable pub edgeAt : Setup → ℕ → ℕ → ℕ → EdgeRow
 edgeAt s v c f = record { from = nameOf f; to = nameOf v; colour = c; rec = eqb (digit (row (s .recovery) v c) f) 1 }
 
 -- The row of the edge from f, if there is one.
-unfoldable pub edgeIf : Setup → ℕ → ℕ → ℕ → List EdgeRow
+edgeIf : Setup → ℕ → ℕ → ℕ → List EdgeRow
 edgeIf s v c f = cond (eqb (digit (row (s .graph) v c) f) 1) (edgeAt s v c f ∷ []) []
 
-unfoldable pub colourEdges : Setup → ℕ → ℕ → List EdgeRow
+-- The rows for the edges of colour c to v; for all edges to v; for all edges.
+colourEdges : Setup → ℕ → ℕ → List EdgeRow
 colourEdges s v c = collect (edgeIf s v c) 64
 
-unfoldable pub vertexEdges : Setup → ℕ → List EdgeRow
+vertexEdges : Setup → ℕ → List EdgeRow
 vertexEdges s v = collect (colourEdges s v) 8
 
-unfoldable pub edgesOf : Setup → List EdgeRow
+pub edgesOf : Setup → List EdgeRow
 edgesOf s = collect (vertexEdges s) 64
 
 -- The row e is that of an edge.
@@ -117,7 +118,6 @@ pub record EdgeRowOf (s : Setup) (e : EdgeRow) : Type 0 where
   pub f : ℕ
   pub v : ℕ
   pub c : ℕ
-  pub fits : f < 64
   pub place : v < 64
   pub colour : c < 8
   pub edge : Edge (s .graph) f v c
@@ -137,7 +137,7 @@ in-edges s e m =
     let y = collected (colourEdges s (x .part)) 8 e (x .stands) in
     let z = collected (edgeIf s (x .part) (y .part)) 64 e (y .stands) in
     let h = in-if s (x .part) (y .part) (z .part) e (z .stands) in
-    record { f = z .part; v = x .part; c = y .part; fits = z .below; place = x .below; colour = y .below; edge = h .0; same = h .1 }
+    record { f = z .part; v = x .part; c = y .part; place = x .below; colour = y .below; edge = h .0; same = h .1 }
 
 pub edges-in : (s : Setup) (f v c : ℕ) → f < 64 → v < 64 → c < 8 → Edge (s .graph) f v c → In (edgeAt s v c f) (edgesOf s)
 unfolding edgesOf vertexEdges colourEdges edgeIf

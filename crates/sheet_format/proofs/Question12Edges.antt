@@ -1,8 +1,7 @@
 -- The edges of the graph that rows state, and how many there are.
 -- Assumes nothing.
 use mathlib.Core.Path.{_≡_, refl, sym, ap, subst, _∙_}
-use mathlib.Core.Bool.{Bool, true, false, cond, _&&_}
-use mathlib.Core.List.{List, [], _∷_, _++_, List·Memᴰ·head, List·Memᴰ·tail, List·Memᴰ·not-nil, List·Memᴰ·cases-cons}
+use mathlib.Core.List.{List, [], _∷_, List·Memᴰ·head, List·Memᴰ·tail, List·Memᴰ·not-nil, List·Memᴰ·cases-cons}
 use mathlib.Core.Logic.{_⊎_, inl, inr, ⊎-elim}
 use Prim.Native.Nat.{ℕ, zero, suc, _+_, _^_, _≤_, _<_}
 use native.Mathlib.Omega.{arith}
@@ -10,18 +9,15 @@ use lib.ListN.{length, getD, set, replicate, length-set, length-replicate, getD-
 use lib.Seq.{getD-set-same, getD-set-other, ext-getD}
 use lib.Bits.{bitOr}
 use lib.Count.{ones}
-use lib.Dec.{eqb}
-use borrow.Author.Tests.{eqb-true, eq-eqb}
 use Rattle.vertex_set.specs.Set.{Member, Iff}
-use Rattle.vertex_set.proofs.Cases.{byTest, same-or, less-or, false-true}
+use Rattle.vertex_set.proofs.Cases.{same-or, less-or}
 use Rattle.vertex_set.proofs.Sets.{none-in-zero, in-or, in-one, same-set, ones-or-one}
 use Rattle.setup.specs.declared.Rows.{Rows}
 use Rattle.setup.specs.declared.Graph.{Graph}
 use Rattle.setup.specs.Setup.{rowsAt, rowOf, row, Edge, ShapedGraph, total, edgeCount}
-use Rattle.setup.proofs.Whole.{edge-place, edge-colour}
-use Rattle.sheet_format.specs.Text.{sameText}
-use Rattle.sheet_format.specs.Rows.{ItemRow, EdgeRow, Each, Known, ValidEdge, numberIn, emptyGraph, withEdge, withEdges, recoveryRows}
-use Rattle.sheet_format.proofs.Question12Lists.{In, of-each}
+use Rattle.setup.proofs.Whole.{edge-place}
+use Rattle.sheet_format.specs.Rows.{ItemRow, EdgeRow, Each, numberIn, emptyGraph, withEdge, withEdges}
+use Rattle.sheet_format.proofs.Question12Lists.{In}
 
 -- eight empty rows
 abbrev emptyRows : Rows
@@ -32,7 +28,7 @@ emptyRows = record { needs = replicate 8 0 }
 rows-same : (x y : Rows) → length (x .needs) ≡ 8 → length (y .needs) ≡ 8 → ((f c : ℕ) → Iff (Member (rowOf x c) f) (Member (rowOf y c) f)) → x ≡ y
 rows-same x y lx ly h =
     let e : x .needs ≡ y .needs = ext-getD 0 (x .needs) (y .needs) (omega arith) (λ c l.
-        same-set _ _ (record { each = λ f m. h f c .to m }) (record { each = λ f m. h f c .from m })) in
+    same-set _ _ (record { each = λ f m. h f c .to m }) (record { each = λ f m. h f c .from m })) in
     λ i. record { needs = e i }
 
 pub graph-same : (g k : Graph) → ShapedGraph g → ShapedGraph k → ((f v c : ℕ) → Iff (Edge g f v c) (Edge k f v c)) → g ≡ k
@@ -40,7 +36,7 @@ graph-same g k sg sk h =
     let lg = sg .places in
     let lk = sk .places in
     let e : g .rows ≡ k .rows = ext-getD (record { needs = [] }) (g .rows) (k .rows) (omega arith) (λ v l.
-        rows-same (rowsAt g v) (rowsAt k v) (sg .colours v (omega arith)) (sk .colours v (omega arith)) (λ f c. h f v c)) in
+    rows-same (rowsAt g v) (rowsAt k v) (sg .colours v (omega arith)) (sk .colours v (omega arith)) (λ f c. h f v c)) in
     λ i. record { rows = e i }
 
 -- ---- the graph without edges
@@ -109,7 +105,7 @@ module _ (g : Graph) (f v c : ℕ) (sh : ShapedGraph g) (lv : v < 64) (lc : c < 
   unfolding new
   row-there u b d = ⊎-elim
       (λ e. subst (λ (w : ℕ). row (withEdge g f v c) w b ≡ row g w b) (sym e)
-          (ap (λ (r : Rows). rowOf r b) here ∙ getD-set-other (rowsAt g v .needs) c b (bitOr (row g v c) (2 ^ f)) 0 (d e)))
+      (ap (λ (r : Rows). rowOf r b) here ∙ getD-set-other (rowsAt g v .needs) c b (bitOr (row g v c) (2 ^ f)) 0 (d e)))
       (λ n. ap (λ (r : Rows). rowOf r b) (there u n))
       (same-or u v)
 
@@ -189,7 +185,7 @@ edges-more xs g [] sh p f v c =
 edges-more xs g (e ∷ es) sh p f v c =
     let one = edge-more g (numberIn xs (e .from)) (numberIn xs (e .to)) (e .colour) sh (p .0 .to) (p .0 .colour) f v c in
     let rest = edges-more xs (withEdge g (numberIn xs (e .from)) (numberIn xs (e .to)) (e .colour)) es
-        (edge-shaped g (numberIn xs (e .from)) (numberIn xs (e .to)) (e .colour) sh (p .0 .to) (p .0 .colour)) (p .1) f v c in
+    (edge-shaped g (numberIn xs (e .from)) (numberIn xs (e .to)) (e .colour) sh (p .0 .to) (p .0 .colour)) (p .1) f v c in
     record {
       to = λ m. ⊎-elim
           (λ k. ⊎-elim (λ q. inl q) (λ q. inr (stated-first xs e es f v c q)) (one .to k))
@@ -208,5 +204,5 @@ edges-count xs g [] sh p = omega arith
 edges-count xs g (e ∷ es) sh p =
     let one = count-more g (numberIn xs (e .from)) (numberIn xs (e .to)) (e .colour) sh (p .0 .to) (p .0 .colour) in
     let rest = edges-count xs (withEdge g (numberIn xs (e .from)) (numberIn xs (e .to)) (e .colour)) es
-        (edge-shaped g (numberIn xs (e .from)) (numberIn xs (e .to)) (e .colour) sh (p .0 .to) (p .0 .colour)) (p .1) in
+    (edge-shaped g (numberIn xs (e .from)) (numberIn xs (e .to)) (e .colour) sh (p .0 .to) (p .0 .colour)) (p .1) in
     omega arith

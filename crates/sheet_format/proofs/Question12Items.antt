@@ -1,21 +1,19 @@
 -- The numbers and the vertices of item rows.
 -- Assumes nothing.
-use mathlib.Core.Path.{_≡_, refl, sym, ap, subst, _∙_}
-use mathlib.Core.Bool.{Bool, true, false, cond, _&&_}
+use mathlib.Core.Path.{_≡_, refl, sym, _∙_}
+use mathlib.Core.Bool.{true}
 use mathlib.Core.List.{List, [], _∷_, _++_, map}
-use mathlib.Core.Logic.{_⊎_, inl, inr, ⊎-elim}
-use Prim.Native.Nat.{ℕ, zero, suc, _+_, _-_, _≤_, _<_}
+use mathlib.Core.Logic.{⊎-elim}
+use Prim.Native.Nat.{ℕ, zero, suc, _-_, _≤_, _<_}
 use native.Mathlib.Omega.{arith}
 use lib.ListN.{length, getD, replicate, length-append, length-map, length-replicate, getD-replicate, List·getD-eq-default}
 use lib.Dec.{eqb}
 use borrow.Author.Tests.{eqb-true, eq-eqb}
 use Rattle.vertex_set.proofs.Cases.{byTest, less-or, false-true}
-use Rattle.setup.specs.declared.Value.{Value}
 use Rattle.setup.specs.declared.Vertex.{Vertex}
-use Rattle.setup.specs.Setup.{unusedVertex, total, given}
-use Rattle.setup.specs.WellFormed.{ValidVertex}
+use Rattle.setup.specs.Setup.{unusedVertex, total}
 use Rattle.sheet_format.specs.Text.{sameText}
-use Rattle.sheet_format.specs.Rows.{ItemRow, EdgeRow, Each, Known, ValidItem, numberIn, vertexOf, verticesOf}
+use Rattle.sheet_format.specs.Rows.{ItemRow, Each, Known, numberIn, vertexOf, verticesOf}
 
 -- ---- names
 
@@ -42,9 +40,9 @@ known-number (x ∷ xs) n k =
     byTest (sameText (x .name) n)
     (λ t. rw t (omega arith))
     (λ t. rw t (⊎-elim
-        (λ e. absurd (false-true (sym t ∙ rw (← e) (text-same (x .name)))))
-        (λ h. let l = known-number xs n h in omega arith)
-        k))
+    (λ e. absurd (false-true (sym t ∙ rw (← e) (text-same (x .name)))))
+    (λ h. let l = known-number xs n h in omega arith)
+    k))
 
 -- ---- vertices
 

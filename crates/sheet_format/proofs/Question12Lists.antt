@@ -1,15 +1,13 @@
 -- Lists whose elements are numbered: what holds of each, that no two are alike, and how many there are.
 -- Assumes nothing.
-use mathlib.Core.Path.{_≡_, refl, sym, ap, subst, _∙_}
+use mathlib.Core.Path.{_≡_, refl, sym, ap, subst}
 use mathlib.Core.List.{List, [], _∷_, _++_, List·Memᴰ, List·Memᴰ·head, List·Memᴰ·tail, List·Memᴰ·not-nil, List·Memᴰ·cases-cons, Memᴰ·append-left, Memᴰ·append-right, List·Memᴰ·append-cases}
-use mathlib.Core.Logic.{_⊎_, inl, inr, ⊎-elim}
-use Prim.Native.Nat.{ℕ, zero, suc, _+_, _/_, _%_, _^_, _≤_, _<_}
-use native.Mathlib.Nat.{lt-irrefl, lt-of-lt-of-le, le-suc}
+use mathlib.Core.Logic.{⊎-elim}
+use Prim.Native.Nat.{ℕ, zero, suc, _%_, _^_, _≤_, _<_}
 use native.Mathlib.Numerals.{add-one}
 use native.Mathlib.Omega.{arith}
 use lib.ListN.{length, getD, take, length-append}
 use lib.Count.{ones}
-use Rattle.vertex_set.specs.Set.{Iff}
 use Rattle.vertex_set.proofs.Cases.{same-or}
 use Rattle.vertex_set.proofs.Digits.{digit}
 use Rattle.vertex_set.proofs.Sets.{ones-below-more}
@@ -32,7 +30,7 @@ of-each P [] e x m = absurd (List·Memᴰ·not-nil m)
 of-each P (y ∷ ys) e x m = ⊎-elim (λ p. subst P (sym p) (e .0)) (λ k. of-each P ys (e .1) x k) (List·Memᴰ·cases-cons m)
 
 -- two lists without like elements, of which none of the one is like one of the other
-pub apart-append : {A : Type 0} (R : A → A → Type 0) (xs ys : List A) → Apart R xs → Apart R ys
+apart-append : {A : Type 0} (R : A → A → Type 0) (xs ys : List A) → Apart R xs → Apart R ys
     → ((x y : A) → In x xs → In y ys → R x y → ⊥) → Apart R (xs ++ ys)
 apart-append R [] ys p q h = q
 apart-append R (x ∷ xs) ys p q h = (

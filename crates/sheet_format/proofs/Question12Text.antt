@@ -1,8 +1,8 @@
 -- How long the text of rows with short names is.
 -- Assumes nothing.
-use mathlib.Core.Path.{_≡_, refl, sym, ap, subst, _∙_}
+use mathlib.Core.Path.{_≡_, refl}
 use mathlib.Core.Bool.{Bool, true, false, cond}
-use mathlib.Core.List.{List, [], _∷_, _++_}
+use mathlib.Core.List.{List, [], _∷_}
 use Prim.Native.Nat.{ℕ, zero, suc, _+_, _*_, _/_, _%_, _≤_, _<_}
 use native.Mathlib.Omega.{arith}
 use lib.ListN.{length, length-append}
@@ -54,7 +54,7 @@ four-fields a b c d = simp length-append (omega arith)
 five-fields : (a b c d e : List ℕ) → length (lineText (a ∷ b ∷ c ∷ d ∷ e ∷ [])) ≡ length a + length b + length c + length d + length e + 5
 five-fields a b c d e = simp length-append (omega arith)
 
-pub items-text : (xs : List ItemRow) → Each (λ x. length (x .name) ≡ 2) xs → length (itemLines xs) ≤ 68 * length xs
+items-text : (xs : List ItemRow) → Each (λ x. length (x .name) ≡ 2) xs → length (itemLines xs) ≤ 68 * length xs
 unfolding itemLines
 items-text [] h = omega arith
 items-text (x ∷ xs) h =
@@ -74,7 +74,7 @@ pub record ShortEdge (e : EdgeRow) : Type 0 where
   pub to : length (e .to) ≡ 2
   pub colour : e .colour < 10
 
-pub edges-text : (es : List EdgeRow) → Each ShortEdge es → length (edgeLines es) ≡ 10 * length es
+edges-text : (es : List EdgeRow) → Each ShortEdge es → length (edgeLines es) ≡ 10 * length es
 unfolding edgeLines
 edges-text [] h = omega arith
 edges-text (e ∷ es) h =

@@ -1,27 +1,25 @@
 -- A well formed setup is the one that some valid rows state.
 -- Assumes nothing.
-use mathlib.Core.Path.{_≡_, refl, sym, ap, subst, _∙_}
-use mathlib.Core.Bool.{Bool, true, false}
-use mathlib.Core.List.{List, [], _∷_, _++_, map}
-use mathlib.Core.Logic.{_⊎_, inl, inr, ⊎-elim}
-use Prim.Native.Nat.{ℕ, zero, suc, _+_, _-_, _≤_, _<_}
+use mathlib.Core.Path.{_≡_, refl, sym, ap, _∙_}
+use mathlib.Core.Bool.{true}
+use mathlib.Core.List.{List, _++_, map}
+use mathlib.Core.Logic.{⊎-elim}
+use Prim.Native.Nat.{ℕ, zero, suc, _+_, _-_, _<_}
 use native.Mathlib.Nat.{zero-add, add-zero}
 use native.Mathlib.Omega.{arith}
 use lib.ListN.{length, getD, replicate}
 use lib.Seq.{ext-getD}
-use lib.Dec.{eqb}
 use borrow.Author.Tests.{eq-eqb}
-use Rattle.vertex_set.specs.Set.{Member, Iff, Decides}
+use Rattle.vertex_set.specs.Set.{Member, Iff}
 use Rattle.vertex_set.proofs.Cases.{less-or}
-use Rattle.vertex_set.proofs.Digits.{digit}
 use Rattle.vertex_set.proofs.Sets.{member-decided}
 use Rattle.setup.specs.declared.Vertex.{Vertex}
 use Rattle.setup.specs.declared.Setup.{Setup}
-use Rattle.setup.specs.Setup.{unusedVertex, vertexAt, rowsAt, row, Edge, total, given, edgeCount, chosenCount}
-use Rattle.setup.specs.WellFormed.{ValidVertex, WellFormed}
+use Rattle.setup.specs.Setup.{unusedVertex, vertexAt, rowsAt, row, Edge, given, chosenCount}
+use Rattle.setup.specs.WellFormed.{WellFormed}
 use Rattle.setup.proofs.Whole.{edge-place, edge-colour}
 use Rattle.sheet_format.specs.Rows.{ItemRow, EdgeRow, Doc, Each, Known, ValidItem, ValidEdge, Valid, startCount, lossCount, numberIn, vertexOf, verticesOf, emptyGraph, withEdges, recoveryRows, setupOf}
-use Rattle.sheet_format.proofs.Question12Lists.{In, each-of, of-each}
+use Rattle.sheet_format.proofs.Question12Lists.{In, each-of}
 use Rattle.sheet_format.proofs.Question12Edges.{Stated, Placed, graph-same, empty-shaped, edges-shaped}
 use Rattle.sheet_format.proofs.Question12Items.{vertices-length, vertex-unused, vertices-total}
 use Rattle.sheet_format.proofs.Question12Yielded.{in-recovery, recovery-in, recovery-placed, graph-edges}
@@ -29,11 +27,11 @@ use Rattle.sheet_format.proofs.Question12Text.{ShortEdge, text-length}
 use Rattle.sheet_format.proofs.Question12Doc.{nameOf, name-form, itemAt, itemsFrom, items-length, each-item, items-apart, number-at, known-at, edgeAt, edgesOf, EdgeRowOf, in-edges, edges-in, edges-apart, edges-length}
 
 -- The rows for a setup.
-abbrev pub items : Setup → List ItemRow
-items s = itemsFrom s 0 (s .count)
+abbrev itemsOf : Setup → List ItemRow
+itemsOf s = itemsFrom s 0 (s .count)
 
-abbrev pub docOf : Setup → Doc
-docOf s = record { items = items s; edges = edgesOf s }
+abbrev docOf : Setup → Doc
+docOf s = record { items = itemsOf s; edges = edgesOf s }
 
 item-vertex : (s : Setup) (v n i : ℕ) (rest : List Vertex) → i < n → getD (map vertexOf (itemsFrom s v n) ++ rest) i unusedVertex ≡ vertexAt s (v + i)
 unfolding itemsFrom itemAt
@@ -46,29 +44,29 @@ unfolding nameOf
 name-length i = refl
 
 module _ (s : Setup) (w : WellFormed s) where
-  count : length (items s) ≡ s .count
+  count : length (itemsOf s) ≡ s .count
   count = items-length s 0 (s .count)
 
-  number : (i : ℕ) → i < s .count → numberIn (items s) (nameOf i) ≡ i
+  number : (i : ℕ) → i < s .count → numberIn (itemsOf s) (nameOf i) ≡ i
   number i l = rw (zero-add i) at (number-at s 0 (s .count) i l)
 
-  known : (i : ℕ) → i < s .count → Known (items s) (nameOf i)
+  known : (i : ℕ) → i < s .count → Known (itemsOf s) (nameOf i)
   known i l = rw (zero-add i) at (known-at s 0 (s .count) i l)
 
   -- ---- vertices
 
-  at-vertex : (i : ℕ) → i < s .count → getD (verticesOf (items s)) i unusedVertex ≡ vertexAt s i
+  at-vertex : (i : ℕ) → i < s .count → getD (verticesOf (itemsOf s)) i unusedVertex ≡ vertexAt s i
   unfolding verticesOf
-  at-vertex i l = item-vertex s 0 (s .count) i (replicate (64 - length (items s)) unusedVertex) l ∙ ap (vertexAt s) (zero-add i)
+  at-vertex i l = item-vertex s 0 (s .count) i (replicate (64 - length (itemsOf s)) unusedVertex) l ∙ ap (vertexAt s) (zero-add i)
 
-  same-vertices : verticesOf (items s) ≡ s .vertices
+  same-vertices : verticesOf (itemsOf s) ≡ s .vertices
   same-vertices =
-      let a = vertices-length (items s) (let c = count in let m = w .most in omega arith) in
+      let a = vertices-length (itemsOf s) (let c = count in let m = w .most in omega arith) in
       let b = w .shaped .places in
-      ext-getD unusedVertex (verticesOf (items s)) (s .vertices) (omega arith) (λ i l.
+      ext-getD unusedVertex (verticesOf (itemsOf s)) (s .vertices) (omega arith) (λ i l.
       ⊎-elim
       (λ k. at-vertex i k)
-      (λ k. vertex-unused (items s) i (let c = count in omega arith) ∙ sym (w .unused i (omega arith) k))
+      (λ k. vertex-unused (itemsOf s) i (let c = count in omega arith) ∙ sym (w .unused i (omega arith) k))
       (less-or i (s .count)))
 
   -- ---- edges
@@ -77,25 +75,25 @@ module _ (s : Setup) (w : WellFormed s) where
   ends e h = w .ends (h .f) (h .v) (h .c) (h .edge)
 
   -- the numbers of an edge's row are the edge's
-  from-number : (e : EdgeRow) (h : EdgeRowOf s e) → numberIn (items s) (e .from) ≡ h .f
+  from-number : (e : EdgeRow) (h : EdgeRowOf s e) → numberIn (itemsOf s) (e .from) ≡ h .f
   unfolding edgeAt
-  from-number e h = ap (λ (x : EdgeRow). numberIn (items s) (x .from)) (h .same) ∙ number (h .f) (ends e h .0)
+  from-number e h = ap (λ (x : EdgeRow). numberIn (itemsOf s) (x .from)) (h .same) ∙ number (h .f) (ends e h .0)
 
-  to-number : (e : EdgeRow) (h : EdgeRowOf s e) → numberIn (items s) (e .to) ≡ h .v
+  to-number : (e : EdgeRow) (h : EdgeRowOf s e) → numberIn (itemsOf s) (e .to) ≡ h .v
   unfolding edgeAt
-  to-number e h = ap (λ (x : EdgeRow). numberIn (items s) (x .to)) (h .same) ∙ number (h .v) (ends e h .1)
+  to-number e h = ap (λ (x : EdgeRow). numberIn (itemsOf s) (x .to)) (h .same) ∙ number (h .v) (ends e h .1)
 
   colour-number : (e : EdgeRow) (h : EdgeRowOf s e) → e .colour ≡ h .c
   unfolding edgeAt
   colour-number e h = ap (λ (x : EdgeRow). x .colour) (h .same)
 
-  placed : Each (Placed (items s)) (edgesOf s)
-  placed = each-of (Placed (items s)) (edgesOf s) (λ e m.
+  placed : Each (Placed (itemsOf s)) (edgesOf s)
+  placed = each-of (Placed (itemsOf s)) (edgesOf s) (λ e m.
       let h = in-edges s e m in
       record { to = rw (to-number e h) (h .place); colour = rw (colour-number e h) (h .colour) })
 
   -- what a row states is its edge
-  stated-row : (es : List EdgeRow) → ((e : EdgeRow) → In e es → In e (edgesOf s)) → (f v c : ℕ) (t : Stated (items s) es f v c)
+  stated-row : (es : List EdgeRow) → ((e : EdgeRow) → In e es → In e (edgesOf s)) → (f v c : ℕ) (t : Stated (itemsOf s) es f v c)
       → Edge (s .graph) f v c × (t .edge ≡ edgeAt s v c f)
   stated-row es sub f v c t =
       let h = in-edges s (t .edge) (sub (t .edge) (t .stands)) in
@@ -105,7 +103,7 @@ module _ (s : Setup) (w : WellFormed s) where
       (rw (p, q, r) at (h .edge), rw (p, q, r) at (h .same))
 
   -- an edge's row, where it stands, states it
-  row-stated : (es : List EdgeRow) (f v c : ℕ) → Edge (s .graph) f v c → In (edgeAt s v c f) es → Stated (items s) es f v c
+  row-stated : (es : List EdgeRow) (f v c : ℕ) → Edge (s .graph) f v c → In (edgeAt s v c f) es → Stated (itemsOf s) es f v c
   unfolding edgeAt
   row-stated es f v c m k =
       record {
@@ -125,55 +123,55 @@ module _ (s : Setup) (w : WellFormed s) where
       let colour = edge-colour (rowsAt (s .graph) v) (w .shaped .graph .colours v place) f c m in
       edges-in s f v c (omega arith) place colour m
 
-  same-graph : withEdges (items s) emptyGraph (edgesOf s) ≡ s .graph
+  same-graph : withEdges (itemsOf s) emptyGraph (edgesOf s) ≡ s .graph
   same-graph =
-      graph-same (withEdges (items s) emptyGraph (edgesOf s)) (s .graph)
-      (edges-shaped (items s) emptyGraph (edgesOf s) empty-shaped placed)
+      graph-same (withEdges (itemsOf s) emptyGraph (edgesOf s)) (s .graph)
+      (edges-shaped (itemsOf s) emptyGraph (edgesOf s) empty-shaped placed)
       (w .shaped .graph)
       (λ f v c.
-          let g = graph-edges (items s) (edgesOf s) placed f v c in
-          record {
-            to = λ m. stated-row (edgesOf s) (λ e k. k) f v c (g .to m) .0;
-            from = λ m. g .from (row-stated (edgesOf s) f v c m (row-in f v c m));
-          })
+      let g = graph-edges (itemsOf s) (edgesOf s) placed f v c in
+      record {
+        to = λ m. stated-row (edgesOf s) (λ e k. k) f v c (g .to m) .0;
+        from = λ m. g .from (row-stated (edgesOf s) f v c m (row-in f v c m));
+      })
 
   -- a row is marked exactly where its edge is a recovery edge
   mark : (f v c : ℕ) → Iff (edgeAt s v c f .rec ≡ true) (Edge (s .recovery) f v c)
   unfolding edgeAt Member
   mark f v c = record { to = λ t. member-decided (row (s .recovery) v c) f .yes t; from = λ m. eq-eqb _ _ m }
 
-  same-recovery : withEdges (items s) emptyGraph (recoveryRows (edgesOf s)) ≡ s .recovery
+  same-recovery : withEdges (itemsOf s) emptyGraph (recoveryRows (edgesOf s)) ≡ s .recovery
   same-recovery =
-      graph-same (withEdges (items s) emptyGraph rows) (s .recovery)
-      (edges-shaped (items s) emptyGraph rows empty-shaped (recovery-placed (items s) (edgesOf s) placed))
+      graph-same (withEdges (itemsOf s) emptyGraph rows) (s .recovery)
+      (edges-shaped (itemsOf s) emptyGraph rows empty-shaped (recovery-placed (itemsOf s) (edgesOf s) placed))
       (w .shaped .recovery)
       (λ f v c.
-          let g = graph-edges (items s) rows (recovery-placed (items s) (edgesOf s) placed) f v c in
-          record {
-            to = λ m.
-                let t = g .to m in
-                let h = stated-row rows (λ e k. in-recovery (edgesOf s) e k .0) f v c t in
-                mark f v c .to (rw (h .1) at (in-recovery (edgesOf s) (t .edge) (t .stands) .1));
-            from = λ m.
-                let e = w .marked f v c m in
-                g .from (row-stated rows f v c e (recovery-in (edgesOf s) (edgeAt s v c f) (row-in f v c e) (mark f v c .from m)));
-          })
+      let g = graph-edges (itemsOf s) rows (recovery-placed (itemsOf s) (edgesOf s) placed) f v c in
+      record {
+        to = λ m.
+            let t = g .to m in
+            let h = stated-row rows (λ e k. in-recovery (edgesOf s) e k .0) f v c t in
+            mark f v c .to (rw (h .1) at (in-recovery (edgesOf s) (t .edge) (t .stands) .1));
+        from = λ m.
+            let e = w .marked f v c m in
+            g .from (row-stated rows f v c e (recovery-in (edgesOf s) (edgeAt s v c f) (row-in f v c e) (mark f v c .from m)));
+      })
     where
       rows : List EdgeRow
       rows = recoveryRows (edgesOf s)
 
   -- ---- the rows are valid, and state the setup
 
-  valid-items : Each ValidItem (items s)
+  valid-items : Each ValidItem (itemsOf s)
   unfolding itemAt
   valid-items = each-item ValidItem s 0 (s .count) (λ i l k.
       let h = w .used i (omega arith) in
       let m = w .most in
       record { name = name-form i (omega arith); start = h .start; loss = h .loss; rank = h .rank })
 
-  valid-edges : Each (ValidEdge (items s)) (edgesOf s)
+  valid-edges : Each (ValidEdge (itemsOf s)) (edgesOf s)
   unfolding edgeAt
-  valid-edges = each-of (ValidEdge (items s)) (edgesOf s) (λ e m.
+  valid-edges = each-of (ValidEdge (itemsOf s)) (edgesOf s) (λ e m.
       let h = in-edges s e m in
       let c = h .colour in
       let k = colour-number e h in
@@ -195,11 +193,11 @@ module _ (s : Setup) (w : WellFormed s) where
         colour = omega arith;
       })
 
-  short-items : Each (λ x. length (x .name) ≡ 2) (items s)
+  short-items : Each (λ x. length (x .name) ≡ 2) (itemsOf s)
   unfolding itemAt
   short-items = each-item (λ x. length (x .name) ≡ 2) s 0 (s .count) (λ i l k. name-length i)
 
-  pub valid-doc : Valid (docOf s)
+  valid-doc : Valid (docOf s)
   unfolding startCount lossCount chosenCount
   valid-doc =
       let c = count in
@@ -212,15 +210,15 @@ module _ (s : Setup) (w : WellFormed s) where
         most = omega arith;
         items = valid-items;
         names = items-apart s 0 (s .count);
-        starts = rw (← (vertices-total (λ x. given (x .start)) (items s) refl), same-vertices) (w .initial);
-        losses = rw (← (vertices-total (λ x. given (x .loss)) (items s) refl), same-vertices) (w .losable);
+        starts = rw (← (vertices-total (λ x. given (x .start)) (itemsOf s) refl), same-vertices) (w .initial);
+        losses = rw (← (vertices-total (λ x. given (x .loss)) (itemsOf s) refl), same-vertices) (w .losable);
         edges = valid-edges;
         rows = edges-apart s;
         many = omega arith;
         text = text-length (docOf s) (omega arith) (omega arith) short-items short-edges;
       }
 
-  pub setup-of-doc : setupOf (docOf s) ≡ s
+  setup-of-doc : setupOf (docOf s) ≡ s
   unfolding setupOf
   setup-of-doc = λ i. record { count = count i; vertices = same-vertices i; graph = same-graph i; recovery = same-recovery i }
 

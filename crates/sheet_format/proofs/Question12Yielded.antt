@@ -3,17 +3,15 @@
 use mathlib.Core.Path.{_≡_, refl, sym, ap, subst, _∙_}
 use mathlib.Core.Bool.{Bool, true, false, cond}
 use mathlib.Core.List.{List, [], _∷_, List·Memᴰ·head, List·Memᴰ·tail, List·Memᴰ·not-nil, List·Memᴰ·cases-cons}
-use mathlib.Core.Logic.{_⊎_, inl, inr, ⊎-elim}
-use Prim.Native.Nat.{ℕ, _≤_, _<_}
-use native.Mathlib.Nat.{le-trans}
+use mathlib.Core.Logic.{inr, ⊎-elim}
+use Prim.Native.Nat.{ℕ, _<_}
 use native.Mathlib.Omega.{arith}
 use lib.ListN.{length}
 use Rattle.vertex_set.specs.Set.{Iff}
-use Rattle.vertex_set.proofs.Cases.{byTest, false-true}
-use Rattle.setup.specs.declared.Vertex.{Vertex}
-use Rattle.setup.specs.Setup.{Edge, edgeCount, chosenCount, given, ShapedGraph, Shaped}
+use Rattle.vertex_set.proofs.Cases.{byTest}
+use Rattle.setup.specs.Setup.{Edge, chosenCount, given}
 use Rattle.setup.specs.WellFormed.{ValidVertex, WellFormed}
-use Rattle.sheet_format.specs.Rows.{ItemRow, EdgeRow, Doc, Each, ValidItem, ValidEdge, Valid, startCount, lossCount, vertexOf, numberIn, emptyGraph, withEdges, recoveryRows, setupOf}
+use Rattle.sheet_format.specs.Rows.{ItemRow, EdgeRow, Doc, Each, ValidItem, ValidEdge, Valid, startCount, lossCount, vertexOf, emptyGraph, withEdges, recoveryRows, setupOf}
 use Rattle.sheet_format.proofs.Question12Lists.{In, each-of, of-each}
 use Rattle.sheet_format.proofs.Question12Edges.{Stated, Placed, empty-shaped, empty-edges, empty-count, edges-shaped, edges-more, edges-count}
 use Rattle.sheet_format.proofs.Question12Items.{known-number, vertices-length, vertex-unused, vertex-used, vertices-total}
@@ -34,9 +32,9 @@ in-recovery [] e m = absurd (List·Memᴰ·not-nil m)
 in-recovery (x ∷ es) e m =
     byTest (x .rec)
     (λ t. ⊎-elim
-        (λ p. (List·Memᴰ·head p, ap (λ (y : EdgeRow). y .rec) p ∙ t))
-        (λ k. let h = in-recovery es e k in (List·Memᴰ·tail (h .0), h .1))
-        (List·Memᴰ·cases-cons (subst (In e) (recovery-yes x es t) m)))
+    (λ p. (List·Memᴰ·head p, ap (λ (y : EdgeRow). y .rec) p ∙ t))
+    (λ k. let h = in-recovery es e k in (List·Memᴰ·tail (h .0), h .1))
+    (List·Memᴰ·cases-cons (subst (In e) (recovery-yes x es t) m)))
     (λ t. let h = in-recovery es e (subst (In e) (recovery-no x es t) m) in (List·Memᴰ·tail (h .0), h .1))
 
 pub recovery-in : (es : List EdgeRow) (e : EdgeRow) → In e es → e .rec ≡ true → In e (recoveryRows es)
@@ -46,10 +44,10 @@ recovery-in (x ∷ es) e m r =
     ⊎-elim
     (λ p. subst (In e) (sym (recovery-yes x es (sym (ap (λ (y : EdgeRow). y .rec) p) ∙ r))) (List·Memᴰ·head p))
     (λ k.
-        let h = recovery-in es e k r in
-        byTest (x .rec)
-        (λ t. subst (In e) (sym (recovery-yes x es t)) (List·Memᴰ·tail h))
-        (λ t. subst (In e) (sym (recovery-no x es t)) h))
+    let h = recovery-in es e k r in
+    byTest (x .rec)
+    (λ t. subst (In e) (sym (recovery-yes x es t)) (List·Memᴰ·tail h))
+    (λ t. subst (In e) (sym (recovery-no x es t)) h))
     (List·Memᴰ·cases-cons m)
 
 -- ---- the edges of a doc's graphs are those that its rows state

@@ -17,7 +17,8 @@ use Rattle.sheet_format.specs.Rows.{ItemRow, EdgeRow, Doc, Each, Apart, 
 use Rattle.sheet_format.specs.Questions.{isTextByte, question3, question6, question7Item, question7Edge, question8, question9, question10, isKnown, isRepeated}
 use Rattle.sheet_format.specs.Read.{Phase, AmongItems, AmongEdges, Place, withItem, withRow, itemQuestions, edgeQuestions, questionsOf, behind}
 use Rattle.sheet_format.specs.Meaning.{start, askedAt, OnlyYeses, Passed}
-use Rattle.sheet_format.proofs.Lists.{each-append, each-right, each-map, each-image, apart-at, total-append}
+use Rattle.sheet_format.proofs.Lists.{each-append, each-right, each-map, each-image, apart-at}
+use Rattle.setup.proofs.Counts.{total-append}
 use Rattle.sheet_format.proofs.Tests.{and-both, yes-of, same-refl, all-decided, known-decided, fresh-decided, single-decided}
 use Rattle.sheet_format.proofs.Lines.{Without, joined, joined-append, spaced, line-text}
 use Rattle.sheet_format.proofs.Fields.{Plain}

@@ -33,7 +33,3 @@ module _ {A : Type 0} (R : A → A → Type 0) where
   pub apart-more : (xs : List A) (y : A) → Apart R xs → Each (λ x. R x y → ⊥) xs → Apart R (xs ++ (y ∷ []))
   apart-more [] y h n = (tt, tt)
   apart-more (x ∷ xs) y h n = (each-append (λ z. R x z → ⊥) xs (y ∷ []) (h .0) (n .0, tt), apart-more xs y (h .1) (n .1))
-
-pub total-append : {A : Type 0} (f : A → ℕ) (xs ys : List A) → total f (xs ++ ys) ≡ total f xs + total f ys
-total-append f [] ys = sym (zero-add (total f ys))
-total-append f (x ∷ xs) ys = ap (λ (n : ℕ). f x + n) (total-append f xs ys) ∙ sym (add-assoc (f x) (total f xs) (total f ys))

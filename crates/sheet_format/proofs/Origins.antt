@@ -15,7 +15,8 @@ use Rattle.sheet_format.specs.Rows.{ItemRow, EdgeRow, Doc, SameName, Sam
 use Rattle.sheet_format.specs.Questions.{question3, question6, question7Item, question7Edge, question8, question9, question10, isKnown, itemOf, edgeOf}
 use Rattle.sheet_format.specs.Read.{Phase, AtFirstHeader, AmongItems, AtSecondHeader, AmongEdges, Place, noRows, itemQuestions, edgeQuestions, questionsOf, behind, question11}
 use Rattle.sheet_format.specs.Meaning.{start, next, OnlyYeses, Passed}
-use Rattle.sheet_format.proofs.Lists.{each-append, apart-more, total-append}
+use Rattle.sheet_format.proofs.Lists.{each-append, apart-more}
+use Rattle.setup.proofs.Counts.{total-append}
 use Rattle.sheet_format.proofs.Tests.{and-parts, text-decided, known-decided, fresh-decided, single-decided}
 use Rattle.sheet_format.proofs.Rows.{itemLine, item-read, item-line, edgeLine, NamedEdge, edge-read, edge-line}
 use Rattle.sheet_format.proofs.Documents.{docLines, ItemsHold, EdgesHold}

@@ -1,5 +1,5 @@
 -- What reading a sheet means: which texts are accepted and what they yield, and what a refusal's number and line say.
--- Statements only; proofs/Meaning.antt has the theorems.
+-- Statements only; proofs/Meaning.antt and proofs/Question12.antt have the theorems.
 use mathlib.Core.Path.{_≡_}
 use mathlib.Core.List.{List, [], _∷_, _++_}
 use mathlib.Core.Bool.{true, false}
@@ -9,6 +9,7 @@ use lib.ListN.{length, replicate}
 use Rattle.vertex_set.specs.Set.{Iff}
 use Rattle.setup.specs.declared.Setup.{Setup}
 use Rattle.setup.specs.Setup.{unusedVertex}
+use Rattle.setup.specs.WellFormed.{WellFormed}
 use Rattle.sheet_format.specs.Text.{linesOf}
 use Rattle.sheet_format.specs.Rows.{Doc, Each, Valid, render, emptyGraph, setupOf}
 use Rattle.sheet_format.specs.Questions.{question1, question2}
@@ -125,3 +126,9 @@ pub record Refused (s : List ℕ) : Type 0 where
 pub record AcceptedOrRefused : Type 0 where
   pub either : (s : List ℕ) → Accepted s ⊎ Refused s
   pub never : (s : List ℕ) → Accepted s → Refused s → ⊥
+
+-- ---- question 12
+
+-- A setup is well formed, as every call tests it, exactly when some accepted sheet yields it.
+abbrev pub Question12 : Type 0
+Question12 = (s : Setup) → Iff (WellFormed s) ((text : List ℕ) × (readSheet text ≡ accepted s))

@@ -1,3 +1,6 @@
 pub mod Cases
 pub mod Digits
+pub mod Places
 pub mod Sets
+pub mod Shifts
+pub mod Sorted

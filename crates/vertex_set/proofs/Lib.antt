@@ -4,3 +4,4 @@ pub mod Places
 pub mod Sets
 pub mod Shifts
 pub mod Sorted
+pub mod Subsets

@@ -1,2 +1,3 @@
 pub mod Families
 pub mod Steps
+pub mod Masks

@@ -3,9 +3,13 @@
 ghost use mathlib.Core.Path.{_≡_};
 ghost use Prim.Native.Nat.{ℕ, _≤_, _<_};
 ghost use lib.ListN.{length};
+ghost use lib.Count.{ones};
 ghost use Rattle.vertex_set.specs.Set.{Decides};
 ghost use Rattle.families.specs.Family.{In, size, MinimalMembers};
+ghost use Rattle.families.specs.Masks.{MaskOf};
 ghost use Rattle.families.specs.Steps.{StepsInWord, StepsToWord, LeastWord};
+
+use vertex_set::VertexSet;
 
 pub const WORDS: usize = 256;
 
@@ -84,4 +88,23 @@ pub fn minimal_members(f: &[u64], out: &mut [u64])
     for b in 0..WORDS {
         out[b] = least_word(f, b);
     }
+}
+
+// The mask of a set x of chosen vertices. It goes from one chosen vertex to the next, lowest first.
+pub fn mask_of(chosen: VertexSet, x: u64) -> usize
+    requires { ⌜ ones (chosen .0) ≤ 14 ⌝ }
+    ensures { λ r. ⌜ MaskOf (chosen .0) x r ⌝ }
+{
+    let one: u64 = 1;
+    let mut rest = chosen.0;
+    let mut mask: u64 = 0;
+    let mut n: u32 = 0;
+    while rest != 0 {
+        let v = u64::trailing_zeros(rest);
+        let bit = (x >> v) % 2;
+        mask = mask + (bit << n);
+        n = n + 1;
+        rest = rest - (one << v);
+    }
+    mask as usize
 }

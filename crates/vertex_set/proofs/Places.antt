@@ -11,12 +11,13 @@ use lib.ListN.{length, length-map}
 use lib.Count.{ones, ones-step, trailingZeros, under}
 use lib.Bits.{bitAnd, and-step}
 use lib.Dec.{eqb}
+use lib.Pow.{pow-pos}
 use Rattle.vertex_set.specs.Set.{Member, Iff, Within}
 use Rattle.vertex_set.specs.Order.{Listed}
 use Rattle.vertex_set.proofs.Cases.{same-or}
 use Rattle.vertex_set.proofs.Sorted.{listed-map, listed-of-map, only, only-map, only-same, Sorted, sorted-map}
 use Rattle.vertex_set.proofs.Digits.{digit, digit-lt, digit-zero, digit-suc, digit-first}
-use Rattle.vertex_set.proofs.Sets.{member-below, none-in-zero}
+use Rattle.vertex_set.proofs.Sets.{member-below, shifted-one}
 
 -- ---- membership by halves
 
@@ -229,3 +230,31 @@ places-and (suc k) a b =
         (same-or (b % 2) 1))
     (λ o. rw (places-even k a (omega arith), places-even k (bitAnd a b) (omega arith), half) rest)
     (same-or (a % 2) 1)
+
+-- ---- a loop over a word's members, lowest first
+
+-- What a turn of such a loop finds and leaves, as the machine has it.
+pub record Lowest (s : ℕ) : Type 0 where
+  pub member : Member s (trailingZeros 64 s)
+  pub below : trailingZeros 64 s < 64
+  pub power : (1 * 2 ^ trailingZeros 64 s) % 2 ^ 64 ≡ 2 ^ trailingZeros 64 s
+  pub positive : 0 < 2 ^ trailingZeros 64 s
+  pub le : 2 ^ trailingZeros 64 s ≤ s
+  pub count : ones s ≡ suc (ones (s - 2 ^ trailingZeros 64 s))
+  pub list : places 64 s ≡ trailingZeros 64 s ∷ places 64 (s - 2 ^ trailingZeros 64 s)
+
+pub lowest : (s : ℕ) → s < 2 ^ 64 → (s ≡ 0 → ⊥) → Lowest s
+lowest s h n =
+    let m = lowest-member 64 s h n in
+    let b = member-below 64 s (trailingZeros 64 s) h m in
+    let l = places-lowest 64 s h n in
+    let less : s - 2 ^ trailingZeros 64 s < 2 ^ 64 = omega arith in
+    record {
+      member = m;
+      below = b;
+      power = shifted-one (trailingZeros 64 s) b;
+      positive = pow-pos (trailingZeros 64 s);
+      le = member-le (trailingZeros 64 s) s m;
+      count = sym (length-places 64 s h) ∙ ap length l ∙ ap suc (length-places 64 (s - 2 ^ trailingZeros 64 s) less);
+      list = l;
+    }

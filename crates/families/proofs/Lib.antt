@@ -1,3 +1,4 @@
 pub mod Families
 pub mod Steps
 pub mod Masks
+pub mod Weights

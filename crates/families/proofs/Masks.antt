@@ -58,7 +58,7 @@ unfolding spread
 spread-odd k c m e = rw e
 
 -- what holds of even and odd numbers holds of all
-by-parity : {P : Type 0} (c : ℕ) → (c % 2 ≡ 0 → P) → (c % 2 ≡ 1 → P) → P
+pub by-parity : {P : Type 0} (c : ℕ) → (c % 2 ≡ 0 → P) → (c % 2 ≡ 1 → P) → P
 by-parity c even odd = ⊎-elim odd (λ n. even (omega arith)) (same-or (c % 2) 1)
 
 picked-zero : (c m : ℕ) → Iff (Picked c m 0) ((c % 2 ≡ 1) × (m % 2 ≡ 1))

@@ -2,3 +2,4 @@ pub mod Families
 pub mod Steps
 pub mod Masks
 pub mod Weights
+pub mod Lists

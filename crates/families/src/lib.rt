@@ -1,18 +1,31 @@
 // Families of subsets of at most 14 chosen vertices, as truth tables: bit m % 64 of word m / 64 says
 // whether the mask m is in. No graph is in sight here.
 ghost use mathlib.Core.Path.{_≡_};
-ghost use Prim.Native.Nat.{ℕ, _≤_, _<_};
+ghost use mathlib.Core.List.{map};
+ghost use Prim.Native.Nat.{ℕ, _+_, _*_, _≤_, _<_};
 ghost use lib.ListN.{length, getD};
 ghost use lib.Count.{ones};
 ghost use Rattle.vertex_set.specs.Set.{Decides};
 ghost use Rattle.families.specs.Family.{In, size, MinimalMembers};
 ghost use Rattle.families.specs.Masks.{MaskOf};
-ghost use Rattle.families.specs.Tables.{WeightsOf, SumsFit, SumTable};
+ghost use Rattle.vertex_set.proofs.Places.{places};
+ghost use Rattle.families.specs.Tables.{WeightsOf, SumsFit, SumTable, LanesOfSize, TablesFit, Wrote, rising, ofSize, sumBy};
 ghost use Rattle.families.specs.Steps.{StepsInWord, StepsToWord, LeastWord};
 
 use vertex_set::VertexSet;
 
 pub const WORDS: usize = 256;
+
+// At k the lanes of a word whose number has k bits.
+const LAYERS: [u64; 7] = [
+    0x0000_0000_0000_0001,
+    0x0000_0001_0001_0116,
+    0x0001_0116_0116_1668,
+    0x0116_1668_1668_6880,
+    0x1668_6880_6880_8000,
+    0x6880_8000_8000_0000,
+    0x8000_0000_0000_0000,
+];
 
 // Is the mask m in the family?
 pub fn has_mask(f: &[u64], m: usize) -> bool
@@ -141,4 +154,37 @@ fn fill_sums(weights: [u64; 14], from: usize, table: &mut [u64])
         let v = usize::trailing_zeros(k) as usize;
         table[k] = table[k - (one << v)] + weights[from + v];
     }
+}
+
+// The lanes of word b whose masks have s bits.
+fn lanes_of_size(b: usize, s: usize) -> u64
+    ensures { λ r. ⌜ LanesOfSize b s r ⌝ }
+{
+    let k = usize::count_ones(b) as usize;
+    if s < k {
+        return 0;
+    }
+    let d = s - k;
+    if d < 7 { LAYERS[d] } else { 0 }
+}
+
+// Writes the sums of the masks of word b in the lanes of y, from `at` on, and gives the next place.
+fn put_word(y: u64, b: usize, low: &[u64], high: &[u64], out: &mut [u64], at: usize) -> usize
+    requires { ⌜ b < 256 ⌝ }
+    requires { ⌜ TablesFit (now low) (now high) ⌝ }
+    requires { ⌜ at + ones y ≤ length (now out) ⌝ }
+    ensures { λ r. ⌜ Wrote (now (out .entry)) at (map (sumBy (now (low .entry)) (now (high .entry))) (map (λ (i : ℕ). b * 64 + i) (places 64 y))) (now (out .exit)) r ⌝ }
+{
+    let one: u64 = 1;
+    let base = high[b / 2];
+    let from = b % 2 * 64;
+    let mut rest = y;
+    let mut next = at;
+    while rest != 0 {
+        let i = u64::trailing_zeros(rest);
+        out[next] = base + low[from + i as usize];
+        next = next + 1;
+        rest = rest - (one << i);
+    }
+    next
 }

@@ -10,7 +10,7 @@ use native.Mathlib.Omega.{arith}
 use lib.Count.{ones, onesIn, ones-cat, ones-le, trailingZeros}
 use lib.Dec.{eqb}
 use lib.ListN.{length, getD, drop, set, length-append, length-map, length-set}
-use lib.Seq.{sets, drop-cons}
+use lib.Seq.{sets, length-sets, drop-cons}
 use borrow.Author.Tests.{eqb-true, eqb-false, eq-eqb, ne-eqb}
 use Rattle.vertex_set.specs.Set.{Member, Iff}
 use Rattle.vertex_set.specs.Order.{Listed}
@@ -82,6 +82,45 @@ lanes-layer b s h g =
           record { to = λ m. let o = c .to m in omega arith; from = λ e. c .from (omega arith) };
     }
 
+-- ---- writing a list part by part
+
+-- Of the list `all`, which goes to `at` and behind, `rest` is still to be written, from `next` on.
+pub record Writing (entry : List ℕ) (at : ℕ) (all rest out : List ℕ) (next : ℕ) : Type 0 where
+  pub long : length out ≡ length entry
+  pub count : next + length rest ≡ at + length all
+  pub value : sets out next rest ≡ sets entry at all
+
+pub writing-none : (entry : List ℕ) (at : ℕ) (all : List ℕ) → Writing entry at all all entry at
+writing-none entry at all = record { long = refl; count = refl; value = refl }
+
+sets-append : (l : List ℕ) (i : ℕ) (xs ys : List ℕ) → sets l i (xs ++ ys) ≡ sets (sets l i xs) (i + length xs) ys
+sets-append l i [] ys = let e : i + 0 ≡ i = omega arith in rw e
+sets-append l i (x ∷ xs) ys =
+    let e : i + suc (length xs) ≡ suc i + length xs = omega arith in
+    rw e (sets-append (set l i x) (suc i) xs ys)
+
+pub writing-part : (entry : List ℕ) (at : ℕ) (all xs ys out : List ℕ) (next : ℕ) (after : List ℕ) (r : ℕ) → Writing entry at all (xs ++ ys) out next
+    → Wrote out next xs after r → Writing entry at all ys after r
+writing-part entry at all xs ys out next after r w p =
+    let a = length-append xs ys in
+    rw (p .exit, p .next)
+    (record {
+      long = length-sets out next xs ∙ w .long;
+      count = omega (arith, w .count);
+      value = sym (sets-append out next xs ys) ∙ w .value;
+    })
+
+pub wrote-one : (out : List ℕ) (next x : ℕ) → Wrote out next (x ∷ []) (set out next x) (next + 1)
+wrote-one out next x = record { exit = refl; next = refl }
+
+pub wrote-nothing : (out : List ℕ) (next : ℕ) (xs : List ℕ) → xs ≡ [] → Wrote out next xs out next
+wrote-nothing out next xs e = rw e (record { exit = refl; next = omega arith })
+
+pub writing-end : (entry : List ℕ) (at : ℕ) (all rest out : List ℕ) (next : ℕ) → rest ≡ [] → Writing entry at all rest out next → Wrote entry at all out next
+writing-end entry at all rest out next e w =
+    let v = rw e at w in
+    record { exit = v .value; next = omega (arith, v .count) }
+
 -- ---- one word's sums
 
 -- the sum of a mask by the two tables, in words and lanes
@@ -100,34 +139,33 @@ lane-sums low high b y =
 pub lane-fits : (low high : List ℕ) (b i : ℕ) → TablesFit low high → b < 256 → i < 64 → getD high (b / 2) 0 + getD low (b % 2 * 64 + i) 0 < 2 ^ 64
 lane-fits low high b i t hb hi = let f = t .fits (b * 64 + i) (omega arith) in let e = lane-sum low high b i hi in omega arith
 
--- What g gives for the lanes of rest is still to be written from next on.
+-- The sums of the lanes of rest are still to be written.
 pub record Putting (g : ℕ → ℕ) (y : ℕ) (entry : List ℕ) (at : ℕ) (out : List ℕ) (rest next : ℕ) : Type 0 where
   pub small : rest < 2 ^ 64
-  pub count : next + ones rest ≡ at + ones y
-  pub long : length out ≡ length entry
-  pub value : sets out next (map g (places 64 rest)) ≡ sets entry at (map g (places 64 y))
+  pub writing : Writing entry at (map g (places 64 y)) (map g (places 64 rest)) out next
 
 pub putting-none : (g : ℕ → ℕ) (y : ℕ) (entry : List ℕ) (at : ℕ) → y < 2 ^ 64 → Putting g y entry at entry y at
-putting-none g y entry at h = record { small = h; count = refl; long = refl; value = refl }
+putting-none g y entry at h = record { small = h; writing = writing-none entry at (map g (places 64 y)) }
 
-pub putting-more : (g : ℕ → ℕ) (y : ℕ) (entry : List ℕ) (at : ℕ) (out : List ℕ) (rest next : ℕ) → (rest ≡ 0 → ⊥) → Putting g y entry at out rest next
-    → Putting g y entry at (set out next (g (trailingZeros 64 rest))) (rest - (1 * 2 ^ trailingZeros 64 rest) % 2 ^ 64) (next + 1)
-putting-more g y entry at out rest next ne p =
-    let l = lowest rest (p .small) ne in
-    rw (l .power, add-one next)
-    (record {
-      small = omega (arith, p .small);
-      count = omega (arith, l .count, p .count);
-      long = length-set out next (g (trailingZeros 64 rest)) ∙ p .long;
-      value = sym (ap (λ (k : List ℕ). sets out next (map g k)) (l .list)) ∙ p .value;
-    })
+module _ (g : ℕ → ℕ) (y : ℕ) (entry : List ℕ) (at : ℕ) (out : List ℕ) (rest next : ℕ) (p : Putting g y entry at out rest next) where
+  pub putting-room : y < 2 ^ 64 → (rest ≡ 0 → ⊥) → at + ones y ≤ length entry → next < length out
+  putting-room h ne room =
+      let l = lowest rest (p .small) ne in
+      let a = length-map (places 64 y) g ∙ length-places 64 y h in
+      let b = length-map (places 64 rest) g ∙ length-places 64 rest (p .small) in
+      omega (arith, l .count, p .writing .count, p .writing .long)
 
-pub putting-end : (g : ℕ → ℕ) (y : ℕ) (entry : List ℕ) (at : ℕ) (out : List ℕ) (rest next : ℕ) → y < 2 ^ 64 → rest ≡ 0 → Putting g y entry at out rest next
-    → Wrote entry at (map g (places 64 y)) out next
-putting-end g y entry at out rest next h z p =
-    let o : ones rest ≡ 0 = sym (length-places 64 rest (p .small)) ∙ ap length (places-none 64 rest z) in
-    let l : length (map g (places 64 y)) ≡ ones y = length-map (places 64 y) g ∙ length-places 64 y h in
-    record {
-      exit = sym (ap (λ (k : List ℕ). sets out next (map g k)) (places-none 64 rest z)) ∙ p .value;
-      next = omega (arith, p .count);
-    }
+  pub putting-more : (rest ≡ 0 → ⊥)
+      → Putting g y entry at (set out next (g (trailingZeros 64 rest))) (rest - (1 * 2 ^ trailingZeros 64 rest) % 2 ^ 64) (next + 1)
+  putting-more ne =
+      let l = lowest rest (p .small) ne in
+      let v : ℕ = trailingZeros 64 rest in
+      let w : Writing entry at (map g (places 64 y)) ((g v ∷ []) ++ map g (places 64 (rest - 2 ^ v))) out next = rw (l .list) at (p .writing) in
+      rw (l .power)
+      (record {
+        small = omega (arith, p .small);
+        writing = writing-part entry at _ (g v ∷ []) (map g (places 64 (rest - 2 ^ v))) out next _ _ w (wrote-one out next (g v));
+      })
+
+  pub putting-end : rest ≡ 0 → Wrote entry at (map g (places 64 y)) out next
+  putting-end z = writing-end entry at _ _ out next (ap (map g) (places-none 64 rest z)) (p .writing)

@@ -4,7 +4,7 @@ use mathlib.Core.Path.{_≡_, sym, subst}
 use native.Mathlib.Omega.{arith}
 use lib.ListN.{length, getD, length-set}
 use Rattle.vertex_set.proofs.Places.{Lowest, lowest}
-use Rattle.families.proofs.Lists.{Putting, putting-none, putting-more, putting-end, lane-sums, lane-fits}
+use Rattle.families.proofs.Lists.{Putting, putting-none, putting-room, putting-more, putting-end, lane-sums, lane-fits}
 use Rattle.families.proofs.put_word.Statement.{statement}
 use Rattle.families.proofs.put_word.Tie as tie
 use Rattle.families.proofs.put_word.Reads as reads
@@ -57,20 +57,23 @@ add-out-2 c =
     let s = c .before .before .before .before in
     record { fits = lane-fits (s .args .low .now) (s .args .high .now) (s .args .b) _ (s .pre .1 .0) (s .pre .0) (low (c .before) .below) }
 
+room : (c : tie.After-shared-slice-known2 Inv-loop μ-loop) → c .before .before .loop .next < length (c .before .before .loop .out)
+room c =
+    let b = c .before .before in
+    let s = b .before .before in
+    putting-room _ (s .args .y) (s .args .out .now) (s .args .at) (b .loop .out) (b .loop .rest) (b .loop .next) (b .loop .inv) (search needs) (c .before .loop-test .taken) (s .pre .1 .1)
+
 -- src/lib.rt:185:9
 mul-out-2 : tie.Need-mul-out-2 Inv-loop μ-loop
-mul-out-2 c = search needs
+mul-out-2 c = omega (arith, room c, c .before .before .loop .inv .writing .long)
 
 -- src/lib.rt:185:9
 slice-write-out : tie.Need-slice-write-out Inv-loop μ-loop
-slice-write-out c =
-    let s = c .before .before .before .before in
-    let i = c .before .before .loop .inv in
-    omega (arith, low (c .before) .count, i .count, i .long, s .pre .1 .1)
+slice-write-out c = room c
 
 -- src/lib.rt:186:16
 add-next : tie.Need-add-next Inv-loop μ-loop
-add-next c = search needs
+add-next c = omega (arith, room c, c .before .before .loop .inv .writing .long)
 
 -- src/lib.rt:187:31
 cast-rest : tie.Need-cast-rest Inv-loop μ-loop
@@ -93,11 +96,11 @@ loop-again : tie.Need-loop-again Inv-loop μ-loop
 loop-again c =
     let b = c .before .before in
     let s = b .before .before in
-    putting-more _ (s .args .y) (s .args .out .now) (s .args .at) (b .loop .out) (b .loop .rest) (b .loop .next) (c .before .loop-test .taken) (b .loop .inv)
+    putting-more _ (s .args .y) (s .args .out .now) (s .args .at) (b .loop .out) (b .loop .rest) (b .loop .next) (b .loop .inv) (c .before .loop-test .taken)
 
 -- src/lib.rt:172:1
 same-length : tie.Need-same-length Inv-loop μ-loop
-same-length c = search needs
+same-length c = c .before .loop .inv .writing .long
 
 -- src/lib.rt:172:1
 returns : tie.Need-returns Inv-loop μ-loop
@@ -105,7 +108,7 @@ returns c =
     let b = c .before in
     let s = b .before .before in
     rw (← lane-sums (s .args .low .now) (s .args .high .now) (s .args .b) (s .args .y))
-    (putting-end _ (s .args .y) (s .args .out .now) (s .args .at) (b .loop .out) (b .loop .rest) (b .loop .next) (search needs) (c .loop-test .left) (b .loop .inv))
+    (putting-end _ (s .args .y) (s .args .out .now) (s .args .at) (b .loop .out) (b .loop .rest) (b .loop .next) (b .loop .inv) (c .loop-test .left))
 
 pub put-word-spec : {M : Type 1} → statement M
 put-word-spec =

@@ -7,10 +7,11 @@ use mathlib.Core.List.{List, [], _∷_, _++_, map, map-map, map-append, append-n
 use Prim.Native.Nat.{ℕ, zero, suc, _+_, _-_, _*_, _/_, _%_, _^_, min, _≤_, _<_}
 use native.Mathlib.Numerals.{add-one}
 use native.Mathlib.Omega.{arith}
+use lib.Bits.{bitAnd, and-le-l}
 use lib.Count.{ones, onesIn, ones-cat, ones-le, trailingZeros}
 use lib.Dec.{eqb}
 use lib.ListN.{length, getD, drop, set, length-append, length-map, length-set}
-use lib.Seq.{sets, length-sets, drop-cons}
+use lib.Seq.{sets, length-sets, drop-cons, drop-length}
 use borrow.Author.Tests.{eqb-true, eqb-false, eq-eqb, ne-eqb}
 use Rattle.vertex_set.specs.Set.{Member, Iff}
 use Rattle.vertex_set.specs.Order.{Listed}
@@ -20,7 +21,7 @@ use Rattle.vertex_set.proofs.Sets.{none-in-zero}
 use Rattle.vertex_set.proofs.Places.{places, places-none, places-and, listed-places, length-places, isIn, Lowest, lowest}
 use Rattle.vertex_set.proofs.Shifts.{all, all-at}
 use Rattle.vertex_set.proofs.Sorted.{map-same, only, only-append, only-map, only-same}
-use Rattle.families.specs.Tables.{LanesOfSize, rising, ofSize, bySize, sumBy, TablesFit, Wrote}
+use Rattle.families.specs.Tables.{LanesOfSize, masksIn, rising, ofSize, bySize, sumBy, TablesFit, Wrote}
 
 -- ---- the lanes of a size
 
@@ -110,6 +111,11 @@ writing-part entry at all xs ys out next after r w p =
       value = sym (sets-append out next xs ys) ∙ w .value;
     })
 
+-- there is room for the next part
+pub writing-room : (entry : List ℕ) (at : ℕ) (all xs ys out : List ℕ) (next : ℕ) → Writing entry at all (xs ++ ys) out next → at + length all ≤ length entry
+    → next + length xs ≤ length out
+writing-room entry at all xs ys out next w room = omega (arith, length-append xs ys, w .long, w .count)
+
 pub wrote-one : (out : List ℕ) (next x : ℕ) → Wrote out next (x ∷ []) (set out next x) (next + 1)
 wrote-one out next x = record { exit = refl; next = refl }
 
@@ -131,7 +137,7 @@ lane-sum low high b i h =
     rw (e, f)
 
 pub lane-sums : (low high : List ℕ) (b y : ℕ)
-    → map (λ (i : ℕ). getD high (b / 2) 0 + getD low (b % 2 * 64 + i) 0) (places 64 y) ≡ map (sumBy low high) (map (λ (i : ℕ). b * 64 + i) (places 64 y))
+    → map (λ (i : ℕ). getD high (b / 2) 0 + getD low (b % 2 * 64 + i) 0) (places 64 y) ≡ map (sumBy low high) (masksIn b y)
 lane-sums low high b y =
     map-same _ _ (places 64 y) (λ i m. sym (lane-sum low high b i (listed-places 64 y i .to m .1)))
     ∙ sym (map-map (sumBy low high) (λ (i : ℕ). b * 64 + i) (places 64 y))
@@ -169,3 +175,72 @@ module _ (g : ℕ → ℕ) (y : ℕ) (entry : List ℕ) (at : ℕ) (out : List �
 
   pub putting-end : rest ≡ 0 → Wrote entry at (map g (places 64 y)) out next
   putting-end z = writing-end entry at _ _ out next (ap (map g) (places-none 64 rest z)) (p .writing)
+
+-- ---- the masks of one size
+
+-- a lane passes the test of its size exactly if it is in the lanes of that size
+same-test : (b s r i : ℕ) → Iff (Member r i) (ones (b * 64 + i) ≡ s) → eqb (ones (b * 64 + i)) s ≡ isIn r i
+unfolding Member
+same-test b s r i f =
+    ⊎-elim (λ e. eq-eqb _ _ e ∙ sym (eq-eqb _ _ (f .from e))) (λ n. ne-eqb _ _ n ∙ sym (ne-eqb _ _ (λ e. n (f .to e))))
+    (same-or (ones (b * 64 + i)) s)
+
+-- in one word: those in the lanes of that size
+pub sized-lanes : (b s x r : ℕ) → LanesOfSize b s r
+    → ofSize s (masksIn b x) ≡ masksIn b (bitAnd x r)
+sized-lanes b s x r h =
+    only-map (λ (m : ℕ). eqb (ones m) s) (λ (i : ℕ). b * 64 + i) (places 64 x)
+    ∙ ap (map (λ (i : ℕ). b * 64 + i))
+        (only-same _ (isIn r) (places 64 x) (λ i m. same-test b s r i (h .each i (listed-places 64 x i .to m .1))) ∙ sym (places-and 64 x r))
+
+pub length-masks : (b y : ℕ) → y < 2 ^ 64 → length (masksIn b y) ≡ ones y
+length-masks b y h = length-map (places 64 y) (λ (i : ℕ). b * 64 + i) ∙ length-places 64 y h
+
+pub sized-count : (b s x r : ℕ) → x < 2 ^ 64 → LanesOfSize b s r → length (ofSize s (masksIn b x)) ≡ ones (bitAnd x r)
+sized-count b s x r h l = ap length (sized-lanes b s x r l) ∙ length-masks b (bitAnd x r) (let a = and-le-l x r in omega arith)
+
+pub sized-none : (b s x : ℕ) → x ≡ 0 → ofSize s (masksIn b x) ≡ []
+sized-none b s x e = rw (places-none 64 x e)
+
+-- word by word
+pub rising-drop : (f : List ℕ) (b : ℕ) → b < length f
+    → rising b (drop b f) ≡ masksIn b (getD f b 0) ++ rising (b + 1) (drop (b + 1) f)
+rising-drop f b h = rw (add-one, drop-cons f b 0 h)
+
+pub rising-end : (f : List ℕ) (b : ℕ) → b ≡ length f → rising b (drop b f) ≡ []
+rising-end f b e = rw (e, drop-length f)
+
+pub sized-drop : (N : ℕ → ℕ) (s : ℕ) (f : List ℕ) (b : ℕ) → b < length f
+    → map N (ofSize s (rising b (drop b f)))
+      ≡ map N (ofSize s (masksIn b (getD f b 0))) ++ map N (ofSize s (rising (b + 1) (drop (b + 1) f)))
+sized-drop N s f b h =
+    ap (λ (l : List ℕ). map N (ofSize s l)) (rising-drop f b h)
+    ∙ ap (map N) (only-append (λ (m : ℕ). eqb (ones m) s) (masksIn b (getD f b 0)) (rising (b + 1) (drop (b + 1) f)))
+    ∙ map-append N (ofSize s (masksIn b (getD f b 0))) (ofSize s (rising (b + 1) (drop (b + 1) f)))
+
+-- The loop over the words, with those from b on still to come.
+abbrev pub SizeWriting : (ℕ → ℕ) → ℕ → List ℕ → List ℕ → ℕ → List ℕ → ℕ → ℕ → Type 0
+SizeWriting N s f entry at out next b = Writing entry at (map N (ofSize s (rising 0 f))) (map N (ofSize s (rising b (drop b f)))) out next
+
+module _ (N : ℕ → ℕ) (s : ℕ) (f entry : List ℕ) (at : ℕ) (out : List ℕ) (next b : ℕ) (w : SizeWriting N s f entry at out next b) where
+  word-front : b < length f → Writing entry at (map N (ofSize s (rising 0 f)))
+      (map N (ofSize s (masksIn b (getD f b 0))) ++ map N (ofSize s (rising (b + 1) (drop (b + 1) f)))) out next
+  word-front h = subst (λ (l : List ℕ). Writing entry at (map N (ofSize s (rising 0 f))) l out next) (sized-drop N s f b h) w
+
+  pub size-room : b < length f → at + length (ofSize s (rising 0 f)) ≤ length entry → next + length (ofSize s (masksIn b (getD f b 0))) ≤ length out
+  size-room h room =
+      let l = length-map (ofSize s (rising 0 f)) N in
+      let k = length-map (ofSize s (masksIn b (getD f b 0))) N in
+      let here : List ℕ = map N (ofSize s (masksIn b (getD f b 0))) in
+      let after : List ℕ = map N (ofSize s (rising (b + 1) (drop (b + 1) f))) in
+      let r = writing-room entry at (map N (ofSize s (rising 0 f))) here after out next (word-front h) (omega arith) in
+      omega arith
+
+  pub size-next : b < length f → (after : List ℕ) (r : ℕ) → Wrote out next (map N (ofSize s (masksIn b (getD f b 0)))) after r
+      → SizeWriting N s f entry at after r (b + 1)
+  size-next h after r p =
+      let rest : List ℕ = map N (ofSize s (rising (b + 1) (drop (b + 1) f))) in
+      writing-part entry at _ (map N (ofSize s (masksIn b (getD f b 0)))) rest out next after r (word-front h) p
+
+  pub size-end : b ≡ length f → Wrote entry at (map N (ofSize s (rising 0 f))) out next
+  size-end e = writing-end entry at _ _ out next (ap (λ (l : List ℕ). map N (ofSize s l)) (rising-end f b e)) w

@@ -35,10 +35,14 @@ pub record SumTable (ws : List ℕ) (n : ℕ) (t : List ℕ) : Type 0 where
 pub record LanesOfSize (b s r : ℕ) : Type 0 where
   pub each : (i : ℕ) → i < 64 → Iff (Member r i) (ones (b * 64 + i) ≡ s)
 
+-- The masks of word b in the lanes of y, in rising order.
+abbrev pub masksIn : ℕ → ℕ → List ℕ
+masksIn b y = map (λ (i : ℕ). b * 64 + i) (places 64 y)
+
 -- The members of the family f, whose first word has the number b, in rising order.
 abbrev pub rising : ℕ → List ℕ → List ℕ
 rising b [] = []
-rising b (w ∷ f) = map (λ (i : ℕ). b * 64 + i) (places 64 w) ++ rising (suc b) f
+rising b (w ∷ f) = masksIn b w ++ rising (suc b) f
 
 -- Those of the masks that have s bits.
 abbrev pub ofSize : ℕ → List ℕ → List ℕ

@@ -8,8 +8,7 @@ ghost use lib.Count.{ones};
 ghost use Rattle.vertex_set.specs.Set.{Decides};
 ghost use Rattle.families.specs.Family.{In, size, MinimalMembers};
 ghost use Rattle.families.specs.Masks.{MaskOf};
-ghost use Rattle.vertex_set.proofs.Places.{places};
-ghost use Rattle.families.specs.Tables.{WeightsOf, SumsFit, SumTable, LanesOfSize, TablesFit, Wrote, rising, ofSize, sumBy};
+ghost use Rattle.families.specs.Tables.{WeightsOf, SumsFit, SumTable, LanesOfSize, TablesFit, Wrote, masksIn, rising, ofSize, sumBy};
 ghost use Rattle.families.specs.Steps.{StepsInWord, StepsToWord, LeastWord};
 
 use vertex_set::VertexSet;
@@ -173,7 +172,7 @@ fn put_word(y: u64, b: usize, low: &[u64], high: &[u64], out: &mut [u64], at: us
     requires { ⌜ b < 256 ⌝ }
     requires { ⌜ TablesFit (now low) (now high) ⌝ }
     requires { ⌜ at + ones y ≤ length (now out) ⌝ }
-    ensures { λ r. ⌜ Wrote (now (out .entry)) at (map (sumBy (now (low .entry)) (now (high .entry))) (map (λ (i : ℕ). b * 64 + i) (places 64 y))) (now (out .exit)) r ⌝ }
+    ensures { λ r. ⌜ Wrote (now (out .entry)) at (map (sumBy (now (low .entry)) (now (high .entry))) (masksIn b y)) (now (out .exit)) r ⌝ }
 {
     let one: u64 = 1;
     let base = high[b / 2];
@@ -185,6 +184,34 @@ fn put_word(y: u64, b: usize, low: &[u64], high: &[u64], out: &mut [u64], at: us
         out[next] = base + low[from + i as usize];
         next = next + 1;
         rest = rest - (one << i);
+    }
+    next
+}
+
+// The same for those of the masks of word b in the lanes of x that have s bits.
+fn put_sized(x: u64, b: usize, s: usize, low: &[u64], high: &[u64], out: &mut [u64], at: usize) -> usize
+    requires { ⌜ b < 256 ⌝ }
+    requires { ⌜ TablesFit (now low) (now high) ⌝ }
+    requires { ⌜ at + length (ofSize s (masksIn b x)) ≤ length (now out) ⌝ }
+    ensures { λ r. ⌜ Wrote (now (out .entry)) at (map (sumBy (now (low .entry)) (now (high .entry))) (ofSize s (masksIn b x))) (now (out .exit)) r ⌝ }
+{
+    if x == 0 {
+        return at;
+    }
+    let lanes = lanes_of_size(b, s);
+    put_word(x & lanes, b, low, high, out, at)
+}
+
+// The same for the family's members that have s bits.
+fn put_size(f: &[u64], s: usize, low: &[u64], high: &[u64], out: &mut [u64], at: usize) -> usize
+    requires { ⌜ length (now f) ≡ 256 ⌝ }
+    requires { ⌜ TablesFit (now low) (now high) ⌝ }
+    requires { ⌜ at + length (ofSize s (rising 0 (now f))) ≤ length (now out) ⌝ }
+    ensures { λ r. ⌜ Wrote (now (out .entry)) at (map (sumBy (now (low .entry)) (now (high .entry))) (ofSize s (rising 0 (now (f .entry))))) (now (out .exit)) r ⌝ }
+{
+    let mut next = at;
+    for b in 0..WORDS {
+        next = put_sized(f[b], b, s, low, high, out, next);
     }
     next
 }

@@ -3,3 +3,5 @@ pub mod Steps
 pub mod Masks
 pub mod Weights
 pub mod Lists
+pub mod Order
+pub mod SetLists

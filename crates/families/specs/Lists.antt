@@ -2,6 +2,7 @@
 use mathlib.Core.Path.{_≡_}
 use mathlib.Core.List.{List, _++_}
 use Prim.Native.Nat.{ℕ, _^_, _≤_, _<_}
+use lib.Count.{ones}
 use lib.ListN.{length, drop}
 use Rattle.vertex_set.specs.Order.{Listed, Ordered, sumOver}
 use Rattle.families.specs.Family.{In, size}
@@ -12,6 +13,17 @@ pub record ListOf (chosen : ℕ) (f l : List ℕ) : Type 0 where
   pub sound : (x : ℕ) → Listed l x → (m : ℕ) × (m < 16384) × In f m × SetOfMask chosen m x
   pub whole : (m : ℕ) → m < 16384 → In f m → (x : ℕ) × Listed l x × SetOfMask chosen m x
   pub ordered : Ordered l
+
+-- No member has a bit beyond the chosen vertices' numbers.
+pub record OnChosen (chosen : ℕ) (f : List ℕ) : Type 0 where
+  pub below : (m : ℕ) → m < 16384 → In f m → m < 2 ^ ones chosen
+
+-- What write_sets asks for: a family of 256 words on at most 14 chosen vertices, and room for all its members.
+pub record Writable (chosen : ℕ) (f : List ℕ) (places : ℕ) : Type 0 where
+  pub words : length f ≡ 256
+  pub few : ones chosen ≤ 14
+  pub exact : OnChosen chosen f
+  pub room : size f ≤ places
 
 -- The list of the members' sets stands at the front of a list that was entry, and their number is r.
 pub record WroteSets (chosen : ℕ) (f entry : List ℕ) (r : ℕ) (exit : List ℕ) : Type 0 where

@@ -8,7 +8,8 @@ ghost use lib.Count.{ones};
 ghost use Rattle.vertex_set.specs.Set.{Decides};
 ghost use Rattle.families.specs.Family.{In, size, MinimalMembers};
 ghost use Rattle.families.specs.Masks.{MaskOf};
-ghost use Rattle.families.specs.Tables.{WeightsOf, SumsFit, SumTable, LanesOfSize, TablesFit, Wrote, masksIn, rising, ofSize, sumBy};
+ghost use Rattle.families.specs.Lists.{Writable, WroteSets};
+ghost use Rattle.families.specs.Tables.{WeightsOf, SumsFit, SumTable, LanesOfSize, TablesFit, Wrote, masksIn, rising, ofSize, bySize, sumBy};
 ghost use Rattle.families.specs.Steps.{StepsInWord, StepsToWord, LeastWord};
 
 use vertex_set::VertexSet;
@@ -24,6 +25,26 @@ const LAYERS: [u64; 7] = [
     0x1668_6880_6880_8000,
     0x6880_8000_8000_0000,
     0x8000_0000_0000_0000,
+];
+
+// At v the number of the set that has v alone.
+const SINGLES: [u64; 64] = [
+    0x1, 0x2, 0x4, 0x8,
+    0x10, 0x20, 0x40, 0x80,
+    0x100, 0x200, 0x400, 0x800,
+    0x1000, 0x2000, 0x4000, 0x8000,
+    0x10000, 0x20000, 0x40000, 0x80000,
+    0x100000, 0x200000, 0x400000, 0x800000,
+    0x1000000, 0x2000000, 0x4000000, 0x8000000,
+    0x10000000, 0x20000000, 0x40000000, 0x80000000,
+    0x100000000, 0x200000000, 0x400000000, 0x800000000,
+    0x1000000000, 0x2000000000, 0x4000000000, 0x8000000000,
+    0x10000000000, 0x20000000000, 0x40000000000, 0x80000000000,
+    0x100000000000, 0x200000000000, 0x400000000000, 0x800000000000,
+    0x1000000000000, 0x2000000000000, 0x4000000000000, 0x8000000000000,
+    0x10000000000000, 0x20000000000000, 0x40000000000000, 0x80000000000000,
+    0x100000000000000, 0x200000000000000, 0x400000000000000, 0x800000000000000,
+    0x1000000000000000, 0x2000000000000000, 0x4000000000000000, 0x8000000000000000,
 ];
 
 // Is the mask m in the family?
@@ -214,4 +235,36 @@ fn put_size(f: &[u64], s: usize, low: &[u64], high: &[u64], out: &mut [u64], at:
         next = put_sized(f[b], b, s, low, high, out, next);
     }
     next
+}
+
+// The same for all of the family's members, fewer bits first. It stops where all are written.
+fn put_all(f: &[u64], low: &[u64], high: &[u64], out: &mut [u64]) -> usize
+    requires { ⌜ length (now f) ≡ 256 ⌝ }
+    requires { ⌜ TablesFit (now low) (now high) ⌝ }
+    requires { ⌜ size (now f) ≤ length (now out) ⌝ }
+    ensures { λ r. ⌜ Wrote (now (out .entry)) 0 (map (sumBy (now (low .entry)) (now (high .entry))) (bySize (rising 0 (now (f .entry))) 0 15)) (now (out .exit)) r ⌝ }
+{
+    let total = count_members(f);
+    let mut next: usize = 0;
+    for s in 0..15usize {
+        if next == total {
+            return next;
+        }
+        next = put_size(f, s, low, high, out, next);
+    }
+    next
+}
+
+// Writes the sets of the family's members to the front of out, fewer vertices first and then the
+// smaller set number, and gives their number. A set's number is the sum of its vertices' powers of 2.
+pub fn write_sets(f: &[u64], chosen: VertexSet, out: &mut [u64]) -> usize
+    requires { ⌜ Writable (chosen .0) (now f) (length (now out)) ⌝ }
+    ensures { λ r. ⌜ WroteSets (chosen .0) (now (f .entry)) (now (out .entry)) r (now (out .exit)) ⌝ }
+{
+    let weights = weights_of(chosen, SINGLES);
+    let mut low = [0u64; 128];
+    let mut high = [0u64; 128];
+    fill_sums(weights, 0, &mut low);
+    fill_sums(weights, 7, &mut high);
+    put_all(f, &low, &high, out)
 }

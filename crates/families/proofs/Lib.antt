@@ -5,3 +5,4 @@ pub mod Weights
 pub mod Lists
 pub mod Order
 pub mod SetLists
+pub mod Least

@@ -4,6 +4,7 @@ use mathlib.Core.List.{List, _++_}
 use Prim.Native.Nat.{ℕ, _^_, _≤_, _<_}
 use lib.Count.{ones}
 use lib.ListN.{length, drop}
+use Rattle.vertex_set.specs.Set.{Member}
 use Rattle.vertex_set.specs.Order.{Listed, Ordered, sumOver}
 use Rattle.families.specs.Family.{In, size}
 use Rattle.families.specs.Masks.{SetOfMask}
@@ -32,6 +33,12 @@ pub record WroteSets (chosen : ℕ) (f entry : List ℕ) (r : ℕ) (exit : List 
   pub count : r ≡ length list
   pub all : size f ≡ length list
   pub wrote : exit ≡ list ++ drop (length list) entry
+
+-- What least_sum asks for: a family of 256 words on at most 14 chosen vertices, with values of at most 4,000,000,000.
+pub record Summable (chosen : ℕ) (f : List ℕ) (value : ℕ → ℕ) : Type 0 where
+  pub words : length f ≡ 256
+  pub few : ones chosen ≤ 14
+  pub small : (v : ℕ) → Member chosen v → value v ≤ 4000000000
 
 -- Some member of f stands for a set whose values sum up to r.
 pub record SumOfMember (chosen : ℕ) (f : List ℕ) (value : ℕ → ℕ) (r : ℕ) : Type 0 where

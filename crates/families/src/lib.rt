@@ -2,19 +2,22 @@
 // whether the mask m is in. No graph is in sight here.
 ghost use mathlib.Core.Path.{_≡_};
 ghost use mathlib.Core.List.{map};
-ghost use Prim.Native.Nat.{ℕ, _+_, _*_, _≤_, _<_};
+ghost use Prim.Native.Nat.{ℕ, _+_, _*_, _^_, _≤_, _<_};
 ghost use lib.ListN.{length, getD};
 ghost use lib.Count.{ones};
 ghost use Rattle.vertex_set.specs.Set.{Decides};
 ghost use Rattle.families.specs.Family.{In, size, MinimalMembers};
 ghost use Rattle.families.specs.Masks.{MaskOf};
-ghost use Rattle.families.specs.Lists.{Writable, WroteSets};
-ghost use Rattle.families.specs.Tables.{WeightsOf, SumsFit, SumTable, LanesOfSize, TablesFit, Wrote, masksIn, rising, ofSize, bySize, sumBy};
+ghost use Rattle.families.specs.Lists.{Writable, WroteSets, Summable, LeastSum};
+ghost use Rattle.families.specs.Tables.{WeightsOf, SumsFit, SumTable, LanesOfSize, TablesFit, Wrote, masksIn, rising, ofSize, bySize, sumBy, leastOf};
 ghost use Rattle.families.specs.Steps.{StepsInWord, StepsToWord, LeastWord};
 
 use vertex_set::VertexSet;
 
 pub const WORDS: usize = 256;
+
+// The least sum where there is no member: 2^62, above every sum.
+pub const NEVER: u64 = 0x4000_0000_0000_0000;
 
 // At k the lanes of a word whose number has k bits.
 const LAYERS: [u64; 7] = [
@@ -267,4 +270,55 @@ pub fn write_sets(f: &[u64], chosen: VertexSet, out: &mut [u64]) -> usize
     fill_sums(weights, 0, &mut low);
     fill_sums(weights, 7, &mut high);
     put_all(f, &low, &high, out)
+}
+
+// The least of `best` and the sums of the masks of word b in the lanes of y.
+fn least_in_word(y: u64, b: usize, low: &[u64], high: &[u64], best: u64) -> u64
+    requires { ⌜ b < 256 ⌝ }
+    requires { ⌜ TablesFit (now low) (now high) ⌝ }
+    ensures { λ r. ⌜ r ≡ leastOf best (map (sumBy (now (low .entry)) (now (high .entry))) (masksIn b y)) ⌝ }
+{
+    let one: u64 = 1;
+    let base = high[b / 2];
+    let from = b % 2 * 64;
+    let mut rest = y;
+    let mut least = best;
+    while rest != 0 {
+        let i = u64::trailing_zeros(rest);
+        let sum = base + low[from + i as usize];
+        if sum < least {
+            least = sum;
+        }
+        rest = rest - (one << i);
+    }
+    least
+}
+
+// The least sum over the family's members, and NEVER where there is none.
+fn least_of_all(f: &[u64], low: &[u64], high: &[u64]) -> u64
+    requires { ⌜ length (now f) ≡ 256 ⌝ }
+    requires { ⌜ TablesFit (now low) (now high) ⌝ }
+    ensures { λ r. ⌜ r ≡ leastOf (2 ^ 62) (map (sumBy (now (low .entry)) (now (high .entry))) (rising 0 (now (f .entry)))) ⌝ }
+{
+    let mut least = NEVER;
+    for b in 0..WORDS {
+        let x = f[b];
+        if x != 0 {
+            least = least_in_word(x, b, low, high, least);
+        }
+    }
+    least
+}
+
+// The least sum of values over the sets of the family's members, and NEVER where there is none.
+pub fn least_sum(f: &[u64], chosen: VertexSet, values: [u64; 64]) -> u64
+    requires { ⌜ Summable (chosen .0) (now f) (λ (v : ℕ). getD values v 0) ⌝ }
+    ensures { λ r. ⌜ LeastSum (chosen .0) (now (f .entry)) (λ (v : ℕ). getD values v 0) r ⌝ }
+{
+    let weights = weights_of(chosen, values);
+    let mut low = [0u64; 128];
+    let mut high = [0u64; 128];
+    fill_sums(weights, 0, &mut low);
+    fill_sums(weights, 7, &mut high);
+    least_of_all(f, &low, &high)
 }

@@ -35,6 +35,14 @@ sum-within value (suc n) a b w =
     let t : digit a n * value n ≤ digit b n * value n = mul-le-mul-right (value n) le in
     omega arith
 
+-- a bound on the values is one on the sum
+pub sum-bound : (value : ℕ → ℕ) (b n s : ℕ) → ((v : ℕ) → Member s v → value v ≤ b) → sumBelow value s n ≤ n * b
+unfolding Member
+sum-bound value b zero s h = omega arith
+sum-bound value b (suc n) s h =
+    let ih = sum-bound value b n s h in
+    ⊎-elim (λ m. let l = h n m in rw m (omega arith)) (λ o. let z = not-member s n o in rw z (omega arith)) (member-or s n)
+
 -- a set is the sum of the powers of its vertices
 pub sum-powers : (n s : ℕ) → sumBelow (λ (v : ℕ). 2 ^ v) s n ≡ s % 2 ^ n
 sum-powers zero s = omega arith

@@ -1,0 +1,162 @@
+// Families of masks, 64 masks in a word: the word operations by which a table of all subsets is filled.
+ghost use mathlib.Core.Path.{_≡_};
+ghost use mathlib.Core.Logic.{_⊎_};
+ghost use Prim.Native.Nat.{ℕ, _+_, _*_, _<_};
+ghost use lib.ListN.{length};
+ghost use Rattle.vertex_set.specs.Set.{Member};
+ghost use Rattle.derivations.specs.Lockout.{SomeLost};
+ghost use Rattle.lanes.specs.Lanes.{At, Lane, Lanes, AllHeld, WholeColour, CutColour, Completed, Severed, Admits, Lowest, Without, Needed};
+use setup::Rows;
+
+// The words of a family: 2^14 masks.
+pub const WORDS: usize = 256;
+
+pub const COLOURS: usize = 8;
+
+// Every word of the family becomes x.
+pub fn set_all(d: &mut [u64], x: u64)
+    requires { ⌜ length (now d) ≡ 256 ⌝ }
+    ensures { λ _. ⌜ Lanes (λ b i. Member x i) (now (d .exit)) ⌝ }
+{
+    for b in 0..WORDS {
+        d[b] = x;
+    }
+}
+
+// The family keeps the masks that the other has.
+fn and_in(d: &mut [u64], s: &[u64])
+    requires { ⌜ length (now d) ≡ 256 ⌝ }
+    requires { ⌜ length (now s) ≡ 256 ⌝ }
+    ensures { λ _. ⌜ Lanes (λ b i. At (now (d .entry)) b i × At (now (s .entry)) b i) (now (d .exit)) ⌝ }
+{
+    for b in 0..WORDS {
+        d[b] = d[b] & s[b];
+    }
+}
+
+// The family gains the masks that the other has.
+fn or_in(d: &mut [u64], s: &[u64])
+    requires { ⌜ length (now d) ≡ 256 ⌝ }
+    requires { ⌜ length (now s) ≡ 256 ⌝ }
+    ensures { λ _. ⌜ Lanes (λ b i. At (now (d .entry)) b i ⊎ At (now (s .entry)) b i) (now (d .exit)) ⌝ }
+{
+    for b in 0..WORDS {
+        d[b] = d[b] | s[b];
+    }
+}
+
+// The lowest vertex of a set that has one.
+pub fn lowest(s: u64) -> usize
+    requires { ⌜ (s ≡ 0 → ⊥) ⌝ }
+    ensures { λ r. ⌜ Lowest s r ⌝ }
+{
+    u64::trailing_zeros(s) as usize
+}
+
+// The set without the vertex v.
+pub fn without(s: u64, v: usize) -> u64
+    requires { ⌜ v < 64 ⌝ }
+    ensures { λ r. ⌜ Without s v r ⌝ }
+{
+    let one: u64 = 1;
+    s & !(one << v)
+}
+
+// The masks whose sets have every vertex of the row.
+fn all_of(w: &[u64], row: u64, out: &mut [u64])
+    requires { ⌜ length (now w) ≡ 16384 ⌝ }
+    requires { ⌜ length (now out) ≡ 256 ⌝ }
+    ensures { λ _. ⌜ Lanes (λ b i. AllHeld (Lane (now (w .entry)) b i) row) (now (out .exit)) ⌝ }
+{
+    set_all(out, 0xFFFF_FFFF_FFFF_FFFF);
+    let mut left = row;
+    while left != 0 {
+        let v = lowest(left);
+        let a = v * WORDS;
+        and_in(out, &w[a..a + WORDS]);
+        left = without(left, v);
+    }
+}
+
+// The masks whose sets have some vertex of the row.
+fn any_of(w: &[u64], row: u64, out: &mut [u64])
+    requires { ⌜ length (now w) ≡ 16384 ⌝ }
+    requires { ⌜ length (now out) ≡ 256 ⌝ }
+    ensures { λ _. ⌜ Lanes (λ b i. SomeLost (Lane (now (w .entry)) b i) row) (now (out .exit)) ⌝ }
+{
+    set_all(out, 0);
+    let mut left = row;
+    while left != 0 {
+        let v = lowest(left);
+        let a = v * WORDS;
+        or_in(out, &w[a..a + WORDS]);
+        left = without(left, v);
+    }
+}
+
+// All vertices that some colour of these rows needs.
+pub fn needed(rows: Rows) -> u64
+    ensures { λ r. ⌜ Needed rows r ⌝ }
+{
+    let mut s: u64 = 0;
+    for c in 0..COLOURS {
+        s = s | rows.needs[c];
+    }
+    s
+}
+
+// The family gains the masks whose sets have the whole row. An empty row is no colour, and gives none.
+fn gain_colour(w: &[u64], row: u64, out: &mut [u64])
+    requires { ⌜ length (now w) ≡ 16384 ⌝ }
+    requires { ⌜ length (now out) ≡ 256 ⌝ }
+    ensures { λ _. ⌜ Lanes (λ b i. At (now (out .entry)) b i ⊎ WholeColour (Lane (now (w .entry)) b i) row) (now (out .exit)) ⌝ }
+{
+    if row == 0 {
+        return;
+    }
+    let mut part = [0u64; 256];
+    all_of(w, row, &mut part);
+    or_in(out, &part);
+}
+
+// The family keeps the masks whose sets have a vertex of the row. An empty row is no colour, and takes none away.
+fn keep_colour(w: &[u64], row: u64, out: &mut [u64])
+    requires { ⌜ length (now w) ≡ 16384 ⌝ }
+    requires { ⌜ length (now out) ≡ 256 ⌝ }
+    ensures { λ _. ⌜ Lanes (λ b i. At (now (out .entry)) b i × CutColour (Lane (now (w .entry)) b i) row) (now (out .exit)) ⌝ }
+{
+    if row == 0 {
+        return;
+    }
+    let mut part = [0u64; 256];
+    any_of(w, row, &mut part);
+    and_in(out, &part);
+}
+
+// The masks by whose sets a vertex with these rows is opened.
+fn completed(w: &[u64], rows: Rows, out: &mut [u64])
+    requires { ⌜ length (now w) ≡ 16384 ⌝ }
+    requires { ⌜ length (now out) ≡ 256 ⌝ }
+    ensures { λ _. ⌜ Lanes (λ b i. Completed rows (Lane (now (w .entry)) b i)) (now (out .exit)) ⌝ }
+{
+    set_all(out, 0);
+    for c in 0..COLOURS {
+        gain_colour(w, rows.needs[c], out);
+    }
+}
+
+// The masks by whose sets a vertex with these rows is lost. A vertex that has no colour is lost by none.
+fn severed(w: &[u64], rows: Rows, out: &mut [u64])
+    requires { ⌜ length (now w) ≡ 16384 ⌝ }
+    requires { ⌜ length (now out) ≡ 256 ⌝ }
+    ensures { λ _. ⌜ Lanes (λ b i. Severed rows (Lane (now (w .entry)) b i)) (now (out .exit)) ⌝ }
+{
+    if needed(rows) == 0 {
+        set_all(out, 0);
+        return;
+    }
+    set_all(out, 0xFFFF_FFFF_FFFF_FFFF);
+    for c in 0..COLOURS {
+        keep_colour(w, rows.needs[c], out);
+    }
+}

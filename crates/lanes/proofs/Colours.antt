@@ -2,19 +2,20 @@
 -- Assumes nothing.
 use mathlib.Core.Path.{_≡_, refl, sym, ap, _∙_, subst}
 use mathlib.Core.List.{List}
+use mathlib.Core.Bool.{Bool, true, false}
 use mathlib.Core.Logic.{_⊎_, inl, inr, ⊎-elim}
 use Prim.Native.Nat.{ℕ, _+_, _-_, _*_, _^_, _≤_, _<_}
 use native.Mathlib.Omega.{arith}
 use lib.Bits.{bitOr}
 use lib.ListN.{length, getD, List·getD-eq-default}
 use Rattle.vertex_set.specs.Set.{Member, Iff}
-use Rattle.vertex_set.proofs.Cases.{same-or, less-or}
+use Rattle.vertex_set.proofs.Cases.{same-or, less-or, false-true}
 use Rattle.vertex_set.proofs.Sets.{in-or, none-in-zero, some-member}
 use Rattle.setup.specs.declared.Rows.{Rows}
 use Rattle.setup.specs.Setup.{rowOf}
 use Rattle.derivations.specs.Derivation.{Vertices}
 use Rattle.derivations.specs.Lockout.{SomeLost}
-use Rattle.lanes.specs.Lanes.{At, Lane, Lanes, AllHeld, WholeColour, CutColour, Completed, Severed, Coloured, Needed}
+use Rattle.lanes.specs.Lanes.{At, Lane, Lanes, AllHeld, WholeColour, CutColour, Completed, Severed, Admits, Coloured, Needed}
 use Rattle.lanes.proofs.Families.{iff-refl, iff-trans, lanes-as}
 use Rattle.lanes.proofs.Scans.{full-word}
 
@@ -195,3 +196,14 @@ module _ (w : List ℕ) (rows : Rows) where
             let m = some-member (rowOf rows (v .colour)) (v .coloured) in
             absurd (none-in-zero (m .0) (subst (λ (x : ℕ). Member x (m .0)) z (d .each (m .0) .from (record { colour = v .colour; member = m .1 }))));
       })
+
+-- ---- access and lockout
+
+module _ (w : List ℕ) (rows : Rows) (out : List ℕ) where
+  pub admitted-lost : (loss : Bool) → loss ≡ true → Lanes (λ b i. Severed rows (Lane w b i)) out → Lanes (λ b i. Admits loss rows (Lane w b i)) out
+  admitted-lost true e l = l
+  admitted-lost false e l = absurd (false-true e)
+
+  pub admitted-opened : (loss : Bool) → loss ≡ false → Lanes (λ b i. Completed rows (Lane w b i)) out → Lanes (λ b i. Admits loss rows (Lane w b i)) out
+  admitted-opened false e l = l
+  admitted-opened true e l = absurd (false-true (sym e))

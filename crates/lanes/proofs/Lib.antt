@@ -3,3 +3,4 @@ pub mod Families
 pub mod Members
 pub mod Scans
 pub mod Colours
+pub mod Joins

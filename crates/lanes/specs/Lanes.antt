@@ -2,9 +2,9 @@
 -- The bits at one place of all families of a table are a lane: one set of vertices.
 use mathlib.Core.Path.{_≡_}
 use mathlib.Core.Bool.{Bool, true, false}
-use mathlib.Core.List.{List}
+use mathlib.Core.List.{List, [], _∷_}
 use mathlib.Core.Logic.{_⊎_}
-use Prim.Native.Nat.{ℕ, _+_, _*_, _<_}
+use Prim.Native.Nat.{ℕ, _+_, _-_, _*_, _^_, _<_}
 use lib.ListN.{length, getD}
 use Rattle.vertex_set.specs.Set.{Member, Iff}
 use Rattle.setup.specs.declared.Rows.{Rows}
@@ -71,3 +71,14 @@ pub record Coloured (rows : Rows) (v : ℕ) : Type 0 where
 -- r is the set of all vertices that some colour of these rows needs.
 pub record Needed (rows : Rows) (r : ℕ) : Type 0 where
   pub each : (v : ℕ) → Iff (Member r v) (Coloured rows v)
+
+-- How much the words can still grow, all together.
+abbrev pub room : List ℕ → ℕ
+room [] = 0
+room (x ∷ l) = (2 ^ 64 - x) + room l
+
+-- The family d has become e by gaining what s has; r says whether that was more than it had.
+pub record Joined (d s : List ℕ) (r : Bool) (e : List ℕ) : Type 0 where
+  pub lanes : Lanes (λ b i. At d b i ⊎ At s b i) e
+  pub same : r ≡ false → e ≡ d
+  pub more : r ≡ true → room e < room d

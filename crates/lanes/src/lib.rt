@@ -5,7 +5,7 @@ ghost use Prim.Native.Nat.{ℕ, _+_, _*_, _<_};
 ghost use lib.ListN.{length};
 ghost use Rattle.vertex_set.specs.Set.{Member};
 ghost use Rattle.derivations.specs.Lockout.{SomeLost};
-ghost use Rattle.lanes.specs.Lanes.{At, Lane, Lanes, AllHeld, WholeColour, CutColour, Completed, Severed, Admits, Lowest, Without, Needed};
+ghost use Rattle.lanes.specs.Lanes.{At, Lane, Lanes, AllHeld, WholeColour, CutColour, Completed, Severed, Admits, Lowest, Without, Needed, Joined};
 use setup::Rows;
 
 // The words of a family: 2^14 masks.
@@ -159,4 +159,33 @@ fn severed(w: &[u64], rows: Rows, out: &mut [u64])
     for c in 0..COLOURS {
         keep_colour(w, rows.needs[c], out);
     }
+}
+
+// The masks by whose sets a vertex with these rows is opened or, with loss, lost.
+pub fn admitted(w: &[u64], rows: Rows, loss: bool, out: &mut [u64])
+    requires { ⌜ length (now w) ≡ 16384 ⌝ }
+    requires { ⌜ length (now out) ≡ 256 ⌝ }
+    ensures { λ _. ⌜ Lanes (λ b i. Admits loss rows (Lane (now (w .entry)) b i)) (now (out .exit)) ⌝ }
+{
+    if loss {
+        severed(w, rows, out);
+    } else {
+        completed(w, rows, out);
+    }
+}
+
+// The family gains the masks that the other has. Was one of them new?
+pub fn join(d: &mut [u64], s: &[u64]) -> bool
+    requires { ⌜ length (now d) ≡ 256 ⌝ }
+    requires { ⌜ length (now s) ≡ 256 ⌝ }
+    ensures { λ r. ⌜ Joined (now (d .entry)) (now (s .entry)) r (now (d .exit)) ⌝ }
+{
+    let mut fresh: u64 = 0;
+    for b in 0..WORDS {
+        let old = d[b];
+        let more = s[b];
+        d[b] = old | more;
+        fresh = fresh | (more & !old);
+    }
+    fresh != 0
 }

@@ -1,3 +1,7 @@
 pub mod Cases
 pub mod Digits
+pub mod Places
 pub mod Sets
+pub mod Shifts
+pub mod Sorted
+pub mod Subsets

@@ -1,0 +1,4 @@
+pub mod Family
+pub mod Masks
+pub mod Lists
+pub mod Steps

@@ -1,0 +1,87 @@
+// Families of subsets of at most 14 chosen vertices, as truth tables: bit m % 64 of word m / 64 says
+// whether the mask m is in. No graph is in sight here.
+ghost use mathlib.Core.Path.{_≡_};
+ghost use Prim.Native.Nat.{ℕ, _≤_, _<_};
+ghost use lib.ListN.{length};
+ghost use Rattle.vertex_set.specs.Set.{Decides};
+ghost use Rattle.families.specs.Family.{In, size, MinimalMembers};
+ghost use Rattle.families.specs.Steps.{StepsInWord, StepsToWord, LeastWord};
+
+pub const WORDS: usize = 256;
+
+// Is the mask m in the family?
+pub fn has_mask(f: &[u64], m: usize) -> bool
+    ensures { λ r. ⌜ Decides (In (now (f .entry)) m) r ⌝ }
+{
+    let b = m / 64;
+    if b < f.len() {
+        (f[b] >> (m % 64)) % 2 == 1
+    } else {
+        false
+    }
+}
+
+// The number of the family's members.
+pub fn count_members(f: &[u64]) -> usize
+    requires { ⌜ length (now f) ≡ 256 ⌝ }
+    ensures { λ r. ⌜ r ≡ size (now (f .entry)) ⌝ }
+{
+    let mut n: usize = 0;
+    for b in 0..WORDS {
+        n += u64::count_ones(f[b]) as usize;
+    }
+    n
+}
+
+// The lanes of a word that have one bit more than a lane of x.
+fn steps_in_word(x: u64) -> u64
+    ensures { λ r. ⌜ StepsInWord x r ⌝ }
+{
+    let a = (x << 1) & 0xAAAA_AAAA_AAAA_AAAA;
+    let b = (x << 2) & 0xCCCC_CCCC_CCCC_CCCC;
+    let c = (x << 4) & 0xF0F0_F0F0_F0F0_F0F0;
+    let d = (x << 8) & 0xFF00_FF00_FF00_FF00;
+    let e = (x << 16) & 0xFFFF_0000_FFFF_0000;
+    let g = (x << 32) & 0xFFFF_FFFF_0000_0000;
+    a | b | c | d | e | g
+}
+
+// The lanes of the words whose number is b without one of its bits.
+fn steps_to_word(f: &[u64], b: usize) -> u64
+    requires { ⌜ length (now f) ≡ 256 ⌝ }
+    requires { ⌜ b < 256 ⌝ }
+    ensures { λ r. ⌜ StepsToWord (now (f .entry)) b 8 r ⌝ }
+{
+    let one: usize = 1;
+    let mut lanes: u64 = 0;
+    for j in 0..8usize {
+        let bit = (b >> j) % 2;
+        if bit == 1 {
+            lanes = lanes | f[b - (one << j)];
+        }
+    }
+    lanes
+}
+
+// The lanes of word b that are in the family, with nothing in it that has one bit fewer.
+fn least_word(f: &[u64], b: usize) -> u64
+    requires { ⌜ length (now f) ≡ 256 ⌝ }
+    requires { ⌜ b < 256 ⌝ }
+    ensures { λ r. ⌜ LeastWord (now (f .entry)) b r ⌝ }
+{
+    let x = f[b];
+    let low = steps_in_word(x);
+    let high = steps_to_word(f, b);
+    x & !(low | high)
+}
+
+// The family's minimal members, written to out. One step down is enough: the family is monotone.
+pub fn minimal_members(f: &[u64], out: &mut [u64])
+    requires { ⌜ length (now f) ≡ 256 ⌝ }
+    requires { ⌜ length (now out) ≡ 256 ⌝ }
+    ensures { λ _. ⌜ MinimalMembers (now (f .entry)) (now (out .exit)) ⌝ }
+{
+    for b in 0..WORDS {
+        out[b] = least_word(f, b);
+    }
+}

@@ -4,3 +4,4 @@ pub mod Members
 pub mod Scans
 pub mod Colours
 pub mod Joins
+pub mod Starts

@@ -54,14 +54,15 @@ abbrev pub Admits : Bool → Rows → Vertices → Type 0
 Admits false rows held = Completed rows held
 Admits true rows lost = Severed rows lost
 
--- v is a vertex of the set s; in fact its lowest one, which matters to no caller.
-pub record Lowest (s v : ℕ) : Type 0 where
+-- v is a vertex of the word s.
+pub record VertexOf (s v : ℕ) : Type 0 where
   pub place : v < 64
   pub member : Member s v
 
 -- r is the set s without the vertex v.
 pub record Without (s v r : ℕ) : Type 0 where
   pub each : (i : ℕ) → Iff (Member r i) (Member s i × (i ≡ v → ⊥))
+  pub less : r < s
 
 -- Some colour of these rows needs the vertex v.
 pub record Coloured (rows : Rows) (v : ℕ) : Type 0 where

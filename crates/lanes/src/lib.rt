@@ -5,7 +5,7 @@ ghost use Prim.Native.Nat.{ℕ, _+_, _*_, _<_};
 ghost use lib.ListN.{length};
 ghost use Rattle.vertex_set.specs.Set.{Member};
 ghost use Rattle.derivations.specs.Lockout.{SomeLost};
-ghost use Rattle.lanes.specs.Lanes.{At, Lane, Lanes, AllHeld, WholeColour, CutColour, Completed, Severed, Admits, Lowest, Without, Needed, Joined};
+ghost use Rattle.lanes.specs.Lanes.{At, Lane, Lanes, AllHeld, WholeColour, CutColour, Completed, Severed, Admits, VertexOf, Without, Needed, Joined};
 use setup::Rows;
 
 // The words of a family: 2^14 masks.
@@ -48,18 +48,18 @@ fn or_in(d: &mut [u64], s: &[u64])
 // The lowest vertex of a set that has one.
 pub fn lowest(s: u64) -> usize
     requires { ⌜ (s ≡ 0 → ⊥) ⌝ }
-    ensures { λ r. ⌜ Lowest s r ⌝ }
+    ensures { λ r. ⌜ VertexOf s r ⌝ }
 {
     u64::trailing_zeros(s) as usize
 }
 
-// The set without the vertex v.
+// The set without a vertex of it.
 pub fn without(s: u64, v: usize) -> u64
-    requires { ⌜ v < 64 ⌝ }
+    requires { ⌜ VertexOf s v ⌝ }
     ensures { λ r. ⌜ Without s v r ⌝ }
 {
     let one: u64 = 1;
-    s & !(one << v)
+    s - (one << v)
 }
 
 // The masks whose sets have every vertex of the row.
@@ -188,4 +188,31 @@ pub fn join(d: &mut [u64], s: &[u64]) -> bool
         fresh = fresh | (more & !old);
     }
     fresh != 0
+}
+
+// The words of the masks that have the bit k, for the six bits within a word.
+const PATTERNS: [u64; 6] = [
+    0xAAAA_AAAA_AAAA_AAAA,
+    0xCCCC_CCCC_CCCC_CCCC,
+    0xF0F0_F0F0_F0F0_F0F0,
+    0xFF00_FF00_FF00_FF00,
+    0xFFFF_0000_FFFF_0000,
+    0xFFFF_FFFF_0000_0000,
+];
+
+// The family becomes that of the masks that have the bit k.
+pub fn start_words(d: &mut [u64], k: usize)
+    requires { ⌜ length (now d) ≡ 256 ⌝ }
+    requires { ⌜ k < 64 ⌝ }
+    ensures { λ _. ⌜ Lanes (λ b i. Member (b * 64 + i) k) (now (d .exit)) ⌝ }
+{
+    if k < 6 {
+        set_all(d, PATTERNS[k]);
+        return;
+    }
+    let j = k - 6;
+    for b in 0..WORDS {
+        let bit = (b >> j) % 2;
+        d[b] = (bit as u64) * 0xFFFF_FFFF_FFFF_FFFF;
+    }
 }

@@ -1,6 +1,5 @@
 use Prim.Native.Nat.{_+_, _-_, _*_}
 use native.Mathlib.Omega.{arith}
-use Rattle.lanes.proofs.Members.{without-less}
 use borrow.Author.Needs.{needs}
 use Rattle.lanes.proofs.Scans.{Scan, AllPassed, all-none, all-more, all-done}
 use Rattle.lanes.proofs.all_of.Statement.{statement}
@@ -64,7 +63,7 @@ without-requires c κs = search needs
 
 -- src/lib.rt:71:5
 loop-less : tie.Need-loop-less Inv-loop μ-loop
-loop-less c = without-less _ _ _ (c .without .ensures) (c .before .before .before .before .before .before .lowest .ensures .member)
+loop-less c = c .without .ensures .less
 
 -- src/lib.rt:71:5
 loop-again : tie.Need-loop-again Inv-loop μ-loop

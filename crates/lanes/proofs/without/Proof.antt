@@ -1,17 +1,21 @@
-use Rattle.lanes.proofs.Members.{without-and}
+use Rattle.lanes.proofs.Members.{without-fits, without-removed}
 use borrow.Author.Needs.{needs}
 use Rattle.lanes.proofs.without.Statement.{statement}
 use Rattle.lanes.proofs.without.Tie as tie
-use Rattle.lanes.proofs.without.Reads as reads
-use Rattle.lanes.proofs.without.Lts as lts
 
--- src/lib.rt:60:11
+
+
+-- src/lib.rt:62:10
 shl-result : tie.Need-shl-result
 shl-result c = search needs
 
--- src/lib.rt:55:1
+-- src/lib.rt:62:5
+sub-result : tie.Need-sub-result
+sub-result c = without-fits (c .args .s) (c .args .v) (c .pre)
+
+-- src/lib.rt:57:1
 returns : tie.Need-returns
-returns c = without-and (c .args .s) (c .args .v) (search needs) (c .pre)
+returns c = without-removed (c .args .s) (c .args .v) (c .pre)
 
 pub without-spec : {M : Type 1} → statement M
-without-spec = tie.close (tie.spec shl-result returns)
+without-spec = tie.close (tie.spec shl-result sub-result returns)

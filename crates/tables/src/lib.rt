@@ -1,0 +1,75 @@
+// Tables of all subsets: for a graph and a set of chosen vertices, all masks at once.
+ghost use mathlib.Core.Path.{_≡_};
+ghost use Prim.Native.Nat.{ℕ, _+_, _*_, _<_};
+ghost use lib.ListN.{length};
+ghost use Rattle.vertex_set.specs.Set.{Member};
+ghost use Rattle.families.specs.Masks.{Picked};
+ghost use Rattle.lanes.specs.Lanes.{Lanes, VertexOf};
+ghost use Rattle.tables.specs.Table.{ruleOf, Table};
+ghost use Rattle.tables.specs.Steps.{Stepped, AllNeeded, Users, Closed, Started};
+use lanes::WORDS;
+use setup::{Graph, Rows};
+use vertex_set::{VertexSet, VERTICES};
+
+// The vertex v, which has these rows, is added to each lane that admits it. Was one new?
+fn step(w: &mut [u64], v: usize, rows: Rows, loss: bool) -> bool
+    requires { ⌜ length (now w) ≡ 16384 ⌝ }
+    requires { ⌜ v < 64 ⌝ }
+    ensures { λ r. ⌜ Stepped loss rows v (now (w .entry)) r (now (w .exit)) ⌝ }
+{
+    let mut gains = [0u64; 256];
+    lanes::admitted(w, rows, loss, &mut gains);
+    let a = v * WORDS;
+    lanes::join(&mut w[a..a + WORDS], &gains)
+}
+
+// A vertex of todo: the lowest one of those in after, if there is one, so that none waits for ever.
+fn next(todo: u64, after: u64) -> usize
+    requires { ⌜ (todo ≡ 0 → ⊥) ⌝ }
+    ensures { λ r. ⌜ VertexOf todo r ⌝ }
+{
+    let later = todo & after;
+    if later == 0 {
+        return lanes::lowest(todo);
+    }
+    lanes::lowest(later)
+}
+
+// The needed vertices of each vertex.
+fn all_needed(graph: Graph, needs: &mut [u64])
+    requires { ⌜ length (now needs) ≡ 64 ⌝ }
+    ensures { λ _. ⌜ AllNeeded graph (now (needs .exit)) ⌝ }
+{
+    for v in 0..VERTICES {
+        needs[v] = lanes::needed(graph.rows[v]);
+    }
+}
+
+// The vertices that need v.
+fn users(needs: &[u64], v: usize) -> u64
+    requires { ⌜ length (now needs) ≡ 64 ⌝ }
+    requires { ⌜ v < 64 ⌝ }
+    ensures { λ r. ⌜ Users (now (needs .entry)) v r ⌝ }
+{
+    let mut r: u64 = 0;
+    for u in 0..VERTICES {
+        let bit = (needs[u] >> v) % 2;
+        r = r | (bit << u);
+    }
+    r
+}
+
+// The family of the masks that pick v.
+fn start_family(d: &mut [u64], chosen: VertexSet, v: usize)
+    requires { ⌜ length (now d) ≡ 256 ⌝ }
+    requires { ⌜ v < 64 ⌝ }
+    ensures { λ _. ⌜ Lanes (λ b i. Picked (chosen .0) (b * 64 + i) v) (now (d .exit)) ⌝ }
+{
+    if chosen.has(v) {
+        let one: u64 = 1;
+        let rank = u64::count_ones(chosen.0 % (one << v)) as usize;
+        lanes::start_words(d, rank);
+    } else {
+        lanes::set_all(d, 0);
+    }
+}

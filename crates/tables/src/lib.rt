@@ -3,7 +3,7 @@ ghost use mathlib.Core.Path.{_≡_};
 ghost use Prim.Native.Nat.{ℕ, _+_, _*_, _<_};
 ghost use lib.ListN.{length};
 ghost use Rattle.vertex_set.specs.Set.{Member};
-ghost use Rattle.families.specs.Masks.{Picked};
+ghost use Rattle.families.specs.Masks.{rank, Picked};
 ghost use Rattle.lanes.specs.Lanes.{Lanes, VertexOf};
 ghost use Rattle.tables.specs.Table.{ruleOf, Table};
 ghost use Rattle.tables.specs.Steps.{Stepped, AllNeeded, Users, Closed, Started};
@@ -59,6 +59,15 @@ fn users(needs: &[u64], v: usize) -> u64
     r
 }
 
+// The number of chosen vertices below v.
+fn rank_of(chosen: u64, v: usize) -> usize
+    requires { ⌜ v < 64 ⌝ }
+    ensures { λ r. ⌜ r ≡ rank chosen v ⌝ }
+{
+    let one: u64 = 1;
+    u64::count_ones(chosen % (one << v)) as usize
+}
+
 // The family of the masks that pick v.
 fn start_family(d: &mut [u64], chosen: VertexSet, v: usize)
     requires { ⌜ length (now d) ≡ 256 ⌝ }
@@ -66,10 +75,20 @@ fn start_family(d: &mut [u64], chosen: VertexSet, v: usize)
     ensures { λ _. ⌜ Lanes (λ b i. Picked (chosen .0) (b * 64 + i) v) (now (d .exit)) ⌝ }
 {
     if chosen.has(v) {
-        let one: u64 = 1;
-        let rank = u64::count_ones(chosen.0 % (one << v)) as usize;
-        lanes::start_words(d, rank);
+        let k = rank_of(chosen.0, v);
+        lanes::start_words(d, k);
     } else {
         lanes::set_all(d, 0);
+    }
+}
+
+// Each lane becomes the set that its mask stands for.
+fn start(chosen: VertexSet, w: &mut [u64])
+    requires { ⌜ length (now w) ≡ 16384 ⌝ }
+    ensures { λ _. ⌜ Started (chosen .0) (now (w .exit)) ⌝ }
+{
+    for v in 0..VERTICES {
+        let a = v * WORDS;
+        start_family(&mut w[a..a + WORDS], chosen, v);
     }
 }

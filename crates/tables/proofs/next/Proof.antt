@@ -1,3 +1,4 @@
+use Rattle.vertex_set.proofs.Sets.{in-and}
 use borrow.Author.Needs.{needs}
 use Rattle.tables.proofs.next.Statement.{statement}
 use Rattle.tables.proofs.next.Tie as tie
@@ -19,7 +20,9 @@ lowest-requires-2 c κs = search needs
 
 -- src/lib.rt:27:1
 returns-2 : tie.Need-returns-2
-returns-2 c = ?
+returns-2 c =
+    let r = c .lowest2 .ensures in
+    record { place = r .place; member = in-and _ _ _ .to (r .member) .0 }
 
 pub next-spec : {M : Type 1} → statement M
 next-spec = tie.close (tie.spec lowest-requires returns lowest-requires-2 returns-2)

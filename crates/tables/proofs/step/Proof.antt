@@ -1,3 +1,6 @@
+use Prim.Native.Nat.{_+_, _-_, _*_}
+use native.Mathlib.Omega.{arith}
+use Rattle.tables.proofs.Parts.{stepped}
 use borrow.Author.Needs.{needs}
 use Rattle.tables.proofs.step.Statement.{statement}
 use Rattle.tables.proofs.step.Tie as tie
@@ -52,7 +55,12 @@ same-length c = search needs
 
 -- src/lib.rt:15:1
 returns : tie.Need-returns
-returns c = ?
+returns c =
+    let j = c .before .before in
+    let m = j .before .before .before .before in
+    let s = m .before .before .before .before in
+    let v = s .args .v in
+    stepped _ _ v (v * 256 + 256 - v * 256) _ _ _ _ (s .pre .0) (s .pre .1) (omega arith) (m .admitted .ensures) (j .join .ensures)
 
 pub step-spec : {M : Type 1} → statement M
 step-spec =

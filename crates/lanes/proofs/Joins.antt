@@ -22,10 +22,12 @@ use Rattle.lanes.proofs.Families.{or-lanes}
 -- ---- room
 
 pub room-append : (a b : List ℕ) → room (a ++ b) ≡ room a + room b
+unfolding room
 room-append [] b = omega arith
 room-append (x ∷ a) b = let e = room-append a b in omega arith
 
 pub room-set : (l : List ℕ) (i x : ℕ) → i < length l → room (set l i x) + (2 ^ 64 - getD l i 0) ≡ room l + (2 ^ 64 - x)
+unfolding room
 room-set [] i x h = absurd (not-suc-le-zero h)
 room-set (y ∷ l) zero x h = omega arith
 room-set (y ∷ l) (suc i) x h = let e = room-set l i x (le-of-suc-le-suc h) in omega arith

@@ -74,7 +74,7 @@ pub record Needed (rows : Rows) (r : ℕ) : Type 0 where
   pub each : (v : ℕ) → Iff (Member r v) (Coloured rows v)
 
 -- How much the words can still grow, all together.
-abbrev pub room : List ℕ → ℕ
+unfoldable pub room : List ℕ → ℕ
 room [] = 0
 room (x ∷ l) = (2 ^ 64 - x) + room l
 

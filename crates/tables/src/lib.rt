@@ -92,3 +92,22 @@ fn start(chosen: VertexSet, w: &mut [u64])
         start_family(&mut w[a..a + WORDS], chosen, v);
     }
 }
+
+// Each lane grows to what is derivable from it. A vertex is looked at again when one that it needs has grown; they take turns.
+fn settle(graph: Graph, loss: bool, w: &mut [u64])
+    requires { ⌜ length (now w) ≡ 16384 ⌝ }
+    ensures { λ _. ⌜ Closed (ruleOf loss graph) (now (w .entry)) (now (w .exit)) ⌝ }
+{
+    let mut needs = [0u64; 64];
+    all_needed(graph, &mut needs);
+    let mut todo: u64 = 0xFFFF_FFFF_FFFF_FFFF;
+    let mut after: u64 = todo;
+    while todo != 0 {
+        let v = next(todo, after);
+        todo = lanes::without(todo, v);
+        after = 0xFFFF_FFFF_FFFF_FFFE << v;
+        if step(w, v, graph.rows[v], loss) {
+            todo = todo | users(&needs, v);
+        }
+    }
+}

@@ -1,2 +1,3 @@
-pub mod Rules
+pub mod Both
 pub mod Graphs
+pub mod Rules

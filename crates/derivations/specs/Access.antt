@@ -1,10 +1,10 @@
 -- Access (document 003, definitions 2 and 3; document 01, "Access").
 use mathlib.Core.Path.{_≡_}
 use Prim.Native.Nat.{ℕ}
-use Rattle.vertex_set.specs.Set.{Member, Iff}
+use Rattle.vertex_set.specs.Set.{Member}
 use Rattle.setup.specs.declared.Graph.{Graph}
 use Rattle.setup.specs.Setup.{row}
-use Rattle.derivations.specs.Derivation.{Vertices, Rule, Derivation}
+use Rattle.derivations.specs.Derivation.{Vertices, Rule, Derivation, Closure}
 
 -- An entry of a derivation: a vertex, and the colour by which it is opened.
 pub record Step : Type 0 where
@@ -24,5 +24,5 @@ abbrev pub HasAccess : Graph → Vertices → ℕ → Type 0
 HasAccess g held v = Derivation (access g) held v
 
 -- r is accessFrom of the set s (document 01: the closure): all vertices with a derivation from it.
-pub record AccessFrom (g : Graph) (s r : ℕ) : Type 0 where
-  pub each : (v : ℕ) → Iff (Member r v) (HasAccess g (Member s) v)
+abbrev pub AccessFrom : Graph → ℕ → ℕ → Type 0
+AccessFrom g s r = Closure (access g) s r

@@ -3,6 +3,7 @@ use mathlib.Core.Path.{_≡_}
 use mathlib.Core.List.{List, [], _∷_}
 use mathlib.Core.Logic.{_⊎_}
 use Prim.Native.Nat.{ℕ}
+use Rattle.vertex_set.specs.Set.{Member, Iff}
 
 -- The vertices that a rule holds true of, at some moment.
 abbrev pub Vertices : Type 1
@@ -33,3 +34,7 @@ pub record Derivation (r : Rule) (held : Vertices) (v : ℕ) : Type 0 where
   pub steps : List (r .Step)
   pub run : Run r held steps
   pub has : held v ⊎ Adds r steps v
+
+-- t is the closure of the set s by the rule: all vertices with a derivation from s.
+pub record Closure (r : Rule) (s t : ℕ) : Type 0 where
+  pub each : (v : ℕ) → Iff (Member t v) (Derivation r (Member s) v)

@@ -1,10 +1,10 @@
 -- Lockout (document 003, definition 18; document 01, "Loss").
 use mathlib.Core.Path.{_≡_}
 use Prim.Native.Nat.{ℕ}
-use Rattle.vertex_set.specs.Set.{Member, Iff}
+use Rattle.vertex_set.specs.Set.{Member}
 use Rattle.setup.specs.declared.Graph.{Graph}
 use Rattle.setup.specs.Setup.{row}
-use Rattle.derivations.specs.Derivation.{Vertices, Rule, Derivation}
+use Rattle.derivations.specs.Derivation.{Vertices, Rule, Derivation, Closure}
 
 -- Of the set s, some vertex is lost.
 pub record SomeLost (lost : Vertices) (s : ℕ) : Type 0 where
@@ -26,5 +26,5 @@ abbrev pub HasLockout : Graph → Vertices → ℕ → Type 0
 HasLockout g lost v = Derivation (lockout g) lost v
 
 -- r is lockoutFrom of the set s (document 01: the lost set): all vertices with a loss derivation from it.
-pub record LockoutFrom (g : Graph) (s r : ℕ) : Type 0 where
-  pub each : (v : ℕ) → Iff (Member r v) (HasLockout g (Member s) v)
+abbrev pub LockoutFrom : Graph → ℕ → ℕ → Type 0
+LockoutFrom g s r = Closure (lockout g) s r

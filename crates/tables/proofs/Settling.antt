@@ -17,18 +17,14 @@ use Rattle.setup.specs.Setup.{row, rowOf, rowsAt}
 use Rattle.derivations.specs.Derivation.{Vertices, Rule, Derivation}
 use Rattle.derivations.specs.Access.{Step, Opens}
 use Rattle.derivations.specs.Lockout.{SomeLost, Shuts}
+use Rattle.derivations.specs.Both.{ruleOf}
 use Rattle.derivations.proofs.Rules.{Sub, Lawful, held, closed, least}
-use Rattle.derivations.proofs.Graphs.{access-lawful, lockout-lawful}
+use Rattle.derivations.proofs.Both.{lawful}
 use Rattle.lanes.specs.Lanes.{Lane, AllHeld, WholeColour, CutColour, Completed, Severed, Admits, Without, room}
 use Rattle.lanes.proofs.Scans.{full-word}
-use Rattle.tables.specs.Table.{ruleOf}
 use Rattle.tables.specs.Steps.{Stepped, AllNeeded, Users, Closed}
 
 -- ---- a vertex that a lane admits is one that the rule allows there
-
-pub rule-lawful : (loss : Bool) (g : Graph) → Lawful (ruleOf loss g)
-rule-lawful false g = access-lawful g
-rule-lawful true g = lockout-lawful g
 
 -- v is added by a step that is allowed where these vertices are held
 pub record Reaches (r : Rule) (P : Vertices) (v : ℕ) : Type 0 where
@@ -58,7 +54,7 @@ pub admits-derived : (loss : Bool) (g : Graph) (P Q : Vertices) (v : ℕ) → Su
 admits-derived loss g P Q v s a =
     let r = ruleOf loss g in
     let h = admits-reaches loss g Q v a in
-    subst (Derivation r P) (h .adds) (closed r (rule-lawful loss g) P (h .step) (rule-lawful loss g .mono Q (Derivation r P) s (h .step) (h .allowed)))
+    subst (Derivation r P) (h .adds) (closed r (lawful loss g) P (h .step) (lawful loss g .mono Q (Derivation r P) s (h .step) (h .allowed)))
 
 -- only the needed vertices count
 pub admits-local : (loss : Bool) (rows : Rows) (P Q : Vertices) → ((c i : ℕ) → Member (rowOf rows c) i → P i → Q i) → Admits loss rows P → Admits loss rows Q
@@ -156,7 +152,7 @@ module _ (loss : Bool) (g : Graph) (needs w₀ : List ℕ) where
         words = s .words;
         each = λ b i v hb hi. record {
           to = s .sound b i hb hi v;
-          from = least (ruleOf loss g) (rule-lawful loss g) (Lane w₀ b i) (Lane w b i) (s .grown b i hb hi)
+          from = least (ruleOf loss g) (lawful loss g) (Lane w₀ b i) (Lane w b i) (s .grown b i hb hi)
               (λ k a.
               let m = allowed-admits loss g (Lane w b i) k a in
               let u = ruleOf loss g .adds k in

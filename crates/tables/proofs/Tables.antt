@@ -9,15 +9,16 @@ use lib.ListN.{getD, take, drop}
 use Rattle.vertex_set.specs.Set.{Member, Within, Iff}
 use Rattle.setup.specs.declared.Graph.{Graph}
 use Rattle.derivations.specs.Derivation.{Rule, Derivation}
+use Rattle.derivations.specs.Both.{ruleOf}
 use Rattle.derivations.proofs.Rules.{Lawful, monotone}
+use Rattle.derivations.proofs.Both.{lawful}
 use Rattle.families.specs.Masks.{Picked}
 use Rattle.families.specs.Family.{In, Monotone}
 use Rattle.lanes.specs.Lanes.{At, Lane}
 use Rattle.lanes.proofs.Families.{iff-trans}
 use Rattle.lanes.proofs.Scans.{part-lane}
-use Rattle.tables.specs.Table.{ruleOf, Table, FamilyOf}
+use Rattle.tables.specs.Table.{Table, FamilyOf}
 use Rattle.tables.specs.Steps.{Closed, Started}
-use Rattle.tables.proofs.Settling.{rule-lawful}
 
 -- lanes that are closed from their masks' sets are a table
 pub tabled : (r : Rule) (chosen : ℕ) (w e : List ℕ) → Lawful r → Started chosen w → Closed r w e → Table r chosen e
@@ -56,4 +57,4 @@ family-monotone r chosen v f law o =
     }
 
 pub table-family-monotone : (loss : Bool) (g : Graph) (chosen v : ℕ) (f : List ℕ) → FamilyOf (ruleOf loss g) chosen v f → Monotone f
-table-family-monotone loss g chosen v f = family-monotone (ruleOf loss g) chosen v f (rule-lawful loss g)
+table-family-monotone loss g chosen v f = family-monotone (ruleOf loss g) chosen v f (lawful loss g)

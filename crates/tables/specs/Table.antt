@@ -1,21 +1,12 @@
 -- Tables of all subsets: for a graph and a set of chosen vertices, which vertices have a derivation from which mask's set.
 use mathlib.Core.Path.{_≡_}
-use mathlib.Core.Bool.{Bool, true, false}
 use mathlib.Core.List.{List}
 use Prim.Native.Nat.{ℕ, _+_, _*_, _/_, _%_, _<_}
 use lib.ListN.{getD}
 use Rattle.vertex_set.specs.Set.{Member, Iff}
-use Rattle.setup.specs.declared.Graph.{Graph}
 use Rattle.derivations.specs.Derivation.{Rule, Derivation}
-use Rattle.derivations.specs.Access.{access}
-use Rattle.derivations.specs.Lockout.{lockout}
 use Rattle.families.specs.Masks.{Picked}
 use Rattle.families.specs.Family.{In}
-
--- The rule that a table follows: access or, with loss, lockout.
-abbrev pub ruleOf : Bool → Graph → Rule
-ruleOf false g = access g
-ruleOf true g = lockout g
 
 -- w is the table of the rule r and the chosen vertices: bit m % 64 of word m / 64 of the vertex v says whether v has a derivation
 -- from the set that the mask m stands for.

@@ -1,4 +1,5 @@
 pub mod Cases
+pub mod Decisions
 pub mod Digits
 pub mod Places
 pub mod Sets

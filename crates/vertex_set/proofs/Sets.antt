@@ -13,7 +13,7 @@ use lib.Dec.{eqb}
 use borrow.Author.Tests.{eqb-true, eqb-false, not-true, not-false}
 use Rattle.vertex_set.specs.Set.{Member, Within, Meets, Decides, Iff, Inserted, Below}
 use Rattle.vertex_set.proofs.Cases.{less-or, same-or, false-true}
-use Rattle.vertex_set.proofs.Digits.{digit, digit-lt, digit-and, digit-or, digit-zero, digit-high, digit-suc, digit-first, digits-same, digit-pow-same, digit-pow-other, digit-not}
+use Rattle.vertex_set.proofs.Digits.{digit, digit-lt, digit-and, digit-or, digit-zero, digit-high, digit-suc, digit-first, digits-same, digit-pow-same, digit-pow-other, digit-not, digit-ones}
 
 -- ---- membership
 
@@ -185,12 +185,7 @@ below-power n h =
     record {
       each = λ i. record {
         to = λ m. let l = member-below n (2 ^ n - 1) i (ones-lt n) m in (l, omega arith);
-        from = λ p.
-            let l = p .0 in
-            let d = digit-not n 0 i (pow-pos n) l in
-            let z = digit-zero i in
-            let e : 2 ^ n - 1 - 0 ≡ 2 ^ n - 1 = omega arith in
-            subst (λ (x : ℕ). digit x i ≡ 1) e (omega arith);
+        from = λ p. digit-ones n i (p .0);
       };
     }
 
@@ -206,3 +201,11 @@ below-many n h =
         from = λ p. b .each i .from (p .1, p .1);
       };
     }
+
+-- a number whose members are below k is below 2 ^ k
+pub bounded-by-members : (k s : ℕ) → ((i : ℕ) → Member s i → i < k) → s < 2 ^ k
+unfolding Member
+bounded-by-members k s h =
+    let le = within-le s (2 ^ k - 1) (record { each = λ i m. digit-ones k i (h i m) }) in
+    let p = pow-pos k in
+    omega arith

@@ -1,3 +1,6 @@
+use mathlib.Core.Path.{_≡_}
+use lib.Bits.{or-lt}
+use lib.ListN.{length}
 use borrow.Author.Needs.{needs}
 use Prim.Native.Nat.{_+_, _*_, _^_}
 use Rattle.lanes.specs.Lanes.{room}
@@ -68,7 +71,7 @@ users-requires c κs = search needs
 loop-less : tie.Need-loop-less Inv-loop μ-loop
 loop-less c =
     let t = c .before .before .before .before .before in
-    falls-more _ _ _ _ (t .step .ensures .more (c .before .before .if1 .taken)) (search needs)
+    falls-more _ _ _ _ (t .step .ensures .more (c .before .before .if1 .taken)) (or-lt 64 _ _ (t .before .before .before .without .ok .fits) (c .users .ok .fits))
 
 -- src/lib.rt:105:5
 loop-again : tie.Need-loop-again Inv-loop μ-loop
@@ -99,7 +102,8 @@ same-length c = search needs
 returns : tie.Need-returns Inv-loop μ-loop
 returns c =
     let s = c .before .before .before .before .before .before in
-    settled _ (s .args .t1) _ _ _ _ (let g : Unit {0} = s .good .0 in ?) (c .loop-test .left) (c .before .loop .inv)
+    let long : length (s .args .t1 .rows) ≡ 64 = simp length-map at (s .good .0 .1 .1 .0 .1 .0 .1) in
+    settled _ (s .args .t1) _ _ _ _ long (c .loop-test .left) (c .before .loop .inv)
 
 pub settle-spec : {M : Type 1} → statement M
 settle-spec =

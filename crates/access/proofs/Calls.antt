@@ -1,0 +1,35 @@
+-- The questions 12 to 14 in their order.
+-- Assumes nothing.
+use mathlib.Core.Path.{_≡_, refl, sym, subst}
+use mathlib.Core.Bool.{Bool, true, false}
+use mathlib.Core.List.{List, [], _∷_}
+use Prim.Native.Nat.{ℕ, _≤_, _<_, _^_}
+use native.Mathlib.Omega.{arith}
+use Rattle.vertex_set.specs.Set.{Member, Within, Iff, Below}
+use Rattle.vertex_set.proofs.Sets.{member-below}
+use Rattle.setup.specs.declared.Graph.{Graph}
+use Rattle.setup.specs.declared.Setup.{Setup}
+use Rattle.setup.specs.WellFormed.{WellFormed}
+use Rattle.setup.specs.Calls.{Refuses, Inside}
+use Rattle.access.specs.Answers.{SetCall}
+
+-- a set is inside the setup exactly where it is within the vertices below the count
+pub inside-iff : (s : Setup) (set b : ℕ) → set < 2 ^ 64 → Below (s .count) b → Iff (Within set b) (Inside s set)
+inside-iff s set b h bel =
+    record {
+      to = λ w. record { each = λ v m. bel .each v .to (w .each v m) .0 };
+      from = λ i. record { each = λ v m. bel .each v .from (i .each v m, member-below 64 set v h m) };
+    }
+
+pub refuses : (q : ℕ) → Refuses q q []
+refuses q = record { numbered = refl; empty = refl }
+
+module _ (From : Graph → ℕ → ℕ → Type 0) (s : Setup) (set : ℕ) where
+  pub set-malformed : (WellFormed s → ⊥) → SetCall From s set 12 []
+  set-malformed n = record { malformed = λ d. refuses 12; outside = λ w. absurd (n w); answers = λ w. absurd (n w) }
+
+  pub set-outside : WellFormed s → (Inside s set → ⊥) → SetCall From s set 14 []
+  set-outside w n = record { malformed = λ d. absurd (d w); outside = λ v d. refuses 14; answers = λ v i. absurd (n i) }
+
+  pub set-answers : WellFormed s → Inside s set → (r : ℕ) → From (s .graph) set r → SetCall From s set 0 (r ∷ [])
+  set-answers w i r f = record { malformed = λ d. absurd (d w); outside = λ v d. absurd (d i); answers = λ v j. (r, refl, refl, f) }

@@ -1,6 +1,6 @@
 use mathlib.Core.Path.{_≡_}
 use lib.Bits.{or-lt}
-use lib.ListN.{length}
+use lib.ListN.{length, length-map}
 use borrow.Author.Needs.{needs}
 use Prim.Native.Nat.{_+_, _*_, _^_}
 use Rattle.lanes.specs.Lanes.{room}
@@ -71,7 +71,7 @@ users-requires c κs = search needs
 loop-less : tie.Need-loop-less Inv-loop μ-loop
 loop-less c =
     let t = c .before .before .before .before .before in
-    falls-more _ _ _ _ (t .step .ensures .more (c .before .before .if1 .taken)) (or-lt 64 _ _ (t .before .before .before .without .ok .fits) (c .users .ok .fits))
+    falls-more _ _ _ _ (t .step .ensures .more (c .before .before .if1 .taken)) (or-lt 64 _ _ (t .before .before .before .without .ok) (c .users .ok))
 
 -- src/lib.rt:105:5
 loop-again : tie.Need-loop-again Inv-loop μ-loop

@@ -112,3 +112,13 @@ fn settle(graph: Graph, loss: bool, w: &mut [u64])
         }
     }
 }
+
+// The table of the graph and the chosen vertices: which vertices are opened by which mask's set or, with loss, lost by its loss.
+pub fn fill(graph: Graph, chosen: VertexSet, loss: bool, w: &mut [u64])
+    requires { ⌜ length (now w) ≡ 16384 ⌝ }
+    ensures { λ _. ⌜ length (now (w .exit)) ≡ 16384 ⌝ }
+    ensures { λ _. ⌜ Table (ruleOf loss graph) (chosen .0) (now (w .exit)) ⌝ }
+{
+    start(chosen, w);
+    settle(graph, loss, w);
+}

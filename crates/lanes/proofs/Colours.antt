@@ -15,9 +15,9 @@ use Rattle.setup.specs.declared.Rows.{Rows}
 use Rattle.setup.specs.Setup.{rowOf}
 use Rattle.derivations.specs.Derivation.{Vertices}
 use Rattle.derivations.specs.Lockout.{SomeLost}
-use Rattle.lanes.specs.Lanes.{At, Lane, Lanes, AllHeld, WholeColour, CutColour, Completed, Severed, Admits, Coloured, Needed}
-use Rattle.lanes.proofs.Families.{iff-refl, iff-trans, lanes-as}
-use Rattle.lanes.proofs.Scans.{full-word}
+use Rattle.words.specs.Words.{At, FamilyWhere}
+use Rattle.lanes.specs.Lanes.{Lane, AllHeld, WholeColour, CutColour, Completed, Severed, Admits, Coloured, Needed}
+use Rattle.words.proofs.Families.{iff-trans, family-as, full-word}
 
 -- ---- places below n
 
@@ -92,26 +92,26 @@ module _ (rows : Rows) where
 -- ---- one colour
 
 module _ (w : List ℕ) (row : ℕ) (out : List ℕ) where
-  pub gain-none : length out ≡ 256 → row ≡ 0 → Lanes (λ b i. At out b i ⊎ WholeColour (Lane w b i) row) out
+  pub gain-none : length out ≡ 256 → row ≡ 0 → FamilyWhere (λ b i. At out b i ⊎ WholeColour (Lane w b i) row) out
   gain-none h e = record { words = h; each = λ b i hb hi. record { to = λ a. inl a; from = ⊎-elim (λ a. a) (λ q. absurd (q .coloured e)) } }
 
-  pub keep-none : length out ≡ 256 → row ≡ 0 → Lanes (λ b i. At out b i × CutColour (Lane w b i) row) out
+  pub keep-none : length out ≡ 256 → row ≡ 0 → FamilyWhere (λ b i. At out b i × CutColour (Lane w b i) row) out
   keep-none h e =
       record { words = h; each = λ b i hb hi. record { to = λ a. (a, record { some = λ n. absurd (n e) }); from = λ p. p .0 } }
 
   module _ (part out′ : List ℕ) (n : row ≡ 0 → ⊥) where
-    pub gain-some : Lanes (λ b i. AllHeld (Lane w b i) row) part → Lanes (λ b i. At out b i ⊎ At part b i) out′
-        → Lanes (λ b i. At out b i ⊎ WholeColour (Lane w b i) row) out′
+    pub gain-some : FamilyWhere (λ b i. AllHeld (Lane w b i) row) part → FamilyWhere (λ b i. At out b i ⊎ At part b i) out′
+        → FamilyWhere (λ b i. At out b i ⊎ WholeColour (Lane w b i) row) out′
     gain-some p l =
-        lanes-as out′ l (λ b i hb hi. record {
+        family-as out′ l (λ b i hb hi. record {
           to = ⊎-elim (λ a. inl a) (λ a. inr (record { coloured = n; complete = p .each b i hb hi .to a }));
           from = ⊎-elim (λ a. inl a) (λ q. inr (p .each b i hb hi .from (q .complete)));
         })
 
-    pub keep-some : Lanes (λ b i. SomeLost (Lane w b i) row) part → Lanes (λ b i. At out b i × At part b i) out′
-        → Lanes (λ b i. At out b i × CutColour (Lane w b i) row) out′
+    pub keep-some : FamilyWhere (λ b i. SomeLost (Lane w b i) row) part → FamilyWhere (λ b i. At out b i × At part b i) out′
+        → FamilyWhere (λ b i. At out b i × CutColour (Lane w b i) row) out′
     keep-some p l =
-        lanes-as out′ l (λ b i hb hi. record {
+        family-as out′ l (λ b i hb hi. record {
           to = λ a. (a .0, record { some = λ _. p .each b i hb hi .to (a .1) });
           from = λ a. (a .0, p .each b i hb hi .from (a .1 .some n));
         })
@@ -120,52 +120,52 @@ module _ (w : List ℕ) (row : ℕ) (out : List ℕ) where
 
 pub record Gained (w : List ℕ) (rows : Rows) (n : ℕ) (out : List ℕ) : Type 0 where
   pub place : n ≤ 8
-  pub lanes : Lanes (λ b i. SomeBelow (λ c. WholeColour (Lane w b i) (rowOf rows c)) n) out
+  pub family : FamilyWhere (λ b i. SomeBelow (λ c. WholeColour (Lane w b i) (rowOf rows c)) n) out
 
 pub record Kept (w : List ℕ) (rows : Rows) (n : ℕ) (out : List ℕ) : Type 0 where
   pub place : n ≤ 8
-  pub lanes : Lanes (λ b i. AllBelow (λ c. CutColour (Lane w b i) (rowOf rows c)) n) out
+  pub family : FamilyWhere (λ b i. AllBelow (λ c. CutColour (Lane w b i) (rowOf rows c)) n) out
 
 module _ (w : List ℕ) (rows : Rows) where
-  pub gained-none : (out : List ℕ) → Lanes (λ b i. Member 0 i) out → Gained w rows 0 out
+  pub gained-none : (out : List ℕ) → FamilyWhere (λ b i. Member 0 i) out → Gained w rows 0 out
   gained-none out l =
       record {
         place = omega arith;
-        lanes = lanes-as out l (λ b i hb hi. record { to = λ m. absurd (none-in-zero i m); from = λ s. let q = s .below in absurd (omega arith) });
+        family = family-as out l (λ b i hb hi. record { to = λ m. absurd (none-in-zero i m); from = λ s. let q = s .below in absurd (omega arith) });
       }
 
-  pub kept-none : (out : List ℕ) → Lanes (λ b i. Member (2 ^ 64 - 1) i) out → Kept w rows 0 out
+  pub kept-none : (out : List ℕ) → FamilyWhere (λ b i. Member (2 ^ 64 - 1) i) out → Kept w rows 0 out
   kept-none out l =
       record {
         place = omega arith;
-        lanes = lanes-as out l (λ b i hb hi. record { to = λ m. record { each = λ c q. absurd (omega arith) }; from = λ _. full-word i hi });
+        family = family-as out l (λ b i hb hi. record { to = λ m. record { each = λ c q. absurd (omega arith) }; from = λ _. full-word i hi });
       }
 
   module _ (n : ℕ) (out out′ : List ℕ) (h : n < 8) where
-    pub gained-more : Gained w rows n out → Lanes (λ b i. At out b i ⊎ WholeColour (Lane w b i) (rowOf rows n)) out′ → Gained w rows (n + 1) out′
+    pub gained-more : Gained w rows n out → FamilyWhere (λ b i. At out b i ⊎ WholeColour (Lane w b i) (rowOf rows n)) out′ → Gained w rows (n + 1) out′
     gained-more g l =
         record {
           place = omega arith;
-          lanes = lanes-as out′ l (λ b i hb hi.
-              let o = g .lanes .each b i hb hi in
+          family = family-as out′ l (λ b i hb hi.
+              let o = g .family .each b i hb hi in
               iff-trans (record { to = ⊎-elim (λ a. inl (o .to a)) (λ q. inr q); from = ⊎-elim (λ a. inl (o .from a)) (λ q. inr q) })
               (some-below-more (λ c. WholeColour (Lane w b i) (rowOf rows c)) n));
         }
 
-    pub kept-more : Kept w rows n out → Lanes (λ b i. At out b i × CutColour (Lane w b i) (rowOf rows n)) out′ → Kept w rows (n + 1) out′
+    pub kept-more : Kept w rows n out → FamilyWhere (λ b i. At out b i × CutColour (Lane w b i) (rowOf rows n)) out′ → Kept w rows (n + 1) out′
     kept-more g l =
         record {
           place = omega arith;
-          lanes = lanes-as out′ l (λ b i hb hi.
-              let o = g .lanes .each b i hb hi in
+          family = family-as out′ l (λ b i hb hi.
+              let o = g .family .each b i hb hi in
               iff-trans (record { to = λ p. (o .to (p .0), p .1); from = λ p. (o .from (p .0), p .1) })
               (all-below-more (λ c. CutColour (Lane w b i) (rowOf rows c)) n));
         }
 
   module _ (n : ℕ) (out : List ℕ) (e : length (rows .needs) ≡ 8) (h : 8 ≤ n) where
-    pub gained-done : Gained w rows n out → Lanes (λ b i. Completed rows (Lane w b i)) out
+    pub gained-done : Gained w rows n out → FamilyWhere (λ b i. Completed rows (Lane w b i)) out
     gained-done g =
-        lanes-as out (g .lanes) (λ b i hb hi. record {
+        family-as out (g .family) (λ b i hb hi. record {
           to = λ s. record { colour = s .place; whole = s .has };
           from = λ k. record {
             place = k .colour;
@@ -174,11 +174,11 @@ module _ (w : List ℕ) (rows : Rows) where
           };
         })
 
-    pub kept-done : (s : ℕ) → Needed rows s → (s ≡ 0 → ⊥) → Kept w rows n out → Lanes (λ b i. Severed rows (Lane w b i)) out
+    pub kept-done : (s : ℕ) → Needed rows s → (s ≡ 0 → ⊥) → Kept w rows n out → FamilyWhere (λ b i. Severed rows (Lane w b i)) out
     kept-done s d z g =
         let m = some-member s z in
         let k = d .each (m .0) .to (m .1) in
-        lanes-as out (g .lanes) (λ b i hb hi. record {
+        family-as out (g .family) (λ b i hb hi. record {
           to = λ a. record {
             colour = k .colour;
             coloured = λ q. none-in-zero (m .0) (subst (λ (x : ℕ). Member x (m .0)) q (k .member));
@@ -188,9 +188,9 @@ module _ (w : List ℕ) (rows : Rows) where
         })
 
   -- a vertex that needs nothing has no colour
-  pub severed-none : (s : ℕ) (out : List ℕ) → Needed rows s → s ≡ 0 → Lanes (λ b i. Member 0 i) out → Lanes (λ b i. Severed rows (Lane w b i)) out
+  pub severed-none : (s : ℕ) (out : List ℕ) → Needed rows s → s ≡ 0 → FamilyWhere (λ b i. Member 0 i) out → FamilyWhere (λ b i. Severed rows (Lane w b i)) out
   severed-none s out d z l =
-      lanes-as out l (λ b i hb hi. record {
+      family-as out l (λ b i hb hi. record {
         to = λ m. absurd (none-in-zero i m);
         from = λ v.
             let m = some-member (rowOf rows (v .colour)) (v .coloured) in
@@ -200,10 +200,10 @@ module _ (w : List ℕ) (rows : Rows) where
 -- ---- access and lockout
 
 module _ (w : List ℕ) (rows : Rows) (out : List ℕ) where
-  pub admitted-lost : (loss : Bool) → loss ≡ true → Lanes (λ b i. Severed rows (Lane w b i)) out → Lanes (λ b i. Admits loss rows (Lane w b i)) out
+  pub admitted-lost : (loss : Bool) → loss ≡ true → FamilyWhere (λ b i. Severed rows (Lane w b i)) out → FamilyWhere (λ b i. Admits loss rows (Lane w b i)) out
   admitted-lost true e l = l
   admitted-lost false e l = absurd (false-true e)
 
-  pub admitted-opened : (loss : Bool) → loss ≡ false → Lanes (λ b i. Completed rows (Lane w b i)) out → Lanes (λ b i. Admits loss rows (Lane w b i)) out
+  pub admitted-opened : (loss : Bool) → loss ≡ false → FamilyWhere (λ b i. Completed rows (Lane w b i)) out → FamilyWhere (λ b i. Admits loss rows (Lane w b i)) out
   admitted-opened false e l = l
   admitted-opened true e l = absurd (false-true (sym e))

@@ -9,11 +9,12 @@ use lib.ListN.{length, getD, take, drop}
 use lib.Seq.{getD-take, getD-drop}
 use Rattle.vertex_set.specs.Set.{Member, Within, Iff}
 use Rattle.vertex_set.proofs.Cases.{same-or}
-use Rattle.vertex_set.proofs.Sets.{within-refl, below-power, none-in-zero, member-or}
+use Rattle.vertex_set.proofs.Sets.{within-refl, none-in-zero}
 use Rattle.derivations.specs.Derivation.{Vertices}
 use Rattle.derivations.specs.Lockout.{SomeLost}
-use Rattle.lanes.specs.Lanes.{At, Lane, Lanes, AllHeld, Without}
-use Rattle.lanes.proofs.Families.{lanes-as}
+use Rattle.words.specs.Words.{At, FamilyWhere, Without}
+use Rattle.lanes.specs.Lanes.{Lane, AllHeld}
+use Rattle.words.proofs.Families.{family-as, full-word}
 
 -- the words from v * 256 on are the family of v
 pub part-lane : (w : List ℕ) (v n b i : ℕ) → b < n → Iff (At (take n (drop (v * 256) w)) b i) (Lane w b i v)
@@ -21,10 +22,6 @@ unfolding At Lane
 part-lane w v n b i h =
     let e : getD (take n (drop (v * 256) w)) b 0 ≡ getD w (v * 256 + b) 0 = getD-take n (drop (v * 256) w) b 0 h ∙ getD-drop (v * 256) w b 0 in
     record { to = subst (λ (x : ℕ). Member x i) e; from = subst (λ (x : ℕ). Member x i) (sym e) }
-
--- all bits of a word
-pub full-word : (i : ℕ) → i < 64 → Member (2 ^ 64 - 1) i
-full-word i h = below-power 64 (omega arith) .each i .from (h, h)
 
 -- Those vertices of the row that are not left have been passed, and are all held; or some one of them is.
 pub record AllPassed (held : Vertices) (row left : ℕ) : Type 0 where
@@ -38,21 +35,21 @@ pub record SomePassed (held : Vertices) (row left : ℕ) : Type 0 where
 
 pub record Scan (P : Vertices → ℕ → ℕ → Type 0) (w : List ℕ) (row left : ℕ) (out : List ℕ) : Type 0 where
   pub within : Within left row
-  pub lanes : Lanes (λ b i. P (Lane w b i) row left) out
+  pub family : FamilyWhere (λ b i. P (Lane w b i) row left) out
 
 module _ (w : List ℕ) (row : ℕ) where
-  pub all-none : (out : List ℕ) → Lanes (λ b i. Member (2 ^ 64 - 1) i) out → Scan AllPassed w row row out
+  pub all-none : (out : List ℕ) → FamilyWhere (λ b i. Member (2 ^ 64 - 1) i) out → Scan AllPassed w row row out
   all-none out l =
       record {
         within = within-refl row;
-        lanes = lanes-as out l (λ b i hb hi. record { to = λ m. record { each = λ v r n. absurd (n r) }; from = λ a. full-word i hi });
+        family = family-as out l (λ b i hb hi. record { to = λ m. record { each = λ v r n. absurd (n r) }; from = λ a. full-word i hi });
       }
 
-  pub some-none : (out : List ℕ) → Lanes (λ b i. Member 0 i) out → Scan SomePassed w row row out
+  pub some-none : (out : List ℕ) → FamilyWhere (λ b i. Member 0 i) out → Scan SomePassed w row row out
   some-none out l =
       record {
         within = within-refl row;
-        lanes = lanes-as out l (λ b i hb hi. record { to = λ m. absurd (none-in-zero i m); from = λ s. absurd (s .passed (s .member)) });
+        family = family-as out l (λ b i hb hi. record { to = λ m. absurd (none-in-zero i m); from = λ s. absurd (s .passed (s .member)) });
       }
 
   module _ (left v rest n : ℕ) (out out′ : List ℕ) (m : Member left v) (o : Without left v rest) (h : n ≡ 256) where
@@ -66,14 +63,14 @@ module _ (w : List ℕ) (row : ℕ) where
     was-passed : (u : ℕ) → (Member left u → ⊥) → Member rest u → ⊥
     was-passed u g r = g (o .each u .to r .0)
 
-    pub all-more : Scan AllPassed w row left out → Lanes (λ b i. At out b i × At (take n (drop (v * 256) w)) b i) out′
+    pub all-more : Scan AllPassed w row left out → FamilyWhere (λ b i. At out b i × At (take n (drop (v * 256) w)) b i) out′
         → Scan AllPassed w row rest out′
     all-more s l =
         record {
           within = fewer (s .within);
-          lanes = lanes-as out′ l (λ b i hb hi.
+          family = family-as out′ l (λ b i hb hi.
               let p = part-lane w v n b i (omega arith) in
-              let was = s .lanes .each b i hb hi in
+              let was = s .family .each b i hb hi in
               record {
                 to = λ m2. record {
                   each = λ u r g. ⊎-elim
@@ -88,14 +85,14 @@ module _ (w : List ℕ) (row : ℕ) where
               });
         }
 
-    pub some-more : Scan SomePassed w row left out → Lanes (λ b i. At out b i ⊎ At (take n (drop (v * 256) w)) b i) out′
+    pub some-more : Scan SomePassed w row left out → FamilyWhere (λ b i. At out b i ⊎ At (take n (drop (v * 256) w)) b i) out′
         → Scan SomePassed w row rest out′
     some-more s l =
         record {
           within = fewer (s .within);
-          lanes = lanes-as out′ l (λ b i hb hi.
+          family = family-as out′ l (λ b i hb hi.
               let p = part-lane w v n b i (omega arith) in
-              let was = s .lanes .each b i hb hi in
+              let was = s .family .each b i hb hi in
               record {
                 to = ⊎-elim
                     (λ a. let t = was .to a in record { vertex = t .vertex; member = t .member; passed = was-passed (t .vertex) (t .passed); has = t .has })
@@ -108,16 +105,16 @@ module _ (w : List ℕ) (row : ℕ) where
         }
 
   -- nothing is left
-  pub all-done : (left : ℕ) (out : List ℕ) → left ≡ 0 → Scan AllPassed w row left out → Lanes (λ b i. AllHeld (Lane w b i) row) out
+  pub all-done : (left : ℕ) (out : List ℕ) → left ≡ 0 → Scan AllPassed w row left out → FamilyWhere (λ b i. AllHeld (Lane w b i) row) out
   all-done left out e s =
-      lanes-as out (s .lanes) (λ b i hb hi. record {
+      family-as out (s .family) (λ b i hb hi. record {
         to = λ a. record { each = λ v m. a .each v m (λ r. none-in-zero v (subst (λ (x : ℕ). Member x v) e r)) };
         from = λ a. record { each = λ v m g. a .each v m };
       })
 
-  pub some-done : (left : ℕ) (out : List ℕ) → left ≡ 0 → Scan SomePassed w row left out → Lanes (λ b i. SomeLost (Lane w b i) row) out
+  pub some-done : (left : ℕ) (out : List ℕ) → left ≡ 0 → Scan SomePassed w row left out → FamilyWhere (λ b i. SomeLost (Lane w b i) row) out
   some-done left out e s =
-      lanes-as out (s .lanes) (λ b i hb hi. record {
+      family-as out (s .family) (λ b i hb hi. record {
         to = λ t. record { vertex = t .vertex; member = t .member; gone = t .has };
         from = λ t. record {
           vertex = t .vertex;

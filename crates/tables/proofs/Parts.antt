@@ -12,10 +12,11 @@ use borrow.Rule.Slice.PartMut.{putMid, put-same}
 use Rattle.vertex_set.specs.Set.{Member, Iff}
 use Rattle.vertex_set.proofs.Cases.{same-or, less-or}
 use Rattle.setup.specs.declared.Rows.{Rows}
-use Rattle.lanes.specs.Lanes.{At, Lane, Lanes, Admits, room, Joined}
-use Rattle.lanes.proofs.Families.{iff-refl, iff-trans}
+use Rattle.words.specs.Words.{At, FamilyWhere, room, Joined}
+use Rattle.lanes.specs.Lanes.{Lane, Admits}
+use Rattle.words.proofs.Families.{iff-refl, iff-trans}
 use Rattle.lanes.proofs.Scans.{part-lane}
-use Rattle.lanes.proofs.Joins.{room-append}
+use Rattle.words.proofs.Joins.{room-append}
 use Rattle.tables.specs.Steps.{Stepped}
 
 module _ (w d : List ℕ) (v k : ℕ) (hw : length w ≡ 16384) (hv : v < 64) (hk : k ≡ 256) (hd : length d ≡ 256) where
@@ -81,26 +82,26 @@ module _ (loss : Bool) (rows : Rows) (v k : ℕ) (w gains d : List ℕ) (r : Boo
   abbrev Grown : ℕ → ℕ → ℕ → Type 0
   Grown b i u = Iff (Lane (putMid (v * 256) k w d) b i u) (Lane w b i u ⊎ ((u ≡ v) × Admits loss rows (Lane w b i)))
 
-  module _ (g : Lanes (λ b i. Admits loss rows (Lane w b i)) gains) (j : Joined (take k (drop (v * 256) w)) gains r d) where
+  module _ (g : FamilyWhere (λ b i. Admits loss rows (Lane w b i)) gains) (j : Joined (take k (drop (v * 256) w)) gains r d) where
     own : (b i : ℕ) → b < 256 → i < 64 → Grown b i v
     own b i hb hi =
         let p = part-lane w v k b i (omega arith) in
         let a = g .each b i hb hi in
-        iff-trans (lane-put w d v k hw hv hk (j .lanes .words) b i hb) (iff-trans (j .lanes .each b i hb hi) (record {
+        iff-trans (lane-put w d v k hw hv hk (j .family .words) b i hb) (iff-trans (j .family .each b i hb hi) (record {
           to = ⊎-elim (λ x. inl (p .to x)) (λ x. inr (refl, a .to x));
           from = ⊎-elim (λ x. inl (p .from x)) (λ x. inr (a .from (x .1)));
         }))
 
     other : (b i u : ℕ) → b < 256 → (u ≡ v → ⊥) → Grown b i u
     other b i u hb n =
-        iff-trans (lane-kept w d v k hw hv hk (j .lanes .words) b i u hb n)
+        iff-trans (lane-kept w d v k hw hv hk (j .family .words) b i u hb n)
         (record { to = λ x. inl x; from = ⊎-elim (λ x. x) (λ x. absurd (n (x .0))) })
 
     pub stepped : Stepped loss rows v w r (putMid (v * 256) k w d)
     stepped =
         record {
-          words = put-length w d v k hw hv hk (j .lanes .words);
+          words = put-length w d v k hw hv hk (j .family .words);
           each = λ b i u hb hi. ⊎-elim (λ q. subst (Grown b i) (sym q) (own b i hb hi)) (λ n. other b i u hb n) (same-or u v);
           same = λ e. ap (putMid (v * 256) k w) (j .same e) ∙ put-same (v * 256) k w;
-          more = λ e. let m = j .more e in let p = put-room w d v k hw hv hk (j .lanes .words) in omega arith;
+          more = λ e. let m = j .more e in let p = put-room w d v k hw hv hk (j .family .words) in omega arith;
         }

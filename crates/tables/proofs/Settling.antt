@@ -20,8 +20,9 @@ use Rattle.derivations.specs.Lockout.{SomeLost, Shuts}
 use Rattle.derivations.specs.Both.{ruleOf}
 use Rattle.derivations.proofs.Rules.{Sub, Lawful, held, closed, least}
 use Rattle.derivations.proofs.Both.{lawful}
-use Rattle.lanes.specs.Lanes.{Lane, AllHeld, WholeColour, CutColour, Completed, Severed, Admits, Without, room}
-use Rattle.lanes.proofs.Scans.{full-word}
+use Rattle.words.specs.Words.{Without, room}
+use Rattle.lanes.specs.Lanes.{Lane, AllHeld, WholeColour, CutColour, Completed, Severed, Admits}
+use Rattle.words.proofs.Families.{full-word}
 use Rattle.tables.specs.Steps.{Stepped, AllNeeded, Users, Closed}
 
 -- ---- a vertex that a lane admits is one that the rule allows there

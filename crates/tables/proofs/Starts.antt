@@ -14,8 +14,9 @@ use Rattle.vertex_set.specs.Set.{Member, Iff}
 use Rattle.vertex_set.proofs.Cases.{same-or, less-or}
 use Rattle.vertex_set.proofs.Sets.{shifted-one, none-in-zero, member-below}
 use Rattle.families.specs.Masks.{rank, Picked}
-use Rattle.lanes.specs.Lanes.{Lane, Lanes}
-use Rattle.lanes.proofs.Families.{iff-trans, lanes-as}
+use Rattle.words.specs.Words.{FamilyWhere}
+use Rattle.lanes.specs.Lanes.{Lane}
+use Rattle.words.proofs.Families.{iff-trans, family-as}
 use Rattle.tables.specs.Steps.{Started}
 use Rattle.tables.proofs.Parts.{put-length, lane-put, lane-kept}
 
@@ -28,15 +29,15 @@ pub rank-counted : (chosen v : ℕ) → v < 64 → ones (chosen % ((1 * 2 ^ v) %
 unfolding rank
 rank-counted chosen v h = rw (shifted-one v h)
 
-pub picked-lanes : (chosen v k : ℕ) (d : List ℕ) → Member chosen v → k ≡ rank chosen v → Lanes (λ b i. Member (b * 64 + i) k) d
-    → Lanes (λ b i. Picked chosen (b * 64 + i) v) d
+pub picked-family : (chosen v k : ℕ) (d : List ℕ) → Member chosen v → k ≡ rank chosen v → FamilyWhere (λ b i. Member (b * 64 + i) k) d
+    → FamilyWhere (λ b i. Picked chosen (b * 64 + i) v) d
 unfolding Picked
-picked-lanes chosen v k d m e l =
-    lanes-as d (subst (λ (j : ℕ). Lanes (λ b i. Member (b * 64 + i) j) d) e l) (λ b i hb hi. record { to = λ p. (m, p); from = λ p. p .1 })
+picked-family chosen v k d m e l =
+    family-as d (subst (λ (j : ℕ). FamilyWhere (λ b i. Member (b * 64 + i) j) d) e l) (λ b i hb hi. record { to = λ p. (m, p); from = λ p. p .1 })
 
-pub other-lanes : (chosen v : ℕ) (d : List ℕ) → (Member chosen v → ⊥) → Lanes (λ b i. Member 0 i) d → Lanes (λ b i. Picked chosen (b * 64 + i) v) d
+pub other-family : (chosen v : ℕ) (d : List ℕ) → (Member chosen v → ⊥) → FamilyWhere (λ b i. Member 0 i) d → FamilyWhere (λ b i. Picked chosen (b * 64 + i) v) d
 unfolding Picked
-other-lanes chosen v d n l = lanes-as d l (λ b i hb hi. record { to = λ m. absurd (none-in-zero i m); from = λ p. absurd (n (p .0)) })
+other-family chosen v d n l = family-as d l (λ b i hb hi. record { to = λ m. absurd (none-in-zero i m); from = λ p. absurd (n (p .0)) })
 
 -- ---- all vertices
 
@@ -58,7 +59,7 @@ module _ (chosen : ℕ) where
   pub started-none : (w : List ℕ) → length w ≡ 16384 → StartedBelow chosen 0 w
   started-none w e = record { place = omega arith; words = e; each = λ b i v hb hi l. absurd (omega arith) }
 
-  pub started-more : (n k : ℕ) (w d : List ℕ) → n < 64 → k ≡ 256 → StartedBelow chosen n w → Lanes (λ b i. Picked chosen (b * 64 + i) n) d
+  pub started-more : (n k : ℕ) (w d : List ℕ) → n < 64 → k ≡ 256 → StartedBelow chosen n w → FamilyWhere (λ b i. Picked chosen (b * 64 + i) n) d
       → StartedBelow chosen (n + 1) (putMid (n * 256) k w d)
   started-more n k w d h hk s l =
       record {

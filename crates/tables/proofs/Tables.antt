@@ -14,8 +14,9 @@ use Rattle.derivations.proofs.Rules.{Lawful, monotone}
 use Rattle.derivations.proofs.Both.{lawful}
 use Rattle.families.specs.Masks.{Picked}
 use Rattle.families.specs.Family.{In, Monotone}
-use Rattle.lanes.specs.Lanes.{At, Lane}
-use Rattle.lanes.proofs.Families.{iff-trans}
+use Rattle.words.specs.Words.{At}
+use Rattle.lanes.specs.Lanes.{Lane}
+use Rattle.words.proofs.Families.{iff-trans}
 use Rattle.lanes.proofs.Scans.{part-lane}
 use Rattle.tables.specs.Table.{Table, FamilyOf}
 use Rattle.tables.specs.Steps.{Closed, Started}

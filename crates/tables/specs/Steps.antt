@@ -11,7 +11,8 @@ use Rattle.setup.specs.declared.Graph.{Graph}
 use Rattle.setup.specs.Setup.{rowsAt}
 use Rattle.derivations.specs.Derivation.{Rule, Derivation}
 use Rattle.families.specs.Masks.{Picked}
-use Rattle.lanes.specs.Lanes.{Lane, Admits, Needed, room}
+use Rattle.words.specs.Words.{room}
+use Rattle.lanes.specs.Lanes.{Lane, Admits, Needed}
 
 -- The table w has become e: the vertex v was added to each lane that admits it; r says whether one was new.
 pub record Stepped (loss : Bool) (rows : Rows) (v : ℕ) (w : List ℕ) (r : Bool) (e : List ℕ) : Type 0 where

@@ -5,12 +5,12 @@ ghost use lib.ListN.{length};
 ghost use Rattle.vertex_set.specs.Set.{Member};
 ghost use Rattle.derivations.specs.Both.{ruleOf};
 ghost use Rattle.families.specs.Masks.{rank, Picked};
-ghost use Rattle.lanes.specs.Lanes.{Lanes, VertexOf};
+ghost use Rattle.words.specs.Words.{FamilyWhere, VertexOf};
 ghost use Rattle.tables.specs.Table.{Table};
 ghost use Rattle.tables.specs.Steps.{Stepped, AllNeeded, Users, Closed, Started};
-use lanes::WORDS;
 use setup::{Graph, Rows};
 use vertex_set::{VertexSet, VERTICES};
+use words::WORDS;
 
 // The vertex v, which has these rows, is added to each lane that admits it. Was one new?
 fn step(w: &mut [u64], v: usize, rows: Rows, loss: bool) -> bool
@@ -21,7 +21,7 @@ fn step(w: &mut [u64], v: usize, rows: Rows, loss: bool) -> bool
     let mut gains = [0u64; 256];
     lanes::admitted(w, rows, loss, &mut gains);
     let a = v * WORDS;
-    lanes::join(&mut w[a..a + WORDS], &gains)
+    words::join(&mut w[a..a + WORDS], &gains)
 }
 
 // A vertex of todo: the lowest one of those in after, if there is one, so that none waits for ever.
@@ -31,9 +31,9 @@ fn next(todo: u64, after: u64) -> usize
 {
     let later = todo & after;
     if later == 0 {
-        return lanes::lowest(todo);
+        return words::lowest(todo);
     }
-    lanes::lowest(later)
+    words::lowest(later)
 }
 
 // The needed vertices of each vertex.
@@ -73,13 +73,13 @@ fn rank_of(chosen: u64, v: usize) -> usize
 fn start_family(d: &mut [u64], chosen: VertexSet, v: usize)
     requires { ⌜ length (now d) ≡ 256 ⌝ }
     requires { ⌜ v < 64 ⌝ }
-    ensures { λ _. ⌜ Lanes (λ b i. Picked (chosen .0) (b * 64 + i) v) (now (d .exit)) ⌝ }
+    ensures { λ _. ⌜ FamilyWhere (λ b i. Picked (chosen .0) (b * 64 + i) v) (now (d .exit)) ⌝ }
 {
     if chosen.has(v) {
         let k = rank_of(chosen.0, v);
-        lanes::start_words(d, k);
+        words::start_words(d, k);
     } else {
-        lanes::set_all(d, 0);
+        words::set_all(d, 0);
     }
 }
 
@@ -105,7 +105,7 @@ fn settle(graph: Graph, loss: bool, w: &mut [u64])
     let mut after: u64 = todo;
     while todo != 0 {
         let v = next(todo, after);
-        todo = lanes::without(todo, v);
+        todo = words::without(todo, v);
         after = 0xFFFF_FFFF_FFFF_FFFE << v;
         if step(w, v, graph.rows[v], loss) {
             todo = todo | users(&needs, v);

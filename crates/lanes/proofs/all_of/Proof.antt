@@ -6,10 +6,10 @@ use Rattle.lanes.proofs.all_of.Statement.{statement}
 use Rattle.lanes.proofs.all_of.Tie as tie
 use Rattle.lanes.proofs.all_of.Reads as reads
 use Rattle.lanes.proofs.all_of.Lts as lts
-use Rattle.lanes.proofs.and_in.Reads as and-in-reads
-use Rattle.lanes.proofs.lowest.Reads as lowest-reads
-use Rattle.lanes.proofs.set_all.Reads as set-all-reads
-use Rattle.lanes.proofs.without.Reads as without-reads
+use Rattle.words.proofs.and_in.Reads as and-in-reads
+use Rattle.words.proofs.lowest.Reads as lowest-reads
+use Rattle.words.proofs.set_all.Reads as set-all-reads
+use Rattle.words.proofs.without.Reads as without-reads
 
 abbrev Inv-loop : tie.InvT-loop
 Inv-loop w row out₀ left₀ out left = Scan AllPassed w row left out

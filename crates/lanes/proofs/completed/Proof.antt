@@ -6,7 +6,7 @@ use Rattle.lanes.proofs.completed.Tie as tie
 use Rattle.lanes.proofs.completed.Reads as reads
 use Rattle.lanes.proofs.completed.Lts as lts
 use Rattle.lanes.proofs.gain_colour.Reads as gain-colour-reads
-use Rattle.lanes.proofs.set_all.Reads as set-all-reads
+use Rattle.words.proofs.set_all.Reads as set-all-reads
 
 abbrev Inv-loop : tie.InvT-loop
 Inv-loop w out₀ rows c₀ out c = Gained w rows c out

@@ -5,7 +5,7 @@ use Rattle.lanes.proofs.gain_colour.Tie as tie
 use Rattle.lanes.proofs.gain_colour.Reads as reads
 use Rattle.lanes.proofs.gain_colour.Lts as lts
 use Rattle.lanes.proofs.all_of.Reads as all-of-reads
-use Rattle.lanes.proofs.or_in.Reads as or-in-reads
+use Rattle.words.proofs.or_in.Reads as or-in-reads
 
 -- src/lib.rt:115:9
 returns : tie.Need-returns

@@ -4,7 +4,7 @@ use Rattle.lanes.proofs.keep_colour.Statement.{statement}
 use Rattle.lanes.proofs.keep_colour.Tie as tie
 use Rattle.lanes.proofs.keep_colour.Reads as reads
 use Rattle.lanes.proofs.keep_colour.Lts as lts
-use Rattle.lanes.proofs.and_in.Reads as and-in-reads
+use Rattle.words.proofs.and_in.Reads as and-in-reads
 use Rattle.lanes.proofs.any_of.Reads as any-of-reads
 
 -- src/lib.rt:129:9

@@ -7,7 +7,7 @@ use Rattle.lanes.proofs.severed.Reads as reads
 use Rattle.lanes.proofs.severed.Lts as lts
 use Rattle.lanes.proofs.keep_colour.Reads as keep-colour-reads
 use Rattle.lanes.proofs.needed.Reads as needed-reads
-use Rattle.lanes.proofs.set_all.Reads as set-all-reads
+use Rattle.words.proofs.set_all.Reads as set-all-reads
 
 abbrev Inv-loop : tie.InvT-loop
 Inv-loop w out₀ rows c₀ out c = Kept w rows c out

@@ -4,7 +4,7 @@ use Rattle.tables.proofs.next.Statement.{statement}
 use Rattle.tables.proofs.next.Tie as tie
 use Rattle.tables.proofs.next.Reads as reads
 use Rattle.tables.proofs.next.Lts as lts
-use Rattle.lanes.proofs.lowest.Reads as lowest-reads
+use Rattle.words.proofs.lowest.Reads as lowest-reads
 
 -- src/lib.rt:33:9
 lowest-requires : tie.Need-lowest-requires

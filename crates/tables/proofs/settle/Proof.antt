@@ -3,13 +3,13 @@ use lib.Bits.{or-lt}
 use lib.ListN.{length, length-map}
 use borrow.Author.Needs.{needs}
 use Prim.Native.Nat.{_+_, _*_, _^_}
-use Rattle.lanes.specs.Lanes.{room}
+use Rattle.words.specs.Words.{room}
 use Rattle.tables.proofs.Settling.{Settling, settling-none, settling-same, settling-more, settled, falls-same, falls-more}
 use Rattle.tables.proofs.settle.Statement.{statement}
 use Rattle.tables.proofs.settle.Tie as tie
 use Rattle.tables.proofs.settle.Reads as reads
 use Rattle.tables.proofs.settle.Lts as lts
-use Rattle.lanes.proofs.without.Reads as without-reads
+use Rattle.words.proofs.without.Reads as without-reads
 use Rattle.tables.proofs.all_needed.Reads as all-needed-reads
 use Rattle.tables.proofs.next.Reads as next-reads
 use Rattle.tables.proofs.step.Reads as step-reads

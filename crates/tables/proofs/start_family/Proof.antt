@@ -1,13 +1,13 @@
 use Prim.Native.Nat.{_<_}
 use native.Mathlib.Omega.{arith}
-use Rattle.tables.proofs.Starts.{rank-le, picked-lanes, other-lanes}
+use Rattle.tables.proofs.Starts.{rank-le, picked-family, other-family}
 use borrow.Author.Needs.{needs}
 use Rattle.tables.proofs.start_family.Statement.{statement}
 use Rattle.tables.proofs.start_family.Tie as tie
 use Rattle.tables.proofs.start_family.Reads as reads
 use Rattle.tables.proofs.start_family.Lts as lts
-use Rattle.lanes.proofs.set_all.Reads as set-all-reads
-use Rattle.lanes.proofs.start_words.Reads as start-words-reads
+use Rattle.words.proofs.set_all.Reads as set-all-reads
+use Rattle.words.proofs.start_words.Reads as start-words-reads
 use Rattle.tables.proofs.rank_of.Reads as rank-of-reads
 use Rattle.vertex_set.proofs.VertexSet.has.Reads as has-reads
 
@@ -42,7 +42,7 @@ returns : tie.Need-returns
 returns c =
     let r = c .before .before .before .before in
     let h = r .before .before in
-    picked-lanes (h .before .before .args .chosen .0) _ _ _ (h .has .ensures .yes (r .before .if1 .taken)) (r .rank-of .ensures) (c .before .before .start-words .ensures)
+    picked-family (h .before .before .args .chosen .0) _ _ _ (h .has .ensures .yes (r .before .if1 .taken)) (r .rank-of .ensures) (c .before .before .start-words .ensures)
 
 -- src/lib.rt:72:1
 same-length-2 : tie.Need-same-length-2
@@ -53,7 +53,7 @@ returns-2 : tie.Need-returns-2
 returns-2 c =
     let s = c .before .before in
     let e = s .before .before in
-    other-lanes (e .before .before .before .args .chosen .0) _ _ (e .before .has .ensures .no (e .if1 .left)) (s .set-all .ensures)
+    other-family (e .before .before .before .args .chosen .0) _ _ (e .before .has .ensures .no (e .if1 .left)) (s .set-all .ensures)
 
 pub start-family-spec : {M : Type 1} → statement M
 start-family-spec =

@@ -7,7 +7,7 @@ use Rattle.tables.proofs.step.Tie as tie
 use Rattle.tables.proofs.step.Reads as reads
 use Rattle.tables.proofs.step.Lts as lts
 use Rattle.lanes.proofs.admitted.Reads as admitted-reads
-use Rattle.lanes.proofs.join.Reads as join-reads
+use Rattle.words.proofs.join.Reads as join-reads
 
 -- src/lib.rt:21:36
 slice-aggregate-admitted : tie.Need-slice-aggregate-admitted

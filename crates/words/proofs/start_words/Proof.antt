@@ -1,13 +1,13 @@
 use mathlib.Core.Path.{refl}
 use borrow.Author.Needs.{needs}
 use Prim.Native.Nat.{_-_, _*_, _/_, _%_, _^_}
-use Rattle.lanes.proofs.Words.{Mapped, mapped-none, mapped-more}
-use Rattle.lanes.proofs.Starts.{patterns, start-low, start-high}
-use Rattle.lanes.proofs.start_words.Statement.{statement}
-use Rattle.lanes.proofs.start_words.Tie as tie
-use Rattle.lanes.proofs.start_words.Reads as reads
-use Rattle.lanes.proofs.start_words.Lts as lts
-use Rattle.lanes.proofs.set_all.Reads as set-all-reads
+use Rattle.words.proofs.Words.{Mapped, mapped-none, mapped-more}
+use Rattle.words.proofs.Starts.{patterns, start-low, start-high}
+use Rattle.words.proofs.start_words.Statement.{statement}
+use Rattle.words.proofs.start_words.Tie as tie
+use Rattle.words.proofs.start_words.Reads as reads
+use Rattle.words.proofs.start_words.Lts as lts
+use Rattle.words.proofs.set_all.Reads as set-all-reads
 
 abbrev Inv-loop : tie.InvT-loop
 Inv-loop d₀ k j b₀ d b = Mapped (λ n. n / 2 ^ (k - 6) % 2 * (2 ^ 64 - 1)) d₀ d b

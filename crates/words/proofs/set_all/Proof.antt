@@ -1,13 +1,13 @@
 use mathlib.Core.Path.{refl}
-use Rattle.lanes.proofs.Families.{iff-refl}
+use Rattle.words.proofs.Families.{iff-refl}
 use borrow.Author.Needs.{needs}
 use Prim.Native.Nat.{_-_}
-use Rattle.lanes.proofs.Words.{Mapped, mapped-none, mapped-more}
-use Rattle.lanes.proofs.Families.{and-lanes, or-lanes, mapped-lanes}
-use Rattle.lanes.proofs.set_all.Statement.{statement}
-use Rattle.lanes.proofs.set_all.Tie as tie
-use Rattle.lanes.proofs.set_all.Reads as reads
-use Rattle.lanes.proofs.set_all.Lts as lts
+use Rattle.words.proofs.Words.{Mapped, mapped-none, mapped-more}
+use Rattle.words.proofs.Families.{and-family, or-family, mapped-family}
+use Rattle.words.proofs.set_all.Statement.{statement}
+use Rattle.words.proofs.set_all.Tie as tie
+use Rattle.words.proofs.set_all.Reads as reads
+use Rattle.words.proofs.set_all.Lts as lts
 
 abbrev Inv-loop : tie.InvT-loop
 Inv-loop d₀ x b₀ d b = Mapped (λ _. x) d₀ d b
@@ -45,7 +45,7 @@ same-length c = search needs
 
 -- src/lib.rt:15:1
 returns : tie.Need-returns Inv-loop μ-loop
-returns c = mapped-lanes _ _ _ _ _ (c .before .loop .inv) (c .loop-test .left) (λ b i hb hi. iff-refl)
+returns c = mapped-family _ _ _ _ _ (c .before .loop .inv) (c .loop-test .left) (λ b i hb hi. iff-refl)
 
 pub set-all-spec : {M : Type 1} → statement M
 set-all-spec =

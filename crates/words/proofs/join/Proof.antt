@@ -1,10 +1,10 @@
 use borrow.Author.Needs.{needs}
 use Prim.Native.Nat.{_-_}
-use Rattle.lanes.proofs.Joins.{Joining, joining-none, joining-more, joined}
-use Rattle.lanes.proofs.join.Statement.{statement}
-use Rattle.lanes.proofs.join.Tie as tie
-use Rattle.lanes.proofs.join.Reads as reads
-use Rattle.lanes.proofs.join.Lts as lts
+use Rattle.words.proofs.Joins.{Joining, joining-none, joining-more, joined}
+use Rattle.words.proofs.join.Statement.{statement}
+use Rattle.words.proofs.join.Tie as tie
+use Rattle.words.proofs.join.Reads as reads
+use Rattle.words.proofs.join.Lts as lts
 
 abbrev Inv-loop : tie.InvT-loop
 Inv-loop d₀ s fresh₀ b₀ d fresh b = Joining d₀ s d b fresh

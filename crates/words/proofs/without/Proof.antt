@@ -1,7 +1,7 @@
-use Rattle.lanes.proofs.Members.{without-fits, without-removed}
+use Rattle.words.proofs.Members.{without-fits, without-removed}
 use borrow.Author.Needs.{needs}
-use Rattle.lanes.proofs.without.Statement.{statement}
-use Rattle.lanes.proofs.without.Tie as tie
+use Rattle.words.proofs.without.Statement.{statement}
+use Rattle.words.proofs.without.Tie as tie
 
 
 

@@ -15,9 +15,9 @@ use borrow.Author.Tests.{eqb-true, eqb-false, not-true, not-false}
 use Rattle.vertex_set.specs.Set.{Member, Within, Iff}
 use Rattle.vertex_set.proofs.Cases.{same-or}
 use Rattle.vertex_set.proofs.Sets.{in-or, within-test, within-le, same-set, within-refl, member-or}
-use Rattle.lanes.specs.Lanes.{At, Lanes, room, Joined}
-use Rattle.lanes.proofs.Words.{Mapped, mapped-none, mapped-more}
-use Rattle.lanes.proofs.Families.{or-lanes}
+use Rattle.words.specs.Words.{At, FamilyWhere, room, Joined}
+use Rattle.words.proofs.Words.{Mapped, mapped-none, mapped-more}
+use Rattle.words.proofs.Families.{or-family}
 
 -- ---- room
 
@@ -124,7 +124,7 @@ module _ (d₀ s : List ℕ) where
   pub joined : (d : List ℕ) (n fresh : ℕ) → Joining d₀ s d n fresh → 256 ≤ n → Joined d₀ s (not (eqb fresh 0)) d
   joined d n fresh j h =
       record {
-        lanes = or-lanes d₀ s d n (j .words) h;
+        family = or-family d₀ s d n (j .words) h;
         same = λ e. j .same (eqb-true _ _ (not-false _ e));
         more = λ e. j .more (eqb-false _ _ (not-true _ e));
       }

@@ -1,11 +1,11 @@
 use native.Mathlib.Omega.{arith}
 use borrow.Author.Needs.{needs}
 use lib.Count.{trailing-le}
-use Rattle.lanes.proofs.Members.{lowest-trailing}
-use Rattle.lanes.proofs.lowest.Statement.{statement}
-use Rattle.lanes.proofs.lowest.Tie as tie
-use Rattle.lanes.proofs.lowest.Reads as reads
-use Rattle.lanes.proofs.lowest.Lts as lts
+use Rattle.words.proofs.Members.{lowest-trailing}
+use Rattle.words.proofs.lowest.Statement.{statement}
+use Rattle.words.proofs.lowest.Tie as tie
+use Rattle.words.proofs.lowest.Reads as reads
+use Rattle.words.proofs.lowest.Lts as lts
 
 -- src/lib.rt:51:5
 cast-result : tie.Need-cast-result

@@ -1,23 +1,23 @@
 -- The colours of a vertex are taken one after the other: what holds of some or of all of those taken.
 -- Assumes nothing.
-use mathlib.Core.Path.{_≡_, refl, sym, ap, _∙_, subst}
-use mathlib.Core.List.{List}
+use mathlib.Core.Path.{_≡_, sym, subst}
 use mathlib.Core.Bool.{Bool, true, false}
+use mathlib.Core.List.{List}
 use mathlib.Core.Logic.{_⊎_, inl, inr, ⊎-elim}
-use Prim.Native.Nat.{ℕ, _+_, _-_, _*_, _^_, _≤_, _<_}
+use Prim.Native.Nat.{ℕ, _+_, _-_, _≤_, _<_}
 use native.Mathlib.Omega.{arith}
 use lib.Bits.{bitOr}
-use lib.ListN.{length, getD, List·getD-eq-default}
+use lib.ListN.{length, List·getD-eq-default}
 use Rattle.vertex_set.specs.Set.{Member, Iff}
 use Rattle.vertex_set.proofs.Cases.{same-or, less-or, false-true}
 use Rattle.vertex_set.proofs.Sets.{in-or, none-in-zero, some-member}
 use Rattle.setup.specs.declared.Rows.{Rows}
 use Rattle.setup.specs.Setup.{rowOf}
-use Rattle.derivations.specs.Derivation.{Vertices}
 use Rattle.derivations.specs.Lockout.{SomeLost}
+use Rattle.derivations.specs.Derivation.{Vertices}
 use Rattle.words.specs.Words.{At, FamilyWhere}
-use Rattle.lanes.specs.Lanes.{Lane, AllHeld, WholeColour, CutColour, Completed, Severed, Admits, Coloured, Needed}
 use Rattle.words.proofs.Families.{iff-trans, family-as, full-word}
+use Rattle.lanes.specs.Lanes.{Lane, AllHeld, WholeColour, CutColour, Takes, untakenWord, Admits, Coloured, Needed}
 
 -- ---- places below n
 
@@ -92,25 +92,26 @@ module _ (rows : Rows) where
 -- ---- one colour
 
 module _ (w : List ℕ) (row : ℕ) (out : List ℕ) where
-  pub gain-none : length out ≡ 256 → row ≡ 0 → FamilyWhere (λ b i. At out b i ⊎ WholeColour (Lane w b i) row) out
-  gain-none h e = record { words = h; each = λ b i hb hi. record { to = λ a. inl a; from = ⊎-elim (λ a. a) (λ q. absurd (q .coloured e)) } }
-
-  pub keep-none : length out ≡ 256 → row ≡ 0 → FamilyWhere (λ b i. At out b i × CutColour (Lane w b i) row) out
-  keep-none h e =
+  pub take-none : (loss : Bool) → length out ≡ 256 → row ≡ 0 → FamilyWhere (λ b i. Takes loss (At out b i) (Lane w b i) row) out
+  take-none false h e =
+      record { words = h; each = λ b i hb hi. record { to = λ a. inl a; from = ⊎-elim (λ a. a) (λ q. absurd (q .coloured e)) } }
+  take-none true h e =
       record { words = h; each = λ b i hb hi. record { to = λ a. (a, record { some = λ n. absurd (n e) }); from = λ p. p .0 } }
 
   module _ (part out′ : List ℕ) (n : row ≡ 0 → ⊥) where
-    pub gain-some : FamilyWhere (λ b i. AllHeld (Lane w b i) row) part → FamilyWhere (λ b i. At out b i ⊎ At part b i) out′
-        → FamilyWhere (λ b i. At out b i ⊎ WholeColour (Lane w b i) row) out′
-    gain-some p l =
+    pub take-whole : (loss : Bool) → loss ≡ false → FamilyWhere (λ b i. AllHeld (Lane w b i) row) part
+        → FamilyWhere (λ b i. At out b i ⊎ At part b i) out′ → FamilyWhere (λ b i. Takes loss (At out b i) (Lane w b i) row) out′
+    take-whole true q p l = absurd (false-true (sym q))
+    take-whole false q p l =
         family-as out′ l (λ b i hb hi. record {
           to = ⊎-elim (λ a. inl a) (λ a. inr (record { coloured = n; complete = p .each b i hb hi .to a }));
-          from = ⊎-elim (λ a. inl a) (λ q. inr (p .each b i hb hi .from (q .complete)));
+          from = ⊎-elim (λ a. inl a) (λ c. inr (p .each b i hb hi .from (c .complete)));
         })
 
-    pub keep-some : FamilyWhere (λ b i. SomeLost (Lane w b i) row) part → FamilyWhere (λ b i. At out b i × At part b i) out′
-        → FamilyWhere (λ b i. At out b i × CutColour (Lane w b i) row) out′
-    keep-some p l =
+    pub take-cut : (loss : Bool) → loss ≡ true → FamilyWhere (λ b i. SomeLost (Lane w b i) row) part
+        → FamilyWhere (λ b i. At out b i × At part b i) out′ → FamilyWhere (λ b i. Takes loss (At out b i) (Lane w b i) row) out′
+    take-cut false q p l = absurd (false-true q)
+    take-cut true q p l =
         family-as out′ l (λ b i hb hi. record {
           to = λ a. (a .0, record { some = λ _. p .each b i hb hi .to (a .1) });
           from = λ a. (a .0, p .each b i hb hi .from (a .1 .some n));
@@ -118,92 +119,93 @@ module _ (w : List ℕ) (row : ℕ) (out : List ℕ) where
 
 -- ---- all colours
 
-pub record Gained (w : List ℕ) (rows : Rows) (n : ℕ) (out : List ℕ) : Type 0 where
-  pub place : n ≤ 8
-  pub family : FamilyWhere (λ b i. SomeBelow (λ c. WholeColour (Lane w b i) (rowOf rows c)) n) out
+-- What the colours below n say: some is whole, or all are cut.
+abbrev Colours : Bool → Rows → Vertices → ℕ → Type 0
+Colours false rows held n = SomeBelow (λ c. WholeColour held (rowOf rows c)) n
+Colours true rows lost n = AllBelow (λ c. CutColour lost (rowOf rows c)) n
 
-pub record Kept (w : List ℕ) (rows : Rows) (n : ℕ) (out : List ℕ) : Type 0 where
+colours-more : (loss : Bool) (rows : Rows) (P : Vertices) (was : Type 0) (n : ℕ) → Iff was (Colours loss rows P n)
+    → Iff (Takes loss was P (rowOf rows n)) (Colours loss rows P (n + 1))
+colours-more false rows P was n o =
+    iff-trans (record { to = ⊎-elim (λ a. inl (o .to a)) (λ q. inr q); from = ⊎-elim (λ a. inl (o .from a)) (λ q. inr q) })
+    (some-below-more (λ c. WholeColour P (rowOf rows c)) n)
+colours-more true rows P was n o =
+    iff-trans (record { to = λ p. (o .to (p .0), p .1); from = λ p. (o .from (p .0), p .1) })
+    (all-below-more (λ c. CutColour P (rowOf rows c)) n)
+
+-- of all eight colours, where one of them needs a vertex
+colours-all : (loss : Bool) (rows : Rows) (P : Vertices) (n v : ℕ) → length (rows .needs) ≡ 8 → 8 ≤ n → Coloured rows v
+    → Iff (Colours loss rows P n) (Admits loss rows P)
+colours-all false rows P n v e h k =
+    record {
+      to = λ s. record { colour = s .place; whole = s .has };
+      from = λ a. record {
+        place = a .colour;
+        below = ⊎-elim (λ q. omega arith) (λ q. absurd (a .whole .coloured (past-rows rows 8 (a .colour) e q))) (less-or (a .colour) 8);
+        has = a .whole;
+      };
+    }
+colours-all true rows P n v e h k =
+    record {
+      to = λ a. record {
+        colour = k .colour;
+        coloured = λ q. none-in-zero v (subst (λ (x : ℕ). Member x v) q (k .member));
+        every = λ c. ⊎-elim (λ q. a .each c (omega arith)) (λ q. record { some = λ t. absurd (t (past-rows rows 8 c e q)) }) (less-or c 8);
+      };
+      from = λ a. record { each = λ c q. a .every c };
+    }
+
+-- a vertex that is admitted has a colour
+pub admits-coloured : (loss : Bool) (rows : Rows) (P : Vertices) → Admits loss rows P → (c : ℕ) × (rowOf rows c ≡ 0 → ⊥)
+admits-coloured false rows P a = (a .colour, a .whole .coloured)
+admits-coloured true rows P a = (a .colour, a .coloured)
+
+pub record Taken (w : List ℕ) (rows : Rows) (loss : Bool) (n : ℕ) (out : List ℕ) : Type 0 where
   pub place : n ≤ 8
-  pub family : FamilyWhere (λ b i. AllBelow (λ c. CutColour (Lane w b i) (rowOf rows c)) n) out
+  pub family : FamilyWhere (λ b i. Colours loss rows (Lane w b i) n) out
 
 module _ (w : List ℕ) (rows : Rows) where
-  pub gained-none : (out : List ℕ) → FamilyWhere (λ b i. Member 0 i) out → Gained w rows 0 out
-  gained-none out l =
+  pub taken-none : (loss : Bool) (x : ℕ) (out : List ℕ) → x ≡ untakenWord loss → FamilyWhere (λ b i. Member x i) out → Taken w rows loss 0 out
+  taken-none false x out q l =
       record {
         place = omega arith;
-        family = family-as out l (λ b i hb hi. record { to = λ m. absurd (none-in-zero i m); from = λ s. let q = s .below in absurd (omega arith) });
+        family = family-as out l (λ b i hb hi. record {
+          to = λ m. absurd (none-in-zero i (subst (λ (y : ℕ). Member y i) q m));
+          from = λ s. let k = s .below in absurd (omega arith);
+        });
       }
-
-  pub kept-none : (out : List ℕ) → FamilyWhere (λ b i. Member (2 ^ 64 - 1) i) out → Kept w rows 0 out
-  kept-none out l =
+  taken-none true x out q l =
       record {
         place = omega arith;
-        family = family-as out l (λ b i hb hi. record { to = λ m. record { each = λ c q. absurd (omega arith) }; from = λ _. full-word i hi });
+        family = family-as out l (λ b i hb hi. record {
+          to = λ m. record { each = λ c k. absurd (omega arith) };
+          from = λ _. subst (λ (y : ℕ). Member y i) (sym q) (full-word i hi);
+        });
       }
 
-  module _ (n : ℕ) (out out′ : List ℕ) (h : n < 8) where
-    pub gained-more : Gained w rows n out → FamilyWhere (λ b i. At out b i ⊎ WholeColour (Lane w b i) (rowOf rows n)) out′ → Gained w rows (n + 1) out′
-    gained-more g l =
+  module _ (loss : Bool) (n : ℕ) where
+    pub taken-more : (out out′ : List ℕ) → n < 8 → Taken w rows loss n out
+        → FamilyWhere (λ b i. Takes loss (At out b i) (Lane w b i) (rowOf rows n)) out′ → Taken w rows loss (n + 1) out′
+    taken-more out out′ h g l =
         record {
           place = omega arith;
-          family = family-as out′ l (λ b i hb hi.
-              let o = g .family .each b i hb hi in
-              iff-trans (record { to = ⊎-elim (λ a. inl (o .to a)) (λ q. inr q); from = ⊎-elim (λ a. inl (o .from a)) (λ q. inr q) })
-              (some-below-more (λ c. WholeColour (Lane w b i) (rowOf rows c)) n));
+          family = family-as out′ l (λ b i hb hi. colours-more loss rows (Lane w b i) (At out b i) n (g .family .each b i hb hi));
         }
 
-    pub kept-more : Kept w rows n out → FamilyWhere (λ b i. At out b i × CutColour (Lane w b i) (rowOf rows n)) out′ → Kept w rows (n + 1) out′
-    kept-more g l =
-        record {
-          place = omega arith;
-          family = family-as out′ l (λ b i hb hi.
-              let o = g .family .each b i hb hi in
-              iff-trans (record { to = λ p. (o .to (p .0), p .1); from = λ p. (o .from (p .0), p .1) })
-              (all-below-more (λ c. CutColour (Lane w b i) (rowOf rows c)) n));
-        }
-
-  module _ (n : ℕ) (out : List ℕ) (e : length (rows .needs) ≡ 8) (h : 8 ≤ n) where
-    pub gained-done : Gained w rows n out → FamilyWhere (λ b i. Completed rows (Lane w b i)) out
-    gained-done g =
-        family-as out (g .family) (λ b i hb hi. record {
-          to = λ s. record { colour = s .place; whole = s .has };
-          from = λ k. record {
-            place = k .colour;
-            below = ⊎-elim (λ q. omega arith) (λ q. absurd (k .whole .coloured (past-rows rows 8 (k .colour) e q))) (less-or (k .colour) 8);
-            has = k .whole;
-          };
-        })
-
-    pub kept-done : (s : ℕ) → Needed rows s → (s ≡ 0 → ⊥) → Kept w rows n out → FamilyWhere (λ b i. Severed rows (Lane w b i)) out
-    kept-done s d z g =
+    pub taken-done : (s : ℕ) (out : List ℕ) → length (rows .needs) ≡ 8 → 8 ≤ n → Needed rows s → (s ≡ 0 → ⊥) → Taken w rows loss n out
+        → FamilyWhere (λ b i. Admits loss rows (Lane w b i)) out
+    taken-done s out e h d z g =
         let m = some-member s z in
-        let k = d .each (m .0) .to (m .1) in
-        family-as out (g .family) (λ b i hb hi. record {
-          to = λ a. record {
-            colour = k .colour;
-            coloured = λ q. none-in-zero (m .0) (subst (λ (x : ℕ). Member x (m .0)) q (k .member));
-            every = λ c. ⊎-elim (λ q. a .each c (omega arith)) (λ q. record { some = λ t. absurd (t (past-rows rows 8 c e q)) }) (less-or c 8);
-          };
-          from = λ v. record { each = λ c q. v .every c };
-        })
+        family-as out (g .family) (λ b i hb hi. colours-all loss rows (Lane w b i) n (m .0) e h (d .each (m .0) .to (m .1)))
 
   -- a vertex that needs nothing has no colour
-  pub severed-none : (s : ℕ) (out : List ℕ) → Needed rows s → s ≡ 0 → FamilyWhere (λ b i. Member 0 i) out → FamilyWhere (λ b i. Severed rows (Lane w b i)) out
-  severed-none s out d z l =
+  pub admitted-none : (loss : Bool) (s : ℕ) (out : List ℕ) → Needed rows s → s ≡ 0 → FamilyWhere (λ b i. Member 0 i) out
+      → FamilyWhere (λ b i. Admits loss rows (Lane w b i)) out
+  admitted-none loss s out d z l =
       family-as out l (λ b i hb hi. record {
         to = λ m. absurd (none-in-zero i m);
-        from = λ v.
-            let m = some-member (rowOf rows (v .colour)) (v .coloured) in
-            absurd (none-in-zero (m .0) (subst (λ (x : ℕ). Member x (m .0)) z (d .each (m .0) .from (record { colour = v .colour; member = m .1 }))));
+        from = λ a.
+            let c = admits-coloured loss rows (Lane w b i) a in
+            let m = some-member (rowOf rows (c .0)) (c .1) in
+            absurd (none-in-zero (m .0) (subst (λ (x : ℕ). Member x (m .0)) z (d .each (m .0) .from (record { colour = c .0; member = m .1 }))));
       })
-
--- ---- access and lockout
-
-module _ (w : List ℕ) (rows : Rows) (out : List ℕ) where
-  pub admitted-lost : (loss : Bool) → loss ≡ true → FamilyWhere (λ b i. Severed rows (Lane w b i)) out → FamilyWhere (λ b i. Admits loss rows (Lane w b i)) out
-  admitted-lost true e l = l
-  admitted-lost false e l = absurd (false-true e)
-
-  pub admitted-opened : (loss : Bool) → loss ≡ false → FamilyWhere (λ b i. Completed rows (Lane w b i)) out → FamilyWhere (λ b i. Admits loss rows (Lane w b i)) out
-  admitted-opened false e l = l
-  admitted-opened true e l = absurd (false-true (sym e))

@@ -1,11 +1,11 @@
 -- A row's vertices are passed one after the other, and the families of those passed are met or joined.
 -- Assumes nothing.
-use mathlib.Core.Path.{_≡_, refl, sym, ap, _∙_, subst}
+use mathlib.Core.Path.{_≡_, refl, sym, _∙_, subst}
 use mathlib.Core.List.{List}
 use mathlib.Core.Logic.{_⊎_, inl, inr, ⊎-elim}
-use Prim.Native.Nat.{ℕ, _+_, _-_, _*_, _^_, _≤_, _<_}
+use Prim.Native.Nat.{ℕ, _+_, _-_, _*_, _^_, _<_}
 use native.Mathlib.Omega.{arith}
-use lib.ListN.{length, getD, take, drop}
+use lib.ListN.{getD, take, drop}
 use lib.Seq.{getD-take, getD-drop}
 use Rattle.vertex_set.specs.Set.{Member, Within, Iff}
 use Rattle.vertex_set.proofs.Cases.{same-or}
@@ -13,8 +13,8 @@ use Rattle.vertex_set.proofs.Sets.{within-refl, none-in-zero}
 use Rattle.derivations.specs.Derivation.{Vertices}
 use Rattle.derivations.specs.Lockout.{SomeLost}
 use Rattle.words.specs.Words.{At, FamilyWhere, Without}
-use Rattle.lanes.specs.Lanes.{Lane, AllHeld}
 use Rattle.words.proofs.Families.{family-as, full-word}
+use Rattle.lanes.specs.Lanes.{Lane, AllHeld}
 
 -- the words from v * 256 on are the family of v
 pub part-lane : (w : List ℕ) (v n b i : ℕ) → b < n → Iff (At (take n (drop (v * 256) w)) b i) (Lane w b i v)

@@ -2,7 +2,8 @@
 use mathlib.Core.Path.{_≡_}
 use mathlib.Core.Bool.{Bool, true, false}
 use mathlib.Core.List.{List}
-use Prim.Native.Nat.{ℕ, _+_, _*_}
+use mathlib.Core.Logic.{_⊎_}
+use Prim.Native.Nat.{ℕ, _+_, _-_, _*_, _^_}
 use lib.ListN.{getD}
 use Rattle.vertex_set.specs.Set.{Member, Iff}
 use Rattle.setup.specs.declared.Rows.{Rows}
@@ -26,6 +27,16 @@ pub record WholeColour (held : Vertices) (row : ℕ) : Type 0 where
 -- The row needs a lost vertex, if it is a colour.
 pub record CutColour (lost : Vertices) (row : ℕ) : Type 0 where
   pub some : (row ≡ 0 → ⊥) → SomeLost lost row
+
+-- What a family becomes by one colour: what it was or the whole colour is held; with loss, what it was and the colour is cut.
+abbrev pub Takes : Bool → Type 0 → Vertices → ℕ → Type 0
+Takes false was held row = was ⊎ WholeColour held row
+Takes true was lost row = was × CutColour lost row
+
+-- The word before any colour is taken.
+abbrev pub untakenWord : Bool → ℕ
+untakenWord false = 0
+untakenWord true = 2 ^ 64 - 1
 
 -- Some colour of these rows is complete.
 pub record Completed (rows : Rows) (held : Vertices) : Type 0 where

@@ -1,15 +1,16 @@
 // The lanes of a table: the bits at one place of all its families are one set of vertices. In which of them is a vertex opened, or lost?
 ghost use mathlib.Core.Path.{_≡_};
-ghost use mathlib.Core.Logic.{_⊎_};
-ghost use Prim.Native.Nat.{ℕ};
 ghost use lib.ListN.{length};
 ghost use Rattle.words.specs.Words.{At, FamilyWhere};
 ghost use Rattle.derivations.specs.Lockout.{SomeLost};
-ghost use Rattle.lanes.specs.Lanes.{Lane, AllHeld, WholeColour, CutColour, Completed, Severed, Admits, Needed};
+ghost use Rattle.lanes.specs.Lanes.{Lane, AllHeld, Takes, untakenWord, Admits, Needed};
 use setup::Rows;
 use words::WORDS;
 
 pub const COLOURS: usize = 8;
+
+// A word with the masks of all its places.
+const ALL: u64 = 0xFFFF_FFFF_FFFF_FFFF;
 
 // All vertices that some colour of these rows needs.
 pub fn needed(rows: Rows) -> u64
@@ -28,7 +29,7 @@ fn all_of(w: &[u64], row: u64, out: &mut [u64])
     requires { ⌜ length (now out) ≡ 256 ⌝ }
     ensures { λ _. ⌜ FamilyWhere (λ b i. AllHeld (Lane (now (w .entry)) b i) row) (now (out .exit)) ⌝ }
 {
-    words::set_all(out, 0xFFFF_FFFF_FFFF_FFFF);
+    words::set_all(out, ALL);
     let mut left = row;
     while left != 0 {
         let v = words::lowest(left);
@@ -54,71 +55,46 @@ fn any_of(w: &[u64], row: u64, out: &mut [u64])
     }
 }
 
-// The family gains the masks whose sets have the whole row. An empty row is no colour, and gives none.
-fn gain_colour(w: &[u64], row: u64, out: &mut [u64])
+// The family gains the masks whose sets have the whole row or, with loss, keeps those whose sets have a vertex of it. An empty row is
+// no colour: it gives no mask, and takes none away.
+fn take_colour(w: &[u64], row: u64, loss: bool, out: &mut [u64])
     requires { ⌜ length (now w) ≡ 16384 ⌝ }
     requires { ⌜ length (now out) ≡ 256 ⌝ }
-    ensures { λ _. ⌜ FamilyWhere (λ b i. At (now (out .entry)) b i ⊎ WholeColour (Lane (now (w .entry)) b i) row) (now (out .exit)) ⌝ }
+    ensures { λ _. ⌜ FamilyWhere (λ b i. Takes loss (At (now (out .entry)) b i) (Lane (now (w .entry)) b i) row) (now (out .exit)) ⌝ }
 {
     if row == 0 {
         return;
     }
     let mut part = [0u64; 256];
-    all_of(w, row, &mut part);
-    words::or_in(out, &part);
+    if loss {
+        any_of(w, row, &mut part);
+        words::and_in(out, &part);
+    } else {
+        all_of(w, row, &mut part);
+        words::or_in(out, &part);
+    }
 }
 
-// The family keeps the masks whose sets have a vertex of the row. An empty row is no colour, and takes none away.
-fn keep_colour(w: &[u64], row: u64, out: &mut [u64])
-    requires { ⌜ length (now w) ≡ 16384 ⌝ }
-    requires { ⌜ length (now out) ≡ 256 ⌝ }
-    ensures { λ _. ⌜ FamilyWhere (λ b i. At (now (out .entry)) b i × CutColour (Lane (now (w .entry)) b i) row) (now (out .exit)) ⌝ }
+// Each word of a family before any colour is taken: gaining begins with no mask, keeping with all.
+fn untaken(loss: bool) -> u64
+    ensures { λ r. ⌜ r ≡ untakenWord loss ⌝ }
 {
-    if row == 0 {
-        return;
-    }
-    let mut part = [0u64; 256];
-    any_of(w, row, &mut part);
-    words::and_in(out, &part);
+    if loss { ALL } else { 0 }
 }
 
-// The masks by whose sets a vertex with these rows is opened.
-fn completed(w: &[u64], rows: Rows, out: &mut [u64])
-    requires { ⌜ length (now w) ≡ 16384 ⌝ }
-    requires { ⌜ length (now out) ≡ 256 ⌝ }
-    ensures { λ _. ⌜ FamilyWhere (λ b i. Completed rows (Lane (now (w .entry)) b i)) (now (out .exit)) ⌝ }
-{
-    words::set_all(out, 0);
-    for c in 0..COLOURS {
-        gain_colour(w, rows.needs[c], out);
-    }
-}
-
-// The masks by whose sets a vertex with these rows is lost. A vertex that has no colour is lost by none.
-fn severed(w: &[u64], rows: Rows, out: &mut [u64])
-    requires { ⌜ length (now w) ≡ 16384 ⌝ }
-    requires { ⌜ length (now out) ≡ 256 ⌝ }
-    ensures { λ _. ⌜ FamilyWhere (λ b i. Severed rows (Lane (now (w .entry)) b i)) (now (out .exit)) ⌝ }
-{
-    if needed(rows) == 0 {
-        words::set_all(out, 0);
-        return;
-    }
-    words::set_all(out, 0xFFFF_FFFF_FFFF_FFFF);
-    for c in 0..COLOURS {
-        keep_colour(w, rows.needs[c], out);
-    }
-}
-
-// The masks by whose sets a vertex with these rows is opened or, with loss, lost.
+// The masks by whose sets a vertex with these rows is opened or, with loss, lost. A vertex that has no colour is neither.
 pub fn admitted(w: &[u64], rows: Rows, loss: bool, out: &mut [u64])
     requires { ⌜ length (now w) ≡ 16384 ⌝ }
     requires { ⌜ length (now out) ≡ 256 ⌝ }
     ensures { λ _. ⌜ FamilyWhere (λ b i. Admits loss rows (Lane (now (w .entry)) b i)) (now (out .exit)) ⌝ }
 {
-    if loss {
-        severed(w, rows, out);
-    } else {
-        completed(w, rows, out);
+    if needed(rows) == 0 {
+        words::set_all(out, 0);
+        return;
+    }
+    let first = untaken(loss);
+    words::set_all(out, first);
+    for c in 0..COLOURS {
+        take_colour(w, rows.needs[c], loss, out);
     }
 }

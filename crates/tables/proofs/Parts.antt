@@ -1,22 +1,22 @@
 -- A table of which one vertex's family is written anew.
 -- Assumes nothing.
 use mathlib.Core.Path.{_≡_, refl, sym, ap, _∙_, subst}
-use mathlib.Core.Bool.{Bool, true, false}
-use mathlib.Core.List.{List, [], _∷_, _++_}
+use mathlib.Core.Bool.{Bool}
+use mathlib.Core.List.{List, _++_}
 use mathlib.Core.Logic.{_⊎_, inl, inr, ⊎-elim}
-use Prim.Native.Nat.{ℕ, _+_, _-_, _*_, _≤_, _<_}
+use Prim.Native.Nat.{ℕ, _+_, _-_, _*_, _<_}
 use native.Mathlib.Omega.{arith}
-use lib.ListN.{length, getD, take, drop, length-append, length-take, length-drop, take-append-drop, List·getD-append}
+use lib.ListN.{length, getD, take, drop, length-append, length-drop, take-append-drop, List·getD-append}
 use lib.Seq.{length-take-le, getD-append-add, getD-take, getD-drop}
 use borrow.Rule.Slice.PartMut.{putMid, put-same}
 use Rattle.vertex_set.specs.Set.{Member, Iff}
 use Rattle.vertex_set.proofs.Cases.{same-or, less-or}
 use Rattle.setup.specs.declared.Rows.{Rows}
 use Rattle.words.specs.Words.{At, FamilyWhere, room, Joined}
-use Rattle.lanes.specs.Lanes.{Lane, Admits}
-use Rattle.words.proofs.Families.{iff-refl, iff-trans}
-use Rattle.lanes.proofs.Scans.{part-lane}
+use Rattle.words.proofs.Families.{iff-trans}
 use Rattle.words.proofs.Joins.{room-append}
+use Rattle.lanes.specs.Lanes.{Lane, Admits}
+use Rattle.lanes.proofs.Scans.{part-lane}
 use Rattle.tables.specs.Steps.{Stepped}
 
 module _ (w d : List ℕ) (v k : ℕ) (hw : length w ≡ 16384) (hv : v < 64) (hk : k ≡ 256) (hd : length d ≡ 256) where

@@ -1,28 +1,28 @@
 -- Vertices are looked at again until no lane gains one. Each lane then has the vertices that are derivable from its start.
 -- Assumes nothing.
-use mathlib.Core.Path.{_≡_, refl, sym, ap, _∙_, subst}
+use mathlib.Core.Path.{_≡_, refl, sym, ap, subst}
 use mathlib.Core.Bool.{Bool, true, false}
 use mathlib.Core.List.{List, []}
 use mathlib.Core.Logic.{_⊎_, inl, inr, ⊎-elim}
-use Prim.Native.Nat.{ℕ, _+_, _-_, _*_, _^_, _≤_, _<_}
+use Prim.Native.Nat.{ℕ, _+_, _-_, _*_, _^_, _<_}
 use native.Mathlib.Omega.{arith}
 use lib.Bits.{bitOr}
-use lib.ListN.{length, getD, List·getD-eq-default}
-use Rattle.vertex_set.specs.Set.{Member, Iff}
+use lib.ListN.{length, List·getD-eq-default}
+use Rattle.vertex_set.specs.Set.{Member}
 use Rattle.vertex_set.proofs.Cases.{same-or, less-or}
 use Rattle.vertex_set.proofs.Sets.{in-or, none-in-zero}
 use Rattle.setup.specs.declared.Rows.{Rows}
 use Rattle.setup.specs.declared.Graph.{Graph}
-use Rattle.setup.specs.Setup.{row, rowOf, rowsAt}
+use Rattle.setup.specs.Setup.{rowOf, rowsAt}
 use Rattle.derivations.specs.Derivation.{Vertices, Rule, Derivation}
-use Rattle.derivations.specs.Access.{Step, Opens}
-use Rattle.derivations.specs.Lockout.{SomeLost, Shuts}
+use Rattle.derivations.specs.Access.{Step}
 use Rattle.derivations.specs.Both.{ruleOf}
-use Rattle.derivations.proofs.Rules.{Sub, Lawful, held, closed, least}
+use Rattle.derivations.proofs.Rules.{Sub, held, closed, least}
 use Rattle.derivations.proofs.Both.{lawful}
 use Rattle.words.specs.Words.{Without, room}
-use Rattle.lanes.specs.Lanes.{Lane, AllHeld, WholeColour, CutColour, Completed, Severed, Admits}
 use Rattle.words.proofs.Families.{full-word}
+use Rattle.lanes.specs.Lanes.{Lane, Admits}
+use Rattle.lanes.proofs.Colours.{admits-coloured}
 use Rattle.tables.specs.Steps.{Stepped, AllNeeded, Users, Closed}
 
 -- ---- a vertex that a lane admits is one that the rule allows there
@@ -74,10 +74,6 @@ admits-local true rows P Q h a =
     }
 
 -- a vertex that is admitted has a colour, and so a place in the graph
-admits-coloured : (loss : Bool) (rows : Rows) (P : Vertices) → Admits loss rows P → (c : ℕ) × (rowOf rows c ≡ 0 → ⊥)
-admits-coloured false rows P a = (a .colour, a .whole .coloured)
-admits-coloured true rows P a = (a .colour, a .coloured)
-
 pub admits-place : (loss : Bool) (g : Graph) (P : Vertices) (v : ℕ) → length (g .rows) ≡ 64 → Admits loss (rowsAt g v) P → v < 64
 admits-place loss g P v e a =
     ⊎-elim (λ l. l)

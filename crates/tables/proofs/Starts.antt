@@ -1,13 +1,13 @@
 -- The start of a table: each lane is the set that its mask stands for.
 -- Assumes nothing.
-use mathlib.Core.Path.{_≡_, refl, sym, ap, _∙_, subst}
+use mathlib.Core.Path.{_≡_, sym, subst}
 use mathlib.Core.List.{List}
-use Prim.Native.Nat.{ℕ, _+_, _*_, _%_, _^_, _≤_, _<_}
 use mathlib.Core.Logic.{⊎-elim}
+use Prim.Native.Nat.{ℕ, _+_, _*_, _%_, _^_, _≤_, _<_}
 use native.Mathlib.Nat.{mod-lt}
 use native.Mathlib.Omega.{arith}
 use lib.Count.{ones, ones-le}
-use lib.ListN.{length, getD, List·getD-eq-default}
+use lib.ListN.{length, List·getD-eq-default}
 use lib.Pow.{pow-pos}
 use borrow.Rule.Slice.PartMut.{putMid}
 use Rattle.vertex_set.specs.Set.{Member, Iff}
@@ -15,8 +15,8 @@ use Rattle.vertex_set.proofs.Cases.{same-or, less-or}
 use Rattle.vertex_set.proofs.Sets.{shifted-one, none-in-zero, member-below}
 use Rattle.families.specs.Masks.{rank, Picked}
 use Rattle.words.specs.Words.{FamilyWhere}
-use Rattle.lanes.specs.Lanes.{Lane}
 use Rattle.words.proofs.Families.{iff-trans, family-as}
+use Rattle.lanes.specs.Lanes.{Lane}
 use Rattle.tables.specs.Steps.{Started}
 use Rattle.tables.proofs.Parts.{put-length, lane-put, lane-kept}
 

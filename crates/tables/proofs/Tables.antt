@@ -1,22 +1,22 @@
 -- What a filled table says, and the families that it holds.
 -- Assumes nothing.
-use mathlib.Core.Path.{_≡_, refl, sym, ap, _∙_, subst}
+use mathlib.Core.Path.{_≡_, subst}
 use mathlib.Core.Bool.{Bool}
 use mathlib.Core.List.{List}
-use Prim.Native.Nat.{ℕ, _+_, _*_, _/_, _%_, _≤_, _<_}
+use Prim.Native.Nat.{ℕ, _+_, _*_, _/_, _%_, _<_}
 use native.Mathlib.Omega.{arith}
-use lib.ListN.{getD, take, drop}
-use Rattle.vertex_set.specs.Set.{Member, Within, Iff}
+use lib.ListN.{take, drop}
+use Rattle.vertex_set.specs.Set.{Within, Iff}
 use Rattle.setup.specs.declared.Graph.{Graph}
-use Rattle.derivations.specs.Derivation.{Rule, Derivation}
+use Rattle.derivations.specs.Derivation.{Rule}
 use Rattle.derivations.specs.Both.{ruleOf}
 use Rattle.derivations.proofs.Rules.{Lawful, monotone}
 use Rattle.derivations.proofs.Both.{lawful}
 use Rattle.families.specs.Masks.{Picked}
 use Rattle.families.specs.Family.{In, Monotone}
 use Rattle.words.specs.Words.{At}
-use Rattle.lanes.specs.Lanes.{Lane}
 use Rattle.words.proofs.Families.{iff-trans}
+use Rattle.lanes.specs.Lanes.{Lane}
 use Rattle.lanes.proofs.Scans.{part-lane}
 use Rattle.tables.specs.Table.{Table, FamilyOf}
 use Rattle.tables.specs.Steps.{Closed, Started}
@@ -40,10 +40,10 @@ tabled r chosen w e law s c =
     }
 
 -- the words from v * 256 on are the family of v
-pub family-of : (r : Rule) (chosen v : ℕ) (w : List ℕ) → v < 64 → Table r chosen w → FamilyOf r chosen v (take 256 (drop (v * 256) w))
+pub family-of : (r : Rule) (chosen v k : ℕ) (w : List ℕ) → v < 64 → k ≡ 256 → Table r chosen w → FamilyOf r chosen v (take k (drop (v * 256) w))
 unfolding In At Lane
-family-of r chosen v w h t =
-    record { each = λ m hm. iff-trans (part-lane w v 256 (m / 64) (m % 64) (omega arith)) (t .each v m h hm) }
+family-of r chosen v k w h e t =
+    record { each = λ m hm. iff-trans (part-lane w v k (m / 64) (m % 64) (omega arith)) (t .each v m h hm) }
 
 -- a mask within another picks no more
 pub picked-within : (chosen k m : ℕ) → Within k m → (v : ℕ) → Picked chosen k v → Picked chosen m v

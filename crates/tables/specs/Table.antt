@@ -1,5 +1,4 @@
 -- Tables of all subsets: for a graph and a set of chosen vertices, which vertices have a derivation from which mask's set.
-use mathlib.Core.Path.{_≡_}
 use mathlib.Core.List.{List}
 use Prim.Native.Nat.{ℕ, _+_, _*_, _/_, _%_, _<_}
 use lib.ListN.{getD}

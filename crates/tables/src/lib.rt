@@ -1,15 +1,16 @@
 // Tables of all subsets: for a graph and a set of chosen vertices, all masks at once.
 ghost use mathlib.Core.Path.{_≡_};
-ghost use Prim.Native.Nat.{ℕ, _+_, _*_, _<_};
+ghost use Prim.Native.Nat.{_+_, _*_, _<_};
 ghost use lib.ListN.{length};
-ghost use Rattle.vertex_set.specs.Set.{Member};
 ghost use Rattle.derivations.specs.Both.{ruleOf};
 ghost use Rattle.families.specs.Masks.{rank, Picked};
 ghost use Rattle.words.specs.Words.{FamilyWhere, VertexOf};
 ghost use Rattle.tables.specs.Table.{Table};
 ghost use Rattle.tables.specs.Steps.{Stepped, AllNeeded, Users, Closed, Started};
-use setup::{Graph, Rows};
-use vertex_set::{VertexSet, VERTICES};
+use setup::Graph;
+use setup::Rows;
+use vertex_set::VERTICES;
+use vertex_set::VertexSet;
 use words::WORDS;
 
 // The vertex v, which has these rows, is added to each lane that admits it. Was one new?

@@ -1,10 +1,10 @@
 -- A family is joined with another: either nothing is new and it stays as it is, or its words have less room to grow.
 -- Assumes nothing.
-use mathlib.Core.Path.{_≡_, refl, sym, ap, _∙_, subst}
-use mathlib.Core.Bool.{Bool, true, false, not}
+use mathlib.Core.Path.{_≡_, sym, ap, _∙_, subst}
+use mathlib.Core.Bool.{not}
 use mathlib.Core.List.{List, [], _∷_, _++_}
 use mathlib.Core.Logic.{_⊎_, inl, inr, ⊎-elim}
-use Prim.Native.Nat.{ℕ, zero, suc, _+_, _-_, _*_, _^_, _≤_, _<_}
+use Prim.Native.Nat.{ℕ, zero, suc, _+_, _-_, _^_, _≤_, _<_}
 use native.Mathlib.Nat.{not-suc-le-zero, le-of-suc-le-suc}
 use native.Mathlib.Omega.{arith}
 use lib.Bits.{bitAnd, bitOr}
@@ -12,11 +12,11 @@ use lib.Dec.{eqb}
 use lib.ListN.{length, getD, set}
 use lib.Seq.{set-getD}
 use borrow.Author.Tests.{eqb-true, eqb-false, not-true, not-false}
-use Rattle.vertex_set.specs.Set.{Member, Within, Iff}
+use Rattle.vertex_set.specs.Set.{Within, Iff}
 use Rattle.vertex_set.proofs.Cases.{same-or}
-use Rattle.vertex_set.proofs.Sets.{in-or, within-test, within-le, same-set, within-refl, member-or}
-use Rattle.words.specs.Words.{At, FamilyWhere, room, Joined}
-use Rattle.words.proofs.Words.{Mapped, mapped-none, mapped-more}
+use Rattle.vertex_set.proofs.Sets.{in-or, within-test, within-le, same-set}
+use Rattle.words.specs.Words.{room, Joined}
+use Rattle.words.proofs.Words.{Mapped, mapped-more}
 use Rattle.words.proofs.Families.{or-family}
 
 -- ---- room
@@ -64,10 +64,6 @@ pub record Joining (d₀ s d : List ℕ) (n fresh : ℕ) : Type 0 where
   pub more : (fresh ≡ 0 → ⊥) → room d < room d₀
 
 module _ (d₀ s : List ℕ) where
-  pub joining-none : length d₀ ≡ 256 → Joining d₀ s d₀ 0 0
-  joining-none e =
-      record { words = mapped-none _ d₀ e; same = λ _. refl; room-left = omega arith; more = λ n. absurd (n refl) }
-
   module _ (d : List ℕ) (n fresh : ℕ) (j : Joining d₀ s d n fresh) (h : n < 256) (hd : getD d n 0 < 2 ^ 64) (hs : getD s n 0 < 2 ^ 64) where
     old : ℕ
     old = getD d n 0
@@ -112,13 +108,13 @@ module _ (d₀ s : List ℕ) where
           words = written;
           same = λ z. let p = or-none fresh news z in stays (p .1) ∙ j .same (p .0);
           room-left = let r = j .room-left in
-          ⊎-elim (λ z. let e = ap room (stays z) in omega arith) (λ z. let g = grows z in omega arith) (same-or news 0);
+              ⊎-elim (λ z. let e = ap room (stays z) in omega arith) (λ z. let g = grows z in omega arith) (same-or news 0);
           more = λ f. let r = j .room-left in
-          ⊎-elim
-          (λ z. let e = ap room (stays z) in
-          let m = j .more (λ q. f (ap (λ (x : ℕ). bitOr x news) q ∙ ap (bitOr 0) z)) in omega arith)
-          (λ z. let g = grows z in omega arith)
-          (same-or news 0);
+              ⊎-elim
+              (λ z. let e = ap room (stays z) in
+              let m = j .more (λ q. f (ap (λ (x : ℕ). bitOr x news) q ∙ ap (bitOr 0) z)) in omega arith)
+              (λ z. let g = grows z in omega arith)
+              (same-or news 0);
         }
 
   pub joined : (d : List ℕ) (n fresh : ℕ) → Joining d₀ s d n fresh → 256 ≤ n → Joined d₀ s (not (eqb fresh 0)) d

@@ -5,7 +5,6 @@ use Prim.Native.Nat.{ℕ, _-_, _*_, _%_, _^_, _≤_, _<_}
 use native.Mathlib.Omega.{arith}
 use lib.Count.{trailingZeros}
 use lib.Pow.{pow-pos}
-use Rattle.vertex_set.specs.Set.{Member}
 use Rattle.vertex_set.proofs.Sets.{member-below, shifted-one}
 use Rattle.vertex_set.proofs.Places.{lowest-member, in-removed, member-le}
 use Rattle.words.specs.Words.{VertexOf, Without}

@@ -1,8 +1,8 @@
 -- Loops that write a family's words one after the other: word b becomes f b, and may be read before.
 -- Assumes nothing.
-use mathlib.Core.Path.{_≡_, refl, sym, ap, _∙_, subst}
+use mathlib.Core.Path.{_≡_, sym, _∙_, subst}
 use mathlib.Core.List.{List}
-use mathlib.Core.Logic.{_⊎_, inl, inr, ⊎-elim}
+use mathlib.Core.Logic.{_⊎_, ⊎-elim}
 use Prim.Native.Nat.{ℕ, _+_, _≤_, _<_}
 use native.Mathlib.Omega.{arith}
 use lib.ListN.{length, getD, set, length-set}
@@ -17,9 +17,6 @@ pub record Mapped (f : ℕ → ℕ) (d₀ d : List ℕ) (n : ℕ) : Type 0 where
   pub left : (b : ℕ) → n ≤ b → getD d b 0 ≡ getD d₀ b 0
 
 module _ (f : ℕ → ℕ) (d₀ : List ℕ) where
-  pub mapped-none : length d₀ ≡ 256 → Mapped f d₀ d₀ 0
-  mapped-none e = record { place = omega arith; words = e; done = λ b l. absurd (omega arith); left = λ b l. refl }
-
   pub mapped-more : (d : List ℕ) (n x : ℕ) → Mapped f d₀ d n → n < 256 → x ≡ f n → Mapped f d₀ (set d n x) (n + 1)
   mapped-more d n x m h e =
       record {

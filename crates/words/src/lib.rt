@@ -2,7 +2,7 @@
 // that are taken apart.
 ghost use mathlib.Core.Path.{_≡_};
 ghost use mathlib.Core.Logic.{_⊎_};
-ghost use Prim.Native.Nat.{ℕ, _+_, _*_, _<_};
+ghost use Prim.Native.Nat.{_+_, _*_, _<_};
 ghost use lib.ListN.{length};
 ghost use Rattle.vertex_set.specs.Set.{Member};
 ghost use Rattle.words.specs.Words.{At, FamilyWhere, Joined, VertexOf, Without};

@@ -1,12 +1,11 @@
-use borrow.Author.Needs.{needs}
+-- `tables::start` meets its contract. The invariant: the families of the vertices before v are written.
+-- Assumes nothing.
 use Prim.Native.Nat.{_+_, _-_, _*_}
 use native.Mathlib.Omega.{arith}
+use borrow.Author.Needs.{needs}
 use Rattle.tables.proofs.Starts.{StartedBelow, started-none, started-more, started-done}
 use Rattle.tables.proofs.start.Statement.{statement}
 use Rattle.tables.proofs.start.Tie as tie
-use Rattle.tables.proofs.start.Reads as reads
-use Rattle.tables.proofs.start.Lts as lts
-use Rattle.tables.proofs.start_family.Reads as start-family-reads
 
 abbrev Inv-loop : tie.InvT-loop
 Inv-loop chosen w₀ v₀ w v = StartedBelow (chosen .0) v w
@@ -14,47 +13,36 @@ Inv-loop chosen w₀ v₀ w v = StartedBelow (chosen .0) v w
 abbrev μ-loop : tie.MeasureT-loop
 μ-loop chosen w₀ v₀ w v = 64 - v
 
--- src/lib.rt:90:5
 loop-holds : tie.Need-loop-holds Inv-loop μ-loop
 loop-holds c = started-none _ _ (c .before .pre)
 
--- src/lib.rt:91:17
 mul-a : tie.Need-mul-a Inv-loop μ-loop
 mul-a c = search needs
 
--- src/lib.rt:92:32
 add-start-family : tie.Need-add-start-family Inv-loop μ-loop
 add-start-family c = search needs
 
--- src/lib.rt:92:22
 mul-start-family : tie.Need-mul-start-family Inv-loop μ-loop
 mul-start-family c = search needs
 
--- src/lib.rt:92:22
 sub-start-family : tie.Need-sub-start-family Inv-loop μ-loop
 sub-start-family c = search needs
 
--- src/lib.rt:92:22
 part-start-family-start : tie.Need-part-start-family-start Inv-loop μ-loop
 part-start-family-start c = search needs
 
--- src/lib.rt:92:22
 part-start-family-end : tie.Need-part-start-family-end Inv-loop μ-loop
 part-start-family-end c = search needs
 
--- src/lib.rt:92:9
 start-family-requires : tie.Need-start-family-requires Inv-loop μ-loop
 start-family-requires c κs = search needs
 
--- src/lib.rt:90:9
 add-v : tie.Need-add-v Inv-loop μ-loop
 add-v c = search needs
 
--- src/lib.rt:90:5
 loop-less : tie.Need-loop-less Inv-loop μ-loop
 loop-less c = search needs
 
--- src/lib.rt:90:5
 loop-again : tie.Need-loop-again Inv-loop μ-loop
 loop-again c =
     let f = c .before .before in
@@ -62,11 +50,9 @@ loop-again c =
     let v = i .before .loop .v in
     started-more _ v (v * 256 + 256 - v * 256) _ _ (i .loop-test .taken) (omega arith) (i .before .loop .inv) (f .start-family .ensures)
 
--- src/lib.rt:86:1
 same-length : tie.Need-same-length Inv-loop μ-loop
 same-length c = search needs
 
--- src/lib.rt:86:1
 returns : tie.Need-returns Inv-loop μ-loop
 returns c =
     let s = c .before .before .before in

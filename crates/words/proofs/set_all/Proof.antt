@@ -1,13 +1,12 @@
+-- `words::set_all` meets its contract. The invariant: the words before b are x.
+-- Assumes nothing.
 use mathlib.Core.Path.{refl}
-use Rattle.words.proofs.Families.{iff-refl}
-use borrow.Author.Needs.{needs}
 use Prim.Native.Nat.{_-_}
-use Rattle.words.proofs.Words.{Mapped, mapped-none, mapped-more}
-use Rattle.words.proofs.Families.{and-family, or-family, mapped-family}
+use borrow.Author.Needs.{needs}
+use Rattle.words.proofs.Families.{iff-refl, mapped-family}
+use Rattle.words.proofs.Words.{Mapped, mapped-more}
 use Rattle.words.proofs.set_all.Statement.{statement}
 use Rattle.words.proofs.set_all.Tie as tie
-use Rattle.words.proofs.set_all.Reads as reads
-use Rattle.words.proofs.set_all.Lts as lts
 
 abbrev Inv-loop : tie.InvT-loop
 Inv-loop d₀ x b₀ d b = Mapped (λ _. x) d₀ d b
@@ -15,35 +14,27 @@ Inv-loop d₀ x b₀ d b = Mapped (λ _. x) d₀ d b
 abbrev μ-loop : tie.MeasureT-loop
 μ-loop d₀ x b₀ d b = 256 - b
 
--- src/lib.rt:19:5
 loop-holds : tie.Need-loop-holds Inv-loop μ-loop
 loop-holds c = search needs
 
--- src/lib.rt:20:9
 mul-d : tie.Need-mul-d Inv-loop μ-loop
 mul-d c = search needs
 
--- src/lib.rt:20:9
 slice-write-d : tie.Need-slice-write-d Inv-loop μ-loop
 slice-write-d c = search needs
 
--- src/lib.rt:19:9
 add-b : tie.Need-add-b Inv-loop μ-loop
 add-b c = search needs
 
--- src/lib.rt:19:5
 loop-less : tie.Need-loop-less Inv-loop μ-loop
 loop-less c = search needs
 
--- src/lib.rt:19:5
 loop-again : tie.Need-loop-again Inv-loop μ-loop
 loop-again c = mapped-more _ _ _ _ _ (c .before .loop .inv) (c .loop-test .taken) refl
 
--- src/lib.rt:15:1
 same-length : tie.Need-same-length Inv-loop μ-loop
 same-length c = search needs
 
--- src/lib.rt:15:1
 returns : tie.Need-returns Inv-loop μ-loop
 returns c = mapped-family _ _ _ _ _ (c .before .loop .inv) (c .loop-test .left) (λ b i hb hi. iff-refl)
 

@@ -1,19 +1,16 @@
-use Rattle.words.proofs.Members.{without-fits, without-removed}
+-- `words::without` meets its contract: taking 2^v away takes away the vertex v.
+-- Assumes nothing.
 use borrow.Author.Needs.{needs}
+use Rattle.words.proofs.Members.{without-fits, without-removed}
 use Rattle.words.proofs.without.Statement.{statement}
 use Rattle.words.proofs.without.Tie as tie
 
-
-
--- src/lib.rt:62:10
 shl-result : tie.Need-shl-result
 shl-result c = search needs
 
--- src/lib.rt:62:5
 sub-result : tie.Need-sub-result
 sub-result c = without-fits (c .args .s) (c .args .v) (c .pre)
 
--- src/lib.rt:57:1
 returns : tie.Need-returns
 returns c = without-removed (c .args .s) (c .args .v) (c .pre)
 

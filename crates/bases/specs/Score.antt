@@ -3,6 +3,7 @@ use mathlib.Core.Path.{_≡_}
 use mathlib.Core.Bool.{Bool}
 use mathlib.Core.List.{List}
 use Prim.Native.Nat.{ℕ, _^_, _≤_, _<_}
+use lib.ListN.{length, getD}
 use Rattle.vertex_set.specs.Order.{Listed, sumOver}
 use Rattle.setup.specs.declared.Value.{Value}
 use Rattle.setup.specs.declared.Value.the-variants.{Blank, Of}
@@ -42,3 +43,8 @@ pub record ScoreOver (loss : Bool) (s : Setup) (l : List ℕ) (r : ℕ) : Type 0
   pub some : (x : ℕ) → Listed l x → r < never
   pub least : (x : ℕ) → Listed l x → r ≤ sumOf loss s x
   pub reached : r < never → (x : ℕ) × Listed l x × (r ≡ sumOf loss s x)
+
+-- r has the values of all vertices.
+pub record Values (loss : Bool) (s : Setup) (r : List ℕ) : Type 0 where
+  pub long : length r ≡ 64
+  pub each : (v : ℕ) → getD r v 0 ≡ pointsAt loss s v

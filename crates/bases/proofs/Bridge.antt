@@ -47,7 +47,7 @@ pub record MaskFor (f : List ℕ) (chosen x : ℕ) : Type 0 where
   pub member : In f mask
   pub of : SetOfMask chosen mask x
 
-in-or : (f : List ℕ) (m : ℕ) → In f m ⊎ (In f m → ⊥)
+pub in-or : (f : List ℕ) (m : ℕ) → In f m ⊎ (In f m → ⊥)
 unfolding In
 in-or f m = member-or (getD f (m / 64) 0) (m % 64)
 

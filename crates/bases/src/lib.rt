@@ -2,9 +2,10 @@
 ghost use mathlib.Core.Path.{_≡_};
 ghost use Prim.Native.Nat.{ℕ, _*_, _<_};
 ghost use lib.ListN.{length, take, drop};
+ghost use Rattle.setup.specs.WellFormed.{WellFormed};
 ghost use Rattle.derivations.specs.Both.{ruleOf};
 ghost use Rattle.tables.specs.Table.{FamilyOf};
-ghost use Rattle.bases.specs.Score.{points, Values};
+ghost use Rattle.bases.specs.Score.{points, Values, ScoreBoth};
 ghost use Rattle.bases.specs.Readers.{CanCopy, MinimalFamily};
 use setup::Graph;
 use setup::Setup;
@@ -67,4 +68,17 @@ pub fn values_of(s: Setup, loss: bool) -> [u64; 64]
         r[v] = points_of(value);
     }
     r
+}
+
+// The least sum of start values, or for a loss of loss values, over all sets from which the target
+// has a derivation. The graph is the setup's, or that without recovery.
+pub fn score_of(s: Setup, graph: Graph, loss: bool, target: usize) -> u64
+    requires { ⌜ WellFormed s × (target < 64) ⌝ }
+    ensures { λ r. ⌜ ScoreBoth loss s graph target r ⌝ }
+{
+    let chosen = setup::chosen(s, loss);
+    let values = values_of(s, loss);
+    let mut family = [0u64; WORDS];
+    family_of(graph, chosen, loss, target, &mut family);
+    families::least_sum(&family, chosen, values)
 }

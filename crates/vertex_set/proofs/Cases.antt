@@ -32,3 +32,14 @@ search-below P dec (suc n) = more (search-below P dec n) (dec n)
     more (inl h) d = inl (h .0, let l = h .1 in omega arith, h .2)
     more (inr n′) (inl p) = inl (n, omega arith, p)
     more (inr n′) (inr q) = inr (λ k l p. ⊎-elim (λ e. q (subst P e p)) (λ d. n′ k (omega (arith, d)) p) (same-or k n))
+
+-- what some number has, a lowest one has
+pub lowest : (P : ℕ → Type 0) → ((k : ℕ) → P k ⊎ (P k → ⊥)) → (n : ℕ) → P n → (k : ℕ) × P k × ((j : ℕ) → j < k → P j → ⊥)
+lowest P dec n p = ⊎-elim (λ h. h) (λ none. (n, p, none)) (below n)
+  where
+    below : (m : ℕ) → ((k : ℕ) × P k × ((j : ℕ) → j < k → P j → ⊥)) ⊎ ((j : ℕ) → j < m → P j → ⊥)
+    below zero = inr (λ j l. absurd (not-suc-le-zero l))
+    below (suc m) =
+        ⊎-elim (λ h. inl h)
+        (λ none. ⊎-elim (λ q. inl (m, q, none)) (λ q. inr (λ j l r. ⊎-elim (λ e. q (subst P e r)) (λ d. none j (omega (arith, d)) r) (same-or j m))) (dec m))
+        (below m)

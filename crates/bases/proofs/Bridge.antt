@@ -17,16 +17,21 @@ use Rattle.vertex_set.proofs.Sets.{within-refl, within-le, member-or}
 use Rattle.setup.specs.declared.Graph.{Graph}
 use Rattle.setup.specs.declared.Setup.{Setup}
 use Rattle.setup.specs.Setup.{Chosen, ChosenSet}
+use Rattle.setup.specs.WellFormed.{WellFormed}
 use Rattle.derivations.specs.Derivation.{Derivation}
 use Rattle.derivations.specs.Both.{ruleOf}
 use Rattle.derivations.proofs.Rules.{monotone}
 use Rattle.derivations.proofs.Both.{lawful}
-use Rattle.families.specs.Family.{In, Minimal, Monotone, MinimalMembers}
+use Rattle.families.specs.Family.{In, Minimal, Monotone, MinimalMembers, size}
 use Rattle.families.specs.Masks.{Picked, SetOfMask}
 use Rattle.families.specs.Lists.{OnChosen, ListOf, LeastSum, SumOfMember}
 use Rattle.families.proofs.Masks.{spread, set-of, set-unique, set-within, gather, gather-lt, mask-of, subset-submask, proper-subset, proper-submask}
+use Rattle.families.proofs.Order.{Words}
+use Rattle.families.proofs.SetLists.{setsOf, list-of, length-sets-of}
 use Rattle.tables.specs.Table.{FamilyOf}
 use Rattle.tables.proofs.Tables.{table-family-monotone}
+use Rattle.bases.specs.Readers.{MinimalFamily, BaseFamily}
+use Rattle.bases.proofs.Formed.{few}
 use Rattle.bases.specs.Base.{Derives, TargetSet, MinimalSet, Base}
 use Rattle.bases.specs.Score.{pointsAt, sumOf, never, Score}
 
@@ -52,9 +57,9 @@ unfolding In
 in-or f m = member-or (getD f (m / 64) 0) (m % 64)
 
 module _ (loss : Bool) (s : Setup) (g : Graph) (target chosen : ℕ) (f : List ℕ)
-    (fits : chosen < 2 ^ 64) (few : ones chosen ≤ 14) (ch : ChosenSet loss s chosen) (fam : FamilyOf (ruleOf loss g) chosen target f) where
+    (fits : chosen < 2 ^ 64) (small-count : ones chosen ≤ 14) (ch : ChosenSet loss s chosen) (fam : FamilyOf (ruleOf loss g) chosen target f) where
   small : (m : ℕ) → m < 2 ^ ones chosen → m < 16384
-  small m l = lt-of-lt-of-le l (pow-mono {i = ones chosen} {j = 14} few)
+  small m l = lt-of-lt-of-le l (pow-mono {i = ones chosen} {j = 14} small-count)
 
   -- each set of chosen vertices with a derivation has a mask in the family
   pub mask-for : (x : ℕ) → TargetSet loss s g target x → MaskFor f chosen x
@@ -158,3 +163,25 @@ module _ (loss : Bool) (s : Setup) (g : Graph) (target chosen : ℕ) (f : List �
       found m l i =
           let q = h .reached m l i in
           (q .set, set-for (q .mask) (q .set) (q .below) (q .is) (q .of), q .sum ∙ same (q .set))
+
+-- ---- a family whose sets are the base
+
+pub base-family : (loss : Bool) (s : Setup) (g : Graph) (target chosen : ℕ) (m : List ℕ) (n : ℕ) → chosen < 2 ^ 64 → WellFormed s → ChosenSet loss s chosen
+    → MinimalFamily loss g chosen target m → Words m → n ≡ size m → BaseFamily loss s g target chosen m n
+base-family loss s g target chosen m n fits w ch h words e =
+    record {
+      words = h .words;
+      few = k;
+      exact = on;
+      count = sym e;
+      base = setsOf chosen m;
+      isBase = base-of loss s g target chosen (h .all) fits k ch (h .isFamily) m (h .minimal) (setsOf chosen m) (list-of chosen m fits (h .words) on);
+      counted = e ∙ sym (length-sets-of chosen m (h .words) words);
+      each = base-of loss s g target chosen (h .all) fits k ch (h .isFamily) m (h .minimal);
+    }
+  where
+    k : ones chosen ≤ 14
+    k = few loss s chosen w ch
+
+    on : OnChosen chosen m
+    on = on-chosen loss s g target chosen (h .all) fits k ch (h .isFamily) m (h .minimal)

@@ -6,7 +6,7 @@ ghost use Rattle.setup.specs.WellFormed.{WellFormed};
 ghost use Rattle.derivations.specs.Both.{ruleOf};
 ghost use Rattle.tables.specs.Table.{FamilyOf};
 ghost use Rattle.bases.specs.Score.{points, Values, ScoreBoth};
-ghost use Rattle.bases.specs.Readers.{CanCopy, MinimalFamily};
+ghost use Rattle.bases.specs.Readers.{CanCopy, MinimalFamily, CanList, BaseFamily};
 use setup::Graph;
 use setup::Setup;
 use setup::Value;
@@ -81,4 +81,20 @@ pub fn score_of(s: Setup, graph: Graph, loss: bool, target: usize) -> u64
     let mut family = [0u64; WORDS];
     family_of(graph, chosen, loss, target, &mut family);
     families::least_sum(&family, chosen, values)
+}
+
+// The family whose members' sets are the target's base, and their number.
+pub fn base_family(
+    s: Setup,
+    graph: Graph,
+    loss: bool,
+    target: usize,
+    chosen: VertexSet,
+    out: &mut [u64],
+) -> usize
+    requires { ⌜ CanList loss s target (chosen .0) (now out) ⌝ }
+    ensures { λ r. ⌜ BaseFamily loss s graph target (chosen .0) (now (out .exit)) r ⌝ }
+{
+    minimal_family(graph, chosen, loss, target, out);
+    families::count_members(out)
 }

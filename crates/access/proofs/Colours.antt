@@ -25,17 +25,20 @@ use Rattle.access.specs.Inner.{Complete, LowestColour, SomeComplete, All
 abbrev pub NoneBelow : Rows → Vertices → ℕ → Type 0
 NoneBelow rows held n = (c : ℕ) → c < n → Complete rows held c → ⊥
 
-pub lowest-found : (rows : Rows) (s c : ℕ) → c < 8 → NoneBelow rows (Member s) c → (rowOf rows c ≡ 0 → ⊥) → Within (rowOf rows c) s → LowestColour rows (Member s) c
-lowest-found rows s c l none n w =
-    record {
-      most = omega arith;
-      complete = λ k. record { coloured = n; within = w .each };
-      lower = λ d h. ⊎-elim (λ k. absurd (none d k h)) (λ k. k) (less-or d c);
-    }
+complete-below : (rows : Rows) (s c : ℕ) → length (rows .needs) ≡ 8 → Complete rows (Member s) c → c < 8
+complete-below rows s c long h =
+    ⊎-elim (λ l. l) (λ l. absurd (h .coloured (List·getD-eq-default (rows .needs) 0 (omega arith)))) (less-or c 8)
 
-pub lowest-none : (rows : Rows) (s : ℕ) → NoneBelow rows (Member s) 8 → LowestColour rows (Member s) 8
-lowest-none rows s none =
-    record { most = omega arith; complete = λ k. absurd (omega arith); lower = λ d h. ⊎-elim (λ k. absurd (none d k h)) (λ k. k) (less-or d 8) }
+not-below : (rows : Rows) (s n : ℕ) → length (rows .needs) ≡ 8 → NoneBelow rows (Member s) n → (c : ℕ) → Complete rows (Member s) c → (n ≤ c) × (c < 8)
+not-below rows s n long none c h = (⊎-elim (λ k. absurd (none c k h)) (λ k. k) (less-or c n), complete-below rows s c long h)
+
+pub lowest-found : (rows : Rows) (s c : ℕ) → c < 8 → length (rows .needs) ≡ 8 → NoneBelow rows (Member s) c → (rowOf rows c ≡ 0 → ⊥) → Within (rowOf rows c) s
+    → LowestColour rows (Member s) c
+lowest-found rows s c l long none n w =
+    record { most = omega arith; complete = λ k. record { coloured = n; within = w .each }; lower = not-below rows s c long none }
+
+pub lowest-none : (rows : Rows) (s : ℕ) → length (rows .needs) ≡ 8 → NoneBelow rows (Member s) 8 → LowestColour rows (Member s) 8
+lowest-none rows s long none = record { most = omega arith; complete = λ k. absurd (omega arith); lower = not-below rows s 8 long none }
 
 pub none-empty : (rows : Rows) (s c : ℕ) → rowOf rows c ≡ 0 → Complete rows (Member s) c → ⊥
 none-empty rows s c e h = h .coloured e
@@ -44,14 +47,16 @@ pub none-within : (rows : Rows) (s c : ℕ) → (Within (rowOf rows c) s → ⊥
 none-within rows s c n h = n (record { each = h .within })
 
 -- a complete colour is there exactly where the lowest is below 8
-pub some-complete : (rows : Rows) (s r : ℕ) → length (rows .needs) ≡ 8 → LowestColour rows (Member s) r → Decides (SomeComplete rows (Member s)) (ltb r 8)
-some-complete rows s r long l =
+pub some-complete : (rows : Rows) (s r : ℕ) → LowestColour rows (Member s) r → Decides (SomeComplete rows (Member s)) (ltb r 8)
+some-complete rows s r l =
     record {
       yes = λ e. record { colour = r; complete = l .complete (ltb-true r 8 e) };
       no = λ e h.
           let p = ltb-false r 8 e in
           let q = l .lower (h .colour) (h .complete) in
-          h .complete .coloured (List·getD-eq-default (rows .needs) 0 (omega arith));
+          let a = q .0 in
+          let b = q .1 in
+          omega arith;
     }
 
 -- ---- every colour broken

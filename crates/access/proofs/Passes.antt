@@ -49,6 +49,7 @@ admitted-place loss g P v long a = ⊎-elim (λ l. l) (λ l. absurd (none loss (
   where
     out : 64 ≤ v → rowsAt g v ≡ record { needs = [] }
     out l = List·getD-eq-default (g .rows) (record { needs = [] }) (omega arith)
+
     none : (b : Bool) → RowsAdmit b (record { needs = [] }) P → ⊥
     none false h = h .complete .coloured refl
     none true h = h .coloured refl
@@ -70,8 +71,8 @@ module _ (loss : Bool) (g : Graph) (s : ℕ) where
       record {
         grows = record { each = λ i m. keep i (p .grows .each i m) };
         sound = λ v m. ⊎-elim (p .sound v)
-        (λ e. subst (Derivation (ruleOf loss g) (Member s)) (sym e) (admitted loss g (Member s) n (rows-mono loss (rowsAt g n) (Member r) (Derivation (ruleOf loss g) (Member s)) (p .sound) a)))
-        (t .taken l v .to m);
+            (λ e. subst (Derivation (ruleOf loss g) (Member s)) (sym e) (admitted loss g (Member s) n (rows-mono loss (rowsAt g n) (Member r) (Derivation (ruleOf loss g) (Member s)) (p .sound) a)))
+            (t .taken l v .to m);
         whole = below-more _ n (λ v k h. keep v (p .whole v k h)) (λ h. t .taken l n .from (inr refl));
       }
     where
@@ -102,7 +103,7 @@ module _ (loss : Bool) (g : Graph) (s : ℕ) where
       record {
         grows = within-trans (h .grows) (p .grows);
         sound = λ v m. twice (ruleOf loss g) (lawful loss g) (Member s) v .to
-        (monotone (ruleOf loss g) (lawful loss g) (Member r) (Derivation (ruleOf loss g) (Member s)) (h .sound) v (p .sound v m));
+            (monotone (ruleOf loss g) (lawful loss g) (Member r) (Derivation (ruleOf loss g) (Member s)) (h .sound) v (p .sound v m));
       }
 
   pub grown-done : (r t : ℕ) → length (g .rows) ≡ 64 → Grown loss g s r → Passed loss g r t → t ≡ r → Closure (ruleOf loss g) s r

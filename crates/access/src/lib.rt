@@ -6,8 +6,8 @@ ghost use Rattle.derivations.specs.Derivation.{Closure};
 ghost use Rattle.derivations.specs.Access.{AccessFrom};
 ghost use Rattle.derivations.specs.Lockout.{LockoutFrom};
 ghost use Rattle.derivations.specs.Both.{ruleOf};
-ghost use Rattle.access.specs.Answers.{numberOf, valuesOf, SetCall};
-ghost use Rattle.access.specs.Inner.{LowestColour, RowsAdmit, AllBroken, Passed};
+ghost use Rattle.access.specs.Answers.{numberOf, valuesOf, SetCall, wayNumber, wayValues, WayCall};
+ghost use Rattle.access.specs.Inner.{LowestColour, RowsAdmit, AllBroken, Passed, StepFound, WayFound, Room, Written, WayTaken};
 use setup::Graph;
 use setup::Rows;
 use setup::Setup;
@@ -123,4 +123,132 @@ pub fn lockout_from(s: Setup, set: VertexSet) -> SetAnswer
     ensures { λ r. ⌜ SetCall LockoutFrom s (set .0) (numberOf r) (valuesOf r) ⌝ }
 {
     set_call(true, s, set)
+}
+
+// A step that may be taken next: a vertex and the colour by which it is opened.
+struct NextStep {
+    found: bool,
+    vertex: usize,
+    colour: usize,
+}
+
+// The lowest-numbered vertex that is not held and has a complete colour, with its lowest one.
+fn lowest_step(graph: Graph, held: VertexSet) -> NextStep
+    ensures { λ r. ⌜ StepFound graph (Member (held .0)) (r .found) (record { vertex = r .vertex; colour = r .colour }) ⌝ }
+{
+    for v in 0..64usize {
+        if held.has(v) {
+            continue;
+        }
+        let rows = graph.rows[v];
+        let colour = lowest_colour(rows, held);
+        if colour < 8 {
+            return NextStep {
+                found: true,
+                vertex: v,
+                colour,
+            };
+        }
+    }
+    NextStep {
+        found: false,
+        vertex: 0,
+        colour: 0,
+    }
+}
+
+struct WayCount {
+    found: bool,
+    count: usize,
+}
+
+// How many steps the way in has, without writing it.
+fn count_way(graph: Graph, target: usize, set: VertexSet) -> WayCount
+    ensures { λ r. ⌜ WayFound graph target (set .0) (r .found) (r .count) ⌝ }
+{
+    let mut held = set;
+    let mut count: usize = 0;
+    loop {
+        if held.has(target) {
+            return WayCount { found: true, count };
+        }
+        let step = lowest_step(graph, held);
+        if step.found {
+            held = held.insert(step.vertex);
+            count += 1;
+        } else {
+            return WayCount {
+                found: false,
+                count: 0,
+            };
+        }
+    }
+}
+
+// Writes the way in, its vertices to one list and its colours to the other.
+fn write_way(graph: Graph, target: usize, set: VertexSet, vertices: &mut [u8], colours: &mut [u8])
+    requires { ⌜ Room graph target (set .0) (now vertices) (now colours) ⌝ }
+    ensures { λ _. ⌜ Written graph target (set .0) (now (vertices .entry)) (now (vertices .exit)) (now (colours .entry)) (now (colours .exit)) ⌝ }
+{
+    let mut held = set;
+    let mut i: usize = 0;
+    loop {
+        if held.has(target) {
+            return;
+        }
+        let step = lowest_step(graph, held);
+        vertices[i] = step.vertex as u8;
+        colours[i] = step.colour as u8;
+        held = held.insert(step.vertex);
+        i += 1;
+    }
+}
+
+fn take_way(
+    graph: Graph,
+    target: usize,
+    set: VertexSet,
+    vertices: &mut [u8],
+    colours: &mut [u8],
+) -> WayAnswer
+    ensures { λ r. ⌜ WayTaken graph target (set .0) (wayNumber r) (wayValues r) (now (vertices .entry)) (now (vertices .exit)) (now (colours .entry)) (now (colours .exit)) ⌝ }
+{
+    let way = count_way(graph, target, set);
+    let count = way.count;
+    if way.found {
+        if vertices.len() < count {
+            return WayAnswer::Refused(15);
+        }
+        if colours.len() < count {
+            return WayAnswer::Refused(15);
+        }
+        write_way(graph, target, set, vertices, colours);
+        return WayAnswer::Steps(count);
+    }
+    WayAnswer::Shut
+}
+
+// The way in (document 003: a derivation by definition 3). The lists are the caller's: the steps'
+// vertices go to the one, their colours to the other.
+pub fn access_derivation(
+    s: Setup,
+    target: usize,
+    set: VertexSet,
+    vertices: &mut [u8],
+    colours: &mut [u8],
+) -> WayAnswer
+    ensures { λ r. ⌜ WayCall s target (set .0) (wayNumber r) (wayValues r) (now (vertices .entry)) (now (vertices .exit)) (now (colours .entry)) (now (colours .exit)) ⌝ }
+{
+    if setup::well_formed(s) {
+        if target < s.count {
+            let known = VertexSet::below(s.count);
+            if set.within(known) {
+                let graph = s.graph;
+                return take_way(graph, target, set, vertices, colours);
+            }
+            return WayAnswer::Refused(14);
+        }
+        return WayAnswer::Refused(13);
+    }
+    WayAnswer::Refused(12)
 }

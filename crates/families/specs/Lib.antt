@@ -2,3 +2,4 @@ pub mod Family
 pub mod Masks
 pub mod Lists
 pub mod Steps
+pub mod Tables

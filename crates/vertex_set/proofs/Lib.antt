@@ -6,3 +6,4 @@ pub mod Sets
 pub mod Shifts
 pub mod Sorted
 pub mod Subsets
+pub mod Sums

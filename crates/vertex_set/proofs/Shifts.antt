@@ -15,7 +15,7 @@ use Rattle.vertex_set.proofs.Digits.{digit, digit-suc, digit-first}
 use Rattle.vertex_set.proofs.Places.{in-first, in-later}
 
 -- the low k members
-low-first : (s k : ℕ) → s % 2 ^ suc k % 2 ≡ s % 2
+pub low-first : (s k : ℕ) → s % 2 ^ suc k % 2 ≡ s % 2
 low-first s k = subst (λ (n : ℕ). s % 2 ^ n % 2 ≡ s % 2) (add-one k) (mod-mod-pow s k 1)
 
 pub low-half : (s k : ℕ) → s % 2 ^ suc k / 2 ≡ s / 2 % 2 ^ k

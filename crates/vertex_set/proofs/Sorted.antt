@@ -31,6 +31,10 @@ listed-of-map f [] y z = absurd z
 listed-of-map f (x ∷ l) y h =
     ⊎-elim (λ e. (x, inl refl, e)) (λ m. let r = listed-of-map f l y m in (r .0, inr (r .1), r .2)) h
 
+pub map-same : (f g : ℕ → ℕ) (l : List ℕ) → ((x : ℕ) → Listed l x → f x ≡ g x) → map f l ≡ map g l
+map-same f g [] h = refl
+map-same f g (x ∷ l) h = rw (h x (inl refl), map-same f g l (λ y m. h y (inr m)))
+
 -- ---- the part of a list that passes a test
 
 abbrev pub keep : Bool → ℕ → List ℕ → List ℕ

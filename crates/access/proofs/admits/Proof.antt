@@ -7,30 +7,22 @@ use Rattle.access.proofs.Colours.{some-complete}
 use borrow.Author.Needs.{needs}
 use Rattle.access.proofs.admits.Statement.{statement}
 use Rattle.access.proofs.admits.Tie as tie
-use Rattle.access.proofs.admits.Reads as reads
-use Rattle.access.proofs.admits.Lts as lts
-use Rattle.access.proofs.all_broken.Reads as all-broken-reads
-use Rattle.access.proofs.lowest_colour.Reads as lowest-colour-reads
 
--- src/lib.rt:65:9
 all-broken-requires : tie.Need-all-broken-requires
 all-broken-requires c κs = search needs
 
--- src/lib.rt:67:9
 lowest-colour-requires : tie.Need-lowest-colour-requires
 lowest-colour-requires c κs = search needs
 
--- src/lib.rt:61:1
 returns : tie.Need-returns
 returns c =
     let a = c .before .before .args in
     subst (λ (b : Bool). Decides (RowsAdmit b (a .rows) (Member (a .held .0))) (c .all-broken .result)) (sym (c .before .if1 .taken)) (c .all-broken .ensures)
 
--- src/lib.rt:61:1
 returns-2 : tie.Need-returns-2
 returns-2 c =
     let a = c .before .before .args in
-    subst (λ (b : Bool). Decides (RowsAdmit b (a .rows) (Member (a .held .0))) (ltb (c .lowest-colour .result) 8)) (sym (c .before .if1 .left)) (some-complete (a .rows) (a .held .0) (c .lowest-colour .result) (search needs) (c .lowest-colour .ensures))
+    subst (λ (b : Bool). Decides (RowsAdmit b (a .rows) (Member (a .held .0))) (ltb (c .lowest-colour .result) 8)) (sym (c .before .if1 .left)) (some-complete (a .rows) (a .held .0) (c .lowest-colour .result) (c .lowest-colour .ensures))
 
 pub admits-spec : {M : Type 1} → statement M
 admits-spec = tie.close (tie.spec all-broken-requires lowest-colour-requires returns returns-2)

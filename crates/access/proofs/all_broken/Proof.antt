@@ -8,9 +8,6 @@ use Rattle.vertex_set.proofs.Decisions.{decide-no}
 use Rattle.access.proofs.Colours.{BrokenBelow, broken-none, broken-empty, broken-more, broken-not, broken-all}
 use Rattle.access.proofs.all_broken.Statement.{statement}
 use Rattle.access.proofs.all_broken.Tie as tie
-use Rattle.access.proofs.all_broken.Reads as reads
-use Rattle.access.proofs.all_broken.Lts as lts
-use Rattle.vertex_set.proofs.VertexSet.meets.Reads as meets-reads
 
 abbrev Inv-loop : tie.InvT-loop
 Inv-loop lost rows coloured₀ c₀ coloured c = (c ≤ 8) × BrokenBelow rows (Member (lost .0)) c coloured
@@ -18,48 +15,41 @@ Inv-loop lost rows coloured₀ c₀ coloured c = (c ≤ 8) × BrokenBelow rows (
 abbrev μ-loop : tie.MeasureT-loop
 μ-loop lost rows coloured₀ c₀ coloured c = 8 - c
 
--- src/lib.rt:47:5
 loop-holds : tie.Need-loop-holds Inv-loop μ-loop
 loop-holds c = (search needs, broken-none _ _)
 
--- src/lib.rt:48:29
 mul-t8 : tie.Need-mul-t8 Inv-loop μ-loop
 mul-t8 c = search needs
 
--- src/lib.rt:48:29
 element-copy-out-t11 : tie.Need-element-copy-out-t11 Inv-loop μ-loop
 element-copy-out-t11 c = search needs
 
--- src/lib.rt:50:16
 meets-requires : tie.Need-meets-requires Inv-loop μ-loop
 meets-requires c κs = search needs
 
--- src/lib.rt:53:17
 returns : tie.Need-returns Inv-loop μ-loop
 returns c =
     let l = c .before .before .before .before .before .before in
     decide-no (broken-not (l .before .args .t1) (l .before .args .lost .0) (l .loop .c) (c .before .before .if1 .taken) (c .before .meets .ensures .no (c .if2 .left)))
 
--- src/lib.rt:47:9
 add-c : tie.Need-add-c Inv-loop μ-loop
 add-c c = search needs
 
--- src/lib.rt:47:5
 loop-less : tie.Need-loop-less Inv-loop μ-loop
 loop-less c = search needs
 
--- src/lib.rt:47:5
 loop-again : tie.Need-loop-again Inv-loop μ-loop
 loop-again c =
     let l = c .before .before .before .before in
     let rows = l .before .args .t1 in
-    let lost = l .before .args .lost .0 in
-    (omega arith, ⊎-elim
-    (λ w. subst (BrokenBelow rows (Member lost) (l .loop .c + 1)) (sym (w .3)) (broken-more rows lost (l .loop .c) (l .loop .coloured) (l .loop .inv .1) (w .0 .taken) (w .1 .ensures .yes (w .2 .taken))))
-    (λ w. subst (BrokenBelow rows (Member lost) (l .loop .c + 1)) (sym (w .1)) (broken-empty rows lost (l .loop .c) (l .loop .coloured) (l .loop .inv .1) (w .0 .left)))
-    (c .if1 .came))
+    let lost = l .before .args .lost .0 in (
+      omega arith,
+      ⊎-elim
+          (λ w. subst (BrokenBelow rows (Member lost) (l .loop .c + 1)) (sym (w .3)) (broken-more rows lost (l .loop .c) (l .loop .coloured) (l .loop .inv .1) (w .0 .taken) (w .1 .ensures .yes (w .2 .taken))))
+          (λ w. subst (BrokenBelow rows (Member lost) (l .loop .c + 1)) (sym (w .1)) (broken-empty rows lost (l .loop .c) (l .loop .coloured) (l .loop .inv .1) (w .0 .left)))
+          (c .if1 .came),
+    )
 
--- src/lib.rt:43:1
 returns-2 : tie.Need-returns-2 Inv-loop μ-loop
 returns-2 c =
     let e : c .before .loop .c ≡ 8 = omega arith in

@@ -5,9 +5,6 @@ use lib.ListN.{length, length-map}
 use Rattle.access.proofs.Passes.{Grown, grown-none, grown-more, grown-done, falls}
 use Rattle.access.proofs.closure.Statement.{statement}
 use Rattle.access.proofs.closure.Tie as tie
-use Rattle.access.proofs.closure.Reads as reads
-use Rattle.access.proofs.closure.Lts as lts
-use Rattle.access.proofs.pass.Reads as pass-reads
 
 abbrev Inv-loop : tie.InvT-loop
 Inv-loop loss graph r₀ r = Grown loss graph (r₀ .0) (r .0)
@@ -15,15 +12,12 @@ Inv-loop loss graph r₀ r = Grown loss graph (r₀ .0) (r .0)
 abbrev μ-loop : tie.MeasureT-loop
 μ-loop loss graph r₀ r = 2 ^ 64 - r .0
 
--- src/lib.rt:90:5
 loop-holds : tie.Need-loop-holds Inv-loop μ-loop
 loop-holds c = grown-none _ _ _
 
--- src/lib.rt:91:13
 pass-requires : tie.Need-pass-requires Inv-loop μ-loop
 pass-requires c κs = search needs
 
--- src/lib.rt:93:13
 returns : tie.Need-returns Inv-loop μ-loop
 returns c =
     let l = c .before .before .before .before in
@@ -31,7 +25,6 @@ returns c =
     let long : length (a .graph .rows) ≡ 64 = simp length-map at (l .before .good .1 .0 .1 .1 .0 .1 .0 .1) in
     grown-done (a .loss) (a .graph) (a .s .0) (l .loop .r .0) (c .before .before .before .pass .result .0) long (l .loop .inv) (c .before .before .before .pass .ensures) (c .if1 .taken)
 
--- src/lib.rt:90:5
 loop-less : tie.Need-loop-less Inv-loop μ-loop
 loop-less c =
     let l = c .before .before .before .before in
@@ -39,7 +32,6 @@ loop-less c =
     let fits : p .result .0 < 2 ^ 64 = search needs in
     falls (l .loop .r .0) (p .result .0) fits (p .ensures .grows) (c .if1 .left)
 
--- src/lib.rt:90:5
 loop-again : tie.Need-loop-again Inv-loop μ-loop
 loop-again c =
     let l = c .before .before .before .before in

@@ -8,9 +8,6 @@ use Rattle.vertex_set.specs.Set.{Member}
 use Rattle.access.proofs.Colours.{NoneBelow, lowest-found, lowest-none, none-empty, none-within}
 use Rattle.access.proofs.lowest_colour.Statement.{statement}
 use Rattle.access.proofs.lowest_colour.Tie as tie
-use Rattle.access.proofs.lowest_colour.Reads as reads
-use Rattle.access.proofs.lowest_colour.Lts as lts
-use Rattle.vertex_set.proofs.VertexSet.within.Reads as within-reads
 
 abbrev Inv-loop : tie.InvT-loop
 Inv-loop held rows c₀ c = (c ≤ 8) × NoneBelow rows (Member (held .0)) c
@@ -18,52 +15,45 @@ Inv-loop held rows c₀ c = (c ≤ 8) × NoneBelow rows (Member (held .0)) c
 abbrev μ-loop : tie.MeasureT-loop
 μ-loop held rows c₀ c = 8 - c
 
--- src/lib.rt:31:5
 loop-holds : tie.Need-loop-holds Inv-loop μ-loop
 loop-holds c = (search needs, below-none _)
 
--- src/lib.rt:32:29
 mul-t7 : tie.Need-mul-t7 Inv-loop μ-loop
 mul-t7 c = search needs
 
--- src/lib.rt:32:29
 element-copy-out-t10 : tie.Need-element-copy-out-t10 Inv-loop μ-loop
 element-copy-out-t10 c = search needs
 
--- src/lib.rt:34:16
 within-requires : tie.Need-within-requires Inv-loop μ-loop
 within-requires c κs = search needs
 
--- src/lib.rt:35:17
 returns : tie.Need-returns Inv-loop μ-loop
 returns c =
     let l = c .before .before .before .before .before .before in
-    lowest-found (l .before .args .t1) (l .before .args .held .0) (l .loop .c) (omega arith) (l .loop .inv .1) (c .before .before .if1 .taken) (c .before .within .ensures .yes (c .if2 .taken))
+    lowest-found (l .before .args .t1) (l .before .args .held .0) (l .loop .c) (omega arith) (search needs) (l .loop .inv .1) (c .before .before .if1 .taken) (c .before .within .ensures .yes (c .if2 .taken))
 
--- src/lib.rt:31:9
 add-c : tie.Need-add-c Inv-loop μ-loop
 add-c c = search needs
 
--- src/lib.rt:31:5
 loop-less : tie.Need-loop-less Inv-loop μ-loop
 loop-less c = search needs
 
--- src/lib.rt:31:5
 loop-again : tie.Need-loop-again Inv-loop μ-loop
 loop-again c =
     let l = c .before .before .before .before in
     let rows = l .before .args .t1 in
-    let held = l .before .args .held .0 in
-    (omega arith, below-more _ (l .loop .c) (l .loop .inv .1) (⊎-elim
-    (λ w. none-within rows held (l .loop .c) (w .1 .ensures .no (w .2 .left)))
-    (λ w. none-empty rows held (l .loop .c) (w .left))
-    (c .if1 .came)))
+    let held = l .before .args .held .0 in (
+      omega arith,
+      below-more _ (l .loop .c) (l .loop .inv .1) (⊎-elim
+          (λ w. none-within rows held (l .loop .c) (w .1 .ensures .no (w .2 .left)))
+          (λ w. none-empty rows held (l .loop .c) (w .left))
+          (c .if1 .came)),
+    )
 
--- src/lib.rt:28:1
 returns-2 : tie.Need-returns-2 Inv-loop μ-loop
 returns-2 c =
     let e : c .before .loop .c ≡ 8 = omega arith in
-    lowest-none (c .before .before .args .t1) (c .before .before .args .held .0) (rw e at (c .before .loop .inv .1))
+    lowest-none (c .before .before .args .t1) (c .before .before .args .held .0) (search needs) (rw e at (c .before .loop .inv .1))
 
 pub lowest-colour-spec : {M : Type 1} → statement M
 lowest-colour-spec =

@@ -7,10 +7,6 @@ use Rattle.vertex_set.specs.declared.VertexSet.{VertexSet}
 use Rattle.access.proofs.Passes.{PassedBelow, pass-none, pass-more, pass-same}
 use Rattle.access.proofs.pass.Statement.{statement}
 use Rattle.access.proofs.pass.Tie as tie
-use Rattle.access.proofs.pass.Reads as reads
-use Rattle.access.proofs.pass.Lts as lts
-use Rattle.access.proofs.admits.Reads as admits-reads
-use Rattle.vertex_set.proofs.VertexSet.insert.Reads as insert-reads
 
 abbrev Inv-loop : tie.InvT-loop
 Inv-loop loss graph r₀ v₀ r v = (v ≤ 64) × PassedBelow loss graph (r₀ .0) v (r .0)
@@ -18,48 +14,41 @@ Inv-loop loss graph r₀ v₀ r v = (v ≤ 64) × PassedBelow loss graph (r₀ .
 abbrev μ-loop : tie.MeasureT-loop
 μ-loop loss graph r₀ v₀ r v = 64 - v
 
--- src/lib.rt:76:5
 loop-holds : tie.Need-loop-holds Inv-loop μ-loop
 loop-holds c = (search needs, pass-none _ _ _)
 
--- src/lib.rt:77:20
 mul-rows : tie.Need-mul-rows Inv-loop μ-loop
 mul-rows c = search needs
 
--- src/lib.rt:77:20
 element-copy-out-rows : tie.Need-element-copy-out-rows Inv-loop μ-loop
 element-copy-out-rows c = search needs
 
--- src/lib.rt:78:12
 admits-requires : tie.Need-admits-requires Inv-loop μ-loop
 admits-requires c κs = search needs
 
--- src/lib.rt:79:13
 insert-requires : tie.Need-insert-requires Inv-loop μ-loop
 insert-requires c κs = search needs
 
--- src/lib.rt:76:9
 add-v : tie.Need-add-v Inv-loop μ-loop
 add-v c = search needs
 
--- src/lib.rt:76:5
 loop-less : tie.Need-loop-less Inv-loop μ-loop
 loop-less c = search needs
 
--- src/lib.rt:76:5
 loop-again : tie.Need-loop-again Inv-loop μ-loop
 loop-again c =
     let l = c .before .before .before .before in
     let a = l .before .args in
-    let d = c .before .admits .ensures in
-    (omega arith, ⊎-elim
-    (λ w. subst (λ (x : VertexSet). PassedBelow (a .loss) (a .t2) (a .s .0) (l .loop .v + 1) (x .0)) (sym (w .2))
-        (pass-more (a .loss) (a .t2) (a .s .0) (l .loop .v) (l .loop .r .0) (w .1 .result .0) (omega arith) (l .loop .inv .1) (d .yes (w .0 .taken)) (w .1 .ensures)))
-    (λ w. subst (λ (x : VertexSet). PassedBelow (a .loss) (a .t2) (a .s .0) (l .loop .v + 1) (x .0)) (sym (w .1))
-        (pass-same (a .loss) (a .t2) (a .s .0) (l .loop .v) (l .loop .r .0) (l .loop .inv .1) (d .no (w .0 .left))))
-    (c .if1 .came))
+    let d = c .before .admits .ensures in (
+      omega arith,
+      ⊎-elim
+          (λ w. subst (λ (x : VertexSet). PassedBelow (a .loss) (a .t2) (a .s .0) (l .loop .v + 1) (x .0)) (sym (w .2))
+          (pass-more (a .loss) (a .t2) (a .s .0) (l .loop .v) (l .loop .r .0) (w .1 .result .0) (omega arith) (l .loop .inv .1) (d .yes (w .0 .taken)) (w .1 .ensures)))
+          (λ w. subst (λ (x : VertexSet). PassedBelow (a .loss) (a .t2) (a .s .0) (l .loop .v + 1) (x .0)) (sym (w .1))
+          (pass-same (a .loss) (a .t2) (a .s .0) (l .loop .v) (l .loop .r .0) (l .loop .inv .1) (d .no (w .0 .left))))
+          (c .if1 .came),
+    )
 
--- src/lib.rt:72:1
 returns : tie.Need-returns Inv-loop μ-loop
 returns c =
     let e : c .before .loop .v ≡ 64 = omega arith in

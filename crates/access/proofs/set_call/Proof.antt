@@ -5,30 +5,19 @@ use Rattle.access.proofs.Calls.{inside-iff, set-malformed, set-outside,
 use borrow.Author.Needs.{needs}
 use Rattle.access.proofs.set_call.Statement.{statement}
 use Rattle.access.proofs.set_call.Tie as tie
-use Rattle.access.proofs.set_call.Reads as reads
-use Rattle.access.proofs.set_call.Lts as lts
-use Rattle.access.proofs.closure.Reads as closure-reads
-use Rattle.setup.proofs.well_formed.Reads as well-formed-reads
-use Rattle.vertex_set.proofs.VertexSet.below.Reads as below-reads
-use Rattle.vertex_set.proofs.VertexSet.within.Reads as within-reads
 
--- src/lib.rt:102:8
 well-formed-requires : tie.Need-well-formed-requires
 well-formed-requires c κs = search needs
 
--- src/lib.rt:103:13
 below-requires : tie.Need-below-requires
 below-requires c κs = search needs
 
--- src/lib.rt:104:12
 within-requires : tie.Need-within-requires
 within-requires c κs = search needs
 
--- src/lib.rt:106:17
 closure-requires : tie.Need-closure-requires
 closure-requires c κs = search needs
 
--- src/lib.rt:107:13
 returns : tie.Need-returns
 returns c =
     let w = c .before .before .before in
@@ -38,7 +27,6 @@ returns c =
     let i = inside-iff (a .s) (a .set .0) (b .below .result .0) fits (b .below .ensures) in
     set-answers (λ g. Closure (ruleOf (a .loss) g)) (a .s) (a .set .0) (b .before .before .well-formed .ensures .yes (b .before .if1 .taken)) (i .to (w .within .ensures .yes (c .before .before .if2 .taken))) (c .closure .result .0) (c .closure .ensures)
 
--- src/lib.rt:109:9
 returns-2 : tie.Need-returns-2
 returns-2 c =
     let b = c .before .before in
@@ -47,7 +35,6 @@ returns-2 c =
     let i = inside-iff (a .s) (a .set .0) (b .below .result .0) fits (b .below .ensures) in
     set-outside (λ g. Closure (ruleOf (a .loss) g)) (a .s) (a .set .0) (b .before .before .well-formed .ensures .yes (b .before .if1 .taken)) (λ h. c .before .within .ensures .no (c .if2 .left) (i .from h))
 
--- src/lib.rt:99:1
 returns-3 : tie.Need-returns-3
 returns-3 c =
     let a = c .before .before .args in

@@ -1,0 +1,4 @@
+pub mod Bridge
+pub mod Formed
+pub mod Readers
+pub mod Scores

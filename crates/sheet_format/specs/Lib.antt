@@ -1,0 +1,6 @@
+pub mod Text
+pub mod Fields
+pub mod Rows
+pub mod Questions
+pub mod Read
+pub mod Meaning

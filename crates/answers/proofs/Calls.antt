@@ -14,8 +14,10 @@ use Rattle.setup.specs.Calls.{Refuses}
 use Rattle.families.specs.Family.{size}
 use Rattle.bases.specs.Base.{Base}
 use Rattle.bases.specs.Score.{Score, ScoreOver, ScoreBoth}
-use Rattle.answers.specs.Answers.{BasesWritten, BasesCall, ScoreCall}
-use Rattle.answers.specs.Inner.{Asked, BasesTaken}
+use Rattle.answers.specs.Answers.{BasesWritten, BasesCall, ScoreCall, MarksCall}
+use Rattle.answers.specs.Inner.{Asked, BasesTaken, MarksTaken}
+use Rattle.answers.specs.declared.Marks.{Marks}
+use Rattle.bases.proofs.FullMarks.{full-marks}
 
 pub refuses : (q : ℕ) → Refuses q q []
 refuses q = record { numbered = refl; empty = refl }
@@ -104,3 +106,31 @@ fits-behind mid m n b k r e s p l h = let q = rest-long mid r (omega arith) in o
 pub both-fit : (f m opening lockout : List ℕ) {n b k : ℕ} → size f ≡ n → size m ≡ b → size f ≡ length opening → size m ≡ length lockout → n ≤ k → b ≤ k - n
     → length opening + length lockout ≤ k
 both-fit f m opening lockout p q u v l h = omega arith
+
+-- ---- marks
+
+module _ (loss : Bool) (s : Setup) (target : ℕ) (handed : List ℕ) where
+  pub marks-malformed : (WellFormed s → ⊥) → MarksCall loss s target handed 12 []
+  marks-malformed n = record { malformed = λ d. refuses 12; noTarget = λ w. absurd (n w); answers = λ w. absurd (n w) }
+
+  pub marks-no-target : WellFormed s → s .count ≤ target → MarksCall loss s target handed 13 []
+  marks-no-target w l = record { malformed = λ d. absurd (d w); noTarget = λ v k. refuses 13; answers = λ v k. absurd (omega arith) }
+
+  pub marks-answers : WellFormed s → target < s .count → (m : Marks) → MarksTaken loss s target handed m
+      → MarksCall loss s target handed 0 (m .right ∷ m .repeated ∷ m .shut ∷ m .loose ∷ m .missing ∷ [])
+  marks-answers w l m h =
+      record {
+        malformed = λ d. absurd (d w);
+        noTarget = λ v k. absurd (omega arith);
+        answers = λ v k. (
+          m .right,
+          m .repeated,
+          m .shut,
+          m .loose,
+          m .missing,
+          refl,
+          refl,
+          h .counts,
+          full-marks loss s (s .graph) target handed (m .right) (m .repeated) (m .shut) (m .loose) (m .missing) (h .counts),
+        );
+      }

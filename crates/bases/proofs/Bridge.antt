@@ -7,7 +7,7 @@ use mathlib.Core.Logic.{_⊎_, inl, inr, ⊎-elim}
 use Prim.Native.Nat.{ℕ, _/_, _%_, _^_, _≤_, _<_}
 use native.Mathlib.Nat.{lt-of-lt-of-le}
 use native.Mathlib.Omega.{arith}
-use lib.ListN.{getD}
+use lib.ListN.{length, getD}
 use lib.Count.{ones}
 use lib.Pow.{pow-mono}
 use Rattle.vertex_set.specs.Set.{Member, Within, ProperlyWithin, Iff}
@@ -30,7 +30,7 @@ use Rattle.families.proofs.Order.{Words}
 use Rattle.families.proofs.SetLists.{setsOf, list-of, length-sets-of}
 use Rattle.tables.specs.Table.{FamilyOf}
 use Rattle.tables.proofs.Tables.{table-family-monotone}
-use Rattle.bases.specs.Readers.{MinimalFamily, BaseFamily}
+use Rattle.bases.specs.Readers.{BaseFamily, BothFamilies}
 use Rattle.bases.proofs.Formed.{few}
 use Rattle.bases.specs.Base.{Derives, TargetSet, MinimalSet, Base}
 use Rattle.bases.specs.Score.{pointsAt, sumOf, never, Score}
@@ -166,22 +166,26 @@ module _ (loss : Bool) (s : Setup) (g : Graph) (target chosen : ℕ) (f : List �
 
 -- ---- a family whose sets are the base
 
-pub base-family : (loss : Bool) (s : Setup) (g : Graph) (target chosen : ℕ) (m : List ℕ) (n : ℕ) → chosen < 2 ^ 64 → WellFormed s → ChosenSet loss s chosen
-    → MinimalFamily loss g chosen target m → Words m → n ≡ size m → BaseFamily loss s g target chosen m n
-base-family loss s g target chosen m n fits w ch h words e =
+pub both-families : (loss : Bool) (s : Setup) (g : Graph) (target chosen : ℕ) (f m : List ℕ) (n : ℕ) → chosen < 2 ^ 64 → WellFormed s → ChosenSet loss s chosen
+    → FamilyOf (ruleOf loss g) chosen target f → MinimalMembers f m → length m ≡ 256 → Words m → n ≡ size m → BothFamilies loss s g target chosen f m n
+both-families loss s g target chosen f m n fits w ch fam min long words e =
     record {
-      words = h .words;
-      few = k;
-      exact = on;
-      count = sym e;
-      base = setsOf chosen m;
-      isBase = base-of loss s g target chosen (h .all) fits k ch (h .isFamily) m (h .minimal) (setsOf chosen m) (list-of chosen m fits (h .words) on);
-      counted = e ∙ sym (length-sets-of chosen m (h .words) words);
-      each = base-of loss s g target chosen (h .all) fits k ch (h .isFamily) m (h .minimal);
+      isFamily = fam;
+      isMinimal = min;
+      base = record {
+        words = long;
+        few = k;
+        exact = on;
+        count = sym e;
+        base = setsOf chosen m;
+        isBase = base-of loss s g target chosen f fits k ch fam m min (setsOf chosen m) (list-of chosen m fits long on);
+        counted = e ∙ sym (length-sets-of chosen m long words);
+        each = base-of loss s g target chosen f fits k ch fam m min;
+      };
     }
   where
     k : ones chosen ≤ 14
     k = few loss s chosen w ch
 
     on : OnChosen chosen m
-    on = on-chosen loss s g target chosen (h .all) fits k ch (h .isFamily) m (h .minimal)
+    on = on-chosen loss s g target chosen f fits k ch fam m min

@@ -66,7 +66,7 @@ ordered-once (x ∷ l) o = (λ h. not-self (o .0 x h), ordered-once l (o .1))
 module _ (loss : Bool) (s : Setup) (g : Graph) (target : ℕ) where
   -- all marks are right: nothing is repeated, and every set is of the base
   all-right : (earlier handed : List ℕ) (ms : List Mark) → MarkedAs loss s g target earlier handed ms → tally Repeated ms ≡ 0 → tally Shut ms ≡ 0 → tally Loose ms ≡ 0
-    → (tally Right ms ≡ length handed) × Once handed × ((x : ℕ) → Listed handed x → MinimalSet loss s g target x × (Listed earlier x → ⊥))
+      → (tally Right ms ≡ length handed) × Once handed × ((x : ℕ) → Listed handed x → MinimalSet loss s g target x × (Listed earlier x → ⊥))
   all-right earlier [] [] m r h l = (refl, tt, λ x i. absurd i)
   all-right earlier [] (k ∷ ms) m r h l = absurd m
   all-right earlier (x ∷ hs) [] m r h l = absurd m
@@ -75,14 +75,16 @@ module _ (loss : Bool) (s : Setup) (g : Graph) (target : ℕ) where
   all-right earlier (x ∷ hs) (Loose ∷ ms) m r h l = absurd (omega arith)
   all-right earlier (x ∷ hs) (Right ∷ ms) m r h l =
       let q = all-right (x ∷ earlier) hs ms (m .1) (omega arith) (omega arith) (omega arith) in
-      let n = q .0 in
-      ( omega arith, (λ i. q .2 x i .1 (inl refl), q .1)
-      , λ y. ⊎-elim (λ e. (subst (MinimalSet loss s g target) (sym e) (m .0 .1), subst (λ (z : ℕ). Listed earlier z → ⊥) (sym e) (m .0 .0))) (λ i. (q .2 y i .0, λ k. q .2 y i .1 (inr k))) )
+      let n = q .0 in (
+        omega arith,
+        (λ i. q .2 x i .1 (inl refl), q .1),
+        λ y. ⊎-elim (λ e. (subst (MinimalSet loss s g target) (sym e) (m .0 .1), subst (λ (z : ℕ). Listed earlier z → ⊥) (sym e) (m .0 .0))) (λ i. (q .2 y i .0, λ k. q .2 y i .1 (inr k))),
+      )
 
   -- sets of the base, each once: all marks are right
   right-all : (earlier handed : List ℕ) (ms : List Mark) → MarkedAs loss s g target earlier handed ms → Once handed
-    → ((x : ℕ) → Listed handed x → MinimalSet loss s g target x × (Listed earlier x → ⊥))
-    → (tally Right ms ≡ length handed) × (tally Repeated ms ≡ 0) × (tally Shut ms ≡ 0) × (tally Loose ms ≡ 0)
+      → ((x : ℕ) → Listed handed x → MinimalSet loss s g target x × (Listed earlier x → ⊥))
+      → (tally Right ms ≡ length handed) × (tally Repeated ms ≡ 0) × (tally Shut ms ≡ 0) × (tally Loose ms ≡ 0)
   right-all earlier [] [] m o h = (refl, refl, refl, refl)
   right-all earlier [] (k ∷ ms) m o h = absurd m
   right-all earlier (x ∷ hs) [] m o h = absurd m
@@ -98,7 +100,7 @@ module _ (loss : Bool) (s : Setup) (g : Graph) (target : ℕ) where
       (omega arith, omega arith, omega arith, omega arith)
 
   pub full-marks : (handed : List ℕ) (right repeated shut loose missing : ℕ) → Counts loss s g target handed right repeated shut loose missing
-    → Iff (Full repeated shut loose missing) (IsBaseOnce loss s g target handed)
+      → Iff (Full repeated shut loose missing) (IsBaseOnce loss s g target handed)
   full-marks handed right repeated shut loose missing c = record { to = to; from = from }
     where
       to : Full repeated shut loose missing → IsBaseOnce loss s g target handed
@@ -115,6 +117,7 @@ module _ (loss : Bool) (s : Setup) (g : Graph) (target : ℕ) where
             };
             once = q .1;
           }
+
       from : IsBaseOnce loss s g target handed → Full repeated shut loose missing
       from b =
           let q = right-all [] handed (c .marks) (c .marked) (b .once) (λ x i. (b .sets x .to i, λ k. k)) in

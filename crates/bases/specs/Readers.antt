@@ -20,13 +20,6 @@ pub record CanCopy (w : List ℕ) (target : ℕ) (out : List ℕ) : Type 0 where
   pub vertex : target < 64
   pub family : length out ≡ 256
 
--- m has the minimal members of the target's family.
-pub record MinimalFamily (loss : Bool) (g : Graph) (chosen target : ℕ) (m : List ℕ) : Type 0 where
-  pub words : length m ≡ 256
-  pub all : List ℕ
-  pub isFamily : FamilyOf (ruleOf loss g) chosen target all
-  pub minimal : MinimalMembers all m
-
 -- What base_family asks for.
 pub record CanList (loss : Bool) (s : Setup) (target chosen : ℕ) (out : List ℕ) : Type 0 where
   pub formed : WellFormed s
@@ -44,3 +37,9 @@ pub record BaseFamily (loss : Bool) (s : Setup) (g : Graph) (target chosen : ℕ
   pub isBase : Base loss s g target base
   pub counted : n ≡ length base
   pub each : (l : List ℕ) → ListOf chosen m l → Base loss s g target l
+
+-- The target's family, and that of its minimal members.
+pub record BothFamilies (loss : Bool) (s : Setup) (g : Graph) (target chosen : ℕ) (f m : List ℕ) (n : ℕ) : Type 0 where
+  pub isFamily : FamilyOf (ruleOf loss g) chosen target f
+  pub isMinimal : MinimalMembers f m
+  pub base : BaseFamily loss s g target chosen m n

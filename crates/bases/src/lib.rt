@@ -6,7 +6,7 @@ ghost use Rattle.setup.specs.WellFormed.{WellFormed};
 ghost use Rattle.derivations.specs.Both.{ruleOf};
 ghost use Rattle.tables.specs.Table.{FamilyOf};
 ghost use Rattle.bases.specs.Score.{points, Values, ScoreBoth};
-ghost use Rattle.bases.specs.Readers.{CanCopy, MinimalFamily, CanList, BaseFamily};
+ghost use Rattle.bases.specs.Readers.{CanCopy, CanList, BaseFamily, BothFamilies};
 use setup::Graph;
 use setup::Setup;
 use setup::Value;
@@ -36,16 +36,6 @@ pub fn family_of(graph: Graph, chosen: VertexSet, loss: bool, target: usize, out
     let mut w = [0u64; TABLE];
     tables::fill(graph, chosen, loss, &mut w);
     copy_family(&w, target, out);
-}
-
-// The minimal ones of them.
-pub fn minimal_family(graph: Graph, chosen: VertexSet, loss: bool, target: usize, out: &mut [u64])
-    requires { ⌜ (target < 64) × (length (now out) ≡ 256) ⌝ }
-    ensures { λ _. ⌜ MinimalFamily loss graph (chosen .0) target (now (out .exit)) ⌝ }
-{
-    let mut family = [0u64; WORDS];
-    family_of(graph, chosen, loss, target, &mut family);
-    families::minimal_members(&family, out);
 }
 
 fn points_of(x: Value) -> u64
@@ -83,7 +73,26 @@ pub fn score_of(s: Setup, graph: Graph, loss: bool, target: usize) -> u64
     families::least_sum(&family, chosen, values)
 }
 
-// The family whose members' sets are the target's base, and their number.
+// The target's family, the family of its minimal members, whose sets are the target's base, and
+// their number.
+pub fn both_families(
+    s: Setup,
+    graph: Graph,
+    loss: bool,
+    target: usize,
+    chosen: VertexSet,
+    family: &mut [u64],
+    minimal: &mut [u64],
+) -> usize
+    requires { ⌜ CanList loss s target (chosen .0) (now family) × (length (now minimal) ≡ 256) ⌝ }
+    ensures { λ r. ⌜ BothFamilies loss s graph target (chosen .0) (now (family .exit)) (now (minimal .exit)) r ⌝ }
+{
+    family_of(graph, chosen, loss, target, family);
+    families::minimal_members(family, minimal);
+    families::count_members(minimal)
+}
+
+// The minimal ones alone.
 pub fn base_family(
     s: Setup,
     graph: Graph,
@@ -95,6 +104,6 @@ pub fn base_family(
     requires { ⌜ CanList loss s target (chosen .0) (now out) ⌝ }
     ensures { λ r. ⌜ BaseFamily loss s graph target (chosen .0) (now (out .exit)) r ⌝ }
 {
-    minimal_family(graph, chosen, loss, target, out);
-    families::count_members(out)
+    let mut family = [0u64; WORDS];
+    both_families(s, graph, loss, target, chosen, &mut family, out)
 }

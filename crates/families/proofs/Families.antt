@@ -14,7 +14,7 @@ use lib.Pow.{pow-add}
 use lib.Count.{ones}
 use Rattle.vertex_set.specs.Set.{Member, Within, ProperlyWithin, Decides, Iff}
 use Rattle.vertex_set.proofs.Cases.{false-true, less-or, same-or}
-use Rattle.vertex_set.proofs.Sets.{none-in-zero, member-decided, member-below}
+use Rattle.vertex_set.proofs.Sets.{none-in-zero, member-or, member-decided, member-below}
 use Rattle.vertex_set.proofs.Places.{member-le}
 use Rattle.vertex_set.proofs.Shifts.{in-low, in-high}
 use Rattle.vertex_set.proofs.Subsets.{proper-lacks, within-removed, removed-proper, proper-less}
@@ -26,6 +26,10 @@ use Rattle.families.specs.Steps.{StepInWord, StepToWord, LeastLane, Leas
 pub in-decided : (f : List ℕ) (m : ℕ) → Decides (In f m) (eqb (getD f (m / 64) 0 / 2 ^ (m % 64) % 2) 1)
 unfolding In
 in-decided f m = member-decided (getD f (m / 64) 0) (m % 64)
+
+pub in-or : (f : List ℕ) (m : ℕ) → In f m ⊎ (In f m → ⊥)
+unfolding In
+in-or f m = member-or (getD f (m / 64) 0) (m % 64)
 
 -- past the last word there is nothing
 pub none-beyond : (f : List ℕ) (m : ℕ) → length f ≤ m / 64 → In f m → ⊥

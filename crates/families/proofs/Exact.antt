@@ -1,20 +1,20 @@
 -- Families that are exact for a predicate on sets: monotone, with minimal members that are the minimal sets.
 -- Assumes nothing.
-use mathlib.Core.Path.{_≡_, refl, sym, ap, _∙_, subst}
+use mathlib.Core.Path.{_≡_, sym, ap, _∙_, subst}
 use mathlib.Core.Logic.{_⊎_, inl, inr, ⊎-elim}
 use mathlib.Core.List.{List}
-use Prim.Native.Nat.{ℕ, zero, suc, _+_, _-_, _*_, _/_, _%_, _^_, _≤_, _<_}
+use Prim.Native.Nat.{ℕ, zero, suc, _+_, _-_, _/_, _%_, _^_, _≤_, _<_}
 use native.Mathlib.Nat.{mod-lt}
 use native.Mathlib.Omega.{arith}
 use lib.Count.{ones, ones-cat, ones-step}
 use lib.Pow.{pow-pos, pow-mono, split}
-use Rattle.vertex_set.specs.Set.{Member, Within, ProperlyWithin, Iff}
+use Rattle.vertex_set.specs.Set.{Member, Within, Iff}
 use Rattle.vertex_set.proofs.Cases.{less-or}
 use Rattle.vertex_set.proofs.Sets.{member-or, member-below, within-le, within-trans, within-refl}
 use Rattle.vertex_set.proofs.Places.{removed-within, member-le}
 use Rattle.vertex_set.proofs.Shifts.{in-low}
 use Rattle.vertex_set.proofs.Subsets.{proper-less}
-use Rattle.families.specs.Family.{In, Monotone, Minimal, Least, MinimalMembers}
+use Rattle.families.specs.Family.{In, Monotone, Minimal, MinimalMembers}
 use Rattle.families.specs.Masks.{rank, Picked, SetOfMask}
 use Rattle.families.specs.Exact.{OnChosen, FamilyOf, MinimalSet}
 use Rattle.families.proofs.Families.{in-or}
@@ -32,11 +32,11 @@ step-or f m zero = inr (λ j h k i. omega arith)
 step-or f m (suc n) =
     ⊎-elim inl
     (λ none. ⊎-elim
-        (λ k. ⊎-elim (λ i. inl (n, k, i)) (λ o. inr (λ j h l i. ⊎-elim
-            (λ less. none j less l i) (λ ge. let e : j ≡ n = omega arith in o (subst (λ (x : ℕ). In f (m - 2 ^ x)) e i)) (less-or j n)))
-            (in-or f (m - 2 ^ n)))
-        (λ o. inr (λ j h l i. ⊎-elim (λ less. none j less l i) (λ ge. let e : j ≡ n = omega arith in o (rw e at l)) (less-or j n)))
-        (member-or m n))
+    (λ k. ⊎-elim (λ i. inl (n, k, i)) (λ o. inr (λ j h l i. ⊎-elim
+    (λ less. none j less l i) (λ ge. let e : j ≡ n = omega arith in o (subst (λ (x : ℕ). In f (m - 2 ^ x)) e i)) (less-or j n)))
+    (in-or f (m - 2 ^ n)))
+    (λ o. inr (λ j h l i. ⊎-elim (λ less. none j less l i) (λ ge. let e : j ≡ n = omega arith in o (rw e at l)) (less-or j n)))
+    (member-or m n))
     (step-or f m n)
 
 pub above-minimal : (f g : List ℕ) → MinimalMembers f g → (m : ℕ) → m < 16384 → In f m → (k : ℕ) × (k < 16384) × Within k m × In g k
@@ -47,10 +47,10 @@ above-minimal f g q m h i = down (suc m) m (omega arith) h i
     down (suc n) m l h i =
         ⊎-elim
         (λ s.
-            let le = member-le (s .0) m (s .1) in
-            let p = pow-pos (s .0) in
-            let r = down n (m - 2 ^ s .0) (omega arith) (omega arith) (s .2) in
-            (r .0, r .1, within-trans (r .2) (removed-within m (s .0) (s .1)), r .3))
+        let le = member-le (s .0) m (s .1) in
+        let p = pow-pos (s .0) in
+        let r = down n (m - 2 ^ s .0) (omega arith) (omega arith) (s .2) in
+        (r .0, r .1, within-trans (r .2) (removed-within m (s .0) (s .1)), r .3))
         (λ none. (m, h, within-refl m, q .least m h .from (record { is = i; none = λ j k. none j (member-below 14 m j h k) k })))
         (step-or f m 14)
 
@@ -101,8 +101,8 @@ module _ (c : ℕ) (P : (ℕ → Type 0) → Type 0) (up : Rising P) (f : List �
               let le = within-le k m (low-within m (ones c)) in
               ⊎-elim (λ l. l)
               (λ ge. absurd (least .none k
-                  (record { within = low-within m (ones c); other = λ z. omega arith })
-                  (e .each k (omega arith) .from (up (Picked c m) (Picked c k) (low-picked c m) (e .each m h .to (least .is))))))
+              (record { within = low-within m (ones c); other = λ z. omega arith })
+              (e .each k (omega arith) .from (up (Picked c m) (Picked c k) (low-picked c m) (e .each m h .to (least .is))))))
               (less-or m (2 ^ ones c));
         }
 

@@ -1,6 +1,6 @@
 -- Families that have the masks of exactly those sets that satisfy a predicate.
-use Prim.Native.Nat.{ℕ, _^_, _<_}
 use mathlib.Core.List.{List}
+use Prim.Native.Nat.{ℕ, _^_, _<_}
 use lib.Count.{ones}
 use Rattle.vertex_set.specs.Set.{Member, Within, ProperlyWithin, Iff}
 use Rattle.families.specs.Family.{In}

@@ -8,7 +8,6 @@ ghost use Rattle.vertex_set.specs.Set.{Decides};
 ghost use Rattle.families.specs.Family.{In, size, MinimalMembers};
 ghost use Rattle.families.specs.Masks.{MaskOf};
 ghost use Rattle.families.specs.Steps.{StepsInWord, StepsToWord, LeastWord};
-
 use vertex_set::VertexSet;
 
 pub const WORDS: usize = 256;
@@ -108,4 +107,3 @@ pub fn mask_of(chosen: VertexSet, x: u64) -> usize
     }
     mask as usize
 }
-

@@ -3,22 +3,19 @@
 use mathlib.Core.Path.{_≡_, refl, sym, ap, _∙_, subst}
 use mathlib.Core.Logic.{_⊎_, inl, inr, ⊎-elim}
 use mathlib.Core.List.{List, [], _∷_, _++_, map, map-append}
-use Prim.Native.Nat.{ℕ, zero, suc, _+_, _-_, _*_, _/_, _%_, _^_, min, _≤_, _<_}
-use native.Mathlib.Nat.{lt-of-le-of-lt}
+use Prim.Native.Nat.{ℕ, _+_, _-_, _*_, _%_, _^_, min, _≤_, _<_}
 use native.Mathlib.Omega.{arith}
 use lib.Count.{trailingZeros}
 use lib.ListN.{length, getD, drop}
-use Rattle.vertex_set.specs.Set.{Member}
 use Rattle.vertex_set.specs.Order.{Listed, sumOver}
 use Rattle.vertex_set.proofs.Cases.{less-or}
-use Rattle.vertex_set.proofs.Places.{places, places-none, Lowest, lowest}
+use Rattle.vertex_set.proofs.Places.{places, places-none, lowest}
 use Rattle.vertex_set.proofs.Sorted.{listed-map, listed-of-map}
 use Rattle.vertex_set.proofs.Sums.{sum-bound}
 use Rattle.families.specs.Family.{In}
-use Rattle.families.specs.Masks.{SetOfMask}
-use Rattle.family_lists.specs.Lists.{Summable, SumOfMember, LeastSum}
-use Rattle.family_lists.specs.Tables.{sumAt, WeightsOf, SumsFit, SumTable, TablesFit, sumBy, masksIn, rising, leastOf}
 use Rattle.families.proofs.Masks.{spread, set-of, set-within}
+use Rattle.family_lists.specs.Lists.{Summable, SumOfMember, LeastSum}
+use Rattle.family_lists.specs.Tables.{sumAt, WeightsOf, SumsFit, SumTable, sumBy, masksIn, rising, leastOf}
 use Rattle.family_lists.proofs.Lists.{rising-drop, rising-end}
 use Rattle.family_lists.proofs.Order.{listed-members, member-small}
 use Rattle.family_lists.proofs.SetLists.{tables-sum}
@@ -105,21 +102,21 @@ module _ (c : ℕ) (f : List ℕ) (value : ℕ → ℕ) (h : c < 2 ^ 64) (s : Su
   least-sum low high r p q e =
       let l : List ℕ = map (sumBy low high) (rising 0 f) in
       let among : (m : ℕ) → m < 16384 → In f m → r ≤ sumAt ws m = λ m b i.
-          let a = least-listed l (2 ^ 62) (sumBy low high m) (listed-map (sumBy low high) (rising 0 f) m (listed-members f m .from i)) in
-          let t = tables-sum ws low high p q m b in
-          omega arith in
+      let a = least-listed l (2 ^ 62) (sumBy low high m) (listed-map (sumBy low high) (rising 0 f) m (listed-members f m .from i)) in
+      let t = tables-sum ws low high p q m b in
+      omega arith in
       let found : Listed l r → SumOfMember c f value r = λ k.
-          let g = listed-of-map (sumBy low high) (rising 0 f) r k in
-          let i = listed-members f (g .0) .to (g .1) in
-          let b = member-small f (g .0) (s .words) i in
-          record {
-            mask = g .0;
-            set = spread 64 c (g .0);
-            below = b;
-            is = i;
-            of = set-of c (g .0) h;
-            sum = g .2 ∙ tables-sum ws low high p q (g .0) b ∙ w .sum (g .0) (spread 64 c (g .0)) (set-of c (g .0) h);
-          } in
+      let g = listed-of-map (sumBy low high) (rising 0 f) r k in
+      let i = listed-members f (g .0) .to (g .1) in
+      let b = member-small f (g .0) (s .words) i in
+      record {
+        mask = g .0;
+        set = spread 64 c (g .0);
+        below = b;
+        is = i;
+        of = set-of c (g .0) h;
+        sum = g .2 ∙ tables-sum ws low high p q (g .0) b ∙ w .sum (g .0) (spread 64 c (g .0)) (set-of c (g .0) h);
+      } in
       let some : (r ≡ 2 ^ 62) ⊎ Listed l r = subst (λ (x : ℕ). (x ≡ 2 ^ 62) ⊎ Listed l x) (sym e) (least-is l (2 ^ 62)) in
       record {
         never = λ none. ⊎-elim (λ z. z) (λ k. let m = found k in absurd (none (m .mask) (m .below) (m .is))) some;

@@ -2,26 +2,25 @@
 -- Assumes nothing.
 use mathlib.Core.Path.{_≡_, refl, sym, ap, _∙_, subst}
 use mathlib.Core.Bool.{Bool, true, false}
-use mathlib.Core.Logic.{_⊎_, inl, inr, ⊎-elim}
-use mathlib.Core.List.{List, [], _∷_, _++_, map, map-map, map-append, append-nil}
-use Prim.Native.Nat.{ℕ, zero, suc, _+_, _-_, _*_, _/_, _%_, _^_, min, _≤_, _<_}
+use mathlib.Core.Logic.{⊎-elim}
+use mathlib.Core.List.{List, [], _∷_, _++_, map, map-map, map-append, append-nil, append-assoc}
+use Prim.Native.Nat.{ℕ, suc, _+_, _-_, _*_, _/_, _%_, _^_, _≤_, _<_}
 use native.Mathlib.Numerals.{add-one}
 use native.Mathlib.Omega.{arith}
 use lib.Bits.{bitAnd, and-le-l}
 use lib.Count.{ones, onesIn, ones-cat, ones-le, trailingZeros}
 use lib.Dec.{eqb}
-use lib.ListN.{length, getD, drop, set, length-append, length-map, length-set}
-use lib.Seq.{sets, length-sets, drop-cons, drop-length}
+use lib.ListN.{length, getD, take, drop, set, length-append, length-map, length-set, drop-of-length-le}
+use lib.Seq.{sets, length-sets, drop-cons, drop-length, getD-take, getD-set-same, getD-set-other, take-suc-set, take-set-le, length-take-le}
 use borrow.Author.Tests.{eqb-true, eqb-false, eq-eqb, ne-eqb}
 use Rattle.vertex_set.specs.Set.{Member, Iff}
-use Rattle.vertex_set.specs.Order.{Listed}
 use Rattle.vertex_set.proofs.Cases.{byTest, same-or}
-use Rattle.vertex_set.proofs.Digits.{digit, digit-lt}
+use Rattle.vertex_set.proofs.Digits.{digit}
 use Rattle.vertex_set.proofs.Sets.{none-in-zero}
-use Rattle.vertex_set.proofs.Places.{places, places-none, places-and, listed-places, length-places, isIn, Lowest, lowest}
+use Rattle.vertex_set.proofs.Places.{places, places-none, places-and, listed-places, length-places, isIn, lowest}
 use Rattle.vertex_set.proofs.Shifts.{all, all-at}
-use Rattle.vertex_set.proofs.Sorted.{map-same, only, only-append, only-map, only-same}
-use Rattle.family_lists.specs.Tables.{LanesOfSize, masksIn, rising, ofSize, bySize, sumBy, TablesFit, Wrote}
+use Rattle.vertex_set.proofs.Sorted.{map-same, only-append, only-map, only-same}
+use Rattle.family_lists.specs.Tables.{LanesOfSize, masksIn, rising, ofWords, Occupied, ofSize, sumBy, TablesFit, Wrote}
 
 -- ---- the lanes of a size
 
@@ -191,16 +190,13 @@ pub sized-lanes : (b s x r : ℕ) → LanesOfSize b s r
 sized-lanes b s x r h =
     only-map (λ (m : ℕ). eqb (ones m) s) (λ (i : ℕ). b * 64 + i) (places 64 x)
     ∙ ap (map (λ (i : ℕ). b * 64 + i))
-        (only-same _ (isIn r) (places 64 x) (λ i m. same-test b s r i (h .each i (listed-places 64 x i .to m .1))) ∙ sym (places-and 64 x r))
+    (only-same _ (isIn r) (places 64 x) (λ i m. same-test b s r i (h .each i (listed-places 64 x i .to m .1))) ∙ sym (places-and 64 x r))
 
 pub length-masks : (b y : ℕ) → y < 2 ^ 64 → length (masksIn b y) ≡ ones y
 length-masks b y h = length-map (places 64 y) (λ (i : ℕ). b * 64 + i) ∙ length-places 64 y h
 
 pub sized-count : (b s x r : ℕ) → x < 2 ^ 64 → LanesOfSize b s r → length (ofSize s (masksIn b x)) ≡ ones (bitAnd x r)
 sized-count b s x r h l = ap length (sized-lanes b s x r l) ∙ length-masks b (bitAnd x r) (let a = and-le-l x r in omega arith)
-
-pub sized-none : (b s x : ℕ) → x ≡ 0 → ofSize s (masksIn b x) ≡ []
-sized-none b s x e = rw (places-none 64 x e)
 
 -- word by word
 pub rising-drop : (f : List ℕ) (b : ℕ) → b < length f
@@ -210,37 +206,112 @@ rising-drop f b h = rw (add-one, drop-cons f b 0 h)
 pub rising-end : (f : List ℕ) (b : ℕ) → b ≡ length f → rising b (drop b f) ≡ []
 rising-end f b e = rw (e, drop-length f)
 
-pub sized-drop : (N : ℕ → ℕ) (s : ℕ) (f : List ℕ) (b : ℕ) → b < length f
-    → map N (ofSize s (rising b (drop b f)))
-      ≡ map N (ofSize s (masksIn b (getD f b 0))) ++ map N (ofSize s (rising (b + 1) (drop (b + 1) f)))
-sized-drop N s f b h =
-    ap (λ (l : List ℕ). map N (ofSize s l)) (rising-drop f b h)
-    ∙ ap (map N) (only-append (λ (m : ℕ). eqb (ones m) s) (masksIn b (getD f b 0)) (rising (b + 1) (drop (b + 1) f)))
-    ∙ map-append N (ofSize s (masksIn b (getD f b 0))) (ofSize s (rising (b + 1) (drop (b + 1) f)))
+-- a word without members has no masks
+pub masks-none : (b w : ℕ) → w ≡ 0 → masksIn b w ≡ []
+masks-none b w e = rw (places-none 64 w e)
 
--- The loop over the words, with those from b on still to come.
-abbrev pub SizeWriting : (ℕ → ℕ) → ℕ → List ℕ → List ℕ → ℕ → List ℕ → ℕ → ℕ → Type 0
-SizeWriting N s f entry at out next b = Writing entry at (map N (ofSize s (rising 0 f))) (map N (ofSize s (rising b (drop b f)))) out next
+-- ---- the words that are not empty
 
-module _ (N : ℕ → ℕ) (s : ℕ) (f entry : List ℕ) (at : ℕ) (out : List ℕ) (next b : ℕ) (w : SizeWriting N s f entry at out next b) where
-  word-front : b < length f → Writing entry at (map N (ofSize s (rising 0 f)))
-      (map N (ofSize s (masksIn b (getD f b 0))) ++ map N (ofSize s (rising (b + 1) (drop (b + 1) f)))) out next
-  word-front h = subst (λ (l : List ℕ). Writing entry at (map N (ofSize s (rising 0 f))) l out next) (sized-drop N s f b h) w
+of-words-append : (f ws vs : List ℕ) → ofWords f (ws ++ vs) ≡ ofWords f ws ++ ofWords f vs
+of-words-append f [] vs = refl
+of-words-append f (b ∷ ws) vs =
+    ap (λ (l : List ℕ). masksIn b (getD f b 0) ++ l) (of-words-append f ws vs) ∙ sym (append-assoc (masksIn b (getD f b 0)) (ofWords f ws) (ofWords f vs))
 
-  pub size-room : b < length f → at + length (ofSize s (rising 0 f)) ≤ length entry → next + length (ofSize s (masksIn b (getD f b 0))) ≤ length out
+-- Of the words below b, those that are not empty stand at the first n places.
+pub record Indexing (f index : List ℕ) (n b : ℕ) : Type 0 where
+  pub long : length index ≡ 256
+  pub most : n ≤ b
+  pub below : (i : ℕ) → i < n → getD index i 0 < 256
+  pub all : ofWords f (take n index) ++ rising b (drop b f) ≡ rising 0 f
+
+pub indexing-none : (f index : List ℕ) → length index ≡ 256 → Indexing f index 0 0
+indexing-none f index e = record { long = e; most = omega arith; below = λ i h. absurd (omega arith); all = refl }
+
+module _ (f index : List ℕ) (n b : ℕ) (p : Indexing f index n b) (e : length f ≡ 256) (h : b < 256) where
+  -- the word's number is stored, and counts where the word is not empty
+  pub indexing-more : Indexing f (set index n b) (n + 1) (b + 1)
+  indexing-more =
+      let m = p .most in
+      let l : n < length index = omega (arith, p .long) in
+      let new : take (n + 1) (set index n b) ≡ take n index ++ (b ∷ []) = ap (λ (k : ℕ). take k (set index n b)) (add-one n) ∙ take-suc-set index n b l in
+      record {
+        long = length-set index n b ∙ p .long;
+        most = omega arith;
+        below = λ i lt. ⊎-elim (λ q. subst (λ (k : ℕ). getD (set index n b) k 0 < 256) (sym q) (rw (getD-set-same index n b 0 l) h))
+            (λ o. rw (getD-set-other index n i b 0 o) (p .below i (omega arith))) (same-or i n);
+        all = ap (λ (ws : List ℕ). ofWords f ws ++ rising (b + 1) (drop (b + 1) f)) new
+            ∙ ap (λ (k : List ℕ). k ++ rising (b + 1) (drop (b + 1) f))
+            (of-words-append f (take n index) (b ∷ []) ∙ ap (λ (k : List ℕ). ofWords f (take n index) ++ k) (append-nil (masksIn b (getD f b 0))))
+            ∙ append-assoc (ofWords f (take n index)) (masksIn b (getD f b 0)) (rising (b + 1) (drop (b + 1) f))
+            ∙ sym (ap (λ (k : List ℕ). ofWords f (take n index) ++ k) (rising-drop f b (omega arith))) ∙ p .all;
+      }
+
+  pub indexing-same : getD f b 0 ≡ 0 → Indexing f (set index n b) n (b + 1)
+  indexing-same z =
+      let m = p .most in
+      let skip : rising b (drop b f) ≡ rising (b + 1) (drop (b + 1) f) =
+      rising-drop f b (omega arith) ∙ ap (λ (k : List ℕ). k ++ rising (b + 1) (drop (b + 1) f)) (masks-none b (getD f b 0) z) in
+      record {
+        long = length-set index n b ∙ p .long;
+        most = omega arith;
+        below = λ i lt. rw (getD-set-other index n i b 0 (λ q. omega arith)) (p .below i lt);
+        all = ap (λ (ws : List ℕ). ofWords f ws ++ rising (b + 1) (drop (b + 1) f)) (take-set-le n index n b (omega arith))
+            ∙ sym (ap (λ (k : List ℕ). ofWords f (take n index) ++ k) skip) ∙ p .all;
+      }
+
+pub indexing-end : (f index : List ℕ) (n b : ℕ) → length f ≡ 256 → b ≡ 256 → Indexing f index n b → Occupied f index n
+indexing-end f index n b e z p =
+    record {
+      long = p .long;
+      most = omega (arith, p .most);
+      below = p .below;
+      all = sym (append-nil (ofWords f (take n index)))
+          ∙ sym (ap (λ (k : List ℕ). ofWords f (take n index) ++ k) (rising-end f b (omega arith))) ∙ p .all;
+    }
+
+-- ---- the loop over these words, with those from place i on still to come
+
+abbrev pub SizeWriting : (ℕ → ℕ) → ℕ → List ℕ → List ℕ → List ℕ → ℕ → List ℕ → ℕ → ℕ → Type 0
+SizeWriting N s f ws entry at out next i = Writing entry at (map N (ofSize s (ofWords f ws))) (map N (ofSize s (ofWords f (drop i ws)))) out next
+
+module _ (N : ℕ → ℕ) (s : ℕ) (f index : List ℕ) (n : ℕ) (o : Occupied f index n) (entry : List ℕ) (at : ℕ) (out : List ℕ) (next i : ℕ)
+    (w : SizeWriting N s f (take n index) entry at out next i) where
+  words-front : i < n → map N (ofSize s (ofWords f (drop i (take n index))))
+      ≡ map N (ofSize s (masksIn (getD index i 0) (getD f (getD index i 0) 0))) ++ map N (ofSize s (ofWords f (drop (i + 1) (take n index))))
+  words-front h =
+      let b : ℕ = getD index i 0 in
+      let long : length (take n index) ≡ n = length-take-le n index (omega (arith, o .long, o .most)) in
+      let here : drop i (take n index) ≡ b ∷ drop (i + 1) (take n index) =
+      drop-cons (take n index) i 0 (omega arith) ∙ rw (getD-take n index i 0 h, add-one i) in
+      ap (λ (l : List ℕ). map N (ofSize s (ofWords f l))) here
+      ∙ ap (map N) (only-append (λ (m : ℕ). eqb (ones m) s) (masksIn b (getD f b 0)) (ofWords f (drop (i + 1) (take n index))))
+      ∙ map-append N (ofSize s (masksIn b (getD f b 0))) (ofSize s (ofWords f (drop (i + 1) (take n index))))
+
+  front : i < n → Writing entry at (map N (ofSize s (ofWords f (take n index))))
+      (map N (ofSize s (masksIn (getD index i 0) (getD f (getD index i 0) 0))) ++ map N (ofSize s (ofWords f (drop (i + 1) (take n index))))) out next
+  front h = subst (λ (l : List ℕ). Writing entry at (map N (ofSize s (ofWords f (take n index)))) l out next) (words-front h) w
+
+  pub size-room : i < n → at + length (ofSize s (rising 0 f)) ≤ length entry
+      → next + length (ofSize s (masksIn (getD index i 0) (getD f (getD index i 0) 0))) ≤ length out
   size-room h room =
-      let l = length-map (ofSize s (rising 0 f)) N in
-      let k = length-map (ofSize s (masksIn b (getD f b 0))) N in
-      let here : List ℕ = map N (ofSize s (masksIn b (getD f b 0))) in
-      let after : List ℕ = map N (ofSize s (rising (b + 1) (drop (b + 1) f))) in
-      let r = writing-room entry at (map N (ofSize s (rising 0 f))) here after out next (word-front h) (omega arith) in
+      let here : List ℕ = ofSize s (masksIn (getD index i 0) (getD f (getD index i 0) 0)) in
+      let all : List ℕ = ofSize s (ofWords f (take n index)) in
+      let e : length all ≡ length (ofSize s (rising 0 f)) = ap (λ (l : List ℕ). length (ofSize s l)) (o .all) in
+      let l = length-map all N in
+      let k = length-map here N in
+      let r = writing-room entry at (map N all) (map N here) (map N (ofSize s (ofWords f (drop (i + 1) (take n index))))) out next (front h) (omega arith) in
       omega arith
 
-  pub size-next : b < length f → (after : List ℕ) (r : ℕ) → Wrote out next (map N (ofSize s (masksIn b (getD f b 0)))) after r
-      → SizeWriting N s f entry at after r (b + 1)
+  pub size-next : i < n → (after : List ℕ) (r : ℕ) → Wrote out next (map N (ofSize s (masksIn (getD index i 0) (getD f (getD index i 0) 0)))) after r
+      → SizeWriting N s f (take n index) entry at after r (i + 1)
   size-next h after r p =
-      let rest : List ℕ = map N (ofSize s (rising (b + 1) (drop (b + 1) f))) in
-      writing-part entry at _ (map N (ofSize s (masksIn b (getD f b 0)))) rest out next after r (word-front h) p
+      let rest : List ℕ = map N (ofSize s (ofWords f (drop (i + 1) (take n index)))) in
+      writing-part entry at _ (map N (ofSize s (masksIn (getD index i 0) (getD f (getD index i 0) 0)))) rest out next after r (front h) p
 
-  pub size-end : b ≡ length f → Wrote entry at (map N (ofSize s (rising 0 f))) out next
-  size-end e = writing-end entry at _ _ out next (ap (λ (l : List ℕ). map N (ofSize s l)) (rising-end f b e)) w
+  pub size-end : i ≡ n → Wrote entry at (map N (ofSize s (rising 0 f))) out next
+  size-end e =
+      let long : length (take n index) ≡ n = length-take-le n index (omega (arith, o .long, o .most)) in
+      let past : length (take n index) ≤ i = omega arith in
+      let none : drop i (take n index) ≡ [] = drop-of-length-le (take n index) past in
+      subst (λ (l : List ℕ). Wrote entry at (map N (ofSize s l)) out next) (o .all)
+      (writing-end entry at _ _ out next (ap (λ (l : List ℕ). map N (ofSize s (ofWords f l))) none) w)

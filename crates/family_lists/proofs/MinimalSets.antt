@@ -12,11 +12,10 @@ use Rattle.vertex_set.specs.Set.{Member, Within, Iff}
 use Rattle.vertex_set.specs.Order.{Listed, sumOver}
 use Rattle.vertex_set.proofs.Sums.{sum-within}
 use Rattle.families.specs.Family.{In, size, MinimalMembers}
-use Rattle.families.specs.Masks.{SetOfMask}
 use Rattle.families.specs.Exact.{OnChosen, FamilyOf, MinimalSet}
 use Rattle.families.proofs.Masks.{spread, set-of, set-unique, set-within, submask-subset, gather, gather-lt, mask-of}
 use Rattle.families.proofs.Exact.{Rising, above-minimal, family-set, minimal-set, minimal-mask}
-use Rattle.family_lists.specs.Lists.{ListOf, SumOfMember, LeastSum, LeastOver, LeastListed}
+use Rattle.family_lists.specs.Lists.{ListOf, LeastSum, LeastOver, LeastListed}
 use Rattle.family_lists.proofs.Order.{Words}
 use Rattle.family_lists.proofs.SetLists.{setsOf, list-of, length-sets-of, list-unique}
 
@@ -46,7 +45,7 @@ module _ (c : ℕ) (h : c < 2 ^ 64) (few : ones c ≤ 14) (P : (ℕ → Type 0) 
   pub least-over : (value : ℕ → ℕ) (r : ℕ) → LeastSum c f value r → LeastOver c P value r
   least-over value r s =
       let member : (x : ℕ) → Within x c → P (Member x) → In f (gather 64 c x) = λ x w p.
-          family-set c P up f e (gather 64 c x) x (mask-room x) (mask-of c x h w) .from p in
+      family-set c P up f e (gather 64 c x) x (mask-room x) (mask-of c x h w) .from p in
       record {
         never = λ none. s .never (λ m l i.
             let o = set-of c m h in

@@ -1,24 +1,23 @@
 -- A family's members in rising order and by size: what stands there, in which order, and how many.
 -- Assumes nothing.
-use mathlib.Core.Path.{_≡_, refl, sym, ap, _∙_, subst}
-use mathlib.Core.Bool.{Bool, true, false}
-use mathlib.Core.Logic.{_⊎_, inl, inr, ⊎-elim}
-use mathlib.Core.List.{List, [], _∷_, _++_, map}
+use mathlib.Core.Path.{_≡_, refl, ap, _∙_, subst}
+use mathlib.Core.Logic.{inl, inr, ⊎-elim}
+use mathlib.Core.List.{List, [], _∷_}
 use Prim.Native.Nat.{ℕ, zero, suc, _+_, _-_, _*_, _/_, _%_, _^_, _≤_, _<_}
 use native.Mathlib.Omega.{arith}
-use lib.Count.{ones, ones-le}
+use lib.Count.{ones}
 use lib.Dec.{eqb}
-use lib.ListN.{length, getD, length-append, length-map}
+use lib.ListN.{length, getD, length-append}
 use borrow.Author.Tests.{eqb-true, eq-eqb, ne-eqb}
 use Rattle.vertex_set.specs.Set.{Member, Iff}
-use Rattle.vertex_set.specs.Order.{Listed, Before, Ordered}
+use Rattle.vertex_set.specs.Order.{Listed, Before}
 use Rattle.vertex_set.proofs.Cases.{same-or, less-or}
 use Rattle.vertex_set.proofs.Sets.{none-in-zero}
 use Rattle.vertex_set.proofs.Places.{places, listed-places, sorted-places}
-use Rattle.vertex_set.proofs.Sorted.{listed-append, listed-map, listed-of-map, only, listed-only, Sorted, sorted-append, sorted-map, sorted-only, sorted-change}
+use Rattle.vertex_set.proofs.Sorted.{listed-append, listed-map, listed-of-map, listed-only, Sorted, sorted-append, sorted-map, sorted-only, sorted-change}
 use Rattle.families.specs.Family.{In, size}
-use Rattle.family_lists.specs.Tables.{masksIn, rising, ofSize, bySize}
 use Rattle.families.proofs.Families.{none-beyond}
+use Rattle.family_lists.specs.Tables.{masksIn, rising, ofSize, bySize}
 use Rattle.family_lists.proofs.Lists.{length-masks}
 
 -- ---- in rising order
@@ -46,11 +45,11 @@ listed-rising (w ∷ f) b m =
     let after : suc b ≤ m / 64 → m / 64 - b ≡ suc (m / 64 - suc b) = λ h. omega arith in
     record {
       to = λ h. ⊎-elim
-        (λ p. let q = here .to p in let e : m / 64 - b ≡ 0 = omega (arith, q .0) in (omega (arith, q .0), rw e (q .1)))
-        (λ p. let q = ih .to p in (omega (arith, q .0), rw (after (q .0)) (q .1))) (a .to h);
+          (λ p. let q = here .to p in let e : m / 64 - b ≡ 0 = omega (arith, q .0) in (omega (arith, q .0), rw e (q .1)))
+          (λ p. let q = ih .to p in (omega (arith, q .0), rw (after (q .0)) (q .1))) (a .to h);
       from = λ p. a .from (⊎-elim
-        (λ e. let z : m / 64 - b ≡ 0 = omega arith in inl (here .from (e, rw z at (p .1))))
-        (λ n. let h : suc b ≤ m / 64 = omega (arith, p .0) in inr (ih .from (h, rw (after h) at (p .1)))) (same-or (m / 64) b));
+          (λ e. let z : m / 64 - b ≡ 0 = omega arith in inl (here .from (e, rw z at (p .1))))
+          (λ n. let h : suc b ≤ m / 64 = omega (arith, p .0) in inr (ih .from (h, rw (after h) at (p .1)))) (same-or (m / 64) b));
     }
 
 -- exactly the family's members
@@ -98,7 +97,7 @@ listed-by-size l (suc n) s m =
     let ih = listed-by-size l n (suc s) m in
     record {
       to = λ h. ⊎-elim (λ p. let q = o .to p in let e = q .1 in (q .0, omega arith, omega arith))
-        (λ p. let q = ih .to p in let x = q .1 in let y = q .2 in (q .0, omega arith, omega arith)) (a .to h);
+          (λ p. let q = ih .to p in let x = q .1 in let y = q .2 in (q .0, omega arith, omega arith)) (a .to h);
       from = λ p.
           let x = p .1 in
           let y = p .2 in
@@ -111,8 +110,8 @@ sorted-by-size l zero s p = tt
 sorted-by-size l (suc n) s p =
     sorted-append Before (ofSize s l) (bySize l (suc s) n)
     (sorted-change _<_ Before (ofSize s l)
-        (λ x y a b h. let e = listed-of-size l s x .to a .1 in let f = listed-of-size l s y .to b .1 in inr (omega arith, h))
-        (sorted-only _<_ (λ (m : ℕ). eqb (ones m) s) l p))
+    (λ x y a b h. let e = listed-of-size l s x .to a .1 in let f = listed-of-size l s y .to b .1 in inr (omega arith, h))
+    (sorted-only _<_ (λ (m : ℕ). eqb (ones m) s) l p))
     (sorted-by-size l n (suc s) p)
     (λ x y a b. let e = listed-of-size l s x .to a .1 in let h = listed-by-size l n (suc s) y .to b .1 in inl (omega arith))
 

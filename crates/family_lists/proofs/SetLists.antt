@@ -1,32 +1,30 @@
 -- The list of a family's sets: it is right, it is the only one, and it has as many sets as the family has members.
 -- Assumes nothing.
 use mathlib.Core.Path.{_≡_, refl, sym, ap, _∙_, subst}
-use mathlib.Core.Bool.{Bool, true, false}
-use mathlib.Core.Logic.{_⊎_, inl, inr, ⊎-elim}
+use mathlib.Core.Bool.{true}
 use mathlib.Core.List.{List, [], _∷_, _++_, map, map-append}
-use Prim.Native.Nat.{ℕ, zero, suc, _+_, _-_, _*_, _/_, _%_, _^_, _≤_, _<_}
+use Prim.Native.Nat.{ℕ, suc, _+_, _-_, _/_, _%_, _^_, _≤_, _<_}
 use native.Mathlib.Nat.{lt-of-le-of-lt, zero-add}
 use native.Mathlib.Numerals.{add-one}
 use native.Mathlib.Omega.{arith}
 use lib.Count.{ones, ones-le}
-use lib.ListN.{length, getD, drop, take, length-map, length-append}
+use lib.ListN.{length, drop, length-map}
 use lib.Seq.{sets, sets-eq}
 use lib.Dec.{eqb}
 use borrow.Author.Tests.{eqb-true}
-use Rattle.vertex_set.specs.Set.{Member, Within, Iff}
-use Rattle.vertex_set.specs.Order.{Listed, Before, Ordered, sumOver}
+use Rattle.vertex_set.specs.Order.{Listed, Before, sumOver}
 use Rattle.vertex_set.proofs.Sets.{member-below, within-le}
 use Rattle.vertex_set.proofs.Shifts.{all, all-at}
 use Rattle.vertex_set.proofs.Sorted.{listed-map, listed-of-map, map-same, sorted-map, sorted-ordered, ordered-same}
 use Rattle.vertex_set.proofs.Sums.{sum-same, sum-over-powers}
 use Rattle.families.specs.Family.{In, size}
 use Rattle.families.specs.Masks.{SetOfMask}
-use Rattle.family_lists.specs.Lists.{ListOf, WroteSets}
 use Rattle.families.specs.Exact.{OnChosen}
+use Rattle.families.proofs.Masks.{spread, set-of, set-unique, set-before, set-within}
+use Rattle.family_lists.specs.Lists.{ListOf, WroteSets}
 use Rattle.family_lists.specs.Tables.{sumAt, WeightsOf, SumsFit, SumTable, TablesFit, Wrote, sumBy, rising, ofSize, bySize}
-use Rattle.families.proofs.Masks.{spread, set-of, set-is, set-unique, set-before, set-within}
 use Rattle.family_lists.proofs.Weights.{at-split}
-use Rattle.family_lists.proofs.Lists.{Writing, writing-none, writing-room, writing-part, writing-end}
+use Rattle.family_lists.proofs.Lists.{Writing, writing-room, writing-part, writing-end}
 use Rattle.family_lists.proofs.Order.{listed-members, sorted-rising, Words, length-rising, member-small, listed-by-size, sorted-by-size, length-by-size}
 
 -- The masks of the family's members, by size.
@@ -46,8 +44,8 @@ in-listed f m h i = listed-by-size (rising 0 f) 15 0 m .from (listed-members f m
 pub list-of : (c : ℕ) (f : List ℕ) → c < 2 ^ 64 → length f ≡ 256 → OnChosen c f → ListOf c f (setsOf c f)
 list-of c f h e o =
     let below : (m : ℕ) → Listed (masksOf f) m → m < 2 ^ ones c = λ m l.
-        let i = listed-in f m l in
-        o .below m (member-small f m e i) i in
+    let i = listed-in f m l in
+    o .below m (member-small f m e i) i in
     record {
       sound = λ x l.
           let r = listed-of-map (spread 64 c) (masksOf f) x l in
@@ -92,7 +90,7 @@ module _ (N : ℕ → ℕ) (f entry out : List ℕ) (next s : ℕ) (w : AllWriti
       let e : 15 - s ≡ suc (15 - (s + 1)) = omega arith in
       let parts : map N (bySize (rising 0 f) s (15 - s)) ≡ map N (ofSize s (rising 0 f)) ++ map N (bySize (rising 0 f) (s + 1) (15 - (s + 1))) =
       ap (λ (n : ℕ). map N (bySize (rising 0 f) s n)) e ∙ map-append N (ofSize s (rising 0 f)) (bySize (rising 0 f) (suc s) (15 - (s + 1)))
-          ∙ ap (λ (t : ℕ). map N (ofSize s (rising 0 f)) ++ map N (bySize (rising 0 f) t (15 - (s + 1)))) (sym (add-one s)) in
+      ∙ ap (λ (t : ℕ). map N (ofSize s (rising 0 f)) ++ map N (bySize (rising 0 f) t (15 - (s + 1)))) (sym (add-one s)) in
       subst (λ (l : List ℕ). Writing entry 0 (map N (masksOf f)) l out next) parts w
 
   pub all-room : s < 15 → length f ≡ 256 → Words f → size f ≤ length entry → next + length (ofSize s (rising 0 f)) ≤ length out
@@ -161,7 +159,7 @@ module _ (value : ℕ → ℕ) (one : (v : ℕ) → v < 64 → value v ≡ 2 ^ v
   wrote-sets f entry low high r after e words o room p q k =
       let same : map (sumBy low high) (masksOf f) ≡ setsOf c f =
       map-same (sumBy low high) (spread 64 c) (masksOf f)
-          (λ m l. tables-sum ws low high p q m (member-small f m e (listed-in f m l)) ∙ number-sum m) in
+      (λ m l. tables-sum ws low high p q m (member-small f m e (listed-in f m l)) ∙ number-sum m) in
       let n = length-sets-of c f e words in
       let l = rw same at k in
       record {

@@ -1,11 +1,10 @@
 -- Inner: sums over a mask's bits, and the lists that the functions below write_sets write.
 use mathlib.Core.Path.{_≡_}
-use mathlib.Core.Bool.{Bool}
 use mathlib.Core.List.{List, [], _∷_, _++_, map}
 use Prim.Native.Nat.{ℕ, zero, suc, _+_, _*_, _/_, _%_, _^_, min, _≤_, _<_}
 use lib.Count.{ones}
 use lib.Dec.{eqb}
-use lib.ListN.{length, getD, drop}
+use lib.ListN.{length, getD, take, drop}
 use lib.Seq.{sets}
 use Rattle.vertex_set.specs.Set.{Member, Iff}
 use Rattle.vertex_set.specs.Order.{sumOver}
@@ -43,6 +42,18 @@ masksIn b y = map (λ (i : ℕ). b * 64 + i) (places 64 y)
 abbrev pub rising : ℕ → List ℕ → List ℕ
 rising b [] = []
 rising b (w ∷ f) = masksIn b w ++ rising (suc b) f
+
+-- The masks of the words with the listed numbers.
+abbrev pub ofWords : List ℕ → List ℕ → List ℕ
+ofWords f [] = []
+ofWords f (b ∷ bs) = masksIn b (getD f b 0) ++ ofWords f bs
+
+-- The first n numbers of the list are those of words in which all of the family's members are.
+pub record Occupied (f index : List ℕ) (n : ℕ) : Type 0 where
+  pub long : length index ≡ 256
+  pub most : n ≤ 256
+  pub below : (i : ℕ) → i < n → getD index i 0 < 256
+  pub all : ofWords f (take n index) ≡ rising 0 f
 
 -- Those of the masks that have s bits.
 abbrev pub ofSize : ℕ → List ℕ → List ℕ

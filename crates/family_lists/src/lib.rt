@@ -7,8 +7,7 @@ ghost use lib.ListN.{length, getD};
 ghost use lib.Count.{ones};
 ghost use Rattle.families.specs.Family.{size};
 ghost use Rattle.family_lists.specs.Lists.{Writable, WroteSets, Summable, LeastSum};
-ghost use Rattle.family_lists.specs.Tables.{WeightsOf, SumsFit, SumTable, LanesOfSize, TablesFit, Wrote, masksIn, rising, ofSize, bySize, sumBy, leastOf};
-
+ghost use Rattle.family_lists.specs.Tables.{WeightsOf, SumsFit, SumTable, LanesOfSize, TablesFit, Wrote, masksIn, rising, Occupied, ofSize, bySize, sumBy, leastOf};
 use families::WORDS;
 use vertex_set::VertexSet;
 
@@ -28,22 +27,70 @@ const LAYERS: [u64; 7] = [
 
 // At v the number of the set that has v alone.
 const SINGLES: [u64; 64] = [
-    0x1, 0x2, 0x4, 0x8,
-    0x10, 0x20, 0x40, 0x80,
-    0x100, 0x200, 0x400, 0x800,
-    0x1000, 0x2000, 0x4000, 0x8000,
-    0x10000, 0x20000, 0x40000, 0x80000,
-    0x100000, 0x200000, 0x400000, 0x800000,
-    0x1000000, 0x2000000, 0x4000000, 0x8000000,
-    0x10000000, 0x20000000, 0x40000000, 0x80000000,
-    0x100000000, 0x200000000, 0x400000000, 0x800000000,
-    0x1000000000, 0x2000000000, 0x4000000000, 0x8000000000,
-    0x10000000000, 0x20000000000, 0x40000000000, 0x80000000000,
-    0x100000000000, 0x200000000000, 0x400000000000, 0x800000000000,
-    0x1000000000000, 0x2000000000000, 0x4000000000000, 0x8000000000000,
-    0x10000000000000, 0x20000000000000, 0x40000000000000, 0x80000000000000,
-    0x100000000000000, 0x200000000000000, 0x400000000000000, 0x800000000000000,
-    0x1000000000000000, 0x2000000000000000, 0x4000000000000000, 0x8000000000000000,
+    0x1,
+    0x2,
+    0x4,
+    0x8,
+    0x10,
+    0x20,
+    0x40,
+    0x80,
+    0x100,
+    0x200,
+    0x400,
+    0x800,
+    0x1000,
+    0x2000,
+    0x4000,
+    0x8000,
+    0x10000,
+    0x20000,
+    0x40000,
+    0x80000,
+    0x100000,
+    0x200000,
+    0x400000,
+    0x800000,
+    0x1000000,
+    0x2000000,
+    0x4000000,
+    0x8000000,
+    0x10000000,
+    0x20000000,
+    0x40000000,
+    0x80000000,
+    0x100000000,
+    0x200000000,
+    0x400000000,
+    0x800000000,
+    0x1000000000,
+    0x2000000000,
+    0x4000000000,
+    0x8000000000,
+    0x10000000000,
+    0x20000000000,
+    0x40000000000,
+    0x80000000000,
+    0x100000000000,
+    0x200000000000,
+    0x400000000000,
+    0x800000000000,
+    0x1000000000000,
+    0x2000000000000,
+    0x4000000000000,
+    0x8000000000000,
+    0x10000000000000,
+    0x20000000000000,
+    0x40000000000000,
+    0x80000000000000,
+    0x100000000000000,
+    0x200000000000000,
+    0x400000000000000,
+    0x800000000000000,
+    0x1000000000000000,
+    0x2000000000000000,
+    0x4000000000000000,
+    0x8000000000000000,
 ];
 
 // The values of the chosen vertices, by their numbers among them; 0 beyond.
@@ -113,28 +160,61 @@ fn put_word(y: u64, b: usize, low: &[u64], high: &[u64], out: &mut [u64], at: us
 }
 
 // The same for those of the masks of word b in the lanes of x that have s bits.
-fn put_sized(x: u64, b: usize, s: usize, low: &[u64], high: &[u64], out: &mut [u64], at: usize) -> usize
+fn put_sized(
+    x: u64,
+    b: usize,
+    s: usize,
+    low: &[u64],
+    high: &[u64],
+    out: &mut [u64],
+    at: usize,
+) -> usize
     requires { ⌜ b < 256 ⌝ }
     requires { ⌜ TablesFit (now low) (now high) ⌝ }
     requires { ⌜ at + length (ofSize s (masksIn b x)) ≤ length (now out) ⌝ }
     ensures { λ r. ⌜ Wrote (now (out .entry)) at (map (sumBy (now (low .entry)) (now (high .entry))) (ofSize s (masksIn b x))) (now (out .exit)) r ⌝ }
 {
-    if x == 0 {
-        return at;
-    }
     let lanes = lanes_of_size(b, s);
     put_word(x & lanes, b, low, high, out, at)
 }
 
-// The same for the family's members that have s bits.
-fn put_size(f: &[u64], s: usize, low: &[u64], high: &[u64], out: &mut [u64], at: usize) -> usize
+// The numbers of the family's words that are not empty, written to index, and how many there are.
+fn occupied_words(f: &[u64], index: &mut [usize]) -> usize
     requires { ⌜ length (now f) ≡ 256 ⌝ }
+    requires { ⌜ length (now index) ≡ 256 ⌝ }
+    ensures { λ r. ⌜ Occupied (now (f .entry)) (now (index .exit)) r ⌝ }
+{
+    let mut n: usize = 0;
+    for b in 0..WORDS {
+        index[n] = b;
+        let x = f[b];
+        if x != 0 {
+            n = n + 1;
+        }
+    }
+    n
+}
+
+// The same for the family's members that have s bits; they are in the first n words of index.
+fn put_size(
+    f: &[u64],
+    index: &[usize],
+    n: usize,
+    s: usize,
+    low: &[u64],
+    high: &[u64],
+    out: &mut [u64],
+    at: usize,
+) -> usize
+    requires { ⌜ length (now f) ≡ 256 ⌝ }
+    requires { ⌜ Occupied (now f) (now index) n ⌝ }
     requires { ⌜ TablesFit (now low) (now high) ⌝ }
     requires { ⌜ at + length (ofSize s (rising 0 (now f))) ≤ length (now out) ⌝ }
     ensures { λ r. ⌜ Wrote (now (out .entry)) at (map (sumBy (now (low .entry)) (now (high .entry))) (ofSize s (rising 0 (now (f .entry))))) (now (out .exit)) r ⌝ }
 {
     let mut next = at;
-    for b in 0..WORDS {
+    for i in 0..n {
+        let b = index[i];
         next = put_sized(f[b], b, s, low, high, out, next);
     }
     next
@@ -148,12 +228,14 @@ fn put_all(f: &[u64], low: &[u64], high: &[u64], out: &mut [u64]) -> usize
     ensures { λ r. ⌜ Wrote (now (out .entry)) 0 (map (sumBy (now (low .entry)) (now (high .entry))) (bySize (rising 0 (now (f .entry))) 0 15)) (now (out .exit)) r ⌝ }
 {
     let total = families::count_members(f);
+    let mut index = [0usize; 256];
+    let n = occupied_words(f, &mut index);
     let mut next: usize = 0;
     for s in 0..15usize {
         if next == total {
             return next;
         }
-        next = put_size(f, s, low, high, out, next);
+        next = put_size(f, &index, n, s, low, high, out, next);
     }
     next
 }

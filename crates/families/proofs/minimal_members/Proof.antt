@@ -36,9 +36,11 @@ loop-less c = search needs
 
 loop-again : tie.Need-loop-again Inv-loop μ-loop
 loop-again c =
-    let b = c .before .before in
-    (search needs, search needs,
-        word-more (b .before .before .before .args .f .now) (b .loop .out) (b .loop .b) (c .least-word .result) (search needs) (b .loop .inv .2) (c .least-word .ensures))
+    let b = c .before .before in (
+      search needs,
+      search needs,
+      word-more (b .before .before .before .args .f .now) (b .loop .out) (b .loop .b) (c .least-word .result) (search needs) (b .loop .inv .2) (c .least-word .ensures),
+    )
 
 same-length : tie.Need-same-length Inv-loop μ-loop
 same-length c = search needs

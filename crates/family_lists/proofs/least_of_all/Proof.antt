@@ -1,11 +1,13 @@
 -- `family_lists::least_of_all` meets its contract. The loop's invariant: the least so far, with the words still to come, is the least of all.
 -- Assumes nothing.
-use mathlib.Core.Path.{_∙_}
+use mathlib.Core.Path.{_≡_, _∙_}
 use mathlib.Core.Logic.{⊎-elim}
-use Prim.Native.Nat.{_-_, _≤_}
+use mathlib.Core.List.{map}
+use Prim.Native.Nat.{ℕ, _-_, _≤_}
 use native.Mathlib.Omega.{arith}
+use lib.ListN.{getD}
 use borrow.Author.Needs.{needs}
-use Rattle.family_lists.specs.Tables.{sumBy}
+use Rattle.family_lists.specs.Tables.{sumBy, masksIn, leastOf}
 use Rattle.family_lists.proofs.Least.{Remaining, remaining-more, remaining-same, remaining-end}
 use Rattle.family_lists.proofs.least_of_all.Statement.{statement}
 use Rattle.family_lists.proofs.least_of_all.Tie as tie
@@ -34,21 +36,32 @@ add-b c = search needs
 loop-less : tie.Need-loop-less Inv-loop μ-loop
 loop-less c = search needs
 
+-- the function's entry, from the loop's head
+abbrev entry : tie.At-loop Inv-loop μ-loop → tie.Start Inv-loop μ-loop
+entry c = c .before .before .before .before
+
+abbrev sums : tie.At-loop Inv-loop μ-loop → ℕ → ℕ
+sums c = sumBy (entry c .args .low .now) (entry c .args .high .now)
+
+-- the least after a word, by either way
+after : (c : tie.Joined1 Inv-loop μ-loop) → c .if1 .least
+    ≡ leastOf (c .before .before .before .loop .least)
+    (map (sums (c .before .before .before)) (masksIn (c .before .before .before .loop .b) (getD (entry (c .before .before .before) .args .f .now) (c .before .before .before .loop .b) 0)))
+after c =
+    ⊎-elim (λ w. w .2 ∙ w .1 .ensures)
+    (λ w. w .1 ∙ remaining-same (sums (c .before .before .before)) (entry (c .before .before .before) .args .f .now) (c .before .before .before .loop .least)
+    (c .before .before .before .loop .b) (w .0 .left)) (c .if1 .came)
+
 loop-again : tie.Need-loop-again Inv-loop μ-loop
 loop-again c =
     let b = c .before .before .before in
-    let s = b .before .before .before .before in
-    let n = sumBy (s .args .low .now) (s .args .high .now) in
-    let f = s .args .f .now in
-    let l = s .pre .0 in
-    (omega arith, remaining-more n f (b .loop .least) (b .loop .b) (c .if1 .least) (omega arith)
-        (⊎-elim (λ w. w .2 ∙ w .1 .ensures) (λ w. w .1 ∙ remaining-same n f (b .loop .least) (b .loop .b) (w .0 .left)) (c .if1 .came)) (b .loop .inv .1))
+    let l = entry b .pre .0 in
+    (omega arith, remaining-more (sums b) (entry b .args .f .now) (b .loop .least) (b .loop .b) (c .if1 .least) (omega arith) (after c) (b .loop .inv .1))
 
 returns : tie.Need-returns Inv-loop μ-loop
 returns c =
     let b = c .before in
-    let s = b .before .before .before .before in
-    remaining-end (sumBy (s .args .low .now) (s .args .high .now)) (s .args .f .now) (b .loop .least) (b .loop .b) (omega (arith, s .pre .0)) (b .loop .inv .1)
+    remaining-end (sums b) (entry b .args .f .now) (b .loop .least) (b .loop .b) (omega (arith, entry b .pre .0)) (b .loop .inv .1)
 
 pub least-of-all-spec : {M : Type 1} → statement M
 least-of-all-spec =

@@ -49,9 +49,6 @@ pub record Seeking (g : ℕ → ℕ) (y best rest least : ℕ) : Type 0 where
   pub small : rest < 2 ^ 64
   pub value : leastOf least (map g (places 64 rest)) ≡ leastOf best (map g (places 64 y))
 
-pub seeking-none : (g : ℕ → ℕ) (y best : ℕ) → y < 2 ^ 64 → Seeking g y best y best
-seeking-none g y best h = record { small = h; value = refl }
-
 pub seeking-more : (g : ℕ → ℕ) (y best rest least next : ℕ) → (rest ≡ 0 → ⊥) → next ≡ min least (g (trailingZeros 64 rest))
     → Seeking g y best rest least → Seeking g y best (rest - (1 * 2 ^ trailingZeros 64 rest) % 2 ^ 64) next
 seeking-more g y best rest least next ne e p =

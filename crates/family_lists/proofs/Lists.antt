@@ -118,9 +118,6 @@ writing-room entry at all xs ys out next w room = omega (arith, length-append xs
 pub wrote-one : (out : List ℕ) (next x : ℕ) → Wrote out next (x ∷ []) (set out next x) (next + 1)
 wrote-one out next x = record { exit = refl; next = refl }
 
-pub wrote-nothing : (out : List ℕ) (next : ℕ) (xs : List ℕ) → xs ≡ [] → Wrote out next xs out next
-wrote-nothing out next xs e = rw e (record { exit = refl; next = omega arith })
-
 pub writing-end : (entry : List ℕ) (at : ℕ) (all rest out : List ℕ) (next : ℕ) → rest ≡ [] → Writing entry at all rest out next → Wrote entry at all out next
 writing-end entry at all rest out next e w =
     let v = rw e at w in
@@ -148,9 +145,6 @@ lane-fits low high b i t hb hi = let f = t .fits (b * 64 + i) (omega arith) in l
 pub record Putting (g : ℕ → ℕ) (y : ℕ) (entry : List ℕ) (at : ℕ) (out : List ℕ) (rest next : ℕ) : Type 0 where
   pub small : rest < 2 ^ 64
   pub writing : Writing entry at (map g (places 64 y)) (map g (places 64 rest)) out next
-
-pub putting-none : (g : ℕ → ℕ) (y : ℕ) (entry : List ℕ) (at : ℕ) → y < 2 ^ 64 → Putting g y entry at entry y at
-putting-none g y entry at h = record { small = h; writing = writing-none entry at (map g (places 64 y)) }
 
 module _ (g : ℕ → ℕ) (y : ℕ) (entry : List ℕ) (at : ℕ) (out : List ℕ) (rest next : ℕ) (p : Putting g y entry at out rest next) where
   pub putting-room : y < 2 ^ 64 → (rest ≡ 0 → ⊥) → at + ones y ≤ length entry → next < length out

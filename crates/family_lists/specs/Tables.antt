@@ -12,6 +12,10 @@ use Rattle.vertex_set.proofs.Places.{places}
 use Rattle.vertex_set.proofs.Sorted.{only}
 use Rattle.families.specs.Masks.{SetOfMask}
 
+-- At v stands the number of the set that has v alone.
+pub record Singles (values : List ℕ) : Type 0 where
+  pub each : (v : ℕ) → v < 64 → getD values v 0 ≡ 2 ^ v
+
 -- The sum of the weights at the bits of the mask m.
 abbrev pub sumAt : List ℕ → ℕ → ℕ
 sumAt [] m = 0

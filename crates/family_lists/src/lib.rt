@@ -7,7 +7,7 @@ ghost use lib.ListN.{length, getD};
 ghost use lib.Count.{ones};
 ghost use Rattle.families.specs.Family.{size};
 ghost use Rattle.family_lists.specs.Lists.{Writable, WroteSets, Summable, LeastSum};
-ghost use Rattle.family_lists.specs.Tables.{WeightsOf, SumsFit, SumTable, LanesOfSize, TablesFit, Wrote, masksIn, rising, Occupied, ofSize, bySize, sumBy, leastOf};
+ghost use Rattle.family_lists.specs.Tables.{Singles, WeightsOf, SumsFit, SumTable, LanesOfSize, TablesFit, Wrote, masksIn, rising, Occupied, ofSize, bySize, sumBy, leastOf};
 use families::WORDS;
 use vertex_set::VertexSet;
 
@@ -26,72 +26,16 @@ const LAYERS: [u64; 7] = [
 ];
 
 // At v the number of the set that has v alone.
-const SINGLES: [u64; 64] = [
-    0x1,
-    0x2,
-    0x4,
-    0x8,
-    0x10,
-    0x20,
-    0x40,
-    0x80,
-    0x100,
-    0x200,
-    0x400,
-    0x800,
-    0x1000,
-    0x2000,
-    0x4000,
-    0x8000,
-    0x10000,
-    0x20000,
-    0x40000,
-    0x80000,
-    0x100000,
-    0x200000,
-    0x400000,
-    0x800000,
-    0x1000000,
-    0x2000000,
-    0x4000000,
-    0x8000000,
-    0x10000000,
-    0x20000000,
-    0x40000000,
-    0x80000000,
-    0x100000000,
-    0x200000000,
-    0x400000000,
-    0x800000000,
-    0x1000000000,
-    0x2000000000,
-    0x4000000000,
-    0x8000000000,
-    0x10000000000,
-    0x20000000000,
-    0x40000000000,
-    0x80000000000,
-    0x100000000000,
-    0x200000000000,
-    0x400000000000,
-    0x800000000000,
-    0x1000000000000,
-    0x2000000000000,
-    0x4000000000000,
-    0x8000000000000,
-    0x10000000000000,
-    0x20000000000000,
-    0x40000000000000,
-    0x80000000000000,
-    0x100000000000000,
-    0x200000000000000,
-    0x400000000000000,
-    0x800000000000000,
-    0x1000000000000000,
-    0x2000000000000000,
-    0x4000000000000000,
-    0x8000000000000000,
-];
+fn singles() -> [u64; 64]
+    ensures { λ r. ⌜ Singles r ⌝ }
+{
+    let one: u64 = 1;
+    let mut values = [0u64; 64];
+    for v in 0..64usize {
+        values[v] = one << v;
+    }
+    values
+}
 
 // The values of the chosen vertices, by their numbers among them; 0 beyond.
 fn weights_of(chosen: VertexSet, values: [u64; 64]) -> [u64; 14]
@@ -159,7 +103,7 @@ fn put_word(y: u64, b: usize, low: &[u64], high: &[u64], out: &mut [u64], at: us
     next
 }
 
-// The same for those of the masks of word b in the lanes of x that have s bits.
+// Does so for those of the masks of word b in the lanes of x that have s bits.
 fn put_sized(
     x: u64,
     b: usize,
@@ -195,7 +139,7 @@ fn occupied_words(f: &[u64], index: &mut [usize]) -> usize
     n
 }
 
-// The same for the family's members that have s bits; they are in the first n words of index.
+// Does so for the family's members that have s bits. All members are in the first n words of index.
 fn put_size(
     f: &[u64],
     index: &[usize],
@@ -220,7 +164,7 @@ fn put_size(
     next
 }
 
-// The same for all of the family's members, fewer bits first. It stops where all are written.
+// Does so for all of the family's members, fewer bits first, and stops where all are written.
 fn put_all(f: &[u64], low: &[u64], high: &[u64], out: &mut [u64]) -> usize
     requires { ⌜ length (now f) ≡ 256 ⌝ }
     requires { ⌜ TablesFit (now low) (now high) ⌝ }
@@ -246,7 +190,8 @@ pub fn write_sets(f: &[u64], chosen: VertexSet, out: &mut [u64]) -> usize
     requires { ⌜ Writable (chosen .0) (now f) (length (now out)) ⌝ }
     ensures { λ r. ⌜ WroteSets (chosen .0) (now (f .entry)) (now (out .entry)) r (now (out .exit)) ⌝ }
 {
-    let weights = weights_of(chosen, SINGLES);
+    let values = singles();
+    let weights = weights_of(chosen, values);
     let mut low = [0u64; 128];
     let mut high = [0u64; 128];
     fill_sums(weights, 0, &mut low);

@@ -20,7 +20,8 @@ steps-to-word-requires c κs = search needs
 returns : tie.Need-returns
 returns c =
     let b = c .before .before in
-    least-word (b .before .before .args .f .now) (b .before .before .args .b) (c .before .steps-in-word .result) (c .steps-to-word .result) (search needs) (search needs) (c .before .steps-in-word .ensures) (c .steps-to-word .ensures)
+    least-word (b .before .before .args .f .now) (b .before .before .args .b) (c .before .steps-in-word .result) (c .steps-to-word .result)
+    (search needs) (search needs) (c .before .steps-in-word .ensures) (c .steps-to-word .ensures)
 
 pub least-word-spec : {M : Type 1} → statement M
 least-word-spec =

@@ -58,13 +58,17 @@ loop-less c = omega (arith, low c)
 loop-again : tie.Need-loop-again Inv-loop μ-loop
 loop-again c =
     let b = c .before in
-    let l = low c in
-    (omega (arith, l .count, b .loop .inv .1 .count, b .before .pre), gathering-more (b .before .args .chosen .0) (b .before .args .x) (b .loop .rest) (b .loop .mask) (b .loop .n) (omega arith) (c .loop-test .taken) (b .loop .inv .1))
+    let l = low c in (
+      omega (arith, l .count, b .loop .inv .1 .count, b .before .pre),
+      gathering-more (b .before .args .chosen .0) (b .before .args .x) (b .loop .rest)
+          (b .loop .mask) (b .loop .n) (omega arith) (c .loop-test .taken) (b .loop .inv .1),
+    )
 
 returns : tie.Need-returns Inv-loop μ-loop
 returns c =
     let b = c .before in
-    gathering-end (b .before .args .chosen .0) (b .before .args .x) (b .loop .rest) (b .loop .mask) (b .loop .n) (search needs) (b .before .pre) (c .loop-test .left) (b .loop .inv .1)
+    gathering-end (b .before .args .chosen .0) (b .before .args .x) (b .loop .rest) (b .loop .mask) (b .loop .n) (search needs) (b .before .pre)
+    (c .loop-test .left) (b .loop .inv .1)
 
 pub mask-of-spec : {M : Type 1} → statement M
 mask-of-spec =

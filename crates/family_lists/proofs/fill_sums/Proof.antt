@@ -57,7 +57,8 @@ add-table-2 : tie.Need-add-table-2 Inv-loop μ-loop
 add-table-2 c =
     let b = c .before .before in
     let p = b .loop .inv .0 in
-    let e = next-sum (b .before .args .t1) (b .before .args .from) (b .loop .k) (b .loop .table) (c .before .loop-test .taken) (λ e. omega arith) (b .loop .inv .3) in
+    let e = next-sum (b .before .args .t1) (b .before .args .from) (b .loop .k) (b .loop .table) (c .before .loop-test .taken) (λ e. omega arith)
+    (b .loop .inv .3) in
     let f = sum-fits (b .before .args .t1) (b .before .args .from) (b .loop .k) (b .before .pre .1 .0) in
     record { fits = omega arith }
 
@@ -76,8 +77,13 @@ loop-less c = search needs
 loop-again : tie.Need-loop-again Inv-loop μ-loop
 loop-again c =
     let b = c .before .before in
-    let p = b .loop .inv .0 in
-    (search needs, search needs, search needs, filling-more (b .before .args .t1) (b .before .args .from) (b .loop .k) (b .loop .table) (c .before .loop-test .taken) (λ e. omega arith) (search needs) (b .loop .inv .3))
+    let p = b .loop .inv .0 in (
+      search needs,
+      search needs,
+      search needs,
+      filling-more (b .before .args .t1) (b .before .args .from) (b .loop .k) (b .loop .table)
+          (c .before .loop-test .taken) (λ e. omega arith) (search needs) (b .loop .inv .3),
+    )
 
 same-length : tie.Need-same-length Inv-loop μ-loop
 same-length c = search needs

@@ -46,7 +46,8 @@ sums c = sumBy (entry c .args .low .now) (entry c .args .high .now)
 -- the least after a word, by either way
 after : (c : tie.Joined1 Inv-loop μ-loop) → c .if1 .least
     ≡ leastOf (c .before .before .before .loop .least)
-    (map (sums (c .before .before .before)) (masksIn (c .before .before .before .loop .b) (getD (entry (c .before .before .before) .args .f .now) (c .before .before .before .loop .b) 0)))
+    (map (sums (c .before .before .before)) (masksIn (c .before .before .before .loop .b)
+    (getD (entry (c .before .before .before) .args .f .now) (c .before .before .before .loop .b) 0)))
 after c =
     ⊎-elim (λ w. w .2 ∙ w .1 .ensures)
     (λ w. w .1 ∙ remaining-same (sums (c .before .before .before)) (entry (c .before .before .before) .args .f .now) (c .before .before .before .loop .least)

@@ -40,8 +40,11 @@ slice-aggregate-least-of-all-2 c = search needs
 least-of-all-requires : tie.Need-least-of-all-requires
 least-of-all-requires c κs =
     let a = c .before .before .before in
-    let b = a .before .before .before in
-    (b .before .before .before .before .pre .words, tables-fit _ _ _ (b .fill-sums .ensures) (a .fill-sums2 .ensures) (fits (b .before)) (b .fill-sums .kept .1 .1 .0) (a .fill-sums2 .kept .1 .1 .0))
+    let b = a .before .before .before in (
+      b .before .before .before .before .pre .words,
+      tables-fit _ _ _ (b .fill-sums .ensures) (a .fill-sums2 .ensures) (fits (b .before))
+          (b .fill-sums .kept .1 .1 .0) (a .fill-sums2 .kept .1 .1 .0),
+    )
 
 returns : tie.Need-returns
 returns c =

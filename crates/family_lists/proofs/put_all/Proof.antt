@@ -42,7 +42,8 @@ returns : tie.Need-returns Inv-loop μ-loop
 returns c =
     let b = c .before .before in
     let s = entry b in
-    all-stop (sumBy (s .args .low .now) (s .args .high .now)) (s .args .f .now) (s .args .out .now) (b .loop .out) (b .loop .next) (b .loop .s) (b .loop .inv .1) (s .pre .0) (words b) (omega (arith, b .before .before .before .before .count-members .ensures))
+    all-stop (sumBy (s .args .low .now) (s .args .high .now)) (s .args .f .now) (s .args .out .now) (b .loop .out) (b .loop .next) (b .loop .s)
+    (b .loop .inv .1) (s .pre .0) (words b) (omega (arith, b .before .before .before .before .count-members .ensures))
 
 slice-aggregate-put-size : tie.Need-slice-aggregate-put-size Inv-loop μ-loop
 slice-aggregate-put-size c = search needs
@@ -51,8 +52,18 @@ put-size-requires : tie.Need-put-size-requires Inv-loop μ-loop
 put-size-requires c κs =
     let t = c .before .before .before in
     let b = t .before in
-    let s = entry b in
-    (s .pre .0, (b .before .before .occupied-words .ensures, (s .pre .1 .0, all-room (sumBy (s .args .low .now) (s .args .high .now)) (s .args .f .now) (s .args .out .now) (b .loop .out) (b .loop .next) (b .loop .s) (b .loop .inv .1) (t .loop-test .taken) (s .pre .0) (words b) (s .pre .1 .1))))
+    let s = entry b in (
+      s .pre .0,
+      (
+        b .before .before .occupied-words .ensures,
+        (
+          s .pre .1 .0,
+          all-room (sumBy (s .args .low .now) (s .args .high .now))
+              (s .args .f .now) (s .args .out .now) (b .loop .out) (b .loop .next) (b .loop .s) (b .loop .inv .1) (t .loop-test .taken) (s .pre .0)
+              (words b) (s .pre .1 .1),
+        ),
+      ),
+    )
 
 add-s : tie.Need-add-s Inv-loop μ-loop
 add-s c = search needs
@@ -65,8 +76,11 @@ loop-again c =
     let p = c .before .before in
     let t = p .before .before .before .before in
     let b = t .before in
-    let s = entry b in
-    (omega (arith, t .loop-test .taken), all-next (sumBy (s .args .low .now) (s .args .high .now)) (s .args .f .now) (s .args .out .now) (b .loop .out) (b .loop .next) (b .loop .s) (b .loop .inv .1) (t .loop-test .taken) _ _ (p .put-size .ensures))
+    let s = entry b in (
+      omega (arith, t .loop-test .taken),
+      all-next (sumBy (s .args .low .now) (s .args .high .now)) (s .args .f .now) (s .args .out .now)
+          (b .loop .out) (b .loop .next) (b .loop .s) (b .loop .inv .1) (t .loop-test .taken) _ _ (p .put-size .ensures),
+    )
 
 same-length-2 : tie.Need-same-length-2 Inv-loop μ-loop
 same-length-2 c = c .before .loop .inv .1 .long
@@ -75,7 +89,8 @@ returns-2 : tie.Need-returns-2 Inv-loop μ-loop
 returns-2 c =
     let b = c .before in
     let s = entry b in
-    all-end (sumBy (s .args .low .now) (s .args .high .now)) (s .args .f .now) (s .args .out .now) (b .loop .out) (b .loop .next) (b .loop .s) (b .loop .inv .1) (omega arith)
+    all-end (sumBy (s .args .low .now) (s .args .high .now)) (s .args .f .now) (s .args .out .now) (b .loop .out) (b .loop .next) (b .loop .s)
+    (b .loop .inv .1) (omega arith)
 
 pub put-all-spec : {M : Type 1} → statement M
 put-all-spec =

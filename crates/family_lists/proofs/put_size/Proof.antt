@@ -42,8 +42,15 @@ put-sized-requires : tie.Need-put-sized-requires Inv-loop μ-loop
 put-sized-requires c κs =
     let b = c .before .before .before .before in
     let s = b .before .before .before .before .before .before in
-    let o = s .pre .1 .0 in
-    (o .below (b .loop .i) (c .before .before .before .loop-test .taken), (s .pre .1 .1 .0, size-room (sumBy (s .args .low .now) (s .args .high .now)) (s .args .s) (s .args .f .now) (s .args .index .now) (s .args .n) o (s .args .out .now) (s .args .at) (b .loop .out) (b .loop .next) (b .loop .i) (b .loop .inv .1) (c .before .before .before .loop-test .taken) (s .pre .1 .1 .1)))
+    let o = s .pre .1 .0 in (
+      o .below (b .loop .i) (c .before .before .before .loop-test .taken),
+      (
+        s .pre .1 .1 .0,
+        size-room (sumBy (s .args .low .now) (s .args .high .now)) (s .args .s) (s .args .f .now) (s .args .index .now)
+            (s .args .n) o (s .args .out .now) (s .args .at) (b .loop .out) (b .loop .next) (b .loop .i) (b .loop .inv .1)
+            (c .before .before .before .loop-test .taken) (s .pre .1 .1 .1),
+      ),
+    )
 
 add-i : tie.Need-add-i Inv-loop μ-loop
 add-i c = search needs
@@ -57,8 +64,12 @@ loop-again c =
     let t = p .before .before .before .before in
     let b = t .before in
     let s = b .before .before .before .before .before .before in
-    let o = s .pre .1 .0 in
-    (omega (arith, t .loop-test .taken), size-next (sumBy (s .args .low .now) (s .args .high .now)) (s .args .s) (s .args .f .now) (s .args .index .now) (s .args .n) o (s .args .out .now) (s .args .at) (b .loop .out) (b .loop .next) (b .loop .i) (b .loop .inv .1) (t .loop-test .taken) _ _ (p .put-sized .ensures))
+    let o = s .pre .1 .0 in (
+      omega (arith, t .loop-test .taken),
+      size-next (sumBy (s .args .low .now) (s .args .high .now)) (s .args .s) (s .args .f .now)
+          (s .args .index .now) (s .args .n) o (s .args .out .now) (s .args .at) (b .loop .out) (b .loop .next) (b .loop .i) (b .loop .inv .1)
+          (t .loop-test .taken) _ _ (p .put-sized .ensures),
+    )
 
 same-length : tie.Need-same-length Inv-loop μ-loop
 same-length c = search needs
@@ -67,7 +78,8 @@ returns : tie.Need-returns Inv-loop μ-loop
 returns c =
     let b = c .before in
     let s = b .before .before .before .before .before .before in
-    size-end (sumBy (s .args .low .now) (s .args .high .now)) (s .args .s) (s .args .f .now) (s .args .index .now) (s .args .n) (s .pre .1 .0) (s .args .out .now) (s .args .at) (b .loop .out) (b .loop .next) (b .loop .i) (b .loop .inv .1) (omega arith)
+    size-end (sumBy (s .args .low .now) (s .args .high .now)) (s .args .s) (s .args .f .now) (s .args .index .now) (s .args .n) (s .pre .1 .0)
+    (s .args .out .now) (s .args .at) (b .loop .out) (b .loop .next) (b .loop .i) (b .loop .inv .1) (omega arith)
 
 pub put-size-spec : {M : Type 1} → statement M
 put-size-spec =

@@ -51,7 +51,8 @@ room : (c : tie.After-shared-slice-known2 Inv-loop μ-loop) → c .before .befor
 room c =
     let b = c .before .before in
     let s = b .before .before in
-    putting-room _ (s .args .y) (s .args .out .now) (s .args .at) (b .loop .out) (b .loop .rest) (b .loop .next) (b .loop .inv) (search needs) (c .before .loop-test .taken) (s .pre .1 .1)
+    putting-room _ (s .args .y) (s .args .out .now) (s .args .at) (b .loop .out) (b .loop .rest) (b .loop .next) (b .loop .inv) (search needs)
+    (c .before .loop-test .taken) (s .pre .1 .1)
 
 mul-out-2 : tie.Need-mul-out-2 Inv-loop μ-loop
 mul-out-2 c = omega (arith, room c, c .before .before .loop .inv .writing .long)

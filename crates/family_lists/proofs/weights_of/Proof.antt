@@ -54,13 +54,17 @@ loop-less c = omega (arith, low c)
 loop-again : tie.Need-loop-again Inv-loop μ-loop
 loop-again c =
     let b = c .before in
-    let l = low c in
-    (omega (arith, l .count, b .loop .inv .1 .left, b .before .pre), weighing-more (b .before .args .chosen .0) _ (b .loop .rest) (b .loop .n) (b .loop .weights) (omega (arith, l .count, b .loop .inv .1 .left, b .before .pre)) (c .loop-test .taken) (b .loop .inv .1))
+    let l = low c in (
+      omega (arith, l .count, b .loop .inv .1 .left, b .before .pre),
+      weighing-more (b .before .args .chosen .0) _ (b .loop .rest) (b .loop .n)
+          (b .loop .weights) (omega (arith, l .count, b .loop .inv .1 .left, b .before .pre)) (c .loop-test .taken) (b .loop .inv .1),
+    )
 
 returns : tie.Need-returns Inv-loop μ-loop
 returns c =
     let b = c .before in
-    weighing-end (b .before .args .chosen .0) _ (b .loop .rest) (b .loop .n) (b .loop .weights) (search needs) (b .loop .inv .0) (c .loop-test .left) (b .loop .inv .1)
+    weighing-end (b .before .args .chosen .0) _ (b .loop .rest) (b .loop .n) (b .loop .weights) (search needs) (b .loop .inv .0) (c .loop-test .left)
+    (b .loop .inv .1)
 
 pub weights-of-spec : {M : Type 1} → statement M
 weights-of-spec =

@@ -1,7 +1,7 @@
 -- Laws of masks: which set a mask stands for, which mask a set has, and that masks and sets agree on inclusion, size and order.
 -- Assumes nothing.
 use mathlib.Core.Path.{_≡_, refl, sym, ap, _∙_, subst}
-use mathlib.Core.Logic.{_⊎_, inl, inr, ⊎-elim}
+use mathlib.Core.Logic.{inl, inr, ⊎-elim}
 use mathlib.Core.List.{List, [], _∷_, map}
 use Prim.Native.Nat.{ℕ, zero, suc, _+_, _-_, _*_, _/_, _%_, _^_, _≤_, _<_}
 use native.Mathlib.Nat.{pow-suc, mul-le-mul-right}
@@ -14,7 +14,7 @@ use Rattle.vertex_set.specs.Order.{Before}
 use Rattle.vertex_set.proofs.Cases.{same-or, less-or}
 use Rattle.vertex_set.proofs.Digits.{digit, digit-lt, digit-first, digit-suc}
 use Rattle.vertex_set.proofs.Sets.{member-below, none-in-zero, same-set}
-use Rattle.vertex_set.proofs.Places.{in-first, in-later, places, places-odd, places-even, places-none, Lowest, lowest}
+use Rattle.vertex_set.proofs.Places.{in-first, in-later, places, places-odd, places-even, places-none, lowest}
 use Rattle.vertex_set.proofs.Shifts.{low-first, low-half}
 use Rattle.families.specs.Masks.{rank, Picked, SetOfMask, MaskOf}
 

@@ -1,10 +1,10 @@
 -- Steps down: from a lane to the lanes and words that have one bit fewer, by shifts and by words.
 -- Assumes nothing.
-use mathlib.Core.Path.{_≡_, refl, sym, ap, _∙_, subst}
-use mathlib.Core.Bool.{Bool, true, false}
-use mathlib.Core.Logic.{_⊎_, inl, inr, ⊎-elim}
+use mathlib.Core.Path.{_≡_, refl, sym, _∙_, subst}
+use mathlib.Core.Bool.{true}
+use mathlib.Core.Logic.{inl, inr, ⊎-elim}
 use mathlib.Core.List.{List}
-use Prim.Native.Nat.{ℕ, zero, suc, _+_, _-_, _*_, _/_, _%_, _^_, _≤_, _<_}
+use Prim.Native.Nat.{ℕ, suc, _+_, _-_, _*_, _%_, _^_, _<_}
 use native.Mathlib.Omega.{arith}
 use lib.Bits.{bitAnd, bitOr, or-lt}
 use lib.Dec.{eqb}
@@ -16,7 +16,7 @@ use Rattle.vertex_set.proofs.Digits.{digit}
 use Rattle.vertex_set.proofs.Sets.{in-and, in-or, in-not, member-below, none-in-zero, shifted-one}
 use Rattle.vertex_set.proofs.Places.{member-le}
 use Rattle.vertex_set.proofs.Shifts.{in-low, in-shifted, all, all-at}
-use Rattle.families.specs.Steps.{StepInWord, StepsInWord, StepToWord, StepsToWord, LeastLane, LeastWord}
+use Rattle.families.specs.Steps.{StepsInWord, StepsToWord, LeastWord}
 
 -- ---- within a word
 

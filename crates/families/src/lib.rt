@@ -1,15 +1,12 @@
 // Families of subsets of at most 14 chosen vertices, as truth tables: bit m % 64 of word m / 64 says
 // whether the mask m is in. No graph is in sight here.
 ghost use mathlib.Core.Path.{_≡_};
-ghost use mathlib.Core.List.{map};
-ghost use Prim.Native.Nat.{ℕ, _+_, _*_, _^_, _≤_, _<_};
-ghost use lib.ListN.{length, getD};
+ghost use Prim.Native.Nat.{_≤_, _<_};
+ghost use lib.ListN.{length};
 ghost use lib.Count.{ones};
 ghost use Rattle.vertex_set.specs.Set.{Decides};
 ghost use Rattle.families.specs.Family.{In, size, MinimalMembers};
 ghost use Rattle.families.specs.Masks.{MaskOf};
-ghost use Rattle.families.specs.Lists.{Writable, WroteSets, Summable, LeastSum};
-ghost use Rattle.families.specs.Tables.{WeightsOf, SumsFit, SumTable, LanesOfSize, TablesFit, Wrote, masksIn, rising, ofSize, bySize, sumBy, leastOf};
 ghost use Rattle.families.specs.Steps.{StepsInWord, StepsToWord, LeastWord};
 use vertex_set::VertexSet;
 

@@ -2,9 +2,9 @@
 -- Assumes nothing.
 use mathlib.Core.Path.{_≡_, refl, sym, ap, _∙_, subst}
 use mathlib.Core.Bool.{Bool}
-use mathlib.Core.Logic.{_⊎_, inl, inr, ⊎-elim}
+use mathlib.Core.Logic.{inl, inr, ⊎-elim}
 use mathlib.Core.List.{List, [], _∷_, map}
-use Prim.Native.Nat.{ℕ, zero, suc, _+_, _-_, _*_, _/_, _%_, _^_, _≤_, _<_}
+use Prim.Native.Nat.{ℕ, zero, suc, _-_, _*_, _/_, _%_, _^_, _≤_, _<_}
 use native.Mathlib.Nat.{pow-suc, mod-lt}
 use native.Mathlib.Omega.{arith}
 use lib.ListN.{length, length-map}
@@ -16,7 +16,7 @@ use Rattle.vertex_set.specs.Set.{Member, Iff, Within}
 use Rattle.vertex_set.specs.Order.{Listed}
 use Rattle.vertex_set.proofs.Cases.{same-or}
 use Rattle.vertex_set.proofs.Sorted.{listed-map, listed-of-map, only, only-map, only-same, Sorted, sorted-map}
-use Rattle.vertex_set.proofs.Digits.{digit, digit-lt, digit-zero, digit-suc, digit-first}
+use Rattle.vertex_set.proofs.Digits.{digit, digit-suc, digit-first}
 use Rattle.vertex_set.proofs.Sets.{member-below, shifted-one}
 
 -- ---- membership by halves

@@ -1,15 +1,14 @@
 -- Laws of the sum of values over a set.
 -- Assumes nothing.
-use mathlib.Core.Path.{_≡_, refl, sym, ap, _∙_, subst}
+use mathlib.Core.Path.{_≡_, refl, _∙_, subst}
 use mathlib.Core.Logic.{⊎-elim}
 use Prim.Native.Nat.{ℕ, zero, suc, _+_, _*_, _/_, _%_, _^_, _≤_, _<_}
 use native.Mathlib.Nat.{mod-eq-of-lt, mul-le-mul-right}
-use native.Mathlib.Numerals.{add-one}
 use native.Mathlib.Omega.{arith}
 use lib.Pow.{mod-pow-add}
 use Rattle.vertex_set.specs.Set.{Member, Within}
 use Rattle.vertex_set.specs.Order.{sumBelow, sumOver}
-use Rattle.vertex_set.proofs.Digits.{digit, digit-lt, digit-first, digit-suc}
+use Rattle.vertex_set.proofs.Digits.{digit, digit-first, digit-suc}
 use Rattle.vertex_set.proofs.Sets.{member-or, not-member}
 
 -- the vertex 0 first, and then the others by halves

@@ -1,0 +1,5 @@
+pub mod Text
+pub mod Fields
+pub mod Rows
+pub mod Questions
+pub mod Read

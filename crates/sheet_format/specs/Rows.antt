@@ -1,0 +1,166 @@
+-- Rows as data: what makes them valid, how they are written as a text, and the setup that they state.
+use mathlib.Core.Path.{_≡_}
+use mathlib.Core.List.{List, [], _∷_, _++_, map}
+use mathlib.Core.Bool.{Bool, true, false, cond}
+use mathlib.Core.Logic.{_⊎_}
+use Prim.Native.Nat.{ℕ, zero, suc, _+_, _-_, _^_, _≤_, _<_}
+use lib.ListN.{length, set, replicate}
+use lib.Bits.{bitOr}
+use Rattle.setup.specs.declared.Kind.{Kind}
+use Rattle.setup.specs.declared.Value.{Value}
+use Rattle.setup.specs.declared.Vertex.{Vertex}
+use Rattle.setup.specs.declared.Rows.{Rows}
+use Rattle.setup.specs.declared.Graph.{Graph}
+use Rattle.setup.specs.declared.Setup.{Setup}
+use Rattle.setup.specs.Setup.{unusedVertex, rowsAt, row, total, given}
+use Rattle.setup.specs.WellFormed.{InRange}
+use Rattle.sheet_format.specs.Text.{sameText}
+use Rattle.sheet_format.specs.Fields.{isName, decimal, kindText, valueText}
+
+pub record ItemRow : Type 0 where
+  pub name : List ℕ
+  pub kind : Kind
+  pub start : Value
+  pub loss : Value
+  pub rank : ℕ
+
+-- `rec` is true for a recovery edge.
+pub record EdgeRow : Type 0 where
+  pub from : List ℕ
+  pub to : List ℕ
+  pub colour : ℕ
+  pub rec : Bool
+
+pub record Doc : Type 0 where
+  pub items : List ItemRow
+  pub edges : List EdgeRow
+
+-- ---- what makes rows valid
+
+-- P holds of each element.
+abbrev pub Each {ℓ} : {A : Type ℓ} → (A → Type 0) → List A → Type 0
+Each P [] = Unit {0}
+Each P (x ∷ xs) = P x × Each P xs
+
+-- No element stands to a later one as R says.
+abbrev pub Apart {ℓ} : {A : Type ℓ} → (A → A → Type 0) → List A → Type 0
+Apart R [] = Unit {0}
+Apart R (x ∷ xs) = Each (λ y. R x y → ⊥) xs × Apart R xs
+
+-- n is the name of an item row.
+abbrev pub Known : List ItemRow → List ℕ → Type 0
+Known [] n = ⊥
+Known (x ∷ xs) n = (x .name ≡ n) ⊎ Known xs n
+
+abbrev pub SameName : ItemRow → ItemRow → Type 0
+SameName x y = x .name ≡ y .name
+
+abbrev pub SameEdge : EdgeRow → EdgeRow → Type 0
+SameEdge x y = (x .from ≡ y .from) × (x .to ≡ y .to) × (x .colour ≡ y .colour)
+
+pub record ValidItem (x : ItemRow) : Type 0 where
+  pub name : isName (x .name) ≡ true
+  pub start : InRange (x .start)
+  pub loss : InRange (x .loss)
+  pub rank : x .rank ≤ 9
+
+pub record ValidEdge (items : List ItemRow) (e : EdgeRow) : Type 0 where
+  pub from : Known items (e .from)
+  pub to : Known items (e .to)
+  pub colour : e .colour ≤ 7
+
+-- How many item rows are starting ones, and how many losable.
+unfoldable pub startCount : List ItemRow → ℕ
+startCount xs = total (λ x. given (x .start)) xs
+
+unfoldable pub lossCount : List ItemRow → ℕ
+lossCount xs = total (λ x. given (x .loss)) xs
+
+-- ---- how they are written
+
+-- A row's fields, parted by spaces, and LF.
+abbrev pub lineText : List (List ℕ) → List ℕ
+lineText [] = 10 ∷ []
+lineText (f ∷ []) = f ++ (10 ∷ [])
+lineText (f ∷ g ∷ fs) = f ++ (32 ∷ lineText (g ∷ fs))
+
+-- `name kind start loss rank`
+unfoldable pub firstHeader : List ℕ
+firstHeader =
+    110 ∷ 97 ∷ 109 ∷ 101 ∷ 32 ∷ 107 ∷ 105 ∷ 110 ∷ 100 ∷ 32 ∷ 115 ∷ 116 ∷ 97 ∷ 114 ∷ 116 ∷ 32 ∷ 108 ∷ 111 ∷ 115 ∷ 115 ∷ 32 ∷ 114 ∷ 97 ∷ 110 ∷ 107 ∷ []
+
+-- `from to colour rec`
+unfoldable pub secondHeader : List ℕ
+secondHeader = 102 ∷ 114 ∷ 111 ∷ 109 ∷ 32 ∷ 116 ∷ 111 ∷ 32 ∷ 99 ∷ 111 ∷ 108 ∷ 111 ∷ 117 ∷ 114 ∷ 32 ∷ 114 ∷ 101 ∷ 99 ∷ []
+
+abbrev pub itemFields : ItemRow → List (List ℕ)
+itemFields x = x .name ∷ kindText (x .kind) ∷ valueText (x .start) ∷ valueText (x .loss) ∷ decimal (x .rank) ∷ []
+
+abbrev pub edgeFields : EdgeRow → List (List ℕ)
+edgeFields e = e .from ∷ e .to ∷ decimal (e .colour) ∷ decimal (cond (e .rec) 1 0) ∷ []
+
+unfoldable pub itemLines : List ItemRow → List ℕ
+itemLines [] = []
+itemLines (x ∷ xs) = lineText (itemFields x) ++ itemLines xs
+
+unfoldable pub edgeLines : List EdgeRow → List ℕ
+edgeLines [] = []
+edgeLines (e ∷ es) = lineText (edgeFields e) ++ edgeLines es
+
+-- The sheet: the first header, the item rows, an empty line, the second header, the edge rows.
+unfoldable pub render : Doc → List ℕ
+render d = firstHeader ++ (10 ∷ (itemLines (d .items) ++ (10 ∷ (secondHeader ++ (10 ∷ edgeLines (d .edges))))))
+
+-- Document 01's bounds and ranges.
+pub record Valid (d : Doc) : Type 0 where
+  pub some : 1 ≤ length (d .items)
+  pub most : length (d .items) ≤ 64
+  pub items : Each ValidItem (d .items)
+  pub names : Apart SameName (d .items)
+  pub starts : startCount (d .items) ≤ 14
+  pub losses : lossCount (d .items) ≤ 14
+  pub edges : Each (ValidEdge (d .items)) (d .edges)
+  pub rows : Apart SameEdge (d .edges)
+  pub many : length (d .edges) ≤ 256
+  pub text : length (render d) ≤ 16384
+
+-- ---- the setup that they state
+
+-- The number of the item with the name n: items count from 0 in row order.
+unfoldable pub numberIn : List ItemRow → List ℕ → ℕ
+numberIn [] n = 0
+numberIn (x ∷ xs) n = cond (sameText (x .name) n) 0 (suc (numberIn xs n))
+
+abbrev pub vertexOf : ItemRow → Vertex
+vertexOf x = record { kind = x .kind; start = x .start; loss = x .loss; rank = x .rank }
+
+-- 64 places, of which the last ones are not in use.
+unfoldable pub verticesOf : List ItemRow → List Vertex
+verticesOf xs = map vertexOf xs ++ replicate (64 - length xs) unusedVertex
+
+unfoldable pub emptyGraph : Graph
+emptyGraph = record { rows = replicate 64 (record { needs = replicate 8 0 }) }
+
+-- The graph with an edge of colour c from f to v: f is one of the needed items in v's row of that colour.
+unfoldable pub withEdge : Graph → ℕ → ℕ → ℕ → Graph
+withEdge g f v c = record { rows = set (g .rows) v (record { needs = set (rowsAt g v .needs) c (bitOr (row g v c) (2 ^ f)) }) }
+
+-- The graph with the edges of the rows.
+unfoldable pub withEdges : List ItemRow → Graph → List EdgeRow → Graph
+withEdges xs g [] = g
+withEdges xs g (e ∷ es) = withEdges xs (withEdge g (numberIn xs (e .from)) (numberIn xs (e .to)) (e .colour)) es
+
+-- The rows of recovery edges.
+unfoldable pub recoveryRows : List EdgeRow → List EdgeRow
+recoveryRows [] = []
+recoveryRows (e ∷ es) = cond (e .rec) (e ∷ recoveryRows es) (recoveryRows es)
+
+-- An edge marked 1 stands in both graphs.
+unfoldable pub setupOf : Doc → Setup
+setupOf d =
+    record {
+      count = length (d .items);
+      vertices = verticesOf (d .items);
+      graph = withEdges (d .items) emptyGraph (d .edges);
+      recovery = withEdges (d .items) emptyGraph (recoveryRows (d .edges));
+    }

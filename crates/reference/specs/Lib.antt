@@ -1,0 +1,3 @@
+pub mod Bases
+pub mod Closures
+pub mod Tests

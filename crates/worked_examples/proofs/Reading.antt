@@ -1,8 +1,6 @@
 -- The sheets' bytes are accepted with the setups that the table has: the reader's definition, computed. So the setups are well formed.
 -- Assumes nothing.
-use mathlib.Core.Path.{_≡_, refl}
-use mathlib.Core.List.{List, [], _∷_}
-use Prim.Native.Nat.{ℕ}
+use mathlib.Core.Path.{refl}
 use Rattle.setup.specs.WellFormed.{WellFormed}
 use Rattle.sheet_format.specs.Text.{grow, linesOf, fieldsOf, isEmpty, sameText, all}
 use Rattle.sheet_format.specs.Fields.{isDigit, isNameByte, isName, isNumber, valueBehind, numberOf, isNumberTo, isKind, kindOf, isValue, valueOf}
@@ -10,7 +8,7 @@ use Rattle.sheet_format.specs.Rows.{firstHeader, secondHeader, startCount, loss
 use Rattle.sheet_format.specs.Questions.{question1, isTextByte, endsInLF, question2, question3, question10, noneEmpty, question4, question5Item, question5Edge, itemOf, edgeOf, isKnown, question6, question8, sameEdge, isRepeated, question9, question7Item, question7Edge}
 use Rattle.sheet_format.specs.Read.{itemQuestions, edgeQuestions, questionsOf, behind, firstNo, question11, unless, readLines, readSheet}
 use Rattle.sheet_format.proofs.Question12.{question-12}
-use Rattle.worked_examples.specs.Sheets.{Sheet, Reads, AllRead, linesText, bench, ring, alone, closed, loop, pair}
+use Rattle.worked_examples.specs.Sheets.{Sheet, Reads, AllRead, linesText}
 
 -- One more entry shown.
 infixr 20 _&_

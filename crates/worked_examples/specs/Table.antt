@@ -1,9 +1,8 @@
 -- Document 01's bench examples, B1 to B12, and what it is for them to hold: in terms of the definitions that the contracts cite.
-use mathlib.Core.Bool.{Bool, true, false}
+use mathlib.Core.Bool.{true, false}
 use mathlib.Core.List.{List, [], _∷_}
 use Prim.Native.Nat.{ℕ, _^_}
 use Rattle.vertex_set.specs.Set.{Member}
-use Rattle.setup.specs.declared.Setup.{Setup}
 use Rattle.setup.specs.Setup.{total}
 use Rattle.derivations.specs.Access.{Step, AccessFrom}
 use Rattle.derivations.specs.Way.{Way}
@@ -63,7 +62,7 @@ table =
     ∷ marks bench order (setOf (mailpw ∷ []) ∷ setOf (mailpw ∷ []) ∷ setOf (mailpw ∷ token ∷ []) ∷ setOf (token ∷ []) ∷ []) 1 1 1 1 1
     -- B8: the four opening sets of document 003's example 5
     ∷ opening ring accBackup
-        (setOf (pwdBackup ∷ device ∷ []) ∷ setOf (pwdManager ∷ device ∷ []) ∷ setOf (pwdBackup ∷ seed ∷ []) ∷ setOf (pwdManager ∷ seed ∷ []) ∷ [])
+    (setOf (pwdBackup ∷ device ∷ []) ∷ setOf (pwdManager ∷ device ∷ []) ∷ setOf (pwdBackup ∷ seed ∷ []) ∷ setOf (pwdManager ∷ seed ∷ []) ∷ [])
     -- B9: start 5, score 5
     ∷ score alone only 5
     -- B10: start `-`, score never

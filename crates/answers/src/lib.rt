@@ -1,12 +1,55 @@
 // The calls of the second and third exercise: both lists, scores, and marks.
+ghost use mathlib.Core.Path.{_≡_};
+ghost use mathlib.Core.Bool.{true, false};
+ghost use Prim.Native.Nat.{ℕ, _≤_, _<_};
+ghost use lib.ListN.{length};
+ghost use Rattle.vertex_set.specs.Set.{Decides};
+ghost use Rattle.setup.specs.WellFormed.{WellFormed};
+ghost use Rattle.answers.specs.Answers.{basesNumber, basesValues, BasesCall, scoreNumber, scoreValues, riskNumber, riskValues, ScoreCall};
+ghost use Rattle.answers.specs.Inner.{Asked, BasesTaken};
+use setup::Graph;
 use setup::Setup;
+use vertex_set::VertexSet;
+
+// "Never": the score of an account that no set opens, above every sum.
+pub const NEVER: u64 = 0x4000_0000_0000_0000;
+
+const WORDS: usize = 256;
 
 // Document 01's score, document 003's security score. It is never added to, nor compared with, the
 // other kind.
 pub struct SecurityScore(pub u64);
 
+impl SecurityScore {
+    pub fn below(self, other: SecurityScore) -> bool
+        ensures { λ r. ⌜ Decides (self .0 < other .0) r ⌝ }
+    {
+        self.0 < other.0
+    }
+
+    pub fn at_most(self, other: SecurityScore) -> bool
+        ensures { λ r. ⌜ Decides (self .0 ≤ other .0) r ⌝ }
+    {
+        self.0 <= other.0
+    }
+}
+
 // Document 01's risk, document 003's recoverability score.
 pub struct RecoverabilityScore(pub u64);
+
+impl RecoverabilityScore {
+    pub fn below(self, other: RecoverabilityScore) -> bool
+        ensures { λ r. ⌜ Decides (self .0 < other .0) r ⌝ }
+    {
+        self.0 < other.0
+    }
+
+    pub fn at_most(self, other: RecoverabilityScore) -> bool
+        ensures { λ r. ⌜ Decides (self .0 ≤ other .0) r ⌝ }
+    {
+        self.0 <= other.0
+    }
+}
 
 pub enum BasesAnswer {
     Counts(usize, usize),
@@ -36,4 +79,70 @@ pub struct Marks {
 pub enum MarksAnswer {
     Marked(Marks),
     Refused(u64),
+}
+
+// Both lists of a setup that is well formed.
+fn write_bases(s: Setup, target: usize, out: &mut [u64]) -> BasesAnswer
+    requires { ⌜ Asked s target ⌝ }
+    ensures { λ r. ⌜ BasesTaken s target (basesNumber r) (basesValues r) (now (out .entry)) (now (out .exit)) ⌝ }
+{
+    let graph = s.graph;
+    let initial = setup::chosen(s, false);
+    let losable = setup::chosen(s, true);
+    let mut opening = [0u64; WORDS];
+    let mut lockout = [0u64; WORDS];
+    let n = bases::base_family(s, graph, false, target, initial, &mut opening);
+    let m = bases::base_family(s, graph, true, target, losable, &mut lockout);
+    if out.len() < n {
+        return BasesAnswer::Refused(15);
+    }
+    if out.len() - n < m {
+        return BasesAnswer::Refused(15);
+    }
+    let first = families::write_sets(&opening, initial, out);
+    let second = families::write_sets(&lockout, losable, &mut out[first..]);
+    BasesAnswer::Counts(first, second)
+}
+
+// Both lists of the target in one lent list: the access base first, then the lockout base.
+pub fn both_bases(s: Setup, target: usize, out: &mut [u64]) -> BasesAnswer
+    ensures { λ r. ⌜ BasesCall s target (basesNumber r) (basesValues r) (now (out .entry)) (now (out .exit)) ⌝ }
+{
+    if setup::well_formed(s) {
+        if target < s.count {
+            return write_bases(s, target, out);
+        }
+        return BasesAnswer::Refused(13);
+    }
+    BasesAnswer::Refused(12)
+}
+
+// The target's security score (document 01: its score).
+pub fn security_score(s: Setup, target: usize) -> ScoreAnswer
+    ensures { λ r. ⌜ ScoreCall false s target (scoreNumber r) (scoreValues r) ⌝ }
+{
+    if setup::well_formed(s) {
+        if target < s.count {
+            let graph = s.graph;
+            let r = bases::score_of(s, graph, false, target);
+            return ScoreAnswer::Score(SecurityScore(r));
+        }
+        return ScoreAnswer::Refused(13);
+    }
+    ScoreAnswer::Refused(12)
+}
+
+// The target's recoverability score (document 01: its risk).
+pub fn recoverability_score(s: Setup, target: usize) -> RiskAnswer
+    ensures { λ r. ⌜ ScoreCall true s target (riskNumber r) (riskValues r) ⌝ }
+{
+    if setup::well_formed(s) {
+        if target < s.count {
+            let graph = s.graph;
+            let r = bases::score_of(s, graph, true, target);
+            return RiskAnswer::Risk(RecoverabilityScore(r));
+        }
+        return RiskAnswer::Refused(13);
+    }
+    RiskAnswer::Refused(12)
 }

@@ -107,8 +107,8 @@ pub minimal-members : (f g : List ℕ) → ((b : ℕ) → b < 256 → LeastWord 
 unfolding In
 minimal-members f g w =
     let each : (m : ℕ) → m < 16384 → Iff (In g m) (Least f m) = λ m h.
-        let l = w (m / 64) (omega arith) .each (m % 64) (omega arith) in
-        record { to = λ i. lane-least f m h (l .to i); from = λ q. l .from (least-lane f m q) } in
+    let l = w (m / 64) (omega arith) .each (m % 64) (omega arith) in
+    record { to = λ i. lane-least f m h (l .to i); from = λ q. l .from (least-lane f m q) } in
     record {
       least = each;
       minimal = λ mono m h. record {

@@ -105,21 +105,21 @@ module _ (c : ℕ) (f : List ℕ) (value : ℕ → ℕ) (h : c < 2 ^ 64) (s : Su
   least-sum low high r p q e =
       let l : List ℕ = map (sumBy low high) (rising 0 f) in
       let among : (m : ℕ) → m < 16384 → In f m → r ≤ sumAt ws m = λ m b i.
-          let a = least-listed l (2 ^ 62) (sumBy low high m) (listed-map (sumBy low high) (rising 0 f) m (listed-members f m .from i)) in
-          let t = tables-sum ws low high p q m b in
-          omega arith in
+      let a = least-listed l (2 ^ 62) (sumBy low high m) (listed-map (sumBy low high) (rising 0 f) m (listed-members f m .from i)) in
+      let t = tables-sum ws low high p q m b in
+      omega arith in
       let found : Listed l r → SumOfMember c f value r = λ k.
-          let g = listed-of-map (sumBy low high) (rising 0 f) r k in
-          let i = listed-members f (g .0) .to (g .1) in
-          let b = member-small f (g .0) (s .words) i in
-          record {
-            mask = g .0;
-            set = spread 64 c (g .0);
-            below = b;
-            is = i;
-            of = set-of c (g .0) h;
-            sum = g .2 ∙ tables-sum ws low high p q (g .0) b ∙ w .sum (g .0) (spread 64 c (g .0)) (set-of c (g .0) h);
-          } in
+      let g = listed-of-map (sumBy low high) (rising 0 f) r k in
+      let i = listed-members f (g .0) .to (g .1) in
+      let b = member-small f (g .0) (s .words) i in
+      record {
+        mask = g .0;
+        set = spread 64 c (g .0);
+        below = b;
+        is = i;
+        of = set-of c (g .0) h;
+        sum = g .2 ∙ tables-sum ws low high p q (g .0) b ∙ w .sum (g .0) (spread 64 c (g .0)) (set-of c (g .0) h);
+      } in
       let some : (r ≡ 2 ^ 62) ⊎ Listed l r = subst (λ (x : ℕ). (x ≡ 2 ^ 62) ⊎ Listed l x) (sym e) (least-is l (2 ^ 62)) in
       record {
         never = λ none. ⊎-elim (λ z. z) (λ k. let m = found k in absurd (none (m .mask) (m .below) (m .is))) some;

@@ -191,7 +191,7 @@ pub sized-lanes : (b s x r : ℕ) → LanesOfSize b s r
 sized-lanes b s x r h =
     only-map (λ (m : ℕ). eqb (ones m) s) (λ (i : ℕ). b * 64 + i) (places 64 x)
     ∙ ap (map (λ (i : ℕ). b * 64 + i))
-        (only-same _ (isIn r) (places 64 x) (λ i m. same-test b s r i (h .each i (listed-places 64 x i .to m .1))) ∙ sym (places-and 64 x r))
+    (only-same _ (isIn r) (places 64 x) (λ i m. same-test b s r i (h .each i (listed-places 64 x i .to m .1))) ∙ sym (places-and 64 x r))
 
 pub length-masks : (b y : ℕ) → y < 2 ^ 64 → length (masksIn b y) ≡ ones y
 length-masks b y h = length-map (places 64 y) (λ (i : ℕ). b * 64 + i) ∙ length-places 64 y h
@@ -212,7 +212,7 @@ rising-end f b e = rw (e, drop-length f)
 
 pub sized-drop : (N : ℕ → ℕ) (s : ℕ) (f : List ℕ) (b : ℕ) → b < length f
     → map N (ofSize s (rising b (drop b f)))
-      ≡ map N (ofSize s (masksIn b (getD f b 0))) ++ map N (ofSize s (rising (b + 1) (drop (b + 1) f)))
+    ≡ map N (ofSize s (masksIn b (getD f b 0))) ++ map N (ofSize s (rising (b + 1) (drop (b + 1) f)))
 sized-drop N s f b h =
     ap (λ (l : List ℕ). map N (ofSize s l)) (rising-drop f b h)
     ∙ ap (map N) (only-append (λ (m : ℕ). eqb (ones m) s) (masksIn b (getD f b 0)) (rising (b + 1) (drop (b + 1) f)))

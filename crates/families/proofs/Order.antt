@@ -46,11 +46,11 @@ listed-rising (w ∷ f) b m =
     let after : suc b ≤ m / 64 → m / 64 - b ≡ suc (m / 64 - suc b) = λ h. omega arith in
     record {
       to = λ h. ⊎-elim
-        (λ p. let q = here .to p in let e : m / 64 - b ≡ 0 = omega (arith, q .0) in (omega (arith, q .0), rw e (q .1)))
-        (λ p. let q = ih .to p in (omega (arith, q .0), rw (after (q .0)) (q .1))) (a .to h);
+          (λ p. let q = here .to p in let e : m / 64 - b ≡ 0 = omega (arith, q .0) in (omega (arith, q .0), rw e (q .1)))
+          (λ p. let q = ih .to p in (omega (arith, q .0), rw (after (q .0)) (q .1))) (a .to h);
       from = λ p. a .from (⊎-elim
-        (λ e. let z : m / 64 - b ≡ 0 = omega arith in inl (here .from (e, rw z at (p .1))))
-        (λ n. let h : suc b ≤ m / 64 = omega (arith, p .0) in inr (ih .from (h, rw (after h) at (p .1)))) (same-or (m / 64) b));
+          (λ e. let z : m / 64 - b ≡ 0 = omega arith in inl (here .from (e, rw z at (p .1))))
+          (λ n. let h : suc b ≤ m / 64 = omega (arith, p .0) in inr (ih .from (h, rw (after h) at (p .1)))) (same-or (m / 64) b));
     }
 
 -- exactly the family's members
@@ -98,7 +98,7 @@ listed-by-size l (suc n) s m =
     let ih = listed-by-size l n (suc s) m in
     record {
       to = λ h. ⊎-elim (λ p. let q = o .to p in let e = q .1 in (q .0, omega arith, omega arith))
-        (λ p. let q = ih .to p in let x = q .1 in let y = q .2 in (q .0, omega arith, omega arith)) (a .to h);
+          (λ p. let q = ih .to p in let x = q .1 in let y = q .2 in (q .0, omega arith, omega arith)) (a .to h);
       from = λ p.
           let x = p .1 in
           let y = p .2 in
@@ -111,8 +111,8 @@ sorted-by-size l zero s p = tt
 sorted-by-size l (suc n) s p =
     sorted-append Before (ofSize s l) (bySize l (suc s) n)
     (sorted-change _<_ Before (ofSize s l)
-        (λ x y a b h. let e = listed-of-size l s x .to a .1 in let f = listed-of-size l s y .to b .1 in inr (omega arith, h))
-        (sorted-only _<_ (λ (m : ℕ). eqb (ones m) s) l p))
+    (λ x y a b h. let e = listed-of-size l s x .to a .1 in let f = listed-of-size l s y .to b .1 in inr (omega arith, h))
+    (sorted-only _<_ (λ (m : ℕ). eqb (ones m) s) l p))
     (sorted-by-size l n (suc s) p)
     (λ x y a b. let e = listed-of-size l s x .to a .1 in let h = listed-by-size l n (suc s) y .to b .1 in inl (omega arith))
 

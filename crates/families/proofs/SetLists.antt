@@ -45,8 +45,8 @@ in-listed f m h i = listed-by-size (rising 0 f) 15 0 m .from (listed-members f m
 pub list-of : (c : ℕ) (f : List ℕ) → c < 2 ^ 64 → length f ≡ 256 → OnChosen c f → ListOf c f (setsOf c f)
 list-of c f h e o =
     let below : (m : ℕ) → Listed (masksOf f) m → m < 2 ^ ones c = λ m l.
-        let i = listed-in f m l in
-        o .below m (member-small f m e i) i in
+    let i = listed-in f m l in
+    o .below m (member-small f m e i) i in
     record {
       sound = λ x l.
           let r = listed-of-map (spread 64 c) (masksOf f) x l in
@@ -91,7 +91,7 @@ module _ (N : ℕ → ℕ) (f entry out : List ℕ) (next s : ℕ) (w : AllWriti
       let e : 15 - s ≡ suc (15 - (s + 1)) = omega arith in
       let parts : map N (bySize (rising 0 f) s (15 - s)) ≡ map N (ofSize s (rising 0 f)) ++ map N (bySize (rising 0 f) (s + 1) (15 - (s + 1))) =
       ap (λ (n : ℕ). map N (bySize (rising 0 f) s n)) e ∙ map-append N (ofSize s (rising 0 f)) (bySize (rising 0 f) (suc s) (15 - (s + 1)))
-          ∙ ap (λ (t : ℕ). map N (ofSize s (rising 0 f)) ++ map N (bySize (rising 0 f) t (15 - (s + 1)))) (sym (add-one s)) in
+      ∙ ap (λ (t : ℕ). map N (ofSize s (rising 0 f)) ++ map N (bySize (rising 0 f) t (15 - (s + 1)))) (sym (add-one s)) in
       subst (λ (l : List ℕ). Writing entry 0 (map N (masksOf f)) l out next) parts w
 
   pub all-room : s < 15 → length f ≡ 256 → Words f → size f ≤ length entry → next + length (ofSize s (rising 0 f)) ≤ length out
@@ -160,7 +160,7 @@ module _ (value : ℕ → ℕ) (one : (v : ℕ) → v < 64 → value v ≡ 2 ^ v
   wrote-sets f entry low high r after e words o room p q k =
       let same : map (sumBy low high) (masksOf f) ≡ setsOf c f =
       map-same (sumBy low high) (spread 64 c) (masksOf f)
-          (λ m l. tables-sum ws low high p q m (member-small f m e (listed-in f m l)) ∙ number-sum m) in
+      (λ m l. tables-sum ws low high p q m (member-small f m e (listed-in f m l)) ∙ number-sum m) in
       let n = length-sets-of c f e words in
       let l = rw same at k in
       record {

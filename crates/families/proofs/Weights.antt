@@ -76,17 +76,17 @@ at-spread zero c m value = refl
 at-spread (suc k) c m value =
     by-parity c
     (λ even.
-        let s = spread-even k c m even in
-        let h : spread (suc k) c m / 2 ≡ spread k (c / 2) m = omega arith in
-        let z : spread (suc k) c m % 2 ≡ 0 = omega arith in
-        let ih = at-spread k (c / 2) m (λ (v : ℕ). value (suc v)) in
-        sum-first value k (spread (suc k) c m) ∙ rw (h, z, places-even k c even, map-map value suc (places k (c / 2))) (omega arith))
+    let s = spread-even k c m even in
+    let h : spread (suc k) c m / 2 ≡ spread k (c / 2) m = omega arith in
+    let z : spread (suc k) c m % 2 ≡ 0 = omega arith in
+    let ih = at-spread k (c / 2) m (λ (v : ℕ). value (suc v)) in
+    sum-first value k (spread (suc k) c m) ∙ rw (h, z, places-even k c even, map-map value suc (places k (c / 2))) (omega arith))
     (λ odd.
-        let s = spread-odd k c m odd in
-        let h : spread (suc k) c m / 2 ≡ spread k (c / 2) (m / 2) = omega arith in
-        let z : spread (suc k) c m % 2 ≡ m % 2 = omega arith in
-        let ih = at-spread k (c / 2) (m / 2) (λ (v : ℕ). value (suc v)) in
-        sum-first value k (spread (suc k) c m) ∙ rw (h, z, places-odd k c odd, map-map value suc (places k (c / 2))) (omega arith))
+    let s = spread-odd k c m odd in
+    let h : spread (suc k) c m / 2 ≡ spread k (c / 2) (m / 2) = omega arith in
+    let z : spread (suc k) c m % 2 ≡ m % 2 = omega arith in
+    let ih = at-spread k (c / 2) (m / 2) (λ (v : ℕ). value (suc v)) in
+    sum-first value k (spread (suc k) c m) ∙ rw (h, z, places-odd k c odd, map-map value suc (places k (c / 2))) (omega arith))
 
 -- ---- the loop that takes the chosen vertices' values, lowest first
 
@@ -116,9 +116,9 @@ weighing-more c value rest n ws h ne g =
       count = length-append (g .done) (v ∷ []) ∙ ap (λ (k : ℕ). k + 1) (g .count);
       left = omega (arith, l .count, g .left);
       weights = ap (λ (k : List ℕ). set k n (value v)) (g .weights ∙ ap (λ (k : ℕ). map value (g .done) ++ replicate k 0) e)
-        ∙ set-at (map value (g .done)) 0 (replicate (14 - (n + 1)) 0) (value v) n long
-        ∙ sym (append-snoc (map value (g .done)) (value v) (replicate (14 - (n + 1)) 0))
-        ∙ ap (λ (k : List ℕ). k ++ replicate (14 - (n + 1)) 0) (sym (map-append value (g .done) (v ∷ [])));
+          ∙ set-at (map value (g .done)) 0 (replicate (14 - (n + 1)) 0) (value v) n long
+          ∙ sym (append-snoc (map value (g .done)) (value v) (replicate (14 - (n + 1)) 0))
+          ∙ ap (λ (k : List ℕ). k ++ replicate (14 - (n + 1)) 0) (sym (map-append value (g .done) (v ∷ [])));
     })
 
 pub weighing-end : (c : ℕ) (value : ℕ → ℕ) (rest n : ℕ) (ws : List ℕ) → c < 2 ^ 64 → n ≤ 14 → rest ≡ 0 → Weighing c value rest n ws → WeightsOf c value ws
@@ -128,7 +128,7 @@ weighing-end c value rest n ws h few z g =
     let long : length (map value (g .done)) ≡ n = length-map (g .done) value ∙ g .count in
     record {
       long = ap length (g .weights) ∙ length-append (map value (g .done)) (replicate (14 - n) 0)
-        ∙ rw (length-replicate {A = ℕ} (14 - n) 0, long) (omega arith);
+          ∙ rw (length-replicate {A = ℕ} (14 - n) 0, long) (omega arith);
       sum = λ m x s.
           ap (λ (k : List ℕ). sumAt k m) (g .weights) ∙ at-zeros (map value (g .done)) (14 - n) m
           ∙ ap (λ (k : List ℕ). sumAt (map value k) m) d ∙ sym (at-spread 64 c m value)
@@ -165,8 +165,8 @@ module _ (ws : List ℕ) (n k : ℕ) (t : List ℕ) (h : k < 128) (ne : k ≡ 0 
       rw (next-sum g)
       (record {
         each = λ j l. ⊎-elim
-          (λ e. subst (λ (i : ℕ). getD (set t k (sumAt (drop n ws) k)) i 0 ≡ sumAt (drop n ws) i) (sym e) (getD-set-same t k (sumAt (drop n ws) k) 0 hk))
-          (λ o. getD-set-other t k j (sumAt (drop n ws) k) 0 o ∙ g .each j (omega arith)) (same-or j k);
+            (λ e. subst (λ (i : ℕ). getD (set t k (sumAt (drop n ws) k)) i 0 ≡ sumAt (drop n ws) i) (sym e) (getD-set-same t k (sumAt (drop n ws) k) 0 hk))
+            (λ o. getD-set-other t k j (sumAt (drop n ws) k) 0 o ∙ g .each j (omega arith)) (same-or j k);
       })
 
 -- no sum that the table holds is too large

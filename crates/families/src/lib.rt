@@ -11,7 +11,6 @@ ghost use Rattle.families.specs.Masks.{MaskOf};
 ghost use Rattle.families.specs.Lists.{Writable, WroteSets, Summable, LeastSum};
 ghost use Rattle.families.specs.Tables.{WeightsOf, SumsFit, SumTable, LanesOfSize, TablesFit, Wrote, masksIn, rising, ofSize, bySize, sumBy, leastOf};
 ghost use Rattle.families.specs.Steps.{StepsInWord, StepsToWord, LeastWord};
-
 use vertex_set::VertexSet;
 
 pub const WORDS: usize = 256;
@@ -32,22 +31,70 @@ const LAYERS: [u64; 7] = [
 
 // At v the number of the set that has v alone.
 const SINGLES: [u64; 64] = [
-    0x1, 0x2, 0x4, 0x8,
-    0x10, 0x20, 0x40, 0x80,
-    0x100, 0x200, 0x400, 0x800,
-    0x1000, 0x2000, 0x4000, 0x8000,
-    0x10000, 0x20000, 0x40000, 0x80000,
-    0x100000, 0x200000, 0x400000, 0x800000,
-    0x1000000, 0x2000000, 0x4000000, 0x8000000,
-    0x10000000, 0x20000000, 0x40000000, 0x80000000,
-    0x100000000, 0x200000000, 0x400000000, 0x800000000,
-    0x1000000000, 0x2000000000, 0x4000000000, 0x8000000000,
-    0x10000000000, 0x20000000000, 0x40000000000, 0x80000000000,
-    0x100000000000, 0x200000000000, 0x400000000000, 0x800000000000,
-    0x1000000000000, 0x2000000000000, 0x4000000000000, 0x8000000000000,
-    0x10000000000000, 0x20000000000000, 0x40000000000000, 0x80000000000000,
-    0x100000000000000, 0x200000000000000, 0x400000000000000, 0x800000000000000,
-    0x1000000000000000, 0x2000000000000000, 0x4000000000000000, 0x8000000000000000,
+    0x1,
+    0x2,
+    0x4,
+    0x8,
+    0x10,
+    0x20,
+    0x40,
+    0x80,
+    0x100,
+    0x200,
+    0x400,
+    0x800,
+    0x1000,
+    0x2000,
+    0x4000,
+    0x8000,
+    0x10000,
+    0x20000,
+    0x40000,
+    0x80000,
+    0x100000,
+    0x200000,
+    0x400000,
+    0x800000,
+    0x1000000,
+    0x2000000,
+    0x4000000,
+    0x8000000,
+    0x10000000,
+    0x20000000,
+    0x40000000,
+    0x80000000,
+    0x100000000,
+    0x200000000,
+    0x400000000,
+    0x800000000,
+    0x1000000000,
+    0x2000000000,
+    0x4000000000,
+    0x8000000000,
+    0x10000000000,
+    0x20000000000,
+    0x40000000000,
+    0x80000000000,
+    0x100000000000,
+    0x200000000000,
+    0x400000000000,
+    0x800000000000,
+    0x1000000000000,
+    0x2000000000000,
+    0x4000000000000,
+    0x8000000000000,
+    0x10000000000000,
+    0x20000000000000,
+    0x40000000000000,
+    0x80000000000000,
+    0x100000000000000,
+    0x200000000000000,
+    0x400000000000000,
+    0x800000000000000,
+    0x1000000000000000,
+    0x2000000000000000,
+    0x4000000000000000,
+    0x8000000000000000,
 ];
 
 // Is the mask m in the family?
@@ -213,7 +260,15 @@ fn put_word(y: u64, b: usize, low: &[u64], high: &[u64], out: &mut [u64], at: us
 }
 
 // The same for those of the masks of word b in the lanes of x that have s bits.
-fn put_sized(x: u64, b: usize, s: usize, low: &[u64], high: &[u64], out: &mut [u64], at: usize) -> usize
+fn put_sized(
+    x: u64,
+    b: usize,
+    s: usize,
+    low: &[u64],
+    high: &[u64],
+    out: &mut [u64],
+    at: usize,
+) -> usize
     requires { ⌜ b < 256 ⌝ }
     requires { ⌜ TablesFit (now low) (now high) ⌝ }
     requires { ⌜ at + length (ofSize s (masksIn b x)) ≤ length (now out) ⌝ }

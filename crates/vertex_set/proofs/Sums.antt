@@ -57,3 +57,11 @@ sum-powers (suc n) s =
 pub sum-over-powers : (s : ℕ) → s < 2 ^ 64 → sumOver (λ (v : ℕ). 2 ^ v) s ≡ s
 unfolding sumOver
 sum-over-powers s h = sum-powers 64 s ∙ mod-eq-of-lt h
+
+pub sum-over-within : (value : ℕ → ℕ) (a b : ℕ) → Within a b → sumOver value a ≤ sumOver value b
+unfolding sumOver
+sum-over-within value a b w = sum-within value 64 a b w
+
+pub sum-over-same : (value other : ℕ → ℕ) (s : ℕ) → ((v : ℕ) → value v ≡ other v) → sumOver value s ≡ sumOver other s
+unfolding sumOver
+sum-over-same value other s e = sum-same value other 64 s (λ v m. e v)

@@ -50,9 +50,11 @@ loop-again c =
     let s = b .before .before .before .before in
     let n = sumBy (s .args .low .now) (s .args .high .now) in
     let f = s .args .f .now in
-    let l = s .pre .0 in
-    (omega arith, remaining-more n f (b .loop .least) (b .loop .b) (c .if1 .least) (omega arith)
-        (⊎-elim (λ w. w .2 ∙ w .1 .ensures) (λ w. w .1 ∙ remaining-same n f (b .loop .least) (b .loop .b) (w .0 .left)) (c .if1 .came)) (b .loop .inv .1))
+    let l = s .pre .0 in (
+      omega arith,
+      remaining-more n f (b .loop .least) (b .loop .b) (c .if1 .least) (omega arith)
+          (⊎-elim (λ w. w .2 ∙ w .1 .ensures) (λ w. w .1 ∙ remaining-same n f (b .loop .least) (b .loop .b) (w .0 .left)) (c .if1 .came)) (b .loop .inv .1),
+    )
 
 -- src/lib.rt:298:1
 returns : tie.Need-returns Inv-loop μ-loop

@@ -44,9 +44,11 @@ loop-less c = search needs
 -- src/lib.rt:84:5
 loop-again : tie.Need-loop-again Inv-loop μ-loop
 loop-again c =
-    let b = c .before .before in
-    (search needs, search needs,
-        word-more (b .before .before .before .args .f .now) (b .loop .out) (b .loop .b) (c .least-word .result) (search needs) (b .loop .inv .2) (c .least-word .ensures))
+    let b = c .before .before in (
+      search needs,
+      search needs,
+      word-more (b .before .before .before .args .f .now) (b .loop .out) (b .loop .b) (c .least-word .result) (search needs) (b .loop .inv .2) (c .least-word .ensures),
+    )
 
 -- src/lib.rt:79:1
 same-length : tie.Need-same-length Inv-loop μ-loop

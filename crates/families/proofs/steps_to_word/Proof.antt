@@ -67,12 +67,13 @@ loop-again : tie.Need-loop-again Inv-loop μ-loop
 loop-again c =
     let b = c .before .before in
     let f = b .before .args .f .now in
-    let inv = b .loop .inv .1 in
-    (omega arith,
-        ⊎-elim
-        (λ w. rw (w .2) (to-more f (b .before .args .b) (b .loop .j) (b .loop .lanes) (omega arith) (is-set _ _ (w .0 .taken)) inv))
-        (λ w. rw (w .1) (to-same f (b .before .args .b) (b .loop .j) (b .loop .lanes) (is-not-set _ _ (w .0 .left)) inv))
-        (c .if1 .came))
+    let inv = b .loop .inv .1 in (
+      omega arith,
+      ⊎-elim
+          (λ w. rw (w .2) (to-more f (b .before .args .b) (b .loop .j) (b .loop .lanes) (omega arith) (is-set _ _ (w .0 .taken)) inv))
+          (λ w. rw (w .1) (to-same f (b .before .args .b) (b .loop .j) (b .loop .lanes) (is-not-set _ _ (w .0 .left)) inv))
+          (c .if1 .came),
+    )
 
 -- src/lib.rt:50:1
 returns : tie.Need-returns Inv-loop μ-loop

@@ -1,0 +1,21 @@
+-- What the inner functions ask and answer. Nothing of this has to be believed: no contract of an offered call cites it.
+use mathlib.Core.Path.{_≡_}
+use mathlib.Core.Bool.{true, false}
+use mathlib.Core.List.{List}
+use Prim.Native.Nat.{ℕ, _<_}
+use Rattle.setup.specs.declared.Setup.{Setup}
+use Rattle.setup.specs.WellFormed.{WellFormed}
+use Rattle.bases.specs.Base.{Base}
+use Rattle.answers.specs.Answers.{BasesWritten}
+
+-- Questions 12 and 13 have been asked.
+pub record Asked (s : Setup) (target : ℕ) : Type 0 where
+  pub formed : WellFormed s
+  pub vertex : target < s .count
+
+pub record BasesTaken (s : Setup) (target number : ℕ) (values entry exit : List ℕ) : Type 0 where
+  pub opening : List ℕ
+  pub lockout : List ℕ
+  pub isOpening : Base false s (s .graph) target opening
+  pub isLockout : Base true s (s .graph) target lockout
+  pub written : BasesWritten opening lockout number values entry exit

@@ -1,28 +1,25 @@
 -- `scoreOf` is the score.
 -- Assumes nothing.
 use mathlib.Core.Path.{_≡_, refl, sym, subst, _∙_}
-use mathlib.Core.Bool.{Bool, true, false}
+use mathlib.Core.Bool.{Bool}
 use mathlib.Core.List.{List, [], _∷_}
 use mathlib.Core.Logic.{inl, inr, ⊎-elim}
 use Prim.Native.Nat.{ℕ, suc, _*_, _≤_, _<_, min}
 use native.Mathlib.Nat.{le-trans, min-le-left, min-le-right}
 use native.Mathlib.Omega.{arith}
-use Rattle.vertex_set.specs.Set.{Member, Within}
+use Rattle.vertex_set.specs.Set.{Within}
 use Rattle.vertex_set.specs.Order.{Listed, sumOver}
 use Rattle.vertex_set.proofs.Cases.{less-or}
 use Rattle.vertex_set.proofs.Sums.{sum-within, sum-bound}
-use Rattle.setup.specs.declared.Value.{Value}
-use Rattle.setup.specs.declared.Value.the-variants.{Blank, Of}
 use Rattle.setup.specs.declared.Graph.{Graph}
 use Rattle.setup.specs.declared.Setup.{Setup}
-use Rattle.setup.specs.Setup.{valueOf, vertexAt, Chosen}
-use Rattle.setup.specs.WellFormed.{InRange, WellFormed}
+use Rattle.setup.specs.WellFormed.{WellFormed}
 use Rattle.bases.specs.Base.{TargetSet, MinimalSet, Base}
-use Rattle.bases.specs.Score.{points, pointsAt, sumOf, never, Score, ScoreOver}
+use Rattle.bases.proofs.Formed.{points-small}
+use Rattle.bases.specs.Score.{pointsAt, sumOf, never, Score, ScoreOver}
 use Rattle.reference.specs.Bases.{baseOf, leastSum, scoreOf}
 use Rattle.reference.specs.Graphs.{GraphOf}
-use Rattle.reference.proofs.Graphs.{chosen-below}
-use Rattle.reference.proofs.Bases.{base-of, listed-base, minimal-within}
+use Rattle.reference.proofs.Bases.{base-of, minimal-within}
 
 -- ---- the least sum over a list
 
@@ -59,24 +56,13 @@ module _ (loss : Bool) (s : Setup) where
 
 -- ---- sums are small
 
-below-never : (n : ℕ) → n ≤ 64 * 1000000 → n < never
+below-never : (n : ℕ) → n ≤ 64 * 4000000000 → n < never
 below-never n h = omega arith
 
 module _ (loss : Bool) (s : Setup) (wf : WellFormed s) where
-  points-small : (x : Value) → InRange x → points x ≤ 1000000
-  points-small Blank h = omega arith
-  points-small (Of n) h = h
-
-  value-small : (v : ℕ) → v < s .count → pointsAt loss s v ≤ 1000000
-  value-small v l = points-small (valueOf loss (vertexAt s v)) (in-range loss)
-    where
-      in-range : (b : Bool) → InRange (valueOf b (vertexAt s v))
-      in-range false = wf .used v l .start
-      in-range true = wf .used v l .loss
-
-  pub sum-small : (x : ℕ) → ((v : ℕ) → Member x v → Chosen loss s v) → sumOf loss s x < never
+  pub sum-small : (x : ℕ) → sumOf loss s x < never
   unfolding sumOver
-  sum-small x c = below-never (sumOf loss s x) (sum-bound (pointsAt loss s) 1000000 64 x (λ v m. value-small v (chosen-below loss s wf v (c v m))))
+  sum-small x = below-never (sumOf loss s x) (sum-bound (pointsAt loss s) 4000000000 64 x (λ v m. points-small loss s wf v))
 
   sum-grows : (x y : ℕ) → Within x y → sumOf loss s x ≤ sumOf loss s y
   unfolding sumOver
@@ -100,4 +86,4 @@ module _ (loss : Bool) (s : Setup) (wf : WellFormed s) where
     unfolding scoreOf
     score-of =
         base-score (baseOf loss s g target) (leastSum loss s (baseOf loss s g target)) (base-of loss s g target wf h)
-        (score-over loss s (baseOf loss s g target) (λ x m. sum-small x (listed-base loss s g target wf h x .to m .is .chosen)))
+        (score-over loss s (baseOf loss s g target) (λ x m. sum-small x))

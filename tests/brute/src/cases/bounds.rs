@@ -20,7 +20,7 @@ pub fn bounds() -> Vec<SheetCase> {
 }
 
 /// Reports of the greatest length: lists at their longest, many of them, and the longest rows.
-/// A brute force report of one takes a second or two.
+/// The largest has 180,839 rows and 28,691,086 bytes, which takes a second.
 pub fn longest_reports() -> Vec<SheetCase> {
     let mut cases = Vec::new();
     for needed in [7, 8] {

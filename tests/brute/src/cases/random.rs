@@ -19,9 +19,23 @@ pub struct Size {
 
 /// The size of the many: up to 9 starting and 9 losable items.
 pub const SMALL: Size = Size { items: (1, 14), starting: 9, losable: 9 };
-/// The size at 01's bounds.
+/// The size at 01's bounds, which its sheets always reach.
 pub const LARGE: Size =
     Size { items: (PLACES, PLACES), starting: MAX_STARTING, losable: MAX_LOSABLE };
+
+impl Size {
+    fn at_the_bounds(self) -> bool {
+        self.items.0 == PLACES
+    }
+
+    /// Some of `count` items, at most `most`; half of the time as many as that, and always so at
+    /// the bounds.
+    fn some_items(self, rng: &mut Rng, count: usize, most: usize) -> Vec<usize> {
+        let full = self.at_the_bounds() || rng.chance(1, 2);
+        let many = if full { most } else { rng.between(0, most) };
+        rng.some_of(count, many)
+    }
+}
 
 /// How the rows of a shape are made.
 pub type Make = fn(&mut Rng, Size) -> Draft;
@@ -57,8 +71,9 @@ pub fn random_draft(rng: &mut Rng, number: usize) -> Draft {
     finished(rng, SHAPES[number % SHAPES.len()].1, SMALL)
 }
 
-/// Sheets of 64 items with 14 starting and 14 losable ones, many with 256 edges. A brute force
-/// report of one takes about a second.
+/// Sheets at the bounds: 64 items (at most 63 in an antichain), 14 starting ones (or 13 where one
+/// must not be reached), 14 losable ones, and many with 256 edges. A brute force report of one
+/// takes about a tenth of a second.
 pub fn large_sheets(seed: u64, count: usize) -> impl Iterator<Item = SheetCase> {
     let mut rng = Rng::new(seed);
     (0..count).map(move |number| {
@@ -77,8 +92,7 @@ fn finished(rng: &mut Rng, make: Make, size: Size) -> Draft {
     draft
 }
 
-/// Items with random kinds, ranks and values, and no edge. Half of the sheets have as many
-/// starting and losable items as the size allows.
+/// Items with random kinds, ranks and values, and no edge.
 fn items(rng: &mut Rng, size: Size) -> Draft {
     let count = rng.between(size.items.0, size.items.1);
     let mut draft = Draft::of_items(count);
@@ -88,16 +102,11 @@ fn items(rng: &mut Rng, size: Size) -> Draft {
         item.rank = rng.below(MAX_RANK as usize + 1) as u64;
     }
     let style = rng.below(4);
-    let starting = some_items(rng, count, size.starting);
+    let starting = size.some_items(rng, count, size.starting);
     draft.set_starting(&starting, || random_value(rng, style));
-    let losable = some_items(rng, count, size.losable);
+    let losable = size.some_items(rng, count, size.losable);
     draft.set_losable(&losable, || random_value(rng, style));
     draft
-}
-
-fn some_items(rng: &mut Rng, count: usize, most: usize) -> Vec<usize> {
-    let many = if rng.chance(1, 2) { most } else { rng.between(0, most) };
-    rng.some_of(count, many)
 }
 
 /// A start or loss value: few different ones so that sums tie, or many, or the largest.
@@ -199,7 +208,7 @@ fn chain(rng: &mut Rng, size: Size) -> Draft {
 /// Long lists of sets none of which lies in another: at least k of m items are needed.
 fn antichain(rng: &mut Rng, size: Size) -> Draft {
     let most = size.starting.min(size.losable);
-    let many = if size.items.0 == PLACES { most } else { rng.between(2, most) };
+    let many = if size.at_the_bounds() { most } else { rng.between(2, most) };
     let needed = rng.between(1, many);
     let mut draft = at_least(needed, many);
     let style = rng.below(4);

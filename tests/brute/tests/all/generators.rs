@@ -101,10 +101,11 @@ fn large_sheets_are_at_the_bounds() {
         let setup = accepted(&case.sheet).setup;
         met.insert(("items", setup.count as usize));
         met.insert(("edges", setup.edges()));
-        met.insert(("starting", setup.starting().len()));
-        met.insert(("losable", setup.losable().len()));
+        let unreachable = case.label.contains("unreachable");
+        assert!(setup.starting().len() == 14 || unreachable, "{}", case.label);
+        assert_eq!(setup.losable().len(), 14, "{}", case.label);
     }
-    for bound in [("items", 64), ("edges", 256), ("starting", 14), ("losable", 14)] {
+    for bound in [("items", 64), ("edges", 256)] {
         assert!(met.contains(&bound), "{bound:?}");
     }
 }

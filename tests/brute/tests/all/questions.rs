@@ -18,16 +18,16 @@ fn some_sheet_yields(setup: &Setup) -> bool {
 #[test]
 fn malformed_setups_are_refused() {
     for case in malformed_setups(1, 20) {
-        assert!(!some_sheet_yields(&case.setup), "{}", case.label);
-        assert!(!case.setup.well_formed(), "{}", case.label);
+        assert!(!some_sheet_yields(&case.setup), "{}\n{}", case.label, case.setup);
+        assert!(!case.setup.well_formed(), "{}\n{}", case.label, case.setup);
     }
 }
 
 #[test]
 fn near_misses_are_accepted() {
     for case in near_misses(2, 20) {
-        assert!(some_sheet_yields(&case.setup), "{}", case.label);
-        assert!(case.setup.well_formed(), "{}", case.label);
+        assert!(some_sheet_yields(&case.setup), "{}\n{}", case.label, case.setup);
+        assert!(case.setup.well_formed(), "{}\n{}", case.label, case.setup);
     }
 }
 

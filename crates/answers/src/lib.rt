@@ -102,8 +102,8 @@ fn write_bases(s: Setup, target: usize, out: &mut [u64]) -> BasesAnswer
     if out.len() - n < m {
         return BasesAnswer::Refused(15);
     }
-    let first = families::write_sets(&opening, initial, out);
-    let second = families::write_sets(&lockout, losable, &mut out[first..]);
+    let first = family_lists::write_sets(&opening, initial, out);
+    let second = family_lists::write_sets(&lockout, losable, &mut out[first..]);
     BasesAnswer::Counts(first, second)
 }
 

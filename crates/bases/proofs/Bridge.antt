@@ -24,10 +24,11 @@ use Rattle.derivations.proofs.Rules.{monotone}
 use Rattle.derivations.proofs.Both.{lawful}
 use Rattle.families.specs.Family.{In, Minimal, Monotone, MinimalMembers, size}
 use Rattle.families.specs.Masks.{Picked, SetOfMask}
-use Rattle.families.specs.Lists.{OnChosen, ListOf, LeastSum, SumOfMember}
+use Rattle.families.specs.Exact.{OnChosen}
+use Rattle.family_lists.specs.Lists.{ListOf, LeastSum, SumOfMember}
 use Rattle.families.proofs.Masks.{spread, set-of, set-unique, set-within, gather, gather-lt, mask-of, subset-submask, proper-subset, proper-submask}
-use Rattle.families.proofs.Order.{Words}
-use Rattle.families.proofs.SetLists.{setsOf, list-of, length-sets-of}
+use Rattle.family_lists.proofs.Order.{Words}
+use Rattle.family_lists.proofs.SetLists.{setsOf, list-of, length-sets-of}
 use Rattle.tables.specs.Table.{FamilyOf}
 use Rattle.tables.proofs.Tables.{table-family-monotone}
 use Rattle.bases.specs.Readers.{BaseFamily, BothFamilies}

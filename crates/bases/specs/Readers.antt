@@ -11,7 +11,8 @@ use Rattle.setup.specs.Setup.{ChosenSet}
 use Rattle.setup.specs.WellFormed.{WellFormed}
 use Rattle.derivations.specs.Both.{ruleOf}
 use Rattle.families.specs.Family.{MinimalMembers, size}
-use Rattle.families.specs.Lists.{OnChosen, ListOf}
+use Rattle.families.specs.Exact.{OnChosen}
+use Rattle.family_lists.specs.Lists.{ListOf}
 use Rattle.tables.specs.Table.{FamilyOf}
 use Rattle.bases.specs.Base.{Base}
 

@@ -70,7 +70,7 @@ pub fn score_of(s: Setup, graph: Graph, loss: bool, target: usize) -> u64
     let values = values_of(s, loss);
     let mut family = [0u64; WORDS];
     family_of(graph, chosen, loss, target, &mut family);
-    families::least_sum(&family, chosen, values)
+    family_lists::least_sum(&family, chosen, values)
 }
 
 // The target's family, the family of its minimal members, whose sets are the target's base, and

@@ -200,13 +200,6 @@ rising-drop f b h = rw (add-one, drop-cons f b 0 h)
 pub rising-end : (f : List ℕ) (b : ℕ) → b ≡ length f → rising b (drop b f) ≡ []
 rising-end f b e = rw (e, drop-length f)
 
-pub sized-drop : (N : ℕ → ℕ) (s : ℕ) (f : List ℕ) (b : ℕ) → b < length f
-    → map N (ofSize s (rising b (drop b f)))
-    ≡ map N (ofSize s (masksIn b (getD f b 0))) ++ map N (ofSize s (rising (b + 1) (drop (b + 1) f)))
-sized-drop N s f b h =
-    ap (λ (l : List ℕ). map N (ofSize s l)) (rising-drop f b h)
-    ∙ ap (map N) (only-append (λ (m : ℕ). eqb (ones m) s) (masksIn b (getD f b 0)) (rising (b + 1) (drop (b + 1) f)))
-    ∙ map-append N (ofSize s (masksIn b (getD f b 0))) (ofSize s (rising (b + 1) (drop (b + 1) f)))
 -- a word without members has no masks
 pub masks-none : (b w : ℕ) → w ≡ 0 → masksIn b w ≡ []
 masks-none b w e = rw (places-none 64 w e)

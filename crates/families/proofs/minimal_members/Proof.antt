@@ -39,7 +39,6 @@ loop-again c =
     let b = c .before .before in (
       search needs,
       search needs,
-      word-more (b .before .before .before .args .f .now) (b .loop .out) (b .loop .b) (c .least-word .result) (search needs) (b .loop .inv .2) (c .least-word .ensures),
       word-more (b .before .before .before .args .f .now) (b .loop .out) (b .loop .b) (c .least-word .result) (search needs) (b .loop .inv .2)
           (c .least-word .ensures),
     )

@@ -17,7 +17,7 @@ pub record Same (n n′ : ℕ) (v v′ : List ℕ) : Type 0 where
 -- Closure and lost set.
 abbrev pub SetDetermined : Type 0
 SetDetermined = (loss : Bool) (s : Setup) (set n n′ : ℕ) (v v′ : List ℕ)
-  → SetCall (λ g. Closure (ruleOf loss g)) s set n v → SetCall (λ g. Closure (ruleOf loss g)) s set n′ v′ → Same n n′ v v′
+    → SetCall (λ g. Closure (ruleOf loss g)) s set n v → SetCall (λ g. Closure (ruleOf loss g)) s set n′ v′ → Same n n′ v v′
 
 -- The way in, with both lent lists.
 pub record SameWay (n n′ : ℕ) (v v′ x x′ y y′ : List ℕ) : Type 0 where
@@ -27,7 +27,7 @@ pub record SameWay (n n′ : ℕ) (v v′ x x′ y y′ : List ℕ) : Type 0 whe
 
 abbrev pub WayDetermined : Type 0
 WayDetermined = (s : Setup) (target set n n′ : ℕ) (v v′ a x x′ b y y′ : List ℕ)
-  → WayCall s target set n v a x b y → WayCall s target set n′ v′ a x′ b y′ → SameWay n n′ v v′ x x′ y y′
+    → WayCall s target set n v a x b y → WayCall s target set n′ v′ a x′ b y′ → SameWay n n′ v v′ x x′ y y′
 
 -- Both lists, with the lent list.
 pub record SameBases (n n′ : ℕ) (v v′ x x′ : List ℕ) : Type 0 where
@@ -44,4 +44,4 @@ ScoreDetermined = (loss : Bool) (s : Setup) (target n n′ : ℕ) (v v′ : List
 -- Marks.
 abbrev pub MarksDetermined : Type 0
 MarksDetermined = (loss : Bool) (s : Setup) (target : ℕ) (handed : List ℕ) (n n′ : ℕ) (v v′ : List ℕ)
-  → MarksCall loss s target handed n v → MarksCall loss s target handed n′ v′ → Same n n′ v v′
+    → MarksCall loss s target handed n v → MarksCall loss s target handed n′ v′ → Same n n′ v v′

@@ -1,0 +1,51 @@
+-- The form of a name, by the tests that the code makes.
+-- Assumes nothing.
+use mathlib.Core.Path.{_≡_, refl, sym, _∙_}
+use mathlib.Core.List.{List, [], _∷_}
+use mathlib.Core.Bool.{Bool, true, false, _&&_, _||_, and-true, or-false, or-true}
+use Prim.Native.Nat.{ℕ, suc, _≤_, _<_}
+use native.Mathlib.Omega.{arith}
+use lib.ListN.{length}
+use lib.Dec.{eqb, leb}
+use borrow.Author.Tests.{eq-eqb, ne-eqb, le-leb, lt-leb}
+use Rattle.sheet_format.specs.Text.{all}
+use Rattle.sheet_format.specs.Fields.{isDigit, isNameByte, isName}
+
+-- ---- a name's bytes
+
+pub byte-letter : (b : ℕ) → 97 ≤ b → leb b 122 ≡ isNameByte b
+unfolding isNameByte isDigit
+byte-letter b h =
+    let u : eqb b 95 ≡ false = ne-eqb b 95 (λ e. omega arith) in
+    let d : leb b 57 ≡ false = lt-leb b 57 (omega arith) in
+    let o : leb 48 b ≡ true = le-leb 48 b (omega arith) in
+    rw (le-leb 97 b h, u, o, d, or-false (leb b 122), or-false (leb b 122))
+
+pub byte-line : (b : ℕ) → b ≡ 95 → true ≡ isNameByte b
+unfolding isNameByte isDigit
+byte-line b e = rw (eq-eqb b 95 e, or-true (leb 97 b && leb b 122 || isDigit b))
+
+pub byte-low : (b : ℕ) → b < 48 → false ≡ isNameByte b
+unfolding isNameByte isDigit
+byte-low b h =
+    let l : leb 97 b ≡ false = lt-leb 97 b (omega arith) in
+    let u : eqb b 95 ≡ false = ne-eqb b 95 (λ e. omega arith) in
+    rw (l, lt-leb 48 b h, u)
+
+pub byte-digit : (b : ℕ) → b < 97 → 48 ≤ b → (b ≡ 95 → ⊥) → leb b 57 ≡ isNameByte b
+unfolding isNameByte isDigit
+byte-digit b h k n = rw (lt-leb 97 b h, le-leb 48 b k, ne-eqb b 95 n, or-false (leb b 57))
+
+-- ---- a name's length
+
+pub name-none : (f : List ℕ) → length f ≡ 0 → false ≡ isName f
+unfolding isName
+name-none f h = let l : leb 1 (length f) ≡ false = lt-leb 1 (length f) (omega arith) in rw l
+
+pub name-long : (f : List ℕ) → 16 < length f → false ≡ isName f
+unfolding isName
+name-long f h = let l : leb 1 (length f) ≡ true = le-leb 1 (length f) (omega arith) in rw (l, lt-leb (length f) 16 h)
+
+pub name-bytes : (f : List ℕ) → (length f ≡ 0 → ⊥) → length f ≤ 16 → isName f ≡ all isNameByte f
+unfolding isName
+name-bytes f n h = let l : leb 1 (length f) ≡ true = le-leb 1 (length f) (omega (arith, n)) in rw (l, le-leb (length f) 16 h)

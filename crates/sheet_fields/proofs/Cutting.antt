@@ -161,9 +161,7 @@ pub no-cut : (l : List ℕ) → question4 4 (fieldsOf l) ≡ false → CutsFour 
 no-cut l q =
     record {
       answer = sym q;
-      first = λ e. absurd (false-true e);
-      second = λ e. absurd (false-true e);
-      third = λ e. absurd (false-true e);
+      places = λ e. absurd (false-true e);
       fields = λ e. absurd (false-true e);
     }
 
@@ -173,8 +171,6 @@ pub cuts : (l : List ℕ) (a b d : ℕ) → Stepped l 0 a → Stepped l (a + 1) 
 cuts l a b d x y z n h =
     record {
       answer = sym (x .question 2 ∙ y .question 1 ∙ z .question 0 ∙ last-is l (d + 1) n (omega (arith, z .inside)) h);
-      first = λ e. omega (arith, y .less);
-      second = λ e. omega (arith, z .less);
-      third = λ e. z .inside;
+      places = λ e. record { first = omega (arith, y .less); second = omega (arith, z .less); third = z .inside };
       fields = λ e. x .fields ∙ rw (y .fields, z .fields, last-fields l (d + 1) h, sub-zero a);
     }

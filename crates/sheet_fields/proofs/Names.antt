@@ -2,12 +2,12 @@
 -- Assumes nothing.
 use mathlib.Core.Path.{_≡_, refl, sym, _∙_}
 use mathlib.Core.List.{List, [], _∷_}
-use mathlib.Core.Bool.{Bool, true, false, _&&_, _||_, and-true, or-false, or-true}
+use mathlib.Core.Bool.{Bool, true, false, _&&_, _||_, or-false, or-true, and-eq-true-iff}
 use Prim.Native.Nat.{ℕ, suc, _≤_, _<_}
 use native.Mathlib.Omega.{arith}
 use lib.ListN.{length}
 use lib.Dec.{eqb, leb}
-use borrow.Author.Tests.{eq-eqb, ne-eqb, le-leb, lt-leb}
+use borrow.Author.Tests.{eq-eqb, ne-eqb, le-leb, lt-leb, leb-true}
 use Rattle.sheet_format.specs.Text.{all}
 use Rattle.sheet_format.specs.Fields.{isDigit, isNameByte, isName}
 
@@ -49,3 +49,13 @@ name-long f h = let l : leb 1 (length f) ≡ true = le-leb 1 (length f) (omega a
 pub name-bytes : (f : List ℕ) → (length f ≡ 0 → ⊥) → length f ≤ 16 → isName f ≡ all isNameByte f
 unfolding isName
 name-bytes f n h = let l : leb 1 (length f) ≡ true = le-leb 1 (length f) (omega (arith, n)) in rw (l, le-leb (length f) 16 h)
+
+pub name-length : (f : List ℕ) → isName f ≡ true → length f ≤ 16
+unfolding isName
+name-length f h =
+    leb-true (length f) 16 (and-eq-true-iff (leb 1 (length f)) (leb (length f) 16) .0
+      (and-eq-true-iff (leb 1 (length f) && leb (length f) 16) (all isNameByte f) .0 h .0) .1)
+
+pub name-all : (f : List ℕ) → isName f ≡ true → all isNameByte f ≡ true
+unfolding isName
+name-all f h = and-eq-true-iff (leb 1 (length f) && leb (length f) 16) (all isNameByte f) .0 h .1

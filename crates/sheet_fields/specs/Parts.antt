@@ -22,15 +22,18 @@ moreFollow l = ltb 0 (until 32 l) && ltb (until 32 l) (length l)
 unfoldable pub endAt : List ℕ → ℕ → ℕ
 endAt l at = cond (moreFollow (drop at l)) (at + until 32 (drop at l)) 0
 
+-- The four fields of a line that is cut at these places.
+abbrev pub fourFields : List ℕ → ℕ → ℕ → ℕ → List (List ℕ)
+fourFields l a b c = take a l ∷ take (b - (a + 1)) (drop (a + 1) l) ∷ take (c - (b + 1)) (drop (b + 1) l) ∷ drop (c + 1) l ∷ []
+
+-- The places are in order, and within the line.
+pub record Places (l : List ℕ) (a b c : ℕ) : Type 0 where
+  pub first : a < b
+  pub second : b < c
+  pub third : c < length l
+
 -- A cut says whether a line has four fields, none empty, and if so where the first three end.
 pub record CutsFour (l : List ℕ) (r : Cut) : Type 0 where
   pub answer : r .ok ≡ question4 4 (fieldsOf l)
-  pub first : r .ok ≡ true → r .first < r .second
-  pub second : r .ok ≡ true → r .second < r .third
-  pub third : r .ok ≡ true → r .third < length l
-  pub fields : r .ok ≡ true → fieldsOf l
-      ≡ take (r .first) l
-      ∷ take (r .second - (r .first + 1)) (drop (r .first + 1) l)
-      ∷ take (r .third - (r .second + 1)) (drop (r .second + 1) l)
-      ∷ drop (r .third + 1) l
-      ∷ []
+  pub places : r .ok ≡ true → Places l (r .first) (r .second) (r .third)
+  pub fields : r .ok ≡ true → fieldsOf l ≡ fourFields l (r .first) (r .second) (r .third)

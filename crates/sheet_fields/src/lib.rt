@@ -6,7 +6,7 @@ ghost use lib.ListN.{length, drop};
 ghost use Rattle.sheet_format.specs.Fields.{isNameByte, isName};
 ghost use Rattle.sheet_fields.specs.Parts.{until, endAt, CutsFour};
 ghost use Rattle.sheet_fields.specs.Forms.{cappedNumber, cappedStep, ReadsKind, ReadsValue};
-ghost use Rattle.sheet_fields.specs.Keys.{packed, keyOf};
+ghost use Rattle.sheet_fields.specs.Keys.{packed, keyOf, ReadsName};
 
 pub const SPACE: u8 = 32;
 pub const LF: u8 = 10;
@@ -23,6 +23,13 @@ const WORD_BYTES: usize = 8;
 pub struct Key {
     pub low: u64,
     pub high: u64,
+}
+
+pub const NO_KEY: Key = Key { low: 0, high: 0 };
+
+pub struct NameField {
+    pub ok: bool,
+    pub key: Key,
 }
 
 pub struct KindField {
@@ -112,7 +119,7 @@ fn is_name_byte(b: u8) -> bool
     b <= b'9'
 }
 
-pub fn is_name(f: &[u8]) -> bool
+fn is_name(f: &[u8]) -> bool
     ensures { λ r. ⌜ r ≡ isName (now (f .entry)) ⌝ }
 {
     if f.len() == 0 {
@@ -210,7 +217,7 @@ fn pack(f: &[u8]) -> u64
     n
 }
 
-pub fn key_of(name: &[u8]) -> Key
+fn key_of(name: &[u8]) -> Key
     requires { ⌜ length (now name) ≤ 16 ⌝ }
     ensures { λ r. ⌜ r ≡ keyOf (now (name .entry)) ⌝ }
 {
@@ -221,5 +228,17 @@ pub fn key_of(name: &[u8]) -> Key
         let low = pack(&name[..WORD_BYTES]);
         let high = pack(&name[WORD_BYTES..]);
         Key { low, high }
+    }
+}
+
+// A name of 1 to 16 of a-z, 0-9, `_`
+pub fn read_name(f: &[u8]) -> NameField
+    ensures { λ r. ⌜ ReadsName (now (f .entry)) r ⌝ }
+{
+    if is_name(f) {
+        let key = key_of(f);
+        NameField { ok: true, key }
+    } else {
+        NameField { ok: false, key: NO_KEY }
     }
 }

@@ -1,0 +1,4 @@
+pub mod Asks
+pub mod Items
+pub mod Edges
+pub mod Tables

@@ -1,10 +1,11 @@
 -- Reading a setup: its vertices, its edges, and how many there are of each.
 use mathlib.Core.Path.{_≡_}
+use mathlib.Core.Bool.{Bool, true, false}
 use mathlib.Core.List.{List, [], _∷_}
 use Prim.Native.Nat.{ℕ, _+_, _<_}
 use lib.ListN.{length, getD}
 use lib.Count.{ones}
-use Rattle.vertex_set.specs.Set.{Member}
+use Rattle.vertex_set.specs.Set.{Member, Iff}
 use Rattle.setup.specs.declared.Kind.{Kind}
 use Rattle.setup.specs.declared.Kind.the-variants.{Credential, Account}
 use Rattle.setup.specs.declared.Value.{Value}
@@ -51,12 +52,18 @@ abbrev pub given : Value → ℕ
 given Blank = 0
 given (Of n) = 1
 
--- How many vertices are initial (document 01: starting items), and how many losable.
-unfoldable pub initialCount : Setup → ℕ
-initialCount s = total (λ x. given (x .start)) (s .vertices)
+-- The value by which a vertex counts: its start value for access, its loss value for lockout.
+abbrev pub valueOf : Bool → Vertex → Value
+valueOf false x = x .start
+valueOf true x = x .loss
 
-unfoldable pub losableCount : Setup → ℕ
-losableCount s = total (λ x. given (x .loss)) (s .vertices)
+-- v is initial (document 01: a starting item), or for lockout losable: it has a value there, perhaps zero, and no blank.
+abbrev pub Chosen : Bool → Setup → ℕ → Type 0
+Chosen loss s v = given (valueOf loss (vertexAt s v)) ≡ 1
+
+-- How many vertices are initial, and how many losable.
+unfoldable pub chosenCount : Bool → Setup → ℕ
+chosenCount loss s = total (λ x. given (valueOf loss x)) (s .vertices)
 
 -- Every array has its length: what the types of a setup say of each setup that a program holds.
 pub record ShapedGraph (g : Graph) : Type 0 where
@@ -67,3 +74,13 @@ pub record Shaped (s : Setup) : Type 0 where
   pub places : length (s .vertices) ≡ 64
   pub graph : ShapedGraph (s .graph)
   pub recovery : ShapedGraph (s .recovery)
+
+-- The graph less the recovery edges (document 003: G'; document 01: without recovery), edge by edge.
+pub record WithoutRecovery (s : Setup) (g : Graph) : Type 0 where
+  pub shaped : ShapedGraph g
+  pub each : (f v c : ℕ) → Iff (Edge g f v c) (Edge (s .graph) f v c × (Edge (s .recovery) f v c → ⊥))
+
+-- r is the set of the initial vertices, or for lockout of the losable ones.
+pub record ChosenSet (loss : Bool) (s : Setup) (r : ℕ) : Type 0 where
+  pub each : (v : ℕ) → Iff (Member r v) (Chosen loss s v)
+  pub size : ones r ≡ chosenCount loss s

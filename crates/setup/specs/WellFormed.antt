@@ -1,11 +1,12 @@
 -- What makes a setup well formed. `sheet` proves that these are exactly the setups that accepted sheets yield (question 12).
 use mathlib.Core.Path.{_≡_}
+use mathlib.Core.Bool.{true, false}
 use Prim.Native.Nat.{ℕ, _≤_, _<_}
 use Rattle.setup.specs.declared.Value.{Value}
 use Rattle.setup.specs.declared.Value.the-variants.{Blank, Of}
 use Rattle.setup.specs.declared.Vertex.{Vertex}
 use Rattle.setup.specs.declared.Setup.{Setup}
-use Rattle.setup.specs.Setup.{unusedVertex, vertexAt, Edge, edgeCount, initialCount, losableCount, Shaped}
+use Rattle.setup.specs.Setup.{unusedVertex, vertexAt, Edge, edgeCount, chosenCount, Shaped}
 
 -- A value is in range: a blank, or a number up to 1,000,000.
 abbrev pub InRange : Value → Type 0
@@ -30,5 +31,5 @@ pub record WellFormed (s : Setup) : Type 0 where
   pub marked : (f v c : ℕ) → Edge (s .recovery) f v c → Edge (s .graph) f v c
   -- at most 256 edges, 14 initial and 14 losable vertices
   pub edges : edgeCount (s .graph) ≤ 256
-  pub initial : initialCount s ≤ 14
-  pub losable : losableCount s ≤ 14
+  pub initial : chosenCount false s ≤ 14
+  pub losable : chosenCount true s ≤ 14

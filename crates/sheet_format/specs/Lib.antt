@@ -3,3 +3,4 @@ pub mod Fields
 pub mod Rows
 pub mod Questions
 pub mod Read
+pub mod Meaning

@@ -94,3 +94,11 @@ digit-not (suc k) a (suc i) h lt =
     let q = pow-pos k in
     let half : ((2 ^ suc k - 1) - a) / 2 ≡ (2 ^ k - 1) - a / 2 = omega arith in
     rw (digit-suc ((2 ^ suc k - 1) - a) i, digit-suc a i, half) (digit-not k (a / 2) i (omega arith) (native.Mathlib.Nat.le-of-suc-le-suc lt))
+
+-- All digits of 2 ^ k - 1 are 1.
+pub digit-ones : (k i : ℕ) → i < k → digit (2 ^ k - 1) i ≡ 1
+digit-ones k i l =
+    let d = digit-not k 0 i (pow-pos k) l in
+    let z = digit-zero i in
+    let e : 2 ^ k - 1 - 0 ≡ 2 ^ k - 1 = omega arith in
+    subst (λ (x : ℕ). digit x i ≡ 1) e (omega arith)

@@ -4,16 +4,17 @@ use mathlib.Core.Path.{_≡_, refl, sym, ap, _∙_, subst}
 use mathlib.Core.Bool.{Bool, true, false, not}
 use mathlib.Core.Logic.{_⊎_, inl, inr, ⊎-elim}
 use Prim.Native.Nat.{ℕ, zero, suc, _+_, _-_, _*_, _/_, _%_, _^_, min, max, _≤_, _<_}
-use native.Mathlib.Nat.{lt-of-lt-of-le, mod-eq-of-lt}
+use native.Mathlib.Nat.{lt-of-lt-of-le, mod-eq-of-lt, mod-lt, pow-suc}
 use native.Mathlib.Omega.{arith}
-use lib.Bits.{bitAnd, bitOr}
+use lib.Bits.{bitAnd, bitOr, or-step, or-zero-r}
+use lib.Count.{ones, ones-step, ones-cat}
 use lib.Arith.{bin-ind}
-use lib.Pow.{pow-mono, pow-lt, pow-pos, ones-lt}
+use lib.Pow.{pow-mono, pow-lt, pow-pos, ones-lt, mod-pow-add}
 use lib.Dec.{eqb}
 use borrow.Author.Tests.{eqb-true, eqb-false, not-true, not-false}
 use Rattle.vertex_set.specs.Set.{Member, Within, Meets, Decides, Iff, Inserted, Below}
 use Rattle.vertex_set.proofs.Cases.{less-or, same-or, false-true}
-use Rattle.vertex_set.proofs.Digits.{digit, digit-lt, digit-and, digit-or, digit-zero, digit-high, digit-suc, digit-first, digits-same, digit-pow-same, digit-pow-other, digit-not}
+use Rattle.vertex_set.proofs.Digits.{digit, digit-lt, digit-and, digit-or, digit-zero, digit-high, digit-suc, digit-first, digits-same, digit-pow-same, digit-pow-other, digit-not, digit-ones}
 
 -- ---- membership
 
@@ -185,12 +186,7 @@ below-power n h =
     record {
       each = λ i. record {
         to = λ m. let l = member-below n (2 ^ n - 1) i (ones-lt n) m in (l, omega arith);
-        from = λ p.
-            let l = p .0 in
-            let d = digit-not n 0 i (pow-pos n) l in
-            let z = digit-zero i in
-            let e : 2 ^ n - 1 - 0 ≡ 2 ^ n - 1 = omega arith in
-            subst (λ (x : ℕ). digit x i ≡ 1) e (omega arith);
+        from = λ p. digit-ones n i (p .0);
       };
     }
 
@@ -206,3 +202,42 @@ below-many n h =
         from = λ p. b .each i .from (p .1, p .1);
       };
     }
+
+-- a number whose members are below k is below 2 ^ k
+pub bounded-by-members : (k s : ℕ) → ((i : ℕ) → Member s i → i < k) → s < 2 ^ k
+unfolding Member
+bounded-by-members k s h =
+    let le = within-le s (2 ^ k - 1) (record { each = λ i m. digit-ones k i (h i m) }) in
+    let p = pow-pos k in
+    omega arith
+
+-- ---- how many members
+
+-- one vertex more is at most one member more
+pub ones-or-one : (v s : ℕ) → ones (bitOr s (2 ^ v)) ≤ ones s + 1
+ones-or-one zero s =
+    let e = or-step s 1 in
+    let z : bitOr (s / 2) (1 / 2) ≡ s / 2 = or-zero-r (s / 2) in
+    let low : bitOr s 1 % 2 ≤ 1 = omega arith in
+    let high : bitOr s 1 / 2 ≡ s / 2 = omega arith in
+    rw (ones-step (bitOr s 1), high) (let p = ones-step s in omega arith)
+ones-or-one (suc v) s =
+    let p = pow-suc 2 v in
+    let half : 2 ^ suc v / 2 ≡ 2 ^ v = omega arith in
+    let e : bitOr s (2 ^ suc v) ≡ bitOr (s / 2) (2 ^ v) * 2 + max (s % 2) (2 ^ suc v % 2) = rw half at (or-step s (2 ^ suc v)) in
+    let low : bitOr s (2 ^ suc v) % 2 ≡ s % 2 = omega arith in
+    let high : bitOr s (2 ^ suc v) / 2 ≡ bitOr (s / 2) (2 ^ v) = omega arith in
+    rw (ones-step (bitOr s (2 ^ suc v)), low, high) (let p = ones-step s in let q = ones-or-one v (s / 2) in omega arith)
+
+ones-of-digit : (d : ℕ) → d < 2 → ones d ≡ d
+unfolding ones
+ones-of-digit zero h = refl
+ones-of-digit (suc zero) h = refl
+ones-of-digit (suc (suc d)) h = absurd (omega arith)
+
+-- the members below n + 1: those below n, and n if it is one
+pub ones-below-more : (s n : ℕ) → ones (s % 2 ^ suc n) ≡ ones (s % 2 ^ n) + digit s n
+ones-below-more s n =
+    let e : 1 + n ≡ suc n = omega arith in
+    let m : s % 2 ^ suc n ≡ digit s n * 2 ^ n + s % 2 ^ n = rw e at (mod-pow-add s 1 n) in
+    rw (m, ones-cat n (digit s n) (s % 2 ^ n) (mod-lt s (pow-pos n))) (let d = ones-of-digit (digit s n) (digit-lt s n) in omega arith)

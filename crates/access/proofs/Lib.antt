@@ -1,0 +1,4 @@
+pub mod Calls
+pub mod Colours
+pub mod Passes
+pub mod Ways

@@ -1,0 +1,75 @@
+-- What the calls answer, for every setup, set, target and lent list.
+use mathlib.Core.Path.{_≡_}
+use mathlib.Core.List.{List, [], _∷_, _++_, map}
+use mathlib.Core.Logic.{_⊎_}
+use Prim.Native.Nat.{ℕ, _≤_, _<_}
+use lib.ListN.{length, drop}
+use Rattle.vertex_set.specs.Set.{Member}
+use Rattle.vertex_set.specs.declared.VertexSet.{VertexSet}
+use Rattle.setup.specs.declared.Graph.{Graph}
+use Rattle.setup.specs.declared.Setup.{Setup}
+use Rattle.setup.specs.WellFormed.{WellFormed}
+use Rattle.setup.specs.Calls.{Refuses, Inside}
+use Rattle.derivations.specs.Access.{Step, HasAccess}
+use Rattle.derivations.specs.Way.{Way}
+use Rattle.access.specs.declared.SetAnswer.{SetAnswer}
+use Rattle.access.specs.declared.SetAnswer.the-variants.{Set, Refused}
+use Rattle.access.specs.declared.WayAnswer.{WayAnswer}
+use Rattle.access.specs.declared.WayAnswer.the-variants as way
+
+-- ---- a set of vertices
+
+-- Document 01's number for an answer: 0, or that of the refusal.
+abbrev pub numberOf : SetAnswer → ℕ
+numberOf (Set r) = 0
+numberOf (Refused q) = q
+
+-- The values that an answer has: the set's number.
+abbrev pub valuesOf : SetAnswer → List ℕ
+valuesOf (Set r) = r .0 ∷ []
+valuesOf (Refused q) = []
+
+-- 12, then 14, else the one set that From says; From is `AccessFrom` or `LockoutFrom`.
+pub record SetCall (From : Graph → ℕ → ℕ → Type 0) (s : Setup) (set number : ℕ) (values : List ℕ) : Type 0 where
+  pub malformed : (WellFormed s → ⊥) → Refuses 12 number values
+  pub outside : WellFormed s → (Inside s set → ⊥) → Refuses 14 number values
+  pub answers : WellFormed s → Inside s set → (r : ℕ) × (number ≡ 0) × (values ≡ r ∷ []) × From (s .graph) set r
+
+-- ---- the way in
+
+-- The number of an answer to a way in: that of the refusal, else 0.
+abbrev pub wayNumber : WayAnswer → ℕ
+wayNumber (way.Steps n) = 0
+wayNumber way.Shut = 0
+wayNumber (way.Refused q) = q
+
+-- Its values: the count of steps; none where the target is shut.
+abbrev pub wayValues : WayAnswer → List ℕ
+wayValues (way.Steps n) = n ∷ []
+wayValues way.Shut = []
+wayValues (way.Refused q) = []
+
+-- xs stand in the first places of the lent list, and the places behind them are unchanged.
+abbrev pub written : List ℕ → List ℕ → List ℕ
+written xs entry = xs ++ drop (length xs) entry
+
+-- Both lent lists are as they were.
+pub record Untouched (entry exit entry′ exit′ : List ℕ) : Type 0 where
+  pub first : exit ≡ entry
+  pub second : exit′ ≡ entry′
+
+-- Of the way d, its vertices stand in the one list and its colours in the other, where both have room; 15 where one has not.
+pub record WayWritten (d : List Step) (number : ℕ) (values entry exit entry′ exit′ : List ℕ) : Type 0 where
+  pub room : length d ≤ length entry → length d ≤ length entry′
+      → (number ≡ 0) × (values ≡ length d ∷ []) × (exit ≡ written (map (λ e. e .vertex) d) entry) × (exit′ ≡ written (map (λ e. e .colour) d) entry′)
+  pub short : (length entry < length d) ⊎ (length entry′ < length d) → Refuses 15 number values × Untouched entry exit entry′ exit′
+
+-- 12, 13, 14; "shut" exactly where no derivation of the target exists; else the way in.
+pub record WayCall (s : Setup) (target set number : ℕ) (values entry exit entry′ exit′ : List ℕ) : Type 0 where
+  pub malformed : (WellFormed s → ⊥) → Refuses 12 number values × Untouched entry exit entry′ exit′
+  pub noTarget : WellFormed s → s .count ≤ target → Refuses 13 number values × Untouched entry exit entry′ exit′
+  pub outside : WellFormed s → target < s .count → (Inside s set → ⊥) → Refuses 14 number values × Untouched entry exit entry′ exit′
+  pub shut : WellFormed s → target < s .count → Inside s set → (HasAccess (s .graph) (Member set) target → ⊥)
+      → (number ≡ 0) × (values ≡ []) × Untouched entry exit entry′ exit′
+  pub found : WellFormed s → target < s .count → Inside s set → HasAccess (s .graph) (Member set) target
+      → (d : List Step) × Way (s .graph) target (Member set) d × WayWritten d number values entry exit entry′ exit′

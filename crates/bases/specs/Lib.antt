@@ -1,0 +1,3 @@
+pub mod Base
+pub mod Marks
+pub mod Score

@@ -1,0 +1,44 @@
+-- Scores (document 003, definitions 8 and 22; document 01, "Scores and findings").
+use mathlib.Core.Path.{_≡_}
+use mathlib.Core.Bool.{Bool}
+use mathlib.Core.List.{List}
+use Prim.Native.Nat.{ℕ, _^_, _≤_, _<_}
+use Rattle.vertex_set.specs.Order.{Listed, sumOver}
+use Rattle.setup.specs.declared.Value.{Value}
+use Rattle.setup.specs.declared.Value.the-variants.{Blank, Of}
+use Rattle.setup.specs.declared.Graph.{Graph}
+use Rattle.setup.specs.declared.Setup.{Setup}
+use Rattle.setup.specs.Setup.{valueOf, vertexAt}
+use Rattle.bases.specs.Base.{TargetSet}
+
+-- The number of a value; a blank has none, and counts as 0 where it is asked.
+abbrev pub points : Value → ℕ
+points Blank = 0
+points (Of n) = n
+
+-- The start value of the vertex v, or for lockout its loss value.
+abbrev pub pointsAt : Bool → Setup → ℕ → ℕ
+pointsAt loss s v = points (valueOf loss (vertexAt s v))
+
+-- The sum of the values of the vertices of x.
+abbrev pub sumOf : Bool → Setup → ℕ → ℕ
+sumOf loss s x = sumOver (pointsAt loss s) x
+
+-- "Never", the score of an account that no set opens: a number above every sum.
+abbrev pub never : ℕ
+never = 2 ^ 62
+
+-- r is the security score of the target, or the recoverability score: never exactly where no set of initial (losable) vertices has a
+-- derivation of it, else the least sum over all sets that have one.
+pub record Score (loss : Bool) (s : Setup) (g : Graph) (target r : ℕ) : Type 0 where
+  pub none : ((x : ℕ) → TargetSet loss s g target x → ⊥) → r ≡ never
+  pub some : (x : ℕ) → TargetSet loss s g target x → r < never
+  pub least : (x : ℕ) → TargetSet loss s g target x → r ≤ sumOf loss s x
+  pub reached : r < never → (x : ℕ) × TargetSet loss s g target x × (r ≡ sumOf loss s x)
+
+-- The same over a list: never where it is empty, else the least sum over its sets.
+pub record ScoreOver (loss : Bool) (s : Setup) (l : List ℕ) (r : ℕ) : Type 0 where
+  pub none : ((x : ℕ) → Listed l x → ⊥) → r ≡ never
+  pub some : (x : ℕ) → Listed l x → r < never
+  pub least : (x : ℕ) → Listed l x → r ≤ sumOf loss s x
+  pub reached : r < never → (x : ℕ) × Listed l x × (r ≡ sumOf loss s x)

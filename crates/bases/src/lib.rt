@@ -1,0 +1,1 @@
+// Bases and scores, read from a table of all subsets.

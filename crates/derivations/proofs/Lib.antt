@@ -1,0 +1,4 @@
+pub mod Both
+pub mod Graphs
+pub mod Rules
+pub mod Way

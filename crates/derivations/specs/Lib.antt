@@ -1,0 +1,5 @@
+pub mod Access
+pub mod Both
+pub mod Derivation
+pub mod Lockout
+pub mod Way

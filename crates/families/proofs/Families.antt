@@ -1,0 +1,124 @@
+-- Laws of families: their words, and the number of their members.
+-- Assumes nothing.
+use mathlib.Core.Path.{_≡_, refl, sym, ap, _∙_, subst}
+use mathlib.Core.Bool.{Bool, false}
+use mathlib.Core.Logic.{_⊎_, inl, inr, ⊎-elim}
+use mathlib.Core.List.{List, [], _∷_}
+use Prim.Native.Nat.{ℕ, zero, suc, _+_, _-_, _*_, _/_, _%_, _^_, _≤_, _<_}
+use native.Mathlib.Numerals.{add-one}
+use native.Mathlib.Omega.{arith}
+use lib.Dec.{eqb}
+use lib.ListN.{length, getD, drop, set, List·getD-eq-default}
+use lib.Seq.{drop-cons, drop-length, getD-set-same, getD-set-other}
+use lib.Pow.{pow-add}
+use lib.Count.{ones}
+use Rattle.vertex_set.specs.Set.{Member, Within, ProperlyWithin, Decides, Iff}
+use Rattle.vertex_set.proofs.Cases.{false-true, less-or, same-or}
+use Rattle.vertex_set.proofs.Sets.{none-in-zero, member-decided, member-below}
+use Rattle.vertex_set.proofs.Places.{member-le}
+use Rattle.vertex_set.proofs.Shifts.{in-low, in-high}
+use Rattle.vertex_set.proofs.Subsets.{proper-lacks, within-removed, removed-proper, proper-less}
+use Rattle.families.specs.Family.{In, size, Monotone, Minimal, Least, MinimalMembers}
+use Rattle.families.specs.Steps.{StepInWord, StepToWord, LeastLane, LeastWord}
+
+-- ---- one mask
+
+pub in-decided : (f : List ℕ) (m : ℕ) → Decides (In f m) (eqb (getD f (m / 64) 0 / 2 ^ (m % 64) % 2) 1)
+unfolding In
+in-decided f m = member-decided (getD f (m / 64) 0) (m % 64)
+
+-- past the last word there is nothing
+pub none-beyond : (f : List ℕ) (m : ℕ) → length f ≤ m / 64 → In f m → ⊥
+unfolding In
+none-beyond f m h i = none-in-zero (m % 64) (subst (λ (w : ℕ). Member w (m % 64)) (List·getD-eq-default f 0 h) i)
+
+pub beyond-decided : (f : List ℕ) (m : ℕ) → length f ≤ m / 64 → Decides (In f m) false
+beyond-decided f m h = record { yes = λ e. absurd (false-true e); no = λ e i. none-beyond f m h i }
+
+-- ---- the number of members
+
+pub size-drop : (f : List ℕ) (b : ℕ) → b < length f → size (drop b f) ≡ ones (getD f b 0) + size (drop (b + 1) f)
+size-drop f b h = rw (add-one, drop-cons f b 0 h)
+
+pub size-end : (f : List ℕ) (b : ℕ) → b ≡ length f → size (drop b f) ≡ 0
+size-end f b e = rw (e, drop-length f)
+
+-- ---- minimal members
+
+-- a bit below 6 is one of the lane's number, any other one of the word's
+low-bit : (m j : ℕ) → j < 6 → Member m j → Member (m % 64) j
+low-bit m j h k = in-low 6 j m h .from k
+
+step-low : (f : List ℕ) (m j : ℕ) → Member (m % 64) j → Iff (In f (m - 2 ^ j)) (Member (getD f (m / 64) 0) (m % 64 - 2 ^ j))
+unfolding In
+step-low f m j r =
+    let le = member-le j (m % 64) r in
+    let e : (m - 2 ^ j) / 64 ≡ m / 64 = omega arith in
+    let g : (m - 2 ^ j) % 64 ≡ m % 64 - 2 ^ j = omega arith in
+    rw (e, g) (record { to = λ i. i; from = λ i. i })
+
+step-high : (f : List ℕ) (m d : ℕ) → Member (m / 64) d → Iff (In f (m - 2 ^ (6 + d))) (Member (getD f (m / 64 - 2 ^ d) 0) (m % 64))
+unfolding In
+step-high f m d r =
+    let le = member-le d (m / 64) r in
+    let p = pow-add 2 6 d in
+    let e : (m - 2 ^ (6 + d)) / 64 ≡ m / 64 - 2 ^ d = omega arith in
+    let g : (m - 2 ^ (6 + d)) % 64 ≡ m % 64 = omega arith in
+    rw (e, g) (record { to = λ i. i; from = λ i. i })
+
+-- what is least in the lanes of words is least by masks
+lane-least : (f : List ℕ) (m : ℕ) → m < 16384 → LeastLane f (m / 64) (m % 64) → Least f m
+unfolding In
+lane-least f m b l = record { is = l .is; none = none }
+  where
+    high : (d j : ℕ) → j ≡ 6 + d → Member m j → In f (m - 2 ^ j) → ⊥
+    high d j q k i =
+        let r : Member (m / 64) d = in-high 6 d m .from (rw q at k) in
+        l .high (d, member-below 8 (m / 64) d (omega arith) r, r, step-high f m d r .to (subst (λ (j : ℕ). In f (m - 2 ^ j)) q i))
+
+    none : (j : ℕ) → Member m j → In f (m - 2 ^ j) → ⊥
+    none j k i =
+        ⊎-elim (λ h. let r = low-bit m j h k in l .low (j, r, step-low f m j r .to i)) (λ h. high (j - 6) j (omega arith) k i) (less-or j 6)
+
+least-lane : (f : List ℕ) (m : ℕ) → Least f m → LeastLane f (m / 64) (m % 64)
+unfolding In
+least-lane f m l =
+    record {
+      is = l .is;
+      low = λ s. l .none (s .0) (in-low 6 (s .0) m (member-below 6 (m % 64) (s .0) (omega arith) (s .1)) .to (s .1)) (step-low f m (s .0) (s .1) .from (s .2));
+      high = λ s. l .none (6 + s .0) (in-high 6 (s .0) m .to (s .2)) (step-high f m (s .0) (s .2) .from (s .3));
+    }
+
+-- in a monotone family one step down is enough
+least-minimal : (f : List ℕ) (m : ℕ) → Monotone f → m < 16384 → Least f m → Minimal f m
+least-minimal f m mono h l =
+    record {
+      is = l .is;
+      none = λ k p i.
+          let w = proper-lacks k m (omega arith) p in
+          let le = proper-less k m p in
+          l .none (w .0) (w .1) (mono .up k (m - 2 ^ w .0) (omega arith) (omega arith) (within-removed k m (w .0) (p .within) (w .1) (w .2)) i);
+    }
+
+minimal-least : (f : List ℕ) (m : ℕ) → Minimal f m → Least f m
+minimal-least f m l = record { is = l .is; none = λ j k i. l .none (m - 2 ^ j) (removed-proper m j k) i }
+
+pub minimal-members : (f g : List ℕ) → ((b : ℕ) → b < 256 → LeastWord f b (getD g b 0)) → MinimalMembers f g
+unfolding In
+minimal-members f g w =
+    let each : (m : ℕ) → m < 16384 → Iff (In g m) (Least f m) = λ m h.
+        let l = w (m / 64) (omega arith) .each (m % 64) (omega arith) in
+        record { to = λ i. lane-least f m h (l .to i); from = λ q. l .from (least-lane f m q) } in
+    record {
+      least = each;
+      minimal = λ mono m h. record {
+        to = λ i. least-minimal f m mono h (each m h .to i);
+        from = λ q. each m h .from (minimal-least f m q);
+      };
+    }
+
+-- the word b is written, after those before it
+pub word-more : (f out : List ℕ) (b r : ℕ) → b < length out → ((k : ℕ) → k < b → LeastWord f k (getD out k 0)) → LeastWord f b r
+    → (k : ℕ) → k < b + 1 → LeastWord f k (getD (set out b r) k 0)
+word-more f out b r h p l k lt =
+    ⊎-elim (λ e. subst (λ (j : ℕ). LeastWord f j (getD (set out b r) j 0)) (sym e) (rw (getD-set-same out b r 0 h) l)) (λ n. rw (getD-set-other out b k r 0 n) (p k (omega arith))) (same-or k b)

@@ -1,0 +1,35 @@
+-- Families of masks: a truth table of 2^14 bits, kept as a list of 256 words.
+use mathlib.Core.Path.{_≡_}
+use mathlib.Core.List.{List, [], _∷_}
+use Prim.Native.Nat.{ℕ, _+_, _-_, _/_, _%_, _^_, _<_}
+use lib.ListN.{getD}
+use lib.Count.{ones}
+use Rattle.vertex_set.specs.Set.{Member, Within, ProperlyWithin, Iff}
+
+-- The mask m is in the family f.
+unfoldable pub In : List ℕ → ℕ → Type 0
+In f m = Member (getD f (m / 64) 0) (m % 64)
+
+-- The number of the family's members: the ones of all its words.
+abbrev pub size : List ℕ → ℕ
+size [] = 0
+size (w ∷ f) = ones w + size f
+
+-- A mask that has all of a member's bits is a member.
+pub record Monotone (f : List ℕ) : Type 0 where
+  pub up : (k m : ℕ) → k < 16384 → m < 16384 → Within k m → In f k → In f m
+
+-- m is in the family, and no proper submask of it is.
+pub record Minimal (f : List ℕ) (m : ℕ) : Type 0 where
+  pub is : In f m
+  pub none : (k : ℕ) → ProperlyWithin k m → In f k → ⊥
+
+-- m is in the family, and m without any one of its bits is not.
+pub record Least (f : List ℕ) (m : ℕ) : Type 0 where
+  pub is : In f m
+  pub none : (j : ℕ) → Member m j → In f (m - 2 ^ j) → ⊥
+
+-- g has the minimal members of the monotone family f; of any other, those that are least one step down.
+pub record MinimalMembers (f g : List ℕ) : Type 0 where
+  pub minimal : Monotone f → (m : ℕ) → m < 16384 → Iff (In g m) (Minimal f m)
+  pub least : (m : ℕ) → m < 16384 → Iff (In g m) (Least f m)

@@ -1,0 +1,5 @@
+pub mod Family
+pub mod Masks
+pub mod Lists
+pub mod Steps
+pub mod Tables

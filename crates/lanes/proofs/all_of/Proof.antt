@@ -1,0 +1,85 @@
+-- `lanes::all_of` meets its contract. The invariant: out is the family where all vertices passed are held.
+-- Assumes nothing.
+use Prim.Native.Nat.{_+_, _-_, _*_}
+use native.Mathlib.Omega.{arith}
+use borrow.Author.Needs.{needs}
+use Rattle.lanes.proofs.Scans.{Scan, AllPassed, all-none, all-more, all-done}
+use Rattle.lanes.proofs.all_of.Statement.{statement}
+use Rattle.lanes.proofs.all_of.Tie as tie
+
+abbrev Inv-loop : tie.InvT-loop
+Inv-loop w row out₀ left₀ out left = Scan AllPassed w row left out
+
+abbrev μ-loop : tie.MeasureT-loop
+μ-loop w row out₀ left₀ out left = left
+
+set-all-requires : tie.Need-set-all-requires Inv-loop μ-loop
+set-all-requires c κs = search needs
+
+loop-holds : tie.Need-loop-holds Inv-loop μ-loop
+loop-holds c = all-none _ _ _ (c .before .before .set-all .ensures)
+
+lowest-requires : tie.Need-lowest-requires Inv-loop μ-loop
+lowest-requires c κs = search needs
+
+mul-a : tie.Need-mul-a Inv-loop μ-loop
+mul-a c = search needs
+
+add-and-in : tie.Need-add-and-in Inv-loop μ-loop
+add-and-in c = search needs
+
+mul-and-in : tie.Need-mul-and-in Inv-loop μ-loop
+mul-and-in c = search needs
+
+sub-and-in : tie.Need-sub-and-in Inv-loop μ-loop
+sub-and-in c = search needs
+
+part-and-in-start : tie.Need-part-and-in-start Inv-loop μ-loop
+part-and-in-start c = search needs
+
+part-and-in-end : tie.Need-part-and-in-end Inv-loop μ-loop
+part-and-in-end c = search needs
+
+and-in-requires : tie.Need-and-in-requires Inv-loop μ-loop
+and-in-requires c κs = search needs
+
+without-requires : tie.Need-without-requires Inv-loop μ-loop
+without-requires c κs = search needs
+
+loop-less : tie.Need-loop-less Inv-loop μ-loop
+loop-less c = c .without .ensures .less
+
+loop-again : tie.Need-loop-again Inv-loop μ-loop
+loop-again c =
+    let a = c .before .before .before in
+    let l = a .before .before .before in
+    let v = l .lowest .result in
+    all-more _ _ _ v _ (v * 256 + 256 - v * 256) _ _ (l .lowest .ensures .member) (c .without .ensures) (omega arith) (l .before .before .loop .inv) (a .and-in .ensures)
+
+same-length : tie.Need-same-length Inv-loop μ-loop
+same-length c = search needs
+
+returns : tie.Need-returns Inv-loop μ-loop
+returns c = all-done _ _ _ _ (c .loop-test .left) (c .before .loop .inv)
+
+pub all-of-spec : {M : Type 1} → statement M
+all-of-spec =
+    tie.close
+    (tie.spec
+    Inv-loop
+    μ-loop
+    set-all-requires
+    loop-holds
+    lowest-requires
+    mul-a
+    add-and-in
+    mul-and-in
+    sub-and-in
+    part-and-in-start
+    part-and-in-end
+    and-in-requires
+    without-requires
+    loop-less
+    loop-again
+    same-length
+    returns)

@@ -1,0 +1,100 @@
+// The lanes of a table: the bits at one place of all its families are one set of vertices. In which of them is a vertex opened, or lost?
+ghost use mathlib.Core.Path.{_≡_};
+ghost use lib.ListN.{length};
+ghost use Rattle.words.specs.Words.{At, FamilyWhere};
+ghost use Rattle.derivations.specs.Lockout.{SomeLost};
+ghost use Rattle.lanes.specs.Lanes.{Lane, AllHeld, Takes, untakenWord, Admits, Needed};
+use setup::Rows;
+use words::WORDS;
+
+pub const COLOURS: usize = 8;
+
+// A word with the masks of all its places.
+const ALL: u64 = 0xFFFF_FFFF_FFFF_FFFF;
+
+// All vertices that some colour of these rows needs.
+pub fn needed(rows: Rows) -> u64
+    ensures { λ r. ⌜ Needed rows r ⌝ }
+{
+    let mut s: u64 = 0;
+    for c in 0..COLOURS {
+        s = s | rows.needs[c];
+    }
+    s
+}
+
+// The masks whose sets have every vertex of the row.
+fn all_of(w: &[u64], row: u64, out: &mut [u64])
+    requires { ⌜ length (now w) ≡ 16384 ⌝ }
+    requires { ⌜ length (now out) ≡ 256 ⌝ }
+    ensures { λ _. ⌜ FamilyWhere (λ b i. AllHeld (Lane (now (w .entry)) b i) row) (now (out .exit)) ⌝ }
+{
+    words::set_all(out, ALL);
+    let mut left = row;
+    while left != 0 {
+        let v = words::lowest(left);
+        let a = v * WORDS;
+        words::and_in(out, &w[a..a + WORDS]);
+        left = words::without(left, v);
+    }
+}
+
+// The masks whose sets have some vertex of the row.
+fn any_of(w: &[u64], row: u64, out: &mut [u64])
+    requires { ⌜ length (now w) ≡ 16384 ⌝ }
+    requires { ⌜ length (now out) ≡ 256 ⌝ }
+    ensures { λ _. ⌜ FamilyWhere (λ b i. SomeLost (Lane (now (w .entry)) b i) row) (now (out .exit)) ⌝ }
+{
+    words::set_all(out, 0);
+    let mut left = row;
+    while left != 0 {
+        let v = words::lowest(left);
+        let a = v * WORDS;
+        words::or_in(out, &w[a..a + WORDS]);
+        left = words::without(left, v);
+    }
+}
+
+// The family gains the masks whose sets have the whole row or, with loss, keeps those whose sets have a vertex of it. An empty row is
+// no colour: it gives no mask, and takes none away.
+fn take_colour(w: &[u64], row: u64, loss: bool, out: &mut [u64])
+    requires { ⌜ length (now w) ≡ 16384 ⌝ }
+    requires { ⌜ length (now out) ≡ 256 ⌝ }
+    ensures { λ _. ⌜ FamilyWhere (λ b i. Takes loss (At (now (out .entry)) b i) (Lane (now (w .entry)) b i) row) (now (out .exit)) ⌝ }
+{
+    if row == 0 {
+        return;
+    }
+    let mut part = [0u64; 256];
+    if loss {
+        any_of(w, row, &mut part);
+        words::and_in(out, &part);
+    } else {
+        all_of(w, row, &mut part);
+        words::or_in(out, &part);
+    }
+}
+
+// Each word of a family before any colour is taken: gaining begins with no mask, keeping with all.
+fn untaken(loss: bool) -> u64
+    ensures { λ r. ⌜ r ≡ untakenWord loss ⌝ }
+{
+    if loss { ALL } else { 0 }
+}
+
+// The masks by whose sets a vertex with these rows is opened or, with loss, lost. A vertex that has no colour is neither.
+pub fn admitted(w: &[u64], rows: Rows, loss: bool, out: &mut [u64])
+    requires { ⌜ length (now w) ≡ 16384 ⌝ }
+    requires { ⌜ length (now out) ≡ 256 ⌝ }
+    ensures { λ _. ⌜ FamilyWhere (λ b i. Admits loss rows (Lane (now (w .entry)) b i)) (now (out .exit)) ⌝ }
+{
+    if needed(rows) == 0 {
+        words::set_all(out, 0);
+        return;
+    }
+    let first = untaken(loss);
+    words::set_all(out, first);
+    for c in 0..COLOURS {
+        take_colour(w, rows.needs[c], loss, out);
+    }
+}

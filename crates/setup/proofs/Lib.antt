@@ -1,0 +1,4 @@
+pub mod Counts
+pub mod Vertices
+pub mod Edges
+pub mod Whole

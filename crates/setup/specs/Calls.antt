@@ -1,0 +1,15 @@
+-- What the calls on a setup have in common: the questions 12 to 15, and what a refusal answers.
+use mathlib.Core.Path.{_≡_}
+use mathlib.Core.List.{List, []}
+use Prim.Native.Nat.{ℕ, _<_}
+use Rattle.vertex_set.specs.Set.{Member}
+use Rattle.setup.specs.declared.Setup.{Setup}
+
+-- The answer is the refusal with the number q: it has that number, and no values.
+pub record Refuses (q number : ℕ) (values : List ℕ) : Type 0 where
+  pub numbered : number ≡ q
+  pub empty : values ≡ []
+
+-- Question 14: the set has only vertices of the setup.
+pub record Inside (s : Setup) (set : ℕ) : Type 0 where
+  pub each : (v : ℕ) → Member set v → v < s .count

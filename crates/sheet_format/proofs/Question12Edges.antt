@@ -1,0 +1,208 @@
+-- The edges of the graph that rows state, and how many there are.
+-- Assumes nothing.
+use mathlib.Core.Path.{_≡_, refl, sym, ap, subst, _∙_}
+use mathlib.Core.List.{List, [], _∷_, List·Memᴰ·head, List·Memᴰ·tail, List·Memᴰ·not-nil, List·Memᴰ·cases-cons}
+use mathlib.Core.Logic.{_⊎_, inl, inr, ⊎-elim}
+use Prim.Native.Nat.{ℕ, zero, suc, _+_, _^_, _≤_, _<_}
+use native.Mathlib.Omega.{arith}
+use lib.ListN.{length, getD, set, replicate, length-set, length-replicate, getD-replicate, List·getD-eq-default}
+use lib.Seq.{getD-set-same, getD-set-other, ext-getD}
+use lib.Bits.{bitOr}
+use lib.Count.{ones}
+use Rattle.vertex_set.specs.Set.{Member, Iff}
+use Rattle.vertex_set.proofs.Cases.{same-or, less-or}
+use Rattle.vertex_set.proofs.Sets.{none-in-zero, in-or, in-one, same-set, ones-or-one}
+use Rattle.setup.specs.declared.Rows.{Rows}
+use Rattle.setup.specs.declared.Graph.{Graph}
+use Rattle.setup.specs.Setup.{rowsAt, rowOf, row, Edge, ShapedGraph, total, edgeCount}
+use Rattle.setup.proofs.Whole.{edge-place}
+use Rattle.sheet_format.specs.Rows.{ItemRow, EdgeRow, Each, numberIn, emptyGraph, withEdge, withEdges}
+use Rattle.sheet_format.proofs.Question12Lists.{In}
+
+-- eight empty rows
+abbrev emptyRows : Rows
+emptyRows = record { needs = replicate 8 0 }
+
+-- ---- graphs with the same edges are one
+
+rows-same : (x y : Rows) → length (x .needs) ≡ 8 → length (y .needs) ≡ 8 → ((f c : ℕ) → Iff (Member (rowOf x c) f) (Member (rowOf y c) f)) → x ≡ y
+rows-same x y lx ly h =
+    let e : x .needs ≡ y .needs = ext-getD 0 (x .needs) (y .needs) (omega arith) (λ c l.
+    same-set _ _ (record { each = λ f m. h f c .to m }) (record { each = λ f m. h f c .from m })) in
+    λ i. record { needs = e i }
+
+pub graph-same : (g k : Graph) → ShapedGraph g → ShapedGraph k → ((f v c : ℕ) → Iff (Edge g f v c) (Edge k f v c)) → g ≡ k
+graph-same g k sg sk h =
+    let lg = sg .places in
+    let lk = sk .places in
+    let e : g .rows ≡ k .rows = ext-getD (record { needs = [] }) (g .rows) (k .rows) (omega arith) (λ v l.
+    rows-same (rowsAt g v) (rowsAt k v) (sg .colours v (omega arith)) (sk .colours v (omega arith)) (λ f c. h f v c)) in
+    λ i. record { rows = e i }
+
+-- ---- the graph without edges
+
+pub empty-shaped : ShapedGraph emptyGraph
+unfolding emptyGraph
+empty-shaped =
+    record {
+      places = length-replicate 64 emptyRows;
+      colours = λ v l. rw (getD-replicate 64 v emptyRows (record { needs = [] }) l) (length-replicate {A = ℕ} 8 0);
+    }
+
+pub empty-edges : (f v c : ℕ) → Edge emptyGraph f v c → ⊥
+unfolding emptyGraph
+empty-edges f v c m = none-in-zero f (subst (λ (x : ℕ). Member x f) (none (edge-place emptyGraph (empty-shaped .places) f v c m)) m)
+  where
+    zeros : (n c : ℕ) → _≡_ {A = ℕ} (getD (replicate n 0) c 0) 0
+    zeros n c = ⊎-elim (λ l. getD-replicate n c 0 0 l) (λ l. List·getD-eq-default (replicate {A = ℕ} n 0) 0 (let k = length-replicate {A = ℕ} n 0 in omega arith)) (less-or c n)
+
+    none : v < 64 → row emptyGraph v c ≡ 0
+    none l = rw (getD-replicate 64 v emptyRows (record { needs = [] }) l) (zeros 8 c)
+
+pub empty-count : edgeCount emptyGraph ≡ 0
+unfolding emptyGraph edgeCount ones
+empty-count = refl
+
+-- ---- one edge more
+
+total-set : {A : Type 0} (h : A → ℕ) (l : List A) (i : ℕ) (a d : A) → i < length l → total h (set l i a) + h (getD l i d) ≡ total h l + h a
+total-set h [] i a d b = absurd (omega arith)
+total-set h (x ∷ xs) zero a d b = omega arith
+total-set h (x ∷ xs) (suc i) a d b = let e = total-set h xs i a d (omega arith) in omega arith
+
+module _ (g : Graph) (f v c : ℕ) (sh : ShapedGraph g) (lv : v < 64) (lc : c < 8) where
+  new : Rows
+  new = record { needs = set (rowsAt g v .needs) c (bitOr (row g v c) (2 ^ f)) }
+
+  here : rowsAt (withEdge g f v c) v ≡ new
+  unfolding withEdge new
+  here = getD-set-same (g .rows) v new (record { needs = [] }) (let p = sh .places in omega arith)
+
+  there : (u : ℕ) → (u ≡ v → ⊥) → rowsAt (withEdge g f v c) u ≡ rowsAt g u
+  unfolding withEdge new
+  there u d = getD-set-other (g .rows) v u new (record { needs = [] }) d
+
+  long : length (new .needs) ≡ 8
+  unfolding new
+  long = length-set (rowsAt g v .needs) c (bitOr (row g v c) (2 ^ f)) ∙ sh .colours v lv
+
+  pub edge-shaped : ShapedGraph (withEdge g f v c)
+  unfolding withEdge new
+  edge-shaped =
+      record {
+        places = length-set (g .rows) v new ∙ sh .places;
+        colours = λ u l. ⊎-elim
+            (λ e. subst (λ (w : ℕ). length (rowsAt (withEdge g f v c) w .needs) ≡ 8) (sym e) (ap (λ (r : Rows). length (r .needs)) here ∙ long))
+            (λ d. ap (λ (r : Rows). length (r .needs)) (there u d) ∙ sh .colours u l)
+            (same-or u v);
+      }
+
+  row-here : row (withEdge g f v c) v c ≡ bitOr (row g v c) (2 ^ f)
+  unfolding new
+  row-here = ap (λ (r : Rows). rowOf r c) here ∙ getD-set-same (rowsAt g v .needs) c (bitOr (row g v c) (2 ^ f)) 0 (let p = sh .colours v lv in omega arith)
+
+  row-there : (u b : ℕ) → (u ≡ v → b ≡ c → ⊥) → row (withEdge g f v c) u b ≡ row g u b
+  unfolding new
+  row-there u b d = ⊎-elim
+      (λ e. subst (λ (w : ℕ). row (withEdge g f v c) w b ≡ row g w b) (sym e)
+      (ap (λ (r : Rows). rowOf r b) here ∙ getD-set-other (rowsAt g v .needs) c b (bitOr (row g v c) (2 ^ f)) 0 (d e)))
+      (λ n. ap (λ (r : Rows). rowOf r b) (there u n))
+      (same-or u v)
+
+  -- its edges are those there were, and the new one
+  pub edge-more : (a u b : ℕ) → Iff (Edge (withEdge g f v c) a u b) (Edge g a u b ⊎ ((a ≡ f) × (u ≡ v) × (b ≡ c)))
+  edge-more a u b = ⊎-elim (λ e. ⊎-elim (λ k. at e k) (λ k. beside (λ p q. k q)) (same-or b c)) (λ k. beside (λ p q. k p)) (same-or u v)
+    where
+      at : u ≡ v → b ≡ c → Iff (Edge (withEdge g f v c) a u b) (Edge g a u b ⊎ ((a ≡ f) × (u ≡ v) × (b ≡ c)))
+      at e k =
+          rw (e, k, row-here)
+          (record {
+            to = λ m. ⊎-elim (λ p. inl p) (λ p. inr (in-one f a .to p, refl, refl)) (in-or (row g v c) (2 ^ f) a .to m);
+            from = λ m. in-or (row g v c) (2 ^ f) a .from (⊎-elim (λ p. inl p) (λ p. inr (in-one f a .from (p .0))) m);
+          })
+
+      beside : (u ≡ v → b ≡ c → ⊥) → Iff (Edge (withEdge g f v c) a u b) (Edge g a u b ⊎ ((a ≡ f) × (u ≡ v) × (b ≡ c)))
+      beside d =
+          rw (row-there u b d)
+          (record { to = λ m. inl m; from = ⊎-elim (λ m. m) (λ p. absurd (d (p .1) (p .2))) })
+
+  pub count-more : edgeCount (withEdge g f v c) ≤ edgeCount g + 1
+  unfolding withEdge edgeCount new
+  count-more =
+      let inner = total-set ones (rowsAt g v .needs) c (bitOr (row g v c) (2 ^ f)) 0 (let p = sh .colours v lv in omega arith) in
+      let outer = total-set (λ r. total ones (r .needs)) (g .rows) v new (record { needs = [] }) (let p = sh .places in omega arith) in
+      let more = ones-or-one f (row g v c) in
+      omega arith
+
+-- ---- the edges that rows state
+
+-- One of the rows states the edge of colour c from f to v.
+pub record Stated (xs : List ItemRow) (es : List EdgeRow) (f v c : ℕ) : Type 0 where
+  pub edge : EdgeRow
+  pub stands : In edge es
+  pub from : numberIn xs (edge .from) ≡ f
+  pub to : numberIn xs (edge .to) ≡ v
+  pub colour : edge .colour ≡ c
+
+stated-first : (xs : List ItemRow) (e : EdgeRow) (es : List EdgeRow) (f v c : ℕ)
+    → (f ≡ numberIn xs (e .from)) × (v ≡ numberIn xs (e .to)) × (c ≡ e .colour) → Stated xs (e ∷ es) f v c
+stated-first xs e es f v c p = record { edge = e; stands = List·Memᴰ·head refl; from = sym (p .0); to = sym (p .1); colour = sym (p .2) }
+
+stated-later : (xs : List ItemRow) (e : EdgeRow) (es : List EdgeRow) (f v c : ℕ) → Stated xs es f v c → Stated xs (e ∷ es) f v c
+stated-later xs e es f v c s =
+    record { edge = s .edge; stands = List·Memᴰ·tail (s .stands); from = s .from; to = s .to; colour = s .colour }
+
+stated-cases : (xs : List ItemRow) (e : EdgeRow) (es : List EdgeRow) (f v c : ℕ) → Stated xs (e ∷ es) f v c
+    → ((f ≡ numberIn xs (e .from)) × (v ≡ numberIn xs (e .to)) × (c ≡ e .colour)) ⊎ Stated xs es f v c
+stated-cases xs e es f v c s =
+    ⊎-elim
+    (λ p. inl (
+      sym (s .from) ∙ ap (λ (x : EdgeRow). numberIn xs (x .from)) p,
+      sym (s .to) ∙ ap (λ (x : EdgeRow). numberIn xs (x .to)) p,
+      sym (s .colour) ∙ ap (λ (x : EdgeRow). x .colour) p,
+    ))
+    (λ m. inr (record { edge = s .edge; stands = m; from = s .from; to = s .to; colour = s .colour }))
+    (List·Memᴰ·cases-cons (s .stands))
+
+-- The row's target and colour have a place in a graph.
+pub record Placed (xs : List ItemRow) (e : EdgeRow) : Type 0 where
+  pub to : numberIn xs (e .to) < 64
+  pub colour : e .colour < 8
+
+pub edges-shaped : (xs : List ItemRow) (g : Graph) (es : List EdgeRow) → ShapedGraph g → Each (Placed xs) es → ShapedGraph (withEdges xs g es)
+unfolding withEdges
+edges-shaped xs g [] sh p = sh
+edges-shaped xs g (e ∷ es) sh p =
+    edges-shaped xs (withEdge g (numberIn xs (e .from)) (numberIn xs (e .to)) (e .colour)) es
+    (edge-shaped g (numberIn xs (e .from)) (numberIn xs (e .to)) (e .colour) sh (p .0 .to) (p .0 .colour)) (p .1)
+
+-- the graph with the rows' edges has those that it had, and those that they state
+pub edges-more : (xs : List ItemRow) (g : Graph) (es : List EdgeRow) → ShapedGraph g → Each (Placed xs) es
+    → (f v c : ℕ) → Iff (Edge (withEdges xs g es) f v c) (Edge g f v c ⊎ Stated xs es f v c)
+unfolding withEdges
+edges-more xs g [] sh p f v c =
+    record { to = λ m. inl m; from = ⊎-elim (λ m. m) (λ s. absurd (List·Memᴰ·not-nil (s .stands))) }
+edges-more xs g (e ∷ es) sh p f v c =
+    let one = edge-more g (numberIn xs (e .from)) (numberIn xs (e .to)) (e .colour) sh (p .0 .to) (p .0 .colour) f v c in
+    let rest = edges-more xs (withEdge g (numberIn xs (e .from)) (numberIn xs (e .to)) (e .colour)) es
+    (edge-shaped g (numberIn xs (e .from)) (numberIn xs (e .to)) (e .colour) sh (p .0 .to) (p .0 .colour)) (p .1) f v c in
+    record {
+      to = λ m. ⊎-elim
+          (λ k. ⊎-elim (λ q. inl q) (λ q. inr (stated-first xs e es f v c q)) (one .to k))
+          (λ s. inr (stated-later xs e es f v c s))
+          (rest .to m);
+      from = λ m. rest .from (⊎-elim
+          (λ k. inl (one .from (inl k)))
+          (λ s. ⊎-elim (λ q. inl (one .from (inr q))) (λ t. inr t) (stated-cases xs e es f v c s))
+          m);
+    }
+
+-- each row adds at most one edge
+pub edges-count : (xs : List ItemRow) (g : Graph) (es : List EdgeRow) → ShapedGraph g → Each (Placed xs) es → edgeCount (withEdges xs g es) ≤ edgeCount g + length es
+unfolding withEdges
+edges-count xs g [] sh p = omega arith
+edges-count xs g (e ∷ es) sh p =
+    let one = count-more g (numberIn xs (e .from)) (numberIn xs (e .to)) (e .colour) sh (p .0 .to) (p .0 .colour) in
+    let rest = edges-count xs (withEdge g (numberIn xs (e .from)) (numberIn xs (e .to)) (e .colour)) es
+    (edge-shaped g (numberIn xs (e .from)) (numberIn xs (e .to)) (e .colour) sh (p .0 .to) (p .0 .colour)) (p .1) in
+    omega arith

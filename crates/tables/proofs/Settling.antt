@@ -1,0 +1,165 @@
+-- Vertices are looked at again until no lane gains one. Each lane then has the vertices that are derivable from its start.
+-- Assumes nothing.
+use mathlib.Core.Path.{_≡_, refl, sym, ap, subst}
+use mathlib.Core.Bool.{Bool, true, false}
+use mathlib.Core.List.{List, []}
+use mathlib.Core.Logic.{_⊎_, inl, inr, ⊎-elim}
+use Prim.Native.Nat.{ℕ, _+_, _-_, _*_, _^_, _<_}
+use native.Mathlib.Omega.{arith}
+use lib.Bits.{bitOr}
+use lib.ListN.{length, List·getD-eq-default}
+use Rattle.vertex_set.specs.Set.{Member}
+use Rattle.vertex_set.proofs.Cases.{same-or, less-or}
+use Rattle.vertex_set.proofs.Sets.{in-or, none-in-zero}
+use Rattle.setup.specs.declared.Rows.{Rows}
+use Rattle.setup.specs.declared.Graph.{Graph}
+use Rattle.setup.specs.Setup.{rowOf, rowsAt}
+use Rattle.derivations.specs.Derivation.{Vertices, Rule, Derivation}
+use Rattle.derivations.specs.Access.{Step}
+use Rattle.derivations.specs.Both.{ruleOf}
+use Rattle.derivations.proofs.Rules.{Sub, held, closed, least}
+use Rattle.derivations.proofs.Both.{lawful}
+use Rattle.words.specs.Words.{Without, room}
+use Rattle.words.proofs.Families.{full-word}
+use Rattle.lanes.specs.Lanes.{Lane, Admits}
+use Rattle.lanes.proofs.Colours.{admits-coloured}
+use Rattle.tables.specs.Steps.{Stepped, AllNeeded, Users, Closed}
+
+-- ---- a vertex that a lane admits is one that the rule allows there
+
+-- v is added by a step that is allowed where these vertices are held
+pub record Reaches (r : Rule) (P : Vertices) (v : ℕ) : Type 0 where
+  pub step : r .Step
+  pub adds : r .adds step ≡ v
+  pub allowed : r .Allowed P step
+
+pub admits-reaches : (loss : Bool) (g : Graph) (P : Vertices) (v : ℕ) → Admits loss (rowsAt g v) P → Reaches (ruleOf loss g) P v
+admits-reaches false g P v a =
+    record {
+      step = record { vertex = v; colour = a .colour };
+      adds = refl;
+      allowed = record { coloured = a .whole .coloured; complete = a .whole .complete .each };
+    }
+admits-reaches true g P v a =
+    record { step = v; adds = refl; allowed = record { colour = a .colour; coloured = a .coloured; every = λ c. a .every c .some } }
+
+pub allowed-admits : (loss : Bool) (g : Graph) (P : Vertices) (e : ruleOf loss g .Step) → ruleOf loss g .Allowed P e
+    → Admits loss (rowsAt g (ruleOf loss g .adds e)) P
+allowed-admits false g P e o =
+    record { colour = e .colour; whole = record { coloured = o .coloured; complete = record { each = o .complete } } }
+allowed-admits true g P v o = record { colour = o .colour; coloured = o .coloured; every = λ c. record { some = o .every c } }
+
+-- what is derivable is closed under what it admits
+pub admits-derived : (loss : Bool) (g : Graph) (P Q : Vertices) (v : ℕ) → Sub Q (Derivation (ruleOf loss g) P) → Admits loss (rowsAt g v) Q
+    → Derivation (ruleOf loss g) P v
+admits-derived loss g P Q v s a =
+    let r = ruleOf loss g in
+    let h = admits-reaches loss g Q v a in
+    subst (Derivation r P) (h .adds) (closed r (lawful loss g) P (h .step) (lawful loss g .mono Q (Derivation r P) s (h .step) (h .allowed)))
+
+-- only the needed vertices count
+pub admits-local : (loss : Bool) (rows : Rows) (P Q : Vertices) → ((c i : ℕ) → Member (rowOf rows c) i → P i → Q i) → Admits loss rows P → Admits loss rows Q
+admits-local false rows P Q h a =
+    record {
+      colour = a .colour;
+      whole = record { coloured = a .whole .coloured; complete = record { each = λ i m. h (a .colour) i m (a .whole .complete .each i m) } };
+    }
+admits-local true rows P Q h a =
+    record {
+      colour = a .colour;
+      coloured = a .coloured;
+      every = λ c. record {
+        some = λ n. let s = a .every c .some n in record { vertex = s .vertex; member = s .member; gone = h c (s .vertex) (s .member) (s .gone) };
+      };
+    }
+
+-- a vertex that is admitted has a colour, and so a place in the graph
+pub admits-place : (loss : Bool) (g : Graph) (P : Vertices) (v : ℕ) → length (g .rows) ≡ 64 → Admits loss (rowsAt g v) P → v < 64
+admits-place loss g P v e a =
+    ⊎-elim (λ l. l)
+    (λ l. let c = admits-coloured loss (rowsAt g v) P a in
+    absurd (c .1 (ap (λ (r : Rows). rowOf r (c .0)) (List·getD-eq-default (g .rows) (record { needs = [] }) {n = v} (omega arith)))))
+    (less-or v 64)
+
+-- ---- the loop
+
+-- Each lane lies between its start and what is derivable from there, and gains no vertex that is not to be looked at again.
+pub record Settling (loss : Bool) (g : Graph) (needs w₀ w : List ℕ) (todo : ℕ) : Type 0 where
+  pub words : length w ≡ 16384
+  pub needed : AllNeeded g needs
+  pub grown : (b i : ℕ) → b < 256 → i < 64 → Sub (Lane w₀ b i) (Lane w b i)
+  pub sound : (b i : ℕ) → b < 256 → i < 64 → Sub (Lane w b i) (Derivation (ruleOf loss g) (Lane w₀ b i))
+  pub quiet : (v : ℕ) → v < 64 → (Member todo v → ⊥) → (b i : ℕ) → b < 256 → i < 64 → Admits loss (rowsAt g v) (Lane w b i) → Lane w b i v
+
+module _ (loss : Bool) (g : Graph) (needs w₀ : List ℕ) where
+  pub settling-none : length w₀ ≡ 16384 → AllNeeded g needs → Settling loss g needs w₀ w₀ (2 ^ 64 - 1)
+  settling-none e n =
+      record {
+        words = e;
+        needed = n;
+        grown = λ b i hb hi v m. m;
+        sound = λ b i hb hi v m. held (ruleOf loss g) (Lane w₀ b i) v m;
+        quiet = λ v l n2. absurd (n2 (full-word v l));
+      }
+
+  module _ (w e : List ℕ) (todo v rest : ℕ) (r : Bool) (s : Settling loss g needs w₀ w todo) (o : Without todo v rest) (hv : v < 64)
+      (t : Stepped loss (rowsAt g v) v w r e) where
+    abbrev Unmoved : ℕ → Type 0
+    Unmoved u = (b i : ℕ) → b < 256 → i < 64 → Admits loss (rowsAt g u) (Lane e b i) → Admits loss (rowsAt g u) (Lane w b i)
+
+    -- which vertices are to be looked at again: all that were, but for v, and those that the step moved
+    again : (next : ℕ) → ((u : ℕ) → u < 64 → (Member next u → ⊥) → (Member rest u → ⊥) × Unmoved u) → Settling loss g needs w₀ e next
+    again next h =
+        record {
+          words = t .words;
+          needed = s .needed;
+          grown = λ b i hb hi u m. t .each b i u hb hi .from (inl (s .grown b i hb hi u m));
+          sound = λ b i hb hi u m. ⊎-elim
+              (λ p. s .sound b i hb hi u p)
+              (λ p. subst (Derivation (ruleOf loss g) (Lane w₀ b i)) (sym (p .0))
+              (admits-derived loss g (Lane w₀ b i) (Lane w b i) v (s .sound b i hb hi) (p .1)))
+              (t .each b i u hb hi .to m);
+          quiet = λ u l n b i hb hi a.
+              let k = h u l n in
+              let a2 = k .1 b i hb hi a in
+              t .each b i u hb hi .from (⊎-elim
+              (λ q. inr (q, subst (λ (x : ℕ). Admits loss (rowsAt g x) (Lane w b i)) q a2))
+              (λ q. inl (s .quiet u l (λ m. k .0 (o .each u .from (m, q))) b i hb hi a2))
+              (same-or u v));
+        }
+
+    pub settling-same : r ≡ false → Settling loss g needs w₀ e rest
+    settling-same q =
+        again rest (λ u l n. (n, λ b i hb hi a. subst (λ (x : List ℕ). Admits loss (rowsAt g u) (Lane x b i)) (t .same q) a))
+
+    pub settling-more : (us : ℕ) → Users needs v us → Settling loss g needs w₀ e (bitOr rest us)
+    settling-more us p =
+        again (bitOr rest us) (λ u l n. (
+          λ m. n (in-or rest us u .from (inl m)),
+          λ b i hb hi a. admits-local loss (rowsAt g u) (Lane e b i) (Lane w b i)
+              (λ c j m x. ⊎-elim (λ y. y)
+              (λ y. absurd (n (in-or rest us u .from (inr (p .each u l .from (s .needed .each u l .each v .from
+              (record { colour = c; member = subst (Member (rowOf (rowsAt g u) c)) (y .0) m })))))))
+              (t .each b i j hb hi .to x)) a,
+        ))
+
+  pub settled : (w : List ℕ) (todo : ℕ) → length (g .rows) ≡ 64 → todo ≡ 0 → Settling loss g needs w₀ w todo → Closed (ruleOf loss g) w₀ w
+  settled w todo e z s =
+      record {
+        words = s .words;
+        each = λ b i v hb hi. record {
+          to = s .sound b i hb hi v;
+          from = least (ruleOf loss g) (lawful loss g) (Lane w₀ b i) (Lane w b i) (s .grown b i hb hi)
+              (λ k a.
+              let m = allowed-admits loss g (Lane w b i) k a in
+              let u = ruleOf loss g .adds k in
+              s .quiet u (admits-place loss g (Lane w b i) u e m) (λ q. none-in-zero u (subst (λ (x : ℕ). Member x u) z q)) b i hb hi m) v;
+        };
+      }
+
+-- the measure falls: there is less room, or as much and fewer vertices to look at
+pub falls-same : (w e : List ℕ) (todo rest : ℕ) → e ≡ w → rest < todo → room e * 2 ^ 64 + rest < room w * 2 ^ 64 + todo
+falls-same w e todo rest q l = let r = ap room q in omega arith
+
+pub falls-more : (w e : List ℕ) (todo next : ℕ) → room e < room w → next < 2 ^ 64 → room e * 2 ^ 64 + next < room w * 2 ^ 64 + todo
+falls-more w e todo next q l = omega arith

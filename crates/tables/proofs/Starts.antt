@@ -1,0 +1,84 @@
+-- The start of a table: each lane is the set that its mask stands for.
+-- Assumes nothing.
+use mathlib.Core.Path.{_≡_, sym, subst}
+use mathlib.Core.List.{List}
+use mathlib.Core.Logic.{⊎-elim}
+use Prim.Native.Nat.{ℕ, _+_, _*_, _%_, _^_, _≤_, _<_}
+use native.Mathlib.Nat.{mod-lt}
+use native.Mathlib.Omega.{arith}
+use lib.Count.{ones, ones-le}
+use lib.ListN.{length, List·getD-eq-default}
+use lib.Pow.{pow-pos}
+use borrow.Rule.Slice.PartMut.{putMid}
+use Rattle.vertex_set.specs.Set.{Member, Iff}
+use Rattle.vertex_set.proofs.Cases.{same-or, less-or}
+use Rattle.vertex_set.proofs.Sets.{shifted-one, none-in-zero, member-below}
+use Rattle.families.specs.Masks.{rank, Picked}
+use Rattle.words.specs.Words.{FamilyWhere}
+use Rattle.words.proofs.Families.{iff-trans, family-as}
+use Rattle.lanes.specs.Lanes.{Lane}
+use Rattle.tables.specs.Steps.{Started}
+use Rattle.tables.proofs.Parts.{put-length, lane-put, lane-kept}
+
+pub rank-le : (chosen v : ℕ) → rank chosen v ≤ v
+unfolding rank
+rank-le chosen v = ones-le v (chosen % 2 ^ v) (mod-lt chosen (pow-pos v))
+
+-- a rank, as the machine counts it
+pub rank-counted : (chosen v : ℕ) → v < 64 → ones (chosen % ((1 * 2 ^ v) % 2 ^ 64)) ≡ rank chosen v
+unfolding rank
+rank-counted chosen v h = rw (shifted-one v h)
+
+pub picked-family : (chosen v k : ℕ) (d : List ℕ) → Member chosen v → k ≡ rank chosen v → FamilyWhere (λ b i. Member (b * 64 + i) k) d
+    → FamilyWhere (λ b i. Picked chosen (b * 64 + i) v) d
+unfolding Picked
+picked-family chosen v k d m e l =
+    family-as d (subst (λ (j : ℕ). FamilyWhere (λ b i. Member (b * 64 + i) j) d) e l) (λ b i hb hi. record { to = λ p. (m, p); from = λ p. p .1 })
+
+pub other-family : (chosen v : ℕ) (d : List ℕ) → (Member chosen v → ⊥) → FamilyWhere (λ b i. Member 0 i) d → FamilyWhere (λ b i. Picked chosen (b * 64 + i) v) d
+unfolding Picked
+other-family chosen v d n l = family-as d l (λ b i hb hi. record { to = λ m. absurd (none-in-zero i m); from = λ p. absurd (n (p .0)) })
+
+-- ---- all vertices
+
+-- a place past the table is in no lane
+pub lane-below : (w : List ℕ) (b i v : ℕ) → length w ≡ 16384 → Lane w b i v → v < 64
+unfolding Lane
+lane-below w b i v e m =
+    ⊎-elim (λ l. l)
+    (λ l. absurd (none-in-zero i (subst (λ (x : ℕ). Member x i) (List·getD-eq-default w 0 {n = v * 256 + b} (omega arith)) m)))
+    (less-or v 64)
+
+-- the families of the first n vertices are written
+pub record StartedBelow (chosen n : ℕ) (w : List ℕ) : Type 0 where
+  pub place : n ≤ 64
+  pub words : length w ≡ 16384
+  pub each : (b i v : ℕ) → b < 256 → i < 64 → v < n → Iff (Lane w b i v) (Picked chosen (b * 64 + i) v)
+
+module _ (chosen : ℕ) where
+  pub started-none : (w : List ℕ) → length w ≡ 16384 → StartedBelow chosen 0 w
+  started-none w e = record { place = omega arith; words = e; each = λ b i v hb hi l. absurd (omega arith) }
+
+  pub started-more : (n k : ℕ) (w d : List ℕ) → n < 64 → k ≡ 256 → StartedBelow chosen n w → FamilyWhere (λ b i. Picked chosen (b * 64 + i) n) d
+      → StartedBelow chosen (n + 1) (putMid (n * 256) k w d)
+  started-more n k w d h hk s l =
+      record {
+        place = omega arith;
+        words = put-length w d n k (s .words) h hk (l .words);
+        each = λ b i v hb hi hv. ⊎-elim
+            (λ q. subst (λ (u : ℕ). Iff (Lane (putMid (n * 256) k w d) b i u) (Picked chosen (b * 64 + i) u)) (sym q)
+            (iff-trans (lane-put w d n k (s .words) h hk (l .words) b i hb) (l .each b i hb hi)))
+            (λ q. iff-trans (lane-kept w d n k (s .words) h hk (l .words) b i v hb q) (s .each b i v hb hi (omega (arith, q))))
+            (same-or v n);
+      }
+
+  pub started-done : (n : ℕ) (w : List ℕ) → chosen < 2 ^ 64 → 64 ≤ n → StartedBelow chosen n w → Started chosen w
+  unfolding Picked
+  started-done n w hc h s =
+      record {
+        words = s .words;
+        each = λ b i v hb hi. record {
+          to = λ m. let l = lane-below w b i v (s .words) m in s .each b i v hb hi (omega arith) .to m;
+          from = λ p. let l = member-below 64 chosen v hc (p .0) in s .each b i v hb hi (omega arith) .from p;
+        };
+      }

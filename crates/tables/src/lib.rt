@@ -1,0 +1,125 @@
+// Tables of all subsets: for a graph and a set of chosen vertices, all masks at once.
+ghost use mathlib.Core.Path.{_≡_};
+ghost use Prim.Native.Nat.{_+_, _*_, _<_};
+ghost use lib.ListN.{length};
+ghost use Rattle.derivations.specs.Both.{ruleOf};
+ghost use Rattle.families.specs.Masks.{rank, Picked};
+ghost use Rattle.words.specs.Words.{FamilyWhere, VertexOf};
+ghost use Rattle.tables.specs.Table.{Table};
+ghost use Rattle.tables.specs.Steps.{Stepped, AllNeeded, Users, Closed, Started};
+use setup::Graph;
+use setup::Rows;
+use vertex_set::VERTICES;
+use vertex_set::VertexSet;
+use words::WORDS;
+
+// The vertex v, which has these rows, is added to each lane that admits it. Was one new?
+fn step(w: &mut [u64], v: usize, rows: Rows, loss: bool) -> bool
+    requires { ⌜ length (now w) ≡ 16384 ⌝ }
+    requires { ⌜ v < 64 ⌝ }
+    ensures { λ r. ⌜ Stepped loss rows v (now (w .entry)) r (now (w .exit)) ⌝ }
+{
+    let mut gains = [0u64; 256];
+    lanes::admitted(w, rows, loss, &mut gains);
+    let a = v * WORDS;
+    words::join(&mut w[a..a + WORDS], &gains)
+}
+
+// A vertex of todo: the lowest one of those in after, if there is one, so that none waits for ever.
+fn next(todo: u64, after: u64) -> usize
+    requires { ⌜ (todo ≡ 0 → ⊥) ⌝ }
+    ensures { λ r. ⌜ VertexOf todo r ⌝ }
+{
+    let later = todo & after;
+    if later == 0 {
+        return words::lowest(todo);
+    }
+    words::lowest(later)
+}
+
+// The needed vertices of each vertex.
+fn all_needed(graph: Graph, needs: &mut [u64])
+    requires { ⌜ length (now needs) ≡ 64 ⌝ }
+    ensures { λ _. ⌜ AllNeeded graph (now (needs .exit)) ⌝ }
+{
+    for v in 0..VERTICES {
+        needs[v] = lanes::needed(graph.rows[v]);
+    }
+}
+
+// The vertices that need v.
+fn users(needs: &[u64], v: usize) -> u64
+    requires { ⌜ length (now needs) ≡ 64 ⌝ }
+    requires { ⌜ v < 64 ⌝ }
+    ensures { λ r. ⌜ Users (now (needs .entry)) v r ⌝ }
+{
+    let mut r: u64 = 0;
+    for u in 0..VERTICES {
+        let bit = (needs[u] >> v) % 2;
+        r = r | (bit << u);
+    }
+    r
+}
+
+// The number of chosen vertices below v.
+fn rank_of(chosen: u64, v: usize) -> usize
+    requires { ⌜ v < 64 ⌝ }
+    ensures { λ r. ⌜ r ≡ rank chosen v ⌝ }
+{
+    let one: u64 = 1;
+    u64::count_ones(chosen % (one << v)) as usize
+}
+
+// The family of the masks that pick v.
+fn start_family(d: &mut [u64], chosen: VertexSet, v: usize)
+    requires { ⌜ length (now d) ≡ 256 ⌝ }
+    requires { ⌜ v < 64 ⌝ }
+    ensures { λ _. ⌜ FamilyWhere (λ b i. Picked (chosen .0) (b * 64 + i) v) (now (d .exit)) ⌝ }
+{
+    if chosen.has(v) {
+        let k = rank_of(chosen.0, v);
+        words::start_words(d, k);
+    } else {
+        words::set_all(d, 0);
+    }
+}
+
+// Each lane becomes the set that its mask stands for.
+fn start(chosen: VertexSet, w: &mut [u64])
+    requires { ⌜ length (now w) ≡ 16384 ⌝ }
+    ensures { λ _. ⌜ Started (chosen .0) (now (w .exit)) ⌝ }
+{
+    for v in 0..VERTICES {
+        let a = v * WORDS;
+        start_family(&mut w[a..a + WORDS], chosen, v);
+    }
+}
+
+// Each lane grows to what is derivable from it. A vertex is looked at again when one that it needs has grown; they take turns.
+fn settle(graph: Graph, loss: bool, w: &mut [u64])
+    requires { ⌜ length (now w) ≡ 16384 ⌝ }
+    ensures { λ _. ⌜ Closed (ruleOf loss graph) (now (w .entry)) (now (w .exit)) ⌝ }
+{
+    let mut needs = [0u64; 64];
+    all_needed(graph, &mut needs);
+    let mut todo: u64 = 0xFFFF_FFFF_FFFF_FFFF;
+    let mut after: u64 = todo;
+    while todo != 0 {
+        let v = next(todo, after);
+        todo = words::without(todo, v);
+        after = 0xFFFF_FFFF_FFFF_FFFE << v;
+        if step(w, v, graph.rows[v], loss) {
+            todo = todo | users(&needs, v);
+        }
+    }
+}
+
+// The table of the graph and the chosen vertices: which vertices are opened by which mask's set or, with loss, lost by its loss.
+pub fn fill(graph: Graph, chosen: VertexSet, loss: bool, w: &mut [u64])
+    requires { ⌜ length (now w) ≡ 16384 ⌝ }
+    ensures { λ _. ⌜ length (now (w .exit)) ≡ 16384 ⌝ }
+    ensures { λ _. ⌜ Table (ruleOf loss graph) (chosen .0) (now (w .exit)) ⌝ }
+{
+    start(chosen, w);
+    settle(graph, loss, w);
+}

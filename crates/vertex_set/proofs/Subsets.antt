@@ -1,0 +1,36 @@
+-- Proper subsets: each lies within the set less one vertex.
+-- Assumes nothing.
+use mathlib.Core.Path.{_≡_, refl, sym, subst}
+use mathlib.Core.Logic.{_⊎_, ⊎-elim}
+use Prim.Native.Nat.{ℕ, _-_, _^_, _≤_, _<_}
+use native.Mathlib.Nat.{lt-of-le-of-lt}
+use native.Mathlib.Omega.{arith}
+use lib.Bits.{bitAnd}
+use lib.Pow.{pow-pos}
+use Rattle.vertex_set.specs.Set.{Member, Within, ProperlyWithin}
+use Rattle.vertex_set.proofs.Cases.{same-or}
+use Rattle.vertex_set.proofs.Sets.{some-member, same-set, within-le, within-test, in-and, in-not, member-below}
+use Rattle.vertex_set.proofs.Places.{member-le, in-removed, removed-within}
+
+-- a proper subset lacks some member
+pub proper-lacks : (a b : ℕ) → b < 2 ^ 64 → ProperlyWithin a b → (i : ℕ) × Member b i × (Member a i → ⊥)
+proper-lacks a b h p =
+    let ha = lt-of-le-of-lt (within-le a b (p .within)) h in
+    let rest : ℕ = bitAnd b ((2 ^ 64 - 1) - a) in
+    ⊎-elim (λ e. absurd (p .other (same-set a b (p .within) (within-test b a h ha .to e))))
+    (λ n.
+        let s = some-member rest n in
+        let q = in-and b ((2 ^ 64 - 1) - a) (s .0) .to (s .1) in
+        (s .0, q .0, in-not a (s .0) ha (member-below 64 b (s .0) h (q .0)) .to (q .1)))
+    (same-or rest 0)
+
+pub within-removed : (a b i : ℕ) → Within a b → Member b i → (Member a i → ⊥) → Within a (b - 2 ^ i)
+within-removed a b i w m n =
+    record { each = λ j k. in-removed b i j m .from (w .each j k, λ e. n (subst (λ (x : ℕ). Member a x) e k)) }
+
+pub removed-proper : (b i : ℕ) → Member b i → ProperlyWithin (b - 2 ^ i) b
+removed-proper b i m =
+    record { within = removed-within b i m; other = λ e. let p = pow-pos i in let l = member-le i b m in omega arith }
+
+pub proper-less : (a b : ℕ) → ProperlyWithin a b → a < b
+proper-less a b p = let l = within-le a b (p .within) in let n = p .other in omega arith

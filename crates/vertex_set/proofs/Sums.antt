@@ -1,0 +1,59 @@
+-- Laws of the sum of values over a set.
+-- Assumes nothing.
+use mathlib.Core.Path.{_≡_, refl, sym, ap, _∙_, subst}
+use mathlib.Core.Logic.{⊎-elim}
+use Prim.Native.Nat.{ℕ, zero, suc, _+_, _*_, _/_, _%_, _^_, _≤_, _<_}
+use native.Mathlib.Nat.{mod-eq-of-lt, mul-le-mul-right}
+use native.Mathlib.Numerals.{add-one}
+use native.Mathlib.Omega.{arith}
+use lib.Pow.{mod-pow-add}
+use Rattle.vertex_set.specs.Set.{Member, Within}
+use Rattle.vertex_set.specs.Order.{sumBelow, sumOver}
+use Rattle.vertex_set.proofs.Digits.{digit, digit-lt, digit-first, digit-suc}
+use Rattle.vertex_set.proofs.Sets.{member-or, not-member}
+
+-- the vertex 0 first, and then the others by halves
+pub sum-first : (value : ℕ → ℕ) (n s : ℕ) → sumBelow value s (suc n) ≡ s % 2 * value 0 + sumBelow (λ (v : ℕ). value (suc v)) (s / 2) n
+sum-first value zero s = rw (digit-first s) (omega arith)
+sum-first value (suc n) s = let ih = sum-first value n s in rw (digit-suc s n) (omega arith)
+
+-- values that agree on the vertices of s have one sum
+pub sum-same : (value other : ℕ → ℕ) (n s : ℕ) → ((v : ℕ) → Member s v → value v ≡ other v) → sumBelow value s n ≡ sumBelow other s n
+unfolding Member
+sum-same value other zero s h = refl
+sum-same value other (suc n) s h =
+    let ih = sum-same value other n s h in
+    ⊎-elim (λ m. let e = h n m in rw (ih, e)) (λ o. let z = not-member s n o in rw (ih, z) (omega arith)) (member-or s n)
+
+-- a subset has no larger sum
+pub sum-within : (value : ℕ → ℕ) (n a b : ℕ) → Within a b → sumBelow value a n ≤ sumBelow value b n
+unfolding Member
+sum-within value zero a b w = omega arith
+sum-within value (suc n) a b w =
+    let ih = sum-within value n a b w in
+    let le : digit a n ≤ digit b n = ⊎-elim (λ m. let k = w .each n m in omega arith) (λ o. let z = not-member a n o in omega arith) (member-or a n) in
+    let t : digit a n * value n ≤ digit b n * value n = mul-le-mul-right (value n) le in
+    omega arith
+
+-- a bound on the values is one on the sum
+pub sum-bound : (value : ℕ → ℕ) (b n s : ℕ) → ((v : ℕ) → Member s v → value v ≤ b) → sumBelow value s n ≤ n * b
+unfolding Member
+sum-bound value b zero s h = omega arith
+sum-bound value b (suc n) s h =
+    let ih = sum-bound value b n s h in
+    ⊎-elim (λ m. let l = h n m in rw m (omega arith)) (λ o. let z = not-member s n o in rw z (omega arith)) (member-or s n)
+
+-- a set is the sum of the powers of its vertices
+pub sum-powers : (n s : ℕ) → sumBelow (λ (v : ℕ). 2 ^ v) s n ≡ s % 2 ^ n
+sum-powers zero s = omega arith
+sum-powers (suc n) s =
+    let ih = sum-powers n s in
+    let e = mod-pow-add s 1 n in
+    subst (λ (k : ℕ). sumBelow (λ (v : ℕ). 2 ^ v) s (suc n) ≡ s % 2 ^ k) one-more (omega arith)
+  where
+    one-more : 1 + n ≡ suc n
+    one-more = omega arith
+
+pub sum-over-powers : (s : ℕ) → s < 2 ^ 64 → sumOver (λ (v : ℕ). 2 ^ v) s ≡ s
+unfolding sumOver
+sum-over-powers s h = sum-powers 64 s ∙ mod-eq-of-lt h

@@ -1,0 +1,5 @@
+pub mod Words
+pub mod Families
+pub mod Members
+pub mod Joins
+pub mod Starts

@@ -1,0 +1,30 @@
+-- Loops that write a family's words one after the other: word b becomes f b, and may be read before.
+-- Assumes nothing.
+use mathlib.Core.Path.{_≡_, sym, _∙_, subst}
+use mathlib.Core.List.{List}
+use mathlib.Core.Logic.{_⊎_, ⊎-elim}
+use Prim.Native.Nat.{ℕ, _+_, _≤_, _<_}
+use native.Mathlib.Omega.{arith}
+use lib.ListN.{length, getD, set, length-set}
+use lib.Seq.{getD-set-same, getD-set-other}
+use Rattle.vertex_set.proofs.Cases.{same-or}
+
+-- The first n words of d are f's; the others are those of d₀ still.
+pub record Mapped (f : ℕ → ℕ) (d₀ d : List ℕ) (n : ℕ) : Type 0 where
+  pub place : n ≤ 256
+  pub words : length d ≡ 256
+  pub done : (b : ℕ) → b < n → getD d b 0 ≡ f b
+  pub left : (b : ℕ) → n ≤ b → getD d b 0 ≡ getD d₀ b 0
+
+module _ (f : ℕ → ℕ) (d₀ : List ℕ) where
+  pub mapped-more : (d : List ℕ) (n x : ℕ) → Mapped f d₀ d n → n < 256 → x ≡ f n → Mapped f d₀ (set d n x) (n + 1)
+  mapped-more d n x m h e =
+      record {
+        place = omega arith;
+        words = length-set d n x ∙ m .words;
+        done = λ b l. ⊎-elim
+            (λ q. subst (λ (j : ℕ). getD (set d n x) j 0 ≡ f j) (sym q) (getD-set-same d n x 0 (let e2 = m .words in omega arith) ∙ e))
+            (λ q. getD-set-other d n b x 0 q ∙ m .done b (omega arith))
+            (same-or b n);
+        left = λ b l. getD-set-other d n b x 0 (λ q. omega arith) ∙ m .left b (omega arith);
+      }

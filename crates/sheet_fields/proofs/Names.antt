@@ -2,14 +2,19 @@
 -- Assumes nothing.
 use mathlib.Core.Path.{_≡_, refl, sym, _∙_}
 use mathlib.Core.List.{List, [], _∷_}
-use mathlib.Core.Bool.{Bool, true, false, _&&_, _||_, or-false, or-true, and-eq-true-iff}
+use mathlib.Core.Bool.{Bool, true, false, _&&_, _||_, or-false, or-true}
+use mathlib.Core.Logic.{⊎-elim}
 use Prim.Native.Nat.{ℕ, suc, _≤_, _<_}
 use native.Mathlib.Omega.{arith}
 use lib.ListN.{length}
 use lib.Dec.{eqb, leb}
-use borrow.Author.Tests.{eq-eqb, ne-eqb, le-leb, lt-leb, leb-true}
+use borrow.Author.Tests.{eq-eqb, ne-eqb, eqb-true, le-leb, lt-leb, leb-true}
 use Rattle.sheet_format.specs.Text.{all}
 use Rattle.sheet_format.specs.Fields.{isDigit, isNameByte, isName}
+use Rattle.sheet_format.specs.Rows.{Each}
+use Rattle.sheet_format.proofs.Tests.{and-parts, or-parts, all-decided}
+use Rattle.sheet_format.proofs.Lists.{each-map}
+use Rattle.sheet_fields.proofs.Packing.{Small}
 
 -- ---- a name's bytes
 
@@ -53,9 +58,25 @@ name-bytes f n h = let l : leb 1 (length f) ≡ true = le-leb 1 (length f) (omeg
 pub name-length : (f : List ℕ) → isName f ≡ true → length f ≤ 16
 unfolding isName
 name-length f h =
-    leb-true (length f) 16 (and-eq-true-iff (leb 1 (length f)) (leb (length f) 16) .0
-      (and-eq-true-iff (leb 1 (length f) && leb (length f) 16) (all isNameByte f) .0 h .0) .1)
+    leb-true (length f) 16 (and-parts (leb 1 (length f)) (leb (length f) 16)
+      (and-parts (leb 1 (length f) && leb (length f) 16) (all isNameByte f) h .0) .1)
 
 pub name-all : (f : List ℕ) → isName f ≡ true → all isNameByte f ≡ true
 unfolding isName
-name-all f h = and-eq-true-iff (leb 1 (length f) && leb (length f) 16) (all isNameByte f) .0 h .1
+name-all f h = and-parts (leb 1 (length f) && leb (length f) 16) (all isNameByte f) h .1
+
+-- ---- a name's bytes are small
+
+byte-small : (b : ℕ) → isNameByte b ≡ true → Small b
+unfolding isNameByte isDigit
+byte-small b h =
+    ⊎-elim
+    (λ e. ⊎-elim
+      (λ l. let p = leb-true 97 b (and-parts (leb 97 b) (leb b 122) l .0) in let q = leb-true b 122 (and-parts (leb 97 b) (leb b 122) l .1) in (omega arith, omega arith))
+      (λ d. let p = leb-true 48 b (and-parts (leb 48 b) (leb b 57) d .0) in let q = leb-true b 57 (and-parts (leb 48 b) (leb b 57) d .1) in (omega arith, omega arith))
+      (or-parts (leb 97 b && leb b 122) (leb 48 b && leb b 57) e))
+    (λ u. let p = eqb-true b 95 u in (omega arith, omega arith))
+    (or-parts (leb 97 b && leb b 122 || (leb 48 b && leb b 57)) (eqb b 95) h)
+
+pub name-small : (f : List ℕ) → isName f ≡ true → Each Small f
+name-small f h = each-map (λ b. isNameByte b ≡ true) Small byte-small f (all-decided isNameByte f .yes (name-all f h))

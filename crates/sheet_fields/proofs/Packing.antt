@@ -1,6 +1,6 @@
 -- Bytes packed into a number: it fits a word, a loop from the end makes it, and it tells texts apart.
 -- Assumes nothing.
-use mathlib.Core.Path.{_≡_, refl, sym, ap, _∙_, subst}
+use mathlib.Core.Path.{_≡_, refl, sym, ap₂, _∙_}
 use mathlib.Core.List.{List, [], _∷_, _++_}
 use Prim.Native.Nat.{ℕ, zero, suc, _+_, _-_, _*_, _/_, _%_, _^_, _≤_, _<_}
 use native.Mathlib.Nat.{pow-suc, not-suc-le-zero, le-of-suc-le-suc, suc-ne-zero}
@@ -8,6 +8,7 @@ use native.Mathlib.Numerals.{add-one}
 use native.Mathlib.Omega.{arith}
 use lib.ListN.{length, getD, take, drop, take-append-drop, drop-of-length-le, length-drop}
 use lib.Seq.{drop-cons, getD-drop, take-all}
+use Rattle.sheet_format.specs.Rows.{Each}
 use Rattle.sheet_fields.specs.declared.Key.{Key}
 use Rattle.sheet_fields.specs.Keys.{packed, keyOf}
 
@@ -49,3 +50,41 @@ packed-end s = rw (drop-of-length-le s {i = length s} (omega arith))
 pub key-short : (n : List ℕ) → length n ≤ 8 → _≡_ {A = Key} (record { low = packed n; high = 0 }) (keyOf n)
 unfolding keyOf packed
 key-short n h = rw (take-all 8 n h, drop-of-length-le n {i = 8} h)
+
+-- ---- different texts have different numbers
+
+-- A byte that is not 0.
+abbrev pub Small : ℕ → Type 0
+Small x = (0 < x) × (x < 256)
+
+pub packed-same : (a b : List ℕ) → Each Small a → Each Small b → packed a ≡ packed b → a ≡ b
+unfolding packed
+packed-same [] [] p q e = refl
+packed-same [] (y ∷ b) p q e = absurd (let l = q .0 .0 in omega arith)
+packed-same (x ∷ a) [] p q e = absurd (let l = p .0 .0 in omega arith)
+packed-same (x ∷ a) (y ∷ b) p q e =
+    let l = p .0 .1 in
+    let k = q .0 .1 in
+    let h : x ≡ y = omega arith in
+    let t : packed a ≡ packed b = omega arith in
+    ap₂ _∷_ h (packed-same a b (p .1) (q .1) t)
+
+each-take : (n : ℕ) (s : List ℕ) → Each Small s → Each Small (take n s)
+each-take zero s h = tt
+each-take (suc n) [] h = tt
+each-take (suc n) (x ∷ s) h = (h .0, each-take n s (h .1))
+
+each-drop : (n : ℕ) (s : List ℕ) → Each Small s → Each Small (drop n s)
+each-drop zero s h = h
+each-drop (suc n) [] h = tt
+each-drop (suc n) (x ∷ s) h = each-drop n s (h .1)
+
+-- a key tells names apart
+pub key-same : (a b : List ℕ) → Each Small a → Each Small b → (keyOf a .low ≡ keyOf b .low) × (keyOf a .high ≡ keyOf b .high) → a ≡ b
+unfolding keyOf
+key-same a b p q e =
+    sym (take-append-drop 8 a)
+    ∙ ap₂ _++_
+        (packed-same (take 8 a) (take 8 b) (each-take 8 a p) (each-take 8 b q) (e .0))
+        (packed-same (drop 8 a) (drop 8 b) (each-drop 8 a p) (each-drop 8 b q) (e .1))
+    ∙ take-append-drop 8 b

@@ -2,10 +2,10 @@
 use setup::{Kind, Value, Vertex};
 use sheet_fields::{Key, KindField, NameField, ValueField};
 ghost use mathlib.Core.Path.{_≡_};
-ghost use Prim.Native.Nat.{ℕ, _≤_};
+ghost use Prim.Native.Nat.{ℕ, suc, _≤_};
 ghost use mathlib.Core.Bool.{_&&_};
 ghost use lib.ListN.{length, take};
-ghost use lib.Dec.{eqb};
+ghost use lib.Dec.{eqb, leb};
 ghost use Rattle.setup.specs.Setup.{given};
 ghost use Rattle.sheet_fields.specs.Parts.{Places, fourFields};
 ghost use Rattle.sheet_rows.specs.Table.{placeOf};
@@ -183,6 +183,19 @@ fn no_taken(number: u64) -> TakenItem
     TakenItem { number, key: sheet_fields::NO_KEY, vertex: UNUSED, starts: 0, losses: 0 }
 }
 
+// Question 7 of an item row below `count` others; `starts` and `losses` count it.
+fn has_room(count: usize, starts: usize, losses: usize) -> bool
+    ensures { λ r. ⌜ r ≡ (leb (suc count) 64 && leb starts 14 && leb losses 14) ⌝ }
+{
+    if MAX_ITEMS <= count {
+        return false;
+    }
+    if MAX_STARTS < starts {
+        return false;
+    }
+    losses <= MAX_LOSSES
+}
+
 // An item row below `count` others, of which `starts` are starting and `losses` losable items.
 pub fn take_item(l: &[u8], low: &[u64], high: &[u64], count: usize, starts: usize, losses: usize) -> TakenItem
     requires { ⌜ (count ≤ length (now low)) × (count ≤ length (now high)) × (starts ≤ 14) × (losses ≤ 14) ⌝ }
@@ -203,16 +216,11 @@ pub fn take_item(l: &[u8], low: &[u64], high: &[u64], count: usize, starts: usiz
     let loss = vertex.loss;
     let starts = starts + count_value(start);
     let losses = losses + count_value(loss);
-    if MAX_ITEMS <= count {
-        return no_taken(7);
+    if has_room(count, starts, losses) {
+        TakenItem { number: 0, key, vertex, starts, losses }
+    } else {
+        no_taken(7)
     }
-    if MAX_STARTS < starts {
-        return no_taken(7);
-    }
-    if MAX_LOSSES < losses {
-        return no_taken(7);
-    }
-    TakenItem { number: 0, key, vertex, starts, losses }
 }
 
 fn no_edge(number: u64) -> EdgeLine

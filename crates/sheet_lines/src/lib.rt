@@ -1,5 +1,12 @@
 // The lines of a sheet: the test of the whole text, the headers, all item rows, all edge rows.
 use setup::{Graph, Rows, Vertex};
+ghost use mathlib.Core.Path.{_≡_};
+ghost use Prim.Native.Nat.{ℕ, _≤_, _+_};
+ghost use lib.ListN.{length};
+ghost use Rattle.sheet_format.specs.Text.{sameText};
+ghost use Rattle.sheet_format.specs.Rows.{firstHeader, secondHeader};
+ghost use Rattle.sheet_format.specs.Questions.{isTextByte, question2, question3};
+ghost use Rattle.sheet_lines.specs.Loops.{ReadsItems, ReadsEdges};
 
 const MAX_EDGES: usize = 256;
 
@@ -25,7 +32,9 @@ pub struct Edges {
     pub recovery: Graph,
 }
 
-fn is_text_byte(b: u8) -> bool {
+fn is_text_byte(b: u8) -> bool
+    ensures { λ r. ⌜ r ≡ isTextByte b ⌝ }
+{
     if b == sheet_fields::LF {
         return true;
     }
@@ -36,7 +45,9 @@ fn is_text_byte(b: u8) -> bool {
 }
 
 // Question 2.
-pub fn is_text(s: &[u8]) -> bool {
+pub fn is_text(s: &[u8]) -> bool
+    ensures { λ r. ⌜ r ≡ question2 (now (s .entry)) ⌝ }
+{
     let n = s.len();
     if n == 0 {
         return false;
@@ -52,7 +63,9 @@ pub fn is_text(s: &[u8]) -> bool {
 }
 
 // Are the two texts the same?
-fn same_text(s: &[u8], t: &[u8]) -> bool {
+fn same_text(s: &[u8], t: &[u8]) -> bool
+    ensures { λ r. ⌜ r ≡ sameText (now (s .entry)) (now (t .entry)) ⌝ }
+{
     if s.len() != t.len() {
         return false;
     }
@@ -66,18 +79,24 @@ fn same_text(s: &[u8], t: &[u8]) -> bool {
     true
 }
 
-pub fn is_first_header(l: &[u8]) -> bool {
+pub fn is_first_header(l: &[u8]) -> bool
+    ensures { λ r. ⌜ r ≡ question3 firstHeader (now (l .entry)) ⌝ }
+{
     same_text(l, b"name kind start loss rank")
 }
 
-pub fn is_second_header(l: &[u8]) -> bool {
+pub fn is_second_header(l: &[u8]) -> bool
+    ensures { λ r. ⌜ r ≡ question3 secondHeader (now (l .entry)) ⌝ }
+{
     same_text(l, b"from to colour rec")
 }
 
 const EMPTY: Graph = Graph { rows: [Rows { needs: [0; 8] }; 64] };
 
 // The item rows, from `start` to the empty line.
-pub fn read_items(s: &[u8], start: usize) -> Items {
+pub fn read_items(s: &[u8], start: usize) -> Items
+    ensures { λ r. ⌜ ReadsItems (now (s .entry)) start r ⌝ }
+{
     let mut vertices = [sheet_rows::UNUSED; 64];
     let mut low = [0u64; 64];
     let mut high = [0u64; 64];
@@ -100,7 +119,8 @@ pub fn read_items(s: &[u8], start: usize) -> Items {
             return Items { number, line, at, count, vertices, low, high };
         }
         let key = item.key;
-        vertices[count] = item.vertex;
+        let vertex = item.vertex;
+        vertices[count] = vertex;
         low[count] = key.low;
         high[count] = key.high;
         starts = item.starts;
@@ -111,12 +131,17 @@ pub fn read_items(s: &[u8], start: usize) -> Items {
     Items { number: 11, line: count as u64 + 2, at, count, vertices, low, high }
 }
 
-fn refuse(number: u64, line: u64) -> Edges {
+fn refuse(number: u64, line: u64) -> Edges
+    ensures { λ r. ⌜ (r .number ≡ number) × (r .line ≡ line) ⌝ }
+{
     Edges { number, line, graph: EMPTY, recovery: EMPTY }
 }
 
 // The edge rows, from `start` to the end.
-pub fn read_edges(s: &[u8], start: usize, first: u64, low: &[u64], high: &[u64], count: usize) -> Edges {
+pub fn read_edges(s: &[u8], start: usize, first: u64, low: &[u64], high: &[u64], count: usize) -> Edges
+    requires { ⌜ (count ≤ length (now low)) × (count ≤ length (now high)) × (count ≤ 64) × (first ≤ 100) ⌝ }
+    ensures { λ r. ⌜ ReadsEdges (now (s .entry)) start first (now (low .entry)) (now (high .entry)) count r ⌝ }
+{
     let mut graph = EMPTY;
     let mut recovery = EMPTY;
     let mut edges: usize = 0;

@@ -64,7 +64,7 @@ leads a b later z =
 second-yes : (a b : Bool) → firstNo (ask 4 a ∷ ask 5 b ∷ []) ≡ 0 → b ≡ true
 second-yes a b z = one-yes 5 b (omega arith) (all-yes 4 a (ask 5 b ∷ []) (omega arith) z .1)
 
-item-name : (fs : List (List ℕ)) → question5Item fs ≡ true → isName (itemOf fs .name) ≡ true
+pub item-name : (fs : List (List ℕ)) → question5Item fs ≡ true → isName (itemOf fs .name) ≡ true
 unfolding question5Item itemOf
 item-name fs h =
     and-parts (isName (field fs 0)) (isKind (field fs 1))
@@ -88,6 +88,7 @@ module _ (l low high : List ℕ) (count starts losses : ℕ) (item : ItemLine) (
         vertex = λ z. absurd (n (sym e ∙ z));
         moreStarts = λ z. absurd (n (sym e ∙ z));
         moreLosses = λ z. absurd (n (sym e ∙ z));
+        within = λ z. absurd (n (sym e ∙ z));
       }
 
   module _ (zero : item .number ≡ 0) (found : ℕ) (place : found ≡ placeOf (take count low) (take count high) (item .key .low) (item .key .high)) where
@@ -120,6 +121,7 @@ module _ (l low high : List ℕ) (count starts losses : ℕ) (item : ItemLine) (
           vertex = λ z. absurd (omega arith);
           moreStarts = λ z. absurd (omega arith);
           moreLosses = λ z. absurd (omega arith);
+          within = λ z. absurd (omega arith);
         }
 
     module _ (s k : ℕ) (more : s ≡ starts + given (item .vertex .start)) (less : k ≡ losses + given (item .vertex .loss)) (free : count ≤ found) where
@@ -151,6 +153,7 @@ module _ (l low high : List ℕ) (count starts losses : ℕ) (item : ItemLine) (
             vertex = λ z. absurd (omega arith);
             moreStarts = λ z. absurd (omega arith);
             moreLosses = λ z. absurd (omega arith);
+            within = λ z. absurd (omega arith);
           }
 
       pub item-taken : (leb (suc count) 64 && leb s 14 && leb k 14) ≡ true
@@ -166,6 +169,10 @@ module _ (l low high : List ℕ) (count starts losses : ℕ) (item : ItemLine) (
             vertex = λ z. reads .vertex zero;
             moreStarts = λ z. start-is;
             moreLosses = λ z. loss-is;
+            within = λ z. (
+              leb-true s 14 (and-parts (leb (suc count) 64) (leb s 14) (and-parts (leb (suc count) 64 && leb s 14) (leb k 14) h .0) .1),
+              leb-true k 14 (and-parts (leb (suc count) 64 && leb s 14) (leb k 14) h .1),
+            );
           }
 
 -- ---- an edge row

@@ -2,7 +2,7 @@
 use mathlib.Core.Path.{_≡_}
 use mathlib.Core.List.{List, [], _∷_}
 use mathlib.Core.Bool.{Bool, true, cond, _&&_}
-use Prim.Native.Nat.{ℕ, _+_, _<_}
+use Prim.Native.Nat.{ℕ, _+_, _≤_, _<_}
 use lib.Dec.{eqb, leb}
 use Rattle.setup.specs.declared.Vertex.{Vertex}
 use Rattle.setup.specs.Setup.{given}
@@ -66,6 +66,7 @@ pub record TakesItem (l low high : List ℕ) (count starts losses : ℕ) (r : Ta
   pub vertex : r .number ≡ 0 → r .vertex ≡ vertexOf (itemOf (fieldsOf l))
   pub moreStarts : r .number ≡ 0 → r .starts ≡ starts + given (itemOf (fieldsOf l) .start)
   pub moreLosses : r .number ≡ 0 → r .losses ≡ losses + given (itemOf (fieldsOf l) .loss)
+  pub within : r .number ≡ 0 → (r .starts ≤ 14) × (r .losses ≤ 14)
 
 -- What the fields of an edge row state, where question 5 has a yes.
 pub record StatesEdge (fs : List (List ℕ)) (r : EdgeLine) : Type 0 where

@@ -2,11 +2,11 @@
 use mathlib.Core.Path.{_≡_}
 use mathlib.Core.List.{List, [], _∷_, map}
 use mathlib.Core.Bool.{Bool, true, false, cond, _&&_}
-use Prim.Native.Nat.{ℕ, suc, _≤_}
+use Prim.Native.Nat.{ℕ, suc}
 use lib.ListN.{length, take}
 use lib.Dec.{eqb}
 use Rattle.sheet_format.specs.Fields.{isName}
-use Rattle.sheet_format.specs.Rows.{ItemRow, Each, Apart, SameName}
+use Rattle.sheet_format.specs.Rows.{ItemRow, Each}
 use Rattle.sheet_fields.specs.Keys.{keyOf}
 
 abbrev pub lowOf : ItemRow → ℕ
@@ -18,13 +18,12 @@ highOf x = keyOf (x .name) .high
 abbrev pub WellNamed : ItemRow → Type 0
 WellNamed x = isName (x .name) ≡ true
 
--- The first `count` places of the two lists are the keys of the item rows' names, which are well formed and different.
+-- The first `count` places of the two lists are the keys of the item rows' names, which are well formed.
 pub record Table (items : List ItemRow) (low high : List ℕ) (count : ℕ) : Type 0 where
   pub size : count ≡ length items
   pub lows : take count low ≡ map lowOf items
   pub highs : take count high ≡ map highOf items
   pub named : Each WellNamed items
-  pub different : Apart SameName items
 
 -- The first place at which the lists have a and b; their length where there is none.
 unfoldable pub placeOf : List ℕ → List ℕ → ℕ → ℕ → ℕ

@@ -1,8 +1,11 @@
 -- What the readers of all item rows and of all edge rows answer.
 use mathlib.Core.Path.{_≡_}
 use mathlib.Core.List.{List, []}
-use Prim.Native.Nat.{ℕ, _+_, _≤_}
-use lib.ListN.{length, drop}
+use Prim.Native.Nat.{ℕ, _+_, _^_, _≤_}
+use lib.ListN.{length, drop, set}
+use lib.Bits.{bitOr}
+use Rattle.setup.specs.declared.Rows.{Rows}
+use Rattle.setup.specs.Setup.{rowOf}
 use Rattle.sheet_format.specs.Text.{linesOf}
 use Rattle.sheet_format.specs.Rows.{ItemRow, verticesOf}
 use Rattle.sheet_format.specs.Read.{AmongItems, AtSecondHeader, AmongEdges, noRows, accepted, refused, readLines}
@@ -22,6 +25,10 @@ pub record ItemsTaken (s : List ℕ) (start : ℕ) (r : Items) : Type 0 where
 pub record ReadsItems (s : List ℕ) (start : ℕ) (r : Items) : Type 0 where
   pub taken : r .number ≡ 0 → ItemsTaken s start r
   pub no : (r .number ≡ 0 → ⊥) → readLines AmongItems noRows 2 (linesOf (drop start s)) ≡ refused (r .number) (r .line)
+
+-- A vertex's rows with f among the items needed by colour c.
+abbrev pub withNeed : Rows → ℕ → ℕ → Rows
+withNeed r c f = record { needs = set (r .needs) c (bitOr (rowOf r c) (2 ^ f)) }
 
 -- The edge rows from `start` on, where the line `first` begins, below whatever item rows the table is of.
 pub record ReadsEdges (s : List ℕ) (start first : ℕ) (low high : List ℕ) (count : ℕ) (r : Edges) : Type 0 where

@@ -27,7 +27,7 @@ use Rattle.sheet_rows.specs.declared.EdgeLine.{EdgeLine}
 use Rattle.sheet_rows.specs.declared.TakenEdge.{TakenEdge}
 use Rattle.sheet_rows.specs.Table.{Table, placeOf}
 use Rattle.sheet_rows.specs.Lines.{ReadsItem, TakesItem, ReadsEdge, TakesEdge}
-use Rattle.sheet_rows.proofs.Asks.{answer-yes, answer-no, all-yes, one-yes}
+use Rattle.sheet_rows.proofs.Asks.{answer-yes, answer-no, all-yes, one-yes, no-first, yes-first}
 use Rattle.sheet_rows.proofs.Tables.{table-place, known-test}
 
 -- ---- room for an item
@@ -47,19 +47,8 @@ room-losses n s l h k = rw (le-leb (suc n) 64 h, le-leb s 14 k)
 
 -- ---- questions 4 and 5, and those behind them
 
--- a no among the first two is the first no of all
-stays : (a b : Bool) (later : List Asked) → (firstNo (ask 4 a ∷ ask 5 b ∷ []) ≡ 0 → ⊥) → firstNo (ask 4 a ∷ ask 5 b ∷ []) ≡ firstNo (ask 4 a ∷ ask 5 b ∷ later)
-unfolding firstNo
-stays true true later n = absurd (n refl)
-stays true false later n = refl
-stays false true later n = refl
-stays false false later n = refl
-
--- two yeses lead on
 leads : (a b : Bool) (later : List Asked) → firstNo (ask 4 a ∷ ask 5 b ∷ []) ≡ 0 → firstNo later ≡ firstNo (ask 4 a ∷ ask 5 b ∷ later)
-leads a b later z =
-    let p = all-yes 4 a (ask 5 b ∷ []) (omega arith) z in
-    sym (answer-yes 4 a (ask 5 b ∷ later) (p .0) ∙ answer-yes 5 b later (one-yes 5 b (omega arith) (p .1)))
+leads a b later z = yes-first (ask 4 a ∷ ask 5 b ∷ []) later (omega arith, (omega arith, tt)) z
 
 second-yes : (a b : Bool) → firstNo (ask 4 a ∷ ask 5 b ∷ []) ≡ 0 → b ≡ true
 second-yes a b z = one-yes 5 b (omega arith) (all-yes 4 a (ask 5 b ∷ []) (omega arith) z .1)
@@ -82,7 +71,7 @@ module _ (l low high : List ℕ) (count starts losses : ℕ) (item : ItemLine) (
   unfolding itemQuestions fs
   item-unread r n e =
       record {
-        number = λ d t p q. e ∙ reads .number ∙ stays (question4 5 fs) (question5Item fs) _ (λ z. n (reads .number ∙ z));
+        number = λ d t p q. e ∙ reads .number ∙ no-first (ask 4 (question4 5 fs) ∷ ask 5 (question5Item fs) ∷ []) (ask 6 (question6 d (itemOf fs)) ∷ ask 7 (question7Item d (itemOf fs)) ∷ []) (λ z. n (reads .number ∙ z));
         room = λ z. absurd (n (sym e ∙ z));
         key = λ z. absurd (n (sym e ∙ z));
         vertex = λ z. absurd (n (sym e ∙ z));
@@ -217,7 +206,7 @@ module _ (l low high : List ℕ) (count : ℕ) (edge : EdgeLine) (reads : ReadsE
   unfolding gs
   edge-unread r n e =
       refused-edge r (λ z. n (sym e ∙ z))
-      (λ d t. e ∙ reads .number ∙ stays (question4 4 gs) (question5Edge gs) (ask 8 (question8 d (edgeOf gs)) ∷ []) (λ z. n (reads .number ∙ z)))
+      (λ d t. e ∙ reads .number ∙ no-first (ask 4 (question4 4 gs) ∷ ask 5 (question5Edge gs) ∷ []) (ask 8 (question8 d (edgeOf gs)) ∷ []) (λ z. n (reads .number ∙ z)))
 
   module _ (zero : edge .number ≡ 0) where
     five : question5Edge gs ≡ true

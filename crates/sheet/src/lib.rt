@@ -1,17 +1,27 @@
-// A sheet: reading it, and its items' names.
-use setup::{Setup, Vertex, Graph, Rows};
+// A sheet (document 01): what it says, or the first question whose answer is no.
+use setup::{Graph, Rows, Setup};
 use sheet_format::Reading;
+use sheet_lines::Items;
+ghost use mathlib.Core.Path.{_≡_};
+ghost use Rattle.sheet_format.specs.Read.{refused, readSheet};
+ghost use Rattle.sheet_lines.specs.Loops.{InBounds};
+ghost use Rattle.sheet.specs.Rest.{ReadsRest};
 
 const MAX_BYTES: usize = 16384;
 
-fn refuse(number: u64, line: u64) -> Reading {
-    let empty = Graph { rows: [Rows { needs: [0; 8] }; 64] };
-    let setup = Setup { count: 0, vertices: [sheet_rows::UNUSED; 64], graph: empty, recovery: empty };
+fn refuse(number: u64, line: u64) -> Reading
+    ensures { λ r. ⌜ r ≡ refused number line ⌝ }
+{
+    let graph = Graph { rows: [Rows { needs: [0; 8] }; 64] };
+    let setup = Setup { count: 0, vertices: [sheet_rows::UNUSED; 64], graph, recovery: graph };
     Reading { number, line, setup }
 }
 
-// The lines behind the items.
-fn read_rest(s: &[u8], items: sheet_lines::Items) -> Reading {
+// The second header and the edge rows.
+fn read_rest(s: &[u8], items: Items) -> Reading
+    requires { ⌜ InBounds items ⌝ }
+    ensures { λ r. ⌜ ReadsRest (now (s .entry)) items r ⌝ }
+{
     let at = items.at;
     let line = items.line + 1;
     if s.len() <= at {
@@ -31,11 +41,14 @@ fn read_rest(s: &[u8], items: sheet_lines::Items) -> Reading {
     let vertices = items.vertices;
     let graph = edges.graph;
     let recovery = edges.recovery;
-    Reading { number: 0, line: 0, setup: Setup { count: items.count, vertices, graph, recovery } }
+    let setup = Setup { count: items.count, vertices, graph, recovery };
+    Reading { number: 0, line: 0, setup }
 }
 
-// What a sheet says, or the first question whose answer is no.
-pub fn read_sheet(sheet: &[u8]) -> Reading {
+// What a sheet says, or the number and line of the first no.
+pub fn read_sheet(sheet: &[u8]) -> Reading
+    ensures { λ r. ⌜ r ≡ readSheet (now (sheet .entry)) ⌝ }
+{
     if MAX_BYTES < sheet.len() {
         return refuse(1, 0);
     }

@@ -11,6 +11,7 @@ use lib.ListN.{length, getD, take, drop, set, replicate, length-drop, length-tak
 use lib.Seq.{take-suc-set, set-at}
 use Rattle.setup.specs.declared.Vertex.{Vertex}
 use Rattle.setup.specs.Setup.{unusedVertex, total, given}
+use Rattle.setup.proofs.Counts.{total-append}
 use Rattle.sheet_format.specs.Text.{linesOf, fieldsOf, isEmpty}
 use Rattle.sheet_format.specs.Fields.{isName}
 use Rattle.sheet_format.specs.Rows.{ItemRow, Doc, Each, startCount, lossCount, vertexOf, verticesOf}
@@ -32,8 +33,7 @@ use Rattle.sheet_lines.proofs.Reading.{line-at, lines-over, empty-no, e
 -- ---- one row more
 
 total-more : (f : ItemRow → ℕ) (xs : List ItemRow) (x : ItemRow) → total f (xs ++ (x ∷ [])) ≡ total f xs + f x
-total-more f [] x = omega arith
-total-more f (y ∷ xs) x = let e = total-more f xs x in omega arith
+total-more f xs x = let e = total-append f xs (x ∷ []) in omega arith
 
 keys-more : (f : ItemRow → ℕ) (xs : List ItemRow) (x : ItemRow) (keys : List ℕ) (n k : ℕ) → n < length keys → take n keys ≡ map f xs → k ≡ f x
     → take (n + 1) (set keys n k) ≡ map f (xs ++ (x ∷ []))
@@ -124,7 +124,7 @@ module _ (s : List ℕ) (start : ℕ) (vertices : List Vertex) (low high : List 
           taken = λ z. record {
             items = f .items;
             table = f .table;
-            most = f .most;
+            bounds = record { most = f .most; above = omega (arith, f .most); lows = rw (f .lows) (f .most); highs = rw (f .highs) (f .most) };
             vertices = f .places;
             reading =
                 here ∙ empty-yes (docOf (f .items)) (count + 2) line (linesOf (drop (e + 1) s)) (empty-line q) (λ y. n (f .table .size ∙ y))

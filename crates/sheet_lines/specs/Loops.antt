@@ -13,11 +13,18 @@ use Rattle.sheet_rows.specs.Table.{Table}
 use Rattle.sheet_lines.specs.declared.Items.{Items}
 use Rattle.sheet_lines.specs.declared.Edges.{Edges}
 
+-- The counts are within document 01's bounds, and the lists have place for as many keys.
+pub record InBounds (r : Items) : Type 0 where
+  pub most : r .count ≤ 64
+  pub above : r .line ≤ 66
+  pub lows : r .count ≤ length (r .low)
+  pub highs : r .count ≤ length (r .high)
+
 -- The item rows up to the empty line, from `start` on, where line 2 begins.
 pub record ItemsTaken (s : List ℕ) (start : ℕ) (r : Items) : Type 0 where
   pub items : List ItemRow
   pub table : Table items (r .low) (r .high) (r .count)
-  pub most : r .count ≤ 64
+  pub bounds : InBounds r
   pub vertices : r .vertices ≡ verticesOf items
   pub reading : readLines AmongItems noRows 2 (linesOf (drop start s))
       ≡ readLines AtSecondHeader (record { items = items; edges = [] }) (r .line + 1) (linesOf (drop (r .at) s))

@@ -1,5 +1,7 @@
 // A sheet (document 01): what it says, or the first question whose answer is no.
-use setup::{Graph, Rows, Setup};
+use setup::Graph;
+use setup::Rows;
+use setup::Setup;
 use sheet_format::Reading;
 use sheet_lines::Items;
 ghost use mathlib.Core.Path.{_≡_};
@@ -12,9 +14,20 @@ const MAX_BYTES: usize = 16384;
 fn refuse(number: u64, line: u64) -> Reading
     ensures { λ r. ⌜ r ≡ refused number line ⌝ }
 {
-    let graph = Graph { rows: [Rows { needs: [0; 8] }; 64] };
-    let setup = Setup { count: 0, vertices: [sheet_rows::UNUSED; 64], graph, recovery: graph };
-    Reading { number, line, setup }
+    let graph = Graph {
+        rows: [Rows { needs: [0; 8] }; 64],
+    };
+    let setup = Setup {
+        count: 0,
+        vertices: [sheet_rows::UNUSED; 64],
+        graph,
+        recovery: graph,
+    };
+    Reading {
+        number,
+        line,
+        setup,
+    }
 }
 
 // The second header and the edge rows.
@@ -41,8 +54,17 @@ fn read_rest(s: &[u8], items: Items) -> Reading
     let vertices = items.vertices;
     let graph = edges.graph;
     let recovery = edges.recovery;
-    let setup = Setup { count: items.count, vertices, graph, recovery };
-    Reading { number: 0, line: 0, setup }
+    let setup = Setup {
+        count: items.count,
+        vertices,
+        graph,
+        recovery,
+    };
+    Reading {
+        number: 0,
+        line: 0,
+        setup,
+    }
 }
 
 // What a sheet says, or the number and line of the first no.

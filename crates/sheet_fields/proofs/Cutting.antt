@@ -109,8 +109,8 @@ unfolding endAt moreFollow
 not-stepped l at e q z k =
     byTest (ltb 0 (until 32 (drop at l)))
     (λ p. byTest (ltb (until 32 (drop at l)) (length (drop at l)))
-      (λ h. absurd (let u = ltb-true 0 (until 32 (drop at l)) p in let y : at + until 32 (drop at l) ≡ 0 = sym (q ∙ rw (p, h)) ∙ z in omega arith))
-      (λ h. question-one k (drop at l) (ltb-false (until 32 (drop at l)) (length (drop at l)) h)))
+    (λ h. absurd (let u = ltb-true 0 (until 32 (drop at l)) p in let y : at + until 32 (drop at l) ≡ 0 = sym (q ∙ rw (p, h)) ∙ z in omega arith))
+    (λ h. question-one k (drop at l) (ltb-false (until 32 (drop at l)) (length (drop at l)) h)))
     (λ p. question-none k (drop at l) (let u = ltb-false 0 (until 32 (drop at l)) p in omega arith))
 
 -- what `end_of_field` returns
@@ -145,8 +145,10 @@ unfolding question4
 last-more l at h =
     let d = length-drop at l in
     let f = fields-some (drop (suc (until 32 (drop at l))) (drop at l)) in
-    rw (fields-more (drop at l) (omega arith),
-    ne-eqb (suc (length (fieldsOf (drop (suc (until 32 (drop at l))) (drop at l))))) 1 (λ e. omega arith))
+    rw (
+      fields-more (drop at l) (omega arith),
+      ne-eqb (suc (length (fieldsOf (drop (suc (until 32 (drop at l))) (drop at l))))) 1 (λ e. omega arith),
+    )
 
 pub last-fields : (l : List ℕ) (at : ℕ) → length l ≤ at + until 32 (drop at l) → fieldsOf (drop at l) ≡ drop at l ∷ []
 last-fields l at h = let d = length-drop at l in fields-last (drop at l) (omega arith)

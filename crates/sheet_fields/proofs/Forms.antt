@@ -59,8 +59,8 @@ number-to most f h = byTest (isNumber f) yes-case no-case
     yes-case : isNumber f ≡ true → (isNumber f && leb (numberOf f) most) ≡ leb (cond (isNumber f) (min (numberOf f) 1000001) 1000001) most
     yes-case e =
         rw e (byTest (leb (numberOf f) most)
-          (λ t. let l = leb-true (numberOf f) most t in t ∙ sym (le-leb (min (numberOf f) 1000001) most (omega arith)))
-          (λ t. let l = borrow.Author.Tests.leb-false (numberOf f) most t in t ∙ sym (lt-leb (min (numberOf f) 1000001) most (omega arith))))
+        (λ t. let l = leb-true (numberOf f) most t in t ∙ sym (le-leb (min (numberOf f) 1000001) most (omega arith)))
+        (λ t. let l = borrow.Author.Tests.leb-false (numberOf f) most t in t ∙ sym (lt-leb (min (numberOf f) 1000001) most (omega arith))))
 
     no-case : isNumber f ≡ false → (isNumber f && leb (numberOf f) most) ≡ leb (cond (isNumber f) (min (numberOf f) 1000001) 1000001) most
     no-case e = rw e (sym (lt-leb 1000001 most (omega arith)))

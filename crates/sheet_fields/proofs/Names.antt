@@ -59,7 +59,7 @@ pub name-length : (f : List ℕ) → isName f ≡ true → length f ≤ 16
 unfolding isName
 name-length f h =
     leb-true (length f) 16 (and-parts (leb 1 (length f)) (leb (length f) 16)
-      (and-parts (leb 1 (length f) && leb (length f) 16) (all isNameByte f) h .0) .1)
+    (and-parts (leb 1 (length f) && leb (length f) 16) (all isNameByte f) h .0) .1)
 
 pub name-all : (f : List ℕ) → isName f ≡ true → all isNameByte f ≡ true
 unfolding isName
@@ -72,9 +72,9 @@ unfolding isNameByte isDigit
 byte-small b h =
     ⊎-elim
     (λ e. ⊎-elim
-      (λ l. let p = leb-true 97 b (and-parts (leb 97 b) (leb b 122) l .0) in let q = leb-true b 122 (and-parts (leb 97 b) (leb b 122) l .1) in (omega arith, omega arith))
-      (λ d. let p = leb-true 48 b (and-parts (leb 48 b) (leb b 57) d .0) in let q = leb-true b 57 (and-parts (leb 48 b) (leb b 57) d .1) in (omega arith, omega arith))
-      (or-parts (leb 97 b && leb b 122) (leb 48 b && leb b 57) e))
+    (λ l. let p = leb-true 97 b (and-parts (leb 97 b) (leb b 122) l .0) in let q = leb-true b 122 (and-parts (leb 97 b) (leb b 122) l .1) in (omega arith, omega arith))
+    (λ d. let p = leb-true 48 b (and-parts (leb 48 b) (leb b 57) d .0) in let q = leb-true b 57 (and-parts (leb 48 b) (leb b 57) d .1) in (omega arith, omega arith))
+    (or-parts (leb 97 b && leb b 122) (leb 48 b && leb b 57) e))
     (λ u. let p = eqb-true b 95 u in (omega arith, omega arith))
     (or-parts (leb 97 b && leb b 122 || (leb 48 b && leb b 57)) (eqb b 95) h)
 

@@ -58,8 +58,8 @@ run-is [] v = refl
 run-is (b ∷ s) v =
     byTest (isDigit b)
     (λ e.
-        let m : min (min v 1000001 * 10 + (b - 48)) 1000001 ≡ min (v * 10 + (b - 48)) 1000001 = omega arith in
-        rw (e, m) (run-is s (v * 10 + (b - 48))))
+    let m : min (min v 1000001 * 10 + (b - 48)) 1000001 ≡ min (v * 10 + (b - 48)) 1000001 = omega arith in
+    rw (e, m) (run-is s (v * 10 + (b - 48))))
     (λ e. rw e (run-stays s))
 
 -- ---- a loop's turn, its end, and what is no number
@@ -88,7 +88,7 @@ pub number-run : (s : List ℕ) → (length s ≡ 0 → ⊥) → (getD s 0 0 ≡
 unfolding cappedNumber isNumber numberOf isEmpty
 number-run [] h k = absurd (h refl)
 number-run (b ∷ []) h k = rw (and-true (all isDigit (b ∷ []))) (sym (run-is (b ∷ []) 0))
-number-run (b ∷ a ∷ s) h k = 
+number-run (b ∷ a ∷ s) h k =
     let n : eqb b 48 ≡ false = ne-eqb b 48 k in
     rw (n, and-true (all isDigit (b ∷ a ∷ s))) (sym (run-is (b ∷ a ∷ s) 0))
 

@@ -85,6 +85,6 @@ unfolding keyOf
 key-same a b p q e =
     sym (take-append-drop 8 a)
     ∙ ap₂ _++_
-        (packed-same (take 8 a) (take 8 b) (each-take 8 a p) (each-take 8 b q) (e .0))
-        (packed-same (drop 8 a) (drop 8 b) (each-drop 8 a p) (each-drop 8 b q) (e .1))
+    (packed-same (take 8 a) (take 8 b) (each-take 8 a p) (each-take 8 b q) (e .0))
+    (packed-same (drop 8 a) (drop 8 b) (each-drop 8 a p) (each-drop 8 b q) (e .1))
     ∙ take-append-drop 8 b

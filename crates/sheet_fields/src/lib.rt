@@ -1,5 +1,6 @@
 // The fields of a sheet's rows: cutting a line into them, and reading each.
-use setup::{Kind, Value};
+use setup::Kind;
+use setup::Value;
 ghost use mathlib.Core.Path.{_≡_};
 ghost use Prim.Native.Nat.{ℕ, _+_, _≤_};
 ghost use lib.ListN.{length, drop};
@@ -9,7 +10,9 @@ ghost use Rattle.sheet_fields.specs.Forms.{cappedNumber, cappedStep, Rea
 ghost use Rattle.sheet_fields.specs.Keys.{packed, keyOf, ReadsName};
 
 pub const SPACE: u8 = 32;
+
 pub const LF: u8 = 10;
+
 const DASH: u8 = 45;
 
 // Above the largest number that a sheet may have.
@@ -17,6 +20,7 @@ const TOO_LARGE: u64 = 1_000_001;
 
 // The longest name, and how many of its bytes one number of its key holds.
 const NAME_BYTES: usize = 16;
+
 const WORD_BYTES: usize = 8;
 
 // A name as two numbers.
@@ -75,7 +79,12 @@ pub fn end_of_field(l: &[u8], at: usize) -> usize
     if end < l.len() { end } else { 0 }
 }
 
-const NO_CUT: Cut = Cut { ok: false, first: 0, second: 0, third: 0 };
+const NO_CUT: Cut = Cut {
+    ok: false,
+    first: 0,
+    second: 0,
+    third: 0,
+};
 
 // Cuts a line into four fields, none empty.
 pub fn cut_four(l: &[u8]) -> Cut
@@ -101,7 +110,12 @@ pub fn cut_four(l: &[u8]) -> Cut
     if end < l.len() {
         return NO_CUT;
     }
-    Cut { ok: true, first, second, third }
+    Cut {
+        ok: true,
+        first,
+        second,
+        third,
+    }
 }
 
 fn is_name_byte(b: u8) -> bool
@@ -180,12 +194,21 @@ pub fn read_kind(f: &[u8]) -> KindField
     ensures { λ r. ⌜ ReadsKind (now (f .entry)) r ⌝ }
 {
     if f.len() != 1 {
-        return KindField { ok: false, kind: Kind::Credential };
+        return KindField {
+            ok: false,
+            kind: Kind::Credential,
+        };
     }
     if f[0] == b'a' {
-        return KindField { ok: true, kind: Kind::Account };
+        return KindField {
+            ok: true,
+            kind: Kind::Account,
+        };
     }
-    KindField { ok: f[0] == b'c', kind: Kind::Credential }
+    KindField {
+        ok: f[0] == b'c',
+        kind: Kind::Credential,
+    }
 }
 
 // `-` or a number up to 1,000,000
@@ -194,12 +217,21 @@ pub fn read_value(f: &[u8]) -> ValueField
 {
     let n = read_number(f);
     if n < TOO_LARGE {
-        return ValueField { ok: true, value: Value::Of(n) };
+        return ValueField {
+            ok: true,
+            value: Value::Of(n),
+        };
     }
     if f.len() != 1 {
-        return ValueField { ok: false, value: Value::Blank };
+        return ValueField {
+            ok: false,
+            value: Value::Blank,
+        };
     }
-    ValueField { ok: f[0] == DASH, value: Value::Blank }
+    ValueField {
+        ok: f[0] == DASH,
+        value: Value::Blank,
+    }
 }
 
 // At most eight bytes as one number, the first byte lowest.
@@ -239,6 +271,9 @@ pub fn read_name(f: &[u8]) -> NameField
         let key = key_of(f);
         NameField { ok: true, key }
     } else {
-        NameField { ok: false, key: NO_KEY }
+        NameField {
+            ok: false,
+            key: NO_KEY,
+        }
     }
 }

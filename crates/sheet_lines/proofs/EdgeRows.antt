@@ -78,14 +78,14 @@ number-same [] a b p q e = absurd p
 number-same (x ∷ xs) a b p q e =
     byTest (sameText (x .name) a)
     (λ s. byTest (sameText (x .name) b)
-      (λ t. sym (text-decided (x .name) a .yes s) ∙ text-decided (x .name) b .yes t)
-      (λ t. absurd (let z = rw (s, t) at e in omega arith)))
+    (λ t. sym (text-decided (x .name) a .yes s) ∙ text-decided (x .name) b .yes t)
+    (λ t. absurd (let z = rw (s, t) at e in omega arith)))
     (λ s. byTest (sameText (x .name) b)
-      (λ t. absurd (let z = rw (s, t) at e in omega arith))
-      (λ t. number-same xs a b
-        (⊎-elim (λ h. absurd (text-decided (x .name) a .no s h)) (λ h. h) p)
-        (⊎-elim (λ h. absurd (text-decided (x .name) b .no t h)) (λ h. h) q)
-        (let z = rw (s, t) at e in omega arith)))
+    (λ t. absurd (let z = rw (s, t) at e in omega arith))
+    (λ t. number-same xs a b
+    (⊎-elim (λ h. absurd (text-decided (x .name) a .no s h)) (λ h. h) p)
+    (⊎-elim (λ h. absurd (text-decided (x .name) b .no t h)) (λ h. h) q)
+    (let z = rw (s, t) at e in omega arith)))
 
 graph-more : (xs : List ItemRow) (g : Graph) (es : List EdgeRow) (e : EdgeRow) (a v c : ℕ)
     → g ≡ withEdges xs emptyGraph es → a ≡ numberIn xs (e .from) → v ≡ numberIn xs (e .to) → c ≡ e .colour
@@ -236,24 +236,25 @@ module _ (s : List ℕ) (start first : ℕ) (items : List ItemRow) (low high : L
       nine-no m =
           no-of (not (isRepeated (f .edges) edge)) (single-decided (f .edges) edge)
           (λ h. let z = graph-edges (r .from) (r .to) (r .colour) m in
-            let k = of-each (KnownEnds items) (f .edges) (f .known) (z .edge) (z .stands) in
-            of-each (λ x. SameEdge x edge → ⊥) (f .edges) h (z .edge) (z .stands)
-            (number-same items (z .edge .from) (edge .from) (k .0) (ends .0) (z .from ∙ from-is),
+          let k = of-each (KnownEnds items) (f .edges) (f .known) (z .edge) (z .stands) in
+          of-each (λ x. SameEdge x edge → ⊥) (f .edges) h (z .edge) (z .stands) (
+            number-same items (z .edge .from) (edge .from) (k .0) (ends .0) (z .from ∙ from-is),
             number-same items (z .edge .to) (edge .to) (k .1) (ends .1) (z .to ∙ to-is),
-            z .colour ∙ colour-is))
+            z .colour ∙ colour-is,
+          ))
 
       nine-yes : (Edge graph (r .from) (r .to) (r .colour) → ⊥) → question9 above edge ≡ true
       unfolding question9 above
       nine-yes m =
           yes-of (not (isRepeated (f .edges) edge)) (single-decided (f .edges) edge)
           (each-of (λ x. SameEdge x edge → ⊥) (f .edges) (λ x i q.
-            m (edges-graph (r .from) (r .to) (r .colour) (record {
-              edge = x;
-              stands = i;
-              from = ap (numberIn items) (q .0) ∙ sym from-is;
-              to = ap (numberIn items) (q .1) ∙ sym to-is;
-              colour = q .2 ∙ sym colour-is;
-            }))))
+          m (edges-graph (r .from) (r .to) (r .colour) (record {
+            edge = x;
+            stands = i;
+            from = ap (numberIn items) (q .0) ∙ sym from-is;
+            to = ap (numberIn items) (q .1) ∙ sym to-is;
+            colour = q .2 ∙ sym colour-is;
+          }))))
 
       pub repeated-row : eqb (row graph (r .to) (r .colour) / 2 ^ r .from % 2) 1 ≡ true
           → readLines AmongEdges (docWith items []) first (linesOf (drop start s)) ≡ refused 9 (first + n)
@@ -273,7 +274,7 @@ module _ (s : List ℕ) (start first : ℕ) (items : List ItemRow) (low high : L
             let m = f .many in
             here ∙ edge-no above (first + n) line (linesOf (drop (e + 1) s)) 7
             (sym (answer-yes 9 (question9 above edge) (ask 7 (question7Edge above) ∷ []) nine
-              ∙ answer-no 7 (question7Edge above) [] (lt-leb (suc (length (f .edges))) 256 (omega arith))) ∙ rest) (λ z. omega arith)
+            ∙ answer-no 7 (question7Edge above) [] (lt-leb (suc (length (f .edges))) 256 (omega arith))) ∙ rest) (λ z. omega arith)
 
         module _ (count-most : count ≤ 64) where
           placed-row : Placed items edge
@@ -297,8 +298,8 @@ module _ (s : List ℕ) (start first : ℕ) (items : List ItemRow) (low high : L
                 recoveries = recovery-more items recovery (f .edges) edge (r .from) (r .to) (r .colour) (r .rec) (f .recoveries) from-is to-is colour-is (takes .rec zero);
                 reading =
                     here ∙ edge-yes above (first + n) line (linesOf (drop (e + 1) s))
-                      (sym (answer-yes 9 (question9 above edge) (ask 7 (question7Edge above) ∷ []) nine
-                        ∙ answer-yes 7 (question7Edge above) [] (le-leb (suc (length (f .edges))) 256 (omega (arith, f .many)))) ∙ rest)
+                    (sym (answer-yes 9 (question9 above edge) (ask 7 (question7Edge above) ∷ []) nine
+                    ∙ answer-yes 7 (question7Edge above) [] (le-leb (suc (length (f .edges))) 256 (omega (arith, f .many)))) ∙ rest)
                     ∙ ap (λ (k : ℕ). readLines AmongEdges (docWith items (f .edges ++ (edge ∷ []))) k (linesOf (drop (e + 1) s)))
-                        (let k : suc (first + n) ≡ first + (n + 1) = omega arith in k);
+                    (let k : suc (first + n) ≡ first + (n + 1) = omega arith in k);
               }

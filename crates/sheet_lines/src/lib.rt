@@ -1,5 +1,7 @@
 // The lines of a sheet: the test of the whole text, the headers, all item rows, all edge rows.
-use setup::{Graph, Rows, Vertex};
+use setup::Graph;
+use setup::Rows;
+use setup::Vertex;
 ghost use mathlib.Core.Path.{_≡_};
 ghost use mathlib.Core.Bool.{cond};
 ghost use Prim.Native.Nat.{ℕ, _/_, _%_, _^_, _≤_, _<_};
@@ -15,6 +17,7 @@ const MAX_EDGES: usize = 256;
 
 // The bytes that a text has beside LF.
 const FIRST_BYTE: u8 = 32;
+
 const LAST_BYTE: u8 = 126;
 
 // What the first lines come to: all up to the second header.
@@ -94,7 +97,9 @@ pub fn is_second_header(l: &[u8]) -> bool
     same_text(l, b"from to colour rec")
 }
 
-const EMPTY: Graph = Graph { rows: [Rows { needs: [0; 8] }; 64] };
+const EMPTY: Graph = Graph {
+    rows: [Rows { needs: [0; 8] }; 64],
+};
 
 // The item rows, from `start` to the empty line.
 pub fn read_items(s: &[u8], start: usize) -> Items
@@ -112,14 +117,38 @@ pub fn read_items(s: &[u8], start: usize) -> Items
         let end = sheet_fields::find(s, at, sheet_fields::LF);
         if end == at {
             if count == 0 {
-                return Items { number: 10, line, at, count, vertices, low, high };
+                return Items {
+                    number: 10,
+                    line,
+                    at,
+                    count,
+                    vertices,
+                    low,
+                    high,
+                };
             }
-            return Items { number: 0, line, at: end + 1, count, vertices, low, high };
+            return Items {
+                number: 0,
+                line,
+                at: end + 1,
+                count,
+                vertices,
+                low,
+                high,
+            };
         }
         let item = sheet_rows::take_item(&s[at..end], &low, &high, count, starts, losses);
         let number = item.number;
         if number != 0 {
-            return Items { number, line, at, count, vertices, low, high };
+            return Items {
+                number,
+                line,
+                at,
+                count,
+                vertices,
+                low,
+                high,
+            };
         }
         let key = item.key;
         let vertex = item.vertex;
@@ -131,7 +160,15 @@ pub fn read_items(s: &[u8], start: usize) -> Items
         count += 1;
         at = end + 1;
     }
-    Items { number: 11, line: count as u64 + 2, at, count, vertices, low, high }
+    Items {
+        number: 11,
+        line: count as u64 + 2,
+        at,
+        count,
+        vertices,
+        low,
+        high,
+    }
 }
 
 // Is there an edge of this colour from `from` into the vertex with these rows?
@@ -157,17 +194,33 @@ fn with_mark(row: Rows, colour: usize, from: usize, rec: bool) -> Rows
     requires { ⌜ (colour < 8) × (from < 64) ⌝ }
     ensures { λ r. ⌜ r ≡ cond rec (withNeed row colour from) row ⌝ }
 {
-    if rec { with_need(row, colour, from) } else { row }
+    if rec {
+        with_need(row, colour, from)
+    } else {
+        row
+    }
 }
 
 fn refuse(number: u64, line: u64) -> Edges
     ensures { λ r. ⌜ (r .number ≡ number) × (r .line ≡ line) ⌝ }
 {
-    Edges { number, line, graph: EMPTY, recovery: EMPTY }
+    Edges {
+        number,
+        line,
+        graph: EMPTY,
+        recovery: EMPTY,
+    }
 }
 
 // The edge rows, from `start` to the end, below `count` item rows; the line `first` begins at `start`.
-pub fn read_edges(s: &[u8], start: usize, first: u64, low: &[u64], high: &[u64], count: usize) -> Edges
+pub fn read_edges(
+    s: &[u8],
+    start: usize,
+    first: u64,
+    low: &[u64],
+    high: &[u64],
+    count: usize,
+) -> Edges
     requires { ⌜ (count ≤ length (now low)) × (count ≤ length (now high)) × (count ≤ 64) × (first ≤ 100) ⌝ }
     ensures { λ r. ⌜ ReadsEdges (now (s .entry)) start first (now (low .entry)) (now (high .entry)) count r ⌝ }
 {
@@ -201,5 +254,10 @@ pub fn read_edges(s: &[u8], start: usize, first: u64, low: &[u64], high: &[u64],
         edges += 1;
         at = end + 1;
     }
-    Edges { number: 0, line: 0, graph, recovery }
+    Edges {
+        number: 0,
+        line: 0,
+        graph,
+        recovery,
+    }
 }

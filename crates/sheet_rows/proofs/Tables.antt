@@ -58,8 +58,8 @@ key-test a b p q =
     byTest (sameText a b)
     (λ e. let s = text-decided a b .yes e in rw (e, s) (and-both (eqb (keyOf b .low) (keyOf b .low)) (eqb (keyOf b .high) (keyOf b .high)) (eq-eqb (keyOf b .low) (keyOf b .low) refl) (eq-eqb (keyOf b .high) (keyOf b .high) refl)))
     (λ e. no-of (eqb (keyOf a .low) (keyOf b .low) && eqb (keyOf a .high) (keyOf b .high))
-      (decide-and (eqb (keyOf a .low) (keyOf b .low)) (eqb (keyOf a .high) (keyOf b .high)) (decide-eqb (keyOf a .low) (keyOf b .low)) (decide-eqb (keyOf a .high) (keyOf b .high)))
-      (λ k. text-decided a b .no e (key-same a b (name-small a p) (name-small b q) k)) ∙ sym e)
+    (decide-and (eqb (keyOf a .low) (keyOf b .low)) (eqb (keyOf a .high) (keyOf b .high)) (decide-eqb (keyOf a .low) (keyOf b .low)) (decide-eqb (keyOf a .high) (keyOf b .high)))
+    (λ k. text-decided a b .no e (key-same a b (name-small a p) (name-small b q) k)) ∙ sym e)
 
 place-number : (xs : List ItemRow) (n : List ℕ) → Each WellNamed xs → isName n ≡ true → placeOf (map lowOf xs) (map highOf xs) (keyOf n .low) (keyOf n .high) ≡ numberIn xs n
 unfolding placeOf numberIn

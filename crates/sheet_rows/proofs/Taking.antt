@@ -136,7 +136,7 @@ module _ (l low high : List ℕ) (count starts losses : ℕ) (item : ItemLine) (
           record {
             number = λ d t p q.
                 e ∙ sym (answer-yes 6 (question6 d (itemOf fs)) (ask 7 (question7Item d (itemOf fs)) ∷ []) (six-yes d t)
-                  ∙ answer-no 7 (question7Item d (itemOf fs)) [] (seven d t p q ∙ h)) ∙ rest d;
+                ∙ answer-no 7 (question7Item d (itemOf fs)) [] (seven d t p q ∙ h)) ∙ rest d;
             room = λ z. absurd (omega arith);
             key = λ z. absurd (omega arith);
             vertex = λ z. absurd (omega arith);
@@ -152,7 +152,7 @@ module _ (l low high : List ℕ) (count starts losses : ℕ) (item : ItemLine) (
           record {
             number = λ d t p q.
                 sym (answer-yes 6 (question6 d (itemOf fs)) (ask 7 (question7Item d (itemOf fs)) ∷ []) (six-yes d t)
-                  ∙ answer-yes 7 (question7Item d (itemOf fs)) [] (seven d t p q ∙ h)) ∙ rest d;
+                ∙ answer-yes 7 (question7Item d (itemOf fs)) [] (seven d t p q ∙ h)) ∙ rest d;
             room = λ z. leb-true (suc count) 64 (and-parts (leb (suc count) 64) (leb s 14) (and-parts (leb (suc count) 64 && leb s 14) (leb k 14) h .0) .0);
             key = λ z. reads .key zero;
             vertex = λ z. reads .vertex zero;
@@ -188,7 +188,7 @@ module _ (l low high : List ℕ) (count : ℕ) (edge : EdgeLine) (reads : ReadsE
   -- a row that is refused leaves nothing to say of the other fields
   refused-edge : (r : TakenEdge) → (r .number ≡ 0 → ⊥)
       → ((d : Doc) → Table (d .items) low high count
-        → r .number ≡ firstNo (ask 4 (question4 4 gs) ∷ ask 5 (question5Edge gs) ∷ ask 8 (question8 d (edgeOf gs)) ∷ []))
+      → r .number ≡ firstNo (ask 4 (question4 4 gs) ∷ ask 5 (question5Edge gs) ∷ ask 8 (question8 d (edgeOf gs)) ∷ []))
       → TakesEdge l low high count r
   unfolding gs
   refused-edge r n q =
@@ -244,7 +244,7 @@ module _ (l low high : List ℕ) (count : ℕ) (edge : EdgeLine) (reads : ReadsE
         edge-no-to r h k e =
             refused-edge r (λ z. omega arith)
             (λ d t. e ∙ sym (answer-no 8 (question8 d (edgeOf gs)) []
-              (rw (from-known (d .items) t, to-known (d .items) t, lt-ltb from count h, le-ltb to count k))) ∙ eight d)
+            (rw (from-known (d .items) t, to-known (d .items) t, lt-ltb from count h, le-ltb to count k))) ∙ eight d)
 
         pub edge-taken : from < count → to < count
             → TakesEdge l low high count (record { number = 0; from = from; to = to; colour = edge .colour; rec = edge .rec })

@@ -1,6 +1,11 @@
 // The rows of a sheet: an item row and an edge row, each by itself and below the rows above it.
-use setup::{Kind, Value, Vertex};
-use sheet_fields::{Key, KindField, NameField, ValueField};
+use setup::Kind;
+use setup::Value;
+use setup::Vertex;
+use sheet_fields::Key;
+use sheet_fields::KindField;
+use sheet_fields::NameField;
+use sheet_fields::ValueField;
 ghost use mathlib.Core.Path.{_≡_};
 ghost use Prim.Native.Nat.{ℕ, suc, _≤_};
 ghost use mathlib.Core.Bool.{_&&_};
@@ -13,13 +18,22 @@ ghost use Rattle.sheet_rows.specs.Lines.{JoinsFields, ReadsFields, Reads
 
 // Document 01's bounds.
 const MAX_RANK: u64 = 9;
+
 const MAX_COLOUR: u64 = 7;
+
 const MAX_ITEMS: usize = 64;
+
 const MAX_STARTS: usize = 14;
+
 const MAX_LOSSES: usize = 14;
 
 // A place not in use.
-pub const UNUSED: Vertex = Vertex { kind: Kind::Credential, start: Value::Blank, loss: Value::Blank, rank: 0 };
+pub const UNUSED: Vertex = Vertex {
+    kind: Kind::Credential,
+    start: Value::Blank,
+    loss: Value::Blank,
+    rank: 0,
+};
 
 // In each answer here `number` is that of the first question whose answer is no, or 0. Where it is
 // not 0, the other fields say nothing.
@@ -63,7 +77,10 @@ pub struct TakenEdge {
 fn no_vertex(number: u64) -> VertexFields
     ensures { λ r. ⌜ r .number ≡ number ⌝ }
 {
-    VertexFields { number, vertex: UNUSED }
+    VertexFields {
+        number,
+        vertex: UNUSED,
+    }
 }
 
 // Question 5 of the four fields behind an item's name.
@@ -83,7 +100,15 @@ fn join_fields(kind: KindField, start: ValueField, loss: ValueField, rank: u64) 
         let kind = kind.kind;
         let start = start.value;
         let loss = loss.value;
-        VertexFields { number: 0, vertex: Vertex { kind, start, loss, rank } }
+        VertexFields {
+            number: 0,
+            vertex: Vertex {
+                kind,
+                start,
+                loss,
+                rank,
+            },
+        }
     } else {
         no_vertex(5)
     }
@@ -114,7 +139,11 @@ fn read_vertex(l: &[u8]) -> VertexFields
 fn no_item(number: u64) -> ItemLine
     ensures { λ r. ⌜ r .number ≡ number ⌝ }
 {
-    ItemLine { number, key: sheet_fields::NO_KEY, vertex: UNUSED }
+    ItemLine {
+        number,
+        key: sheet_fields::NO_KEY,
+        vertex: UNUSED,
+    }
 }
 
 // A name, and the fields behind it.
@@ -130,7 +159,11 @@ fn join_item(name: NameField, fields: VertexFields) -> ItemLine
     }
     let key = name.key;
     let vertex = fields.vertex;
-    ItemLine { number, key, vertex }
+    ItemLine {
+        number,
+        key,
+        vertex,
+    }
 }
 
 pub fn read_item(l: &[u8]) -> ItemLine
@@ -148,7 +181,11 @@ pub fn read_item(l: &[u8]) -> ItemLine
 fn same_key(a: Key, b: Key) -> bool
     ensures { λ r. ⌜ r ≡ (eqb (a .low) (b .low) && eqb (a .high) (b .high)) ⌝ }
 {
-    if a.low == b.low { a.high == b.high } else { false }
+    if a.low == b.low {
+        a.high == b.high
+    } else {
+        false
+    }
 }
 
 // The place of a key among the first `count`; `count` where it is not there.
@@ -158,7 +195,10 @@ pub fn find_name(low: &[u64], high: &[u64], count: usize, key: Key) -> usize
 {
     let mut i = 0;
     while i < count {
-        let other = Key { low: low[i], high: high[i] };
+        let other = Key {
+            low: low[i],
+            high: high[i],
+        };
         if same_key(other, key) {
             return i;
         }
@@ -180,7 +220,13 @@ fn count_value(v: Value) -> usize
 fn no_taken(number: u64) -> TakenItem
     ensures { λ r. ⌜ r .number ≡ number ⌝ }
 {
-    TakenItem { number, key: sheet_fields::NO_KEY, vertex: UNUSED, starts: 0, losses: 0 }
+    TakenItem {
+        number,
+        key: sheet_fields::NO_KEY,
+        vertex: UNUSED,
+        starts: 0,
+        losses: 0,
+    }
 }
 
 // Question 7 of an item row below `count` others; `starts` and `losses` count it.
@@ -197,7 +243,14 @@ fn has_room(count: usize, starts: usize, losses: usize) -> bool
 }
 
 // An item row below `count` others, of which `starts` are starting and `losses` losable items.
-pub fn take_item(l: &[u8], low: &[u64], high: &[u64], count: usize, starts: usize, losses: usize) -> TakenItem
+pub fn take_item(
+    l: &[u8],
+    low: &[u64],
+    high: &[u64],
+    count: usize,
+    starts: usize,
+    losses: usize,
+) -> TakenItem
     requires { ⌜ (count ≤ length (now low)) × (count ≤ length (now high)) × (starts ≤ 14) × (losses ≤ 14) ⌝ }
     ensures { λ r. ⌜ TakesItem (now (l .entry)) (now (low .entry)) (now (high .entry)) count starts losses r ⌝ }
 {
@@ -217,7 +270,13 @@ pub fn take_item(l: &[u8], low: &[u64], high: &[u64], count: usize, starts: usiz
     let starts = starts + count_value(start);
     let losses = losses + count_value(loss);
     if has_room(count, starts, losses) {
-        TakenItem { number: 0, key, vertex, starts, losses }
+        TakenItem {
+            number: 0,
+            key,
+            vertex,
+            starts,
+            losses,
+        }
     } else {
         no_taken(7)
     }
@@ -226,7 +285,13 @@ pub fn take_item(l: &[u8], low: &[u64], high: &[u64], count: usize, starts: usiz
 fn no_edge(number: u64) -> EdgeLine
     ensures { λ r. ⌜ r .number ≡ number ⌝ }
 {
-    EdgeLine { number, from: sheet_fields::NO_KEY, to: sheet_fields::NO_KEY, colour: 0, rec: false }
+    EdgeLine {
+        number,
+        from: sheet_fields::NO_KEY,
+        to: sheet_fields::NO_KEY,
+        colour: 0,
+        rec: false,
+    }
 }
 
 // Question 5 of the four fields of an edge row.
@@ -247,7 +312,13 @@ fn join_ends(from: NameField, to: NameField, colour: u64, rec: u64) -> EdgeLine
     }
     let from = from.key;
     let to = to.key;
-    EdgeLine { number: 0, from, to, colour: colour as usize, rec: rec == 1 }
+    EdgeLine {
+        number: 0,
+        from,
+        to,
+        colour: colour as usize,
+        rec: rec == 1,
+    }
 }
 
 fn read_ends(l: &[u8], first: usize, second: usize, third: usize) -> EdgeLine
@@ -275,7 +346,13 @@ pub fn read_edge(l: &[u8]) -> EdgeLine
 fn no_ends(number: u64) -> TakenEdge
     ensures { λ r. ⌜ r .number ≡ number ⌝ }
 {
-    TakenEdge { number, from: 0, to: 0, colour: 0, rec: false }
+    TakenEdge {
+        number,
+        from: 0,
+        to: 0,
+        colour: 0,
+        rec: false,
+    }
 }
 
 // An edge row below `count` item rows.
@@ -298,5 +375,11 @@ pub fn take_edge(l: &[u8], low: &[u64], high: &[u64], count: usize) -> TakenEdge
     if count <= to {
         return no_ends(8);
     }
-    TakenEdge { number: 0, from, to, colour: edge.colour, rec: edge.rec }
+    TakenEdge {
+        number: 0,
+        from,
+        to,
+        colour: edge.colour,
+        rec: edge.rec,
+    }
 }

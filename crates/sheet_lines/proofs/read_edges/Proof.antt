@@ -91,7 +91,7 @@ returns c =
     let a = p .before .before .before .before .args in
     no-edges (a .s .now) (a .start) (a .first) (a .low .now) (a .high .now) (a .count) _ _ (c .refuse .result) (c .before .if1 .taken) (c .refuse .ensures)
     (λ items b. refused-row (a .s .now) (a .start) (a .first) items (a .low .now) (a .high .now) (a .count) _ _ _ _ (p .loop .inv .rows items b) b
-      (f .before .loop-test .taken) (f .find .result) (f .find .ensures) (t .take-edge .result) (t .take-edge .ensures) (c .before .if1 .taken))
+    (f .before .loop-test .taken) (f .find .result) (f .find .ensures) (t .take-edge .result) (t .take-edge .ensures) (c .before .if1 .taken))
 
 -- src/lib.rt:189:19
 mul-row : tie.Need-mul-row Inv-loop μ-loop
@@ -122,8 +122,8 @@ returns-2 c =
     let a = p .before .before .before .before .args in
     no-edges (a .s .now) (a .start) (a .first) (a .low .now) (a .high .now) (a .count) _ _ (c .refuse2 .result) (λ y. omega arith) (c .refuse2 .ensures)
     (λ items b. repeated-row (a .s .now) (a .start) (a .first) items (a .low .now) (a .high .now) (a .count) _ _ _ _ (p .loop .inv .rows items b) b
-      (f .before .loop-test .taken) (f .find .result) (f .find .ensures) (t .take-edge .result) (t .take-edge .ensures) (z .if1 .left)
-      (sym (n .has-need .ensures) ∙ c .before .if2 .taken))
+    (f .before .loop-test .taken) (f .find .result) (f .find .ensures) (t .take-edge .result) (t .take-edge .ensures) (z .if1 .left)
+    (sym (n .has-need .ensures) ∙ c .before .if2 .taken))
 
 -- src/lib.rt:194:13
 refuse-requires-3 : tie.Need-refuse-requires-3 Inv-loop μ-loop
@@ -140,8 +140,8 @@ returns-3 c =
     let a = p .before .before .before .before .args in
     no-edges (a .s .now) (a .start) (a .first) (a .low .now) (a .high .now) (a .count) _ _ (c .refuse3 .result) (λ y. omega arith) (c .refuse3 .ensures)
     (λ items b. full-row (a .s .now) (a .start) (a .first) items (a .low .now) (a .high .now) (a .count) _ _ _ _ (p .loop .inv .rows items b) b
-      (f .before .loop-test .taken) (f .find .result) (f .find .ensures) (t .take-edge .result) (t .take-edge .ensures) (z .if1 .left)
-      (sym (n .has-need .ensures) ∙ c .before .before .if2 .left) (c .before .if3 .taken))
+    (f .before .loop-test .taken) (f .find .result) (f .find .ensures) (t .take-edge .result) (t .take-edge .ensures) (z .if1 .left)
+    (sym (n .has-need .ensures) ∙ c .before .before .if2 .left) (c .before .if3 .taken))
 
 -- src/lib.rt:196:13
 with-need-requires : tie.Need-with-need-requires Inv-loop μ-loop

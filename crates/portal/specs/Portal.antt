@@ -1,0 +1,20 @@
+-- What the portal's calls answer, for every text and every item number (document 01, "Report and portal").
+use mathlib.Core.Path.{_≡_}
+use mathlib.Core.Bool.{Bool}
+use mathlib.Core.List.{List}
+use mathlib.Core.Logic.{_⊎_}
+use Prim.Native.Nat.{ℕ, _+_, _≤_, _<_}
+use Rattle.sheet_format.specs.declared.Reading.{Reading}
+use Rattle.sheet_format.specs.Read.{readSheet}
+use Rattle.bases.specs.Score.{never, Score}
+
+-- 2^62 plus the number for a refusal: the sheet's own number first, else 13 for an item that isn't there; else the score, which is 2^62 for "never".
+pub record PortalCall (loss : Bool) (text : List ℕ) (item r : ℕ) : Type 0 where
+  pub refused : (readSheet text .number ≡ 0 → ⊥) → r ≡ never + readSheet text .number
+  pub noItem : readSheet text .number ≡ 0 → readSheet text .setup .count ≤ item → r ≡ never + 13
+  pub answers : readSheet text .number ≡ 0 → item < readSheet text .setup .count → Score loss (readSheet text .setup) (readSheet text .setup .graph) item r
+
+-- The coding is one-to-one: a number below 2^62 is a score, 2^62 is "never", and a number above it is a refusal.
+pub record Decoded (loss : Bool) (text : List ℕ) (item r : ℕ) : Type 0 where
+  pub answer : r ≤ never → (readSheet text .number ≡ 0) × (item < readSheet text .setup .count)
+  pub refusal : never < r → (readSheet text .number ≡ 0 → ⊥) ⊎ (readSheet text .setup .count ≤ item)

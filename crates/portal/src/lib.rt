@@ -1,0 +1,60 @@
+// The course portal's calls, for C: a sheet's bytes and an item number in, one number out.
+ghost use mathlib.Core.Bool.{true, false};
+ghost use Rattle.answers.specs.Answers.{scoreNumber, scoreValues, riskNumber, riskValues};
+ghost use Rattle.portal.specs.Portal.{PortalCall};
+ghost use Rattle.portal.specs.Inner.{Codable, Coded};
+use answers::RiskAnswer;
+use answers::ScoreAnswer;
+
+// 2^62: "never". A refusal is 2^62 plus its number.
+const NEVER: u64 = 0x4000_0000_0000_0000;
+
+fn code_score(answer: ScoreAnswer) -> u64
+    requires { ⌜ Codable (scoreNumber answer) (scoreValues answer) ⌝ }
+    ensures { λ r. ⌜ Coded (scoreNumber answer) (scoreValues answer) r ⌝ }
+{
+    match answer {
+        ScoreAnswer::Score(score) => score.0,
+        ScoreAnswer::Refused(q) => NEVER + q,
+    }
+}
+
+fn code_risk(answer: RiskAnswer) -> u64
+    requires { ⌜ Codable (riskNumber answer) (riskValues answer) ⌝ }
+    ensures { λ r. ⌜ Coded (riskNumber answer) (riskValues answer) r ⌝ }
+{
+    match answer {
+        RiskAnswer::Risk(risk) => risk.0,
+        RiskAnswer::Refused(q) => NEVER + q,
+    }
+}
+
+// The security score of the item (document 01: its score).
+#[no_mangle]
+pub extern "C" fn portal_score(sheet: &[u8], item: u64) -> u64
+    ensures { λ r. ⌜ PortalCall false (now (sheet .entry)) item r ⌝ }
+{
+    let reading = sheet::read_sheet(sheet);
+    let number = reading.number;
+    if number != 0 {
+        return NEVER + number;
+    }
+    let s = reading.setup;
+    let answer = answers::security_score(s, item as usize);
+    code_score(answer)
+}
+
+// The recoverability score of the item (document 01: its risk).
+#[no_mangle]
+pub extern "C" fn portal_risk(sheet: &[u8], item: u64) -> u64
+    ensures { λ r. ⌜ PortalCall true (now (sheet .entry)) item r ⌝ }
+{
+    let reading = sheet::read_sheet(sheet);
+    let number = reading.number;
+    if number != 0 {
+        return NEVER + number;
+    }
+    let s = reading.setup;
+    let answer = answers::recoverability_score(s, item as usize);
+    code_risk(answer)
+}

@@ -1,5 +1,5 @@
 # `make test` proves and tests everything; its last line is the verdict.
-.PHONY: test prove check-contracts
+.PHONY: test prove lib check-contracts
 
 test:
 	@bash scripts/test.sh
@@ -7,6 +7,10 @@ test:
 # The proofs alone: no must-fail edits, no programs, no Rust or C.
 prove:
 	@rt prove
+
+# The portal's library for C: target/staticlib/libportal.a, with include/portal.h.
+lib:
+	@rt staticlib portal
 
 check-contracts:
 	@python3 scripts/contracts.py

@@ -22,7 +22,11 @@ verdict=$(tail -n 1 "$log")
 [[ $verdict =~ ^[0-9]+\ passed,\ 0\ failed$ ]] || { echo "test: rt ci did not pass" >&2; exit 1; }
 
 # These come after `rt ci`, which removes target/: they use what it has built, and nothing is proved twice.
-echo "test: Rust"
+echo "test: the portal's library, from C"
+rt staticlib portal > "$log" 2>&1 || { cat "$log"; exit 1; }
+bash tests/c/run.sh
+
+echo "test: the brute force, in Rust"
 (cd tests && cargo test --release --quiet)
 
 echo "$verdict"

@@ -19,7 +19,8 @@ use Rattle.sheet_fields.specs.Parts.{until}
 use Rattle.sheet_lines.specs.declared.Items.{Items}
 use Rattle.sheet_lines.specs.declared.Edges.{Edges}
 use Rattle.sheet_lines.specs.Loops.{ItemsTaken, ReadsItems, ReadsEdges}
-use Rattle.sheet_lines.proofs.Reading.{line-at, lines-over, header1-no, header1-yes, header2-no, header2-yes, over-no}
+use Rattle.sheet_fields.proofs.Lines.{line-at, lines-over}
+use Rattle.sheet_lines.proofs.Reading.{header1-no, header1-yes, header2-no, header2-yes, over-no}
 use Rattle.sheet.specs.Rest.{ReadsRest}
 
 -- ---- behind the item rows

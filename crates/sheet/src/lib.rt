@@ -2,10 +2,14 @@
 use setup::Graph;
 use setup::Rows;
 use setup::Setup;
+// A sheet (document 01): what it says, or the first question whose answer is no; and its items' names.
+use setup::{Graph, Rows, Setup};
 use sheet_format::Reading;
 use sheet_lines::Items;
 ghost use mathlib.Core.Path.{_≡_};
+ghost use Prim.Native.Nat.{_+_};
 ghost use Rattle.sheet_format.specs.Read.{refused, readSheet};
+ghost use Rattle.sheet_format.specs.Names.{nameOf, nameStart};
 ghost use Rattle.sheet_lines.specs.Loops.{InBounds};
 ghost use Rattle.sheet.specs.Rest.{ReadsRest};
 
@@ -87,4 +91,27 @@ pub fn read_sheet(sheet: &[u8]) -> Reading
         return refuse(number, items.line);
     }
     read_rest(sheet, items)
+}
+
+// An item's name, as the part of the sheet's own bytes that holds it; for a refused sheet or an
+// item that isn't there, the empty part at the sheet's start.
+pub fn name_of(sheet: &[u8], item: usize) -> &[u8]
+    ensures name { λ r. ⌜ now r ≡ nameOf (now (sheet .entry)) item ⌝ }
+    ensures within { λ r. ⌜ r .ptr .0 ≡ sheet .entry .ptr .0 ⌝ }
+    ensures place { λ r. ⌜ r .ptr .1 ≡ sheet .entry .ptr .1 + nameStart (now (sheet .entry)) item ⌝ }
+{
+    let reading = read_sheet(sheet);
+    let number = reading.number;
+    if number != 0 {
+        return &sheet[..0];
+    }
+    let setup = reading.setup;
+    let count = setup.count;
+    if count <= item {
+        return &sheet[..0];
+    }
+    let span = sheet_names::name_span(sheet, item);
+    let from = span.from;
+    let to = span.to;
+    &sheet[from..to]
 }

@@ -25,7 +25,7 @@ unfolding until
 until-le b [] = omega arith
 until-le b (a ∷ l) = let h = until-le b l in byTest (eqb a b) (λ e. rw e (omega arith)) (λ e. rw e (omega arith))
 
-fields-more : (l : List ℕ) → until 32 l < length l → fieldsOf l ≡ take (until 32 l) l ∷ fieldsOf (drop (suc (until 32 l)) l)
+pub fields-more : (l : List ℕ) → until 32 l < length l → fieldsOf l ≡ take (until 32 l) l ∷ fieldsOf (drop (suc (until 32 l)) l)
 unfolding until fieldsOf grow
 fields-more [] h = absurd (not-suc-le-zero h)
 fields-more (a ∷ l) h =
@@ -33,7 +33,7 @@ fields-more (a ∷ l) h =
     let i = fields-more l (le-of-suc-le-suc (rw e at h)) in
     rw (e, i))
 
-fields-last : (l : List ℕ) → length l ≤ until 32 l → fieldsOf l ≡ l ∷ []
+pub fields-last : (l : List ℕ) → length l ≤ until 32 l → fieldsOf l ≡ l ∷ []
 unfolding until fieldsOf grow
 fields-last [] h = refl
 fields-last (a ∷ l) h =

@@ -5,3 +5,4 @@ pub mod Packing
 pub mod Forms
 pub mod Cutting
 pub mod Slices
+pub mod Lines

@@ -4,3 +4,4 @@ pub mod Rows
 pub mod Questions
 pub mod Read
 pub mod Meaning
+pub mod Names

@@ -31,7 +31,8 @@ use Rattle.sheet_rows.specs.Lines.{TakesEdge}
 use Rattle.sheet_rows.proofs.Asks.{answer-yes, answer-no, all-yes, one-yes, no-first, yes-first}
 use Rattle.sheet_lines.specs.declared.Edges.{Edges}
 use Rattle.sheet_lines.specs.Loops.{withNeed, ReadsEdges}
-use Rattle.sheet_lines.proofs.Reading.{line-at, lines-over, edge-no, edge-yes, over-yes}
+use Rattle.sheet_fields.proofs.Lines.{line-at, lines-over}
+use Rattle.sheet_lines.proofs.Reading.{edge-no, edge-yes, over-yes}
 
 -- ---- one row more
 

@@ -28,7 +28,8 @@ use Rattle.sheet_rows.proofs.Asks.{all-yes}
 use Rattle.sheet_rows.proofs.Taking.{item-name}
 use Rattle.sheet_lines.specs.declared.Items.{Items}
 use Rattle.sheet_lines.specs.Loops.{ItemsTaken, ReadsItems}
-use Rattle.sheet_lines.proofs.Reading.{line-at, lines-over, empty-no, empty-yes, item-no, item-yes, over-no}
+use Rattle.sheet_fields.proofs.Lines.{line-at, lines-over}
+use Rattle.sheet_lines.proofs.Reading.{empty-no, empty-yes, item-no, item-yes, over-no}
 
 -- ---- one row more
 

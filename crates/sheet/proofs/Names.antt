@@ -1,0 +1,142 @@
+-- The names of a sheet's items: where they stand, and whose names they are.
+-- Assumes nothing.
+use mathlib.Core.Path.{_≡_, refl, sym, ap, _∙_, subst}
+use mathlib.Core.List.{List, [], _∷_, _++_, map}
+use mathlib.Core.Bool.{Bool, true, false, cond, _&&_, and-false}
+use mathlib.Core.Logic.{⊎-elim}
+use Prim.Native.Nat.{ℕ, zero, suc, _+_, _-_, _≤_, _<_}
+use native.Mathlib.Nat.{not-suc-le-zero, add-zero}
+use native.Mathlib.Omega.{arith}
+use lib.ListN.{length, getD, take, drop, length-append, length-drop, length-map}
+use lib.Seq.{take-take, length-take-le}
+use lib.Dec.{eqb, ltb}
+use borrow.Author.Tests.{eq-eqb, ne-eqb, lt-ltb, le-ltb}
+use Rattle.sheet_format.specs.declared.Reading.{Reading}
+use Rattle.sheet_format.specs.Text.{linesOf, fieldsOf}
+use Rattle.sheet_format.specs.Rows.{ItemRow, Doc, Each, ValidItem, Valid, render, setupOf, secondHeader}
+use Rattle.sheet_format.specs.Questions.{field}
+use Rattle.sheet_format.specs.Read.{readSheet, accepted}
+use Rattle.sheet_format.specs.Names.{lineStart, rowOfItem, hasItem, nameOf, nameStart, NamesOfRows}
+use Rattle.sheet_format.proofs.Lines.{joined}
+use Rattle.sheet_format.proofs.Rows.{itemLine, edgeLine}
+use Rattle.sheet_format.proofs.Documents.{docLines, doc-joined, item-back}
+use Rattle.sheet_format.proofs.Meaning.{render-lines, accepted-of-valid, valid-of-accepted, accepted-or-refused}
+use Rattle.sheet_fields.specs.Parts.{until}
+use Rattle.sheet_fields.proofs.Cutting.{until-le}
+use Rattle.sheet_names.specs.declared.Span.{Span}
+use Rattle.sheet_names.specs.Span.{spanOf}
+use Rattle.sheet_names.proofs.Starts.{first-field, field-length, row-inside}
+
+-- ---- is there such an item?
+
+pub refused-none : (s : List ℕ) (i : ℕ) (r : Reading) → r ≡ readSheet s → (r .number ≡ 0 → ⊥) → hasItem s i ≡ false
+unfolding hasItem
+refused-none s i r q n = rw (← q, ne-eqb (r .number) 0 n)
+
+pub beyond-none : (s : List ℕ) (i : ℕ) (r : Reading) → r ≡ readSheet s → r .setup .count ≤ i → hasItem s i ≡ false
+unfolding hasItem
+beyond-none s i r q h = rw (← q, le-ltb i (r .setup .count) h, and-false (eqb (r .number) 0))
+
+pub item-there : (s : List ℕ) (i : ℕ) (r : Reading) → r ≡ readSheet s → r .number ≡ 0 → i < r .setup .count → hasItem s i ≡ true
+unfolding hasItem
+item-there s i r q z h = rw (← q, eq-eqb (r .number) 0 z, lt-ltb i (r .setup .count) h)
+
+pub name-none : (s : List ℕ) (i : ℕ) → hasItem s i ≡ false → [] ≡ nameOf s i
+unfolding nameOf
+name-none s i h = rw h
+
+pub start-none : (s : List ℕ) (i p : ℕ) → hasItem s i ≡ false → p ≡ p + nameStart s i
+unfolding nameStart
+start-none s i p h = rw h (sym (add-zero p))
+
+-- ---- the row of an item of an accepted sheet
+
+-- a line and its LF lie within the text
+start-joined : (ls : List (List ℕ)) (k : ℕ) → k < length ls → lineStart ls k + suc (length (getD ls k [])) ≤ length (joined ls)
+unfolding lineStart
+start-joined [] k h = absurd (not-suc-le-zero h)
+start-joined (l ∷ ls) zero h = let a = length-append l (10 ∷ joined ls) in omega arith
+start-joined (l ∷ ls) (suc k) h = let a = length-append l (10 ∷ joined ls) in let i = start-joined ls k (omega arith) in omega arith
+
+pub record RowThere (s : List ℕ) (i : ℕ) : Type 0 where
+  pub few : i < 64
+  pub inside : lineStart (linesOf s) (suc i) + suc (length (rowOfItem s i)) ≤ length s
+
+doc-there : (d : Doc) (i : ℕ) → Valid d → i < length (d .items) → RowThere (render d) i
+doc-there d i v h =
+    let a = length-append (map itemLine (d .items)) ([] ∷ secondHeader ∷ map edgeLine (d .edges)) in
+    let m = length-map (d .items) itemLine in
+    let j = start-joined (docLines d) (suc i) (omega arith) in
+    record {
+      few = omega (arith, v .most);
+      inside = rw (render-lines d v, ← (doc-joined d)) j;
+    }
+
+pub row-there : (s : List ℕ) (i : ℕ) (r : Reading) → r ≡ readSheet s → r .number ≡ 0 → i < r .setup .count → RowThere s i
+unfolding setupOf
+row-there s i r q z h =
+    ⊎-elim
+    (λ a. let d = valid-of-accepted s (a .setup) (a .reading) in
+      let c : r .setup .count ≡ length (d .0 .items) = ap (λ (x : Reading). x .setup .count) (q ∙ a .reading) ∙ ap (λ x. x .count) (d .3) in
+      subst (λ (t : List ℕ). RowThere t i) (sym (d .2)) (doc-there (d .0) i (d .1) (omega arith)))
+    (λ f. absurd (let e = ap (λ (x : Reading). x .number) (q ∙ f .reading) in omega (arith, f .least)))
+    (accepted-or-refused .either s)
+
+-- ---- the part that holds the name
+
+module _ (s : List ℕ) (i : ℕ) (there : RowThere s i) (p : Span) (span : p ≡ spanOf s i) where
+  from-is : p .from ≡ lineStart (linesOf s) (suc i)
+  unfolding spanOf
+  from-is = ap (λ (x : Span). x .from) span
+
+  to-is : p .to ≡ p .from + until 32 (rowOfItem s i)
+  unfolding spanOf
+  to-is = ap (λ (x : Span). x .to) span ∙ rw (field-length (rowOfItem s i), from-is)
+
+  pub span-order : p .from ≤ p .to
+  span-order = let t = to-is in omega arith
+
+  pub span-inside : p .to ≤ length s
+  span-inside =
+      let t = to-is in
+      let f = from-is in
+      let u = until-le 32 (rowOfItem s i) in
+      omega (arith, there .inside)
+
+  -- the row, as it stands in the sheet
+  row-is : rowOfItem s i ≡ take (until 10 (drop (p .from) s)) (drop (p .from) s)
+  row-is =
+      let f = from-is in
+      let e : p .from + until 10 (drop (p .from) s) - p .from ≡ until 10 (drop (p .from) s) = omega arith in
+      row-inside s i (p .from) (p .from + until 10 (drop (p .from) s)) f (omega (arith, there .inside)) refl ∙ rw e
+
+  pub span-name : hasItem s i ≡ true → take (p .to - p .from) (drop (p .from) s) ≡ nameOf s i
+  unfolding nameOf
+  span-name h =
+      let t = to-is in
+      let n : p .to - p .from ≡ until 32 (rowOfItem s i) = omega arith in
+      let l = length-take-le (until 10 (drop (p .from) s)) (drop (p .from) s) (until-le 10 (drop (p .from) s)) in
+      let u = until-le 32 (rowOfItem s i) in
+      let k = ap length row-is in
+      let name : take (until 32 (rowOfItem s i)) (drop (p .from) s) ≡ take (until 32 (rowOfItem s i)) (rowOfItem s i) =
+      sym (ap (take (until 32 (rowOfItem s i))) row-is ∙ take-take (until 32 (rowOfItem s i)) (until 10 (drop (p .from) s)) (drop (p .from) s) (omega arith)) in
+      rw (h, n) (name ∙ sym (first-field (rowOfItem s i)))
+
+  pub span-start : (x : ℕ) → hasItem s i ≡ true → p .from + x ≡ x + nameStart s i
+  unfolding nameStart
+  span-start x h = rw (h, from-is) (omega arith)
+
+-- ---- whose name it is
+
+row-name : (xs : List ItemRow) (rest : List (List ℕ)) (i : ℕ) → Each ValidItem xs → i < length xs
+    → field (fieldsOf (getD (map itemLine xs ++ rest) i [])) 0 ≡ getD (map (λ (x : ItemRow). x .name) xs) i []
+row-name [] rest i v h = absurd (not-suc-le-zero h)
+row-name (x ∷ xs) rest zero v h = rw (item-back x (v .0))
+row-name (x ∷ xs) rest (suc i) v h = row-name xs rest i (v .1) (omega arith)
+
+pub names-of-rows : NamesOfRows
+unfolding nameOf setupOf
+names-of-rows d v i h =
+    let a = accepted-of-valid d v in
+    let t = item-there (render d) i (accepted (setupOf d)) (sym a) refl h in
+    rw (t, render-lines d v) (row-name (d .items) ([] ∷ secondHeader ∷ map edgeLine (d .edges)) i (v .items) h)

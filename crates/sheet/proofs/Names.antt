@@ -77,8 +77,8 @@ unfolding setupOf
 row-there s i r q z h =
     ⊎-elim
     (λ a. let d = valid-of-accepted s (a .setup) (a .reading) in
-      let c : r .setup .count ≡ length (d .0 .items) = ap (λ (x : Reading). x .setup .count) (q ∙ a .reading) ∙ ap (λ x. x .count) (d .3) in
-      subst (λ (t : List ℕ). RowThere t i) (sym (d .2)) (doc-there (d .0) i (d .1) (omega arith)))
+    let c : r .setup .count ≡ length (d .0 .items) = ap (λ (x : Reading). x .setup .count) (q ∙ a .reading) ∙ ap (λ x. x .count) (d .3) in
+    subst (λ (t : List ℕ). RowThere t i) (sym (d .2)) (doc-there (d .0) i (d .1) (omega arith)))
     (λ f. absurd (let e = ap (λ (x : Reading). x .number) (q ∙ f .reading) in omega (arith, f .least)))
     (accepted-or-refused .either s)
 

@@ -1,9 +1,7 @@
-// A sheet (document 01): what it says, or the first question whose answer is no.
+// A sheet (document 01): what it says, or the first question whose answer is no; and its items' names.
 use setup::Graph;
 use setup::Rows;
 use setup::Setup;
-// A sheet (document 01): what it says, or the first question whose answer is no; and its items' names.
-use setup::{Graph, Rows, Setup};
 use sheet_format::Reading;
 use sheet_lines::Items;
 ghost use mathlib.Core.Path.{_≡_};

@@ -29,4 +29,3 @@ line-at s at e h q =
 pub lines-over : (s : List ℕ) (at : ℕ) → length s ≤ at → linesOf (drop at s) ≡ []
 unfolding linesOf
 lines-over s at h = rw (drop-of-length-le s h)
-

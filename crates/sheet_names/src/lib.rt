@@ -41,5 +41,8 @@ pub fn name_span(s: &[u8], item: usize) -> Span
     }
     let end = sheet_fields::find(s, from, sheet_fields::LF);
     let size = sheet_fields::find(&s[from..end], 0, sheet_fields::SPACE);
-    Span { from, to: from + size }
+    Span {
+        from,
+        to: from + size,
+    }
 }

@@ -72,9 +72,10 @@ returns-3 c =
     let y = n .before in
     let r = y .before .before .before in
     let a = r .before .before .args in
-    let h = item-there (a .sheet .now) (a .item) (r .read-sheet .result) (r .read-sheet .ensures) (y .before .before .if1 .left) (y .if2 .left) in
-    (span-name (a .sheet .now) (a .item) (there y) (n .name-span .result) (n .name-span .ensures) h,
-    (refl, span-start (a .sheet .now) (a .item) (there y) (n .name-span .result) (n .name-span .ensures) (a .sheet .ptr .1) h))
+    let h = item-there (a .sheet .now) (a .item) (r .read-sheet .result) (r .read-sheet .ensures) (y .before .before .if1 .left) (y .if2 .left) in (
+      span-name (a .sheet .now) (a .item) (there y) (n .name-span .result) (n .name-span .ensures) h,
+      (refl, span-start (a .sheet .now) (a .item) (there y) (n .name-span .result) (n .name-span .ensures) (a .sheet .ptr .1) h),
+    )
 
 pub name-of-spec : {M : Type 1} → statement M
 name-of-spec =

@@ -101,6 +101,29 @@ const EMPTY: Graph = Graph {
     rows: [Rows { needs: [0; 8] }; 64],
 };
 
+// The item rows so far, with where and why their reading stops.
+fn stop(
+    number: u64,
+    line: u64,
+    at: usize,
+    count: usize,
+    vertices: [Vertex; 64],
+    low: [u64; 64],
+    high: [u64; 64],
+) -> Items
+    ensures { λ r. ⌜ r ≡ record { number = number; line = line; at = at; count = count; vertices = vertices; low = low; high = high } ⌝ }
+{
+    Items {
+        number,
+        line,
+        at,
+        count,
+        vertices,
+        low,
+        high,
+    }
+}
+
 // The item rows, from `start` to the empty line.
 pub fn read_items(s: &[u8], start: usize) -> Items
     ensures { λ r. ⌜ ReadsItems (now (s .entry)) start r ⌝ }
@@ -117,38 +140,14 @@ pub fn read_items(s: &[u8], start: usize) -> Items
         let end = sheet_fields::find(s, at, sheet_fields::LF);
         if end == at {
             if count == 0 {
-                return Items {
-                    number: 10,
-                    line,
-                    at,
-                    count,
-                    vertices,
-                    low,
-                    high,
-                };
+                return stop(10, line, at, count, vertices, low, high);
             }
-            return Items {
-                number: 0,
-                line,
-                at: end + 1,
-                count,
-                vertices,
-                low,
-                high,
-            };
+            return stop(0, line, end + 1, count, vertices, low, high);
         }
         let item = sheet_rows::take_item(&s[at..end], &low, &high, count, starts, losses);
         let number = item.number;
         if number != 0 {
-            return Items {
-                number,
-                line,
-                at,
-                count,
-                vertices,
-                low,
-                high,
-            };
+            return stop(number, line, at, count, vertices, low, high);
         }
         let key = item.key;
         let vertex = item.vertex;
@@ -160,15 +159,7 @@ pub fn read_items(s: &[u8], start: usize) -> Items
         count += 1;
         at = end + 1;
     }
-    Items {
-        number: 11,
-        line: count as u64 + 2,
-        at,
-        count,
-        vertices,
-        low,
-        high,
-    }
+    stop(11, count as u64 + 2, at, count, vertices, low, high)
 }
 
 // Is there an edge of this colour from `from` into the vertex with these rows?

@@ -3,10 +3,6 @@ use Rattle.sheet.proofs.Names.{refused-none, beyond-none, item-there, n
 use borrow.Author.Needs.{needs}
 use Rattle.sheet.proofs.name_of.Statement.{statement}
 use Rattle.sheet.proofs.name_of.Tie as tie
-use Rattle.sheet.proofs.name_of.Reads as reads
-use Rattle.sheet.proofs.name_of.Lts as lts
-use Rattle.sheet.proofs.read_sheet.Reads as read-sheet-reads
-use Rattle.sheet_names.proofs.name_span.Reads as name-span-reads
 
 -- the item's row is in the sheet
 there : (c : tie.Else2) → RowThere (c .before .before .before .before .before .args .sheet .now) (c .before .before .before .before .before .args .item)
@@ -15,15 +11,12 @@ there c =
     let a = r .before .before .args in
     row-there (a .sheet .now) (a .item) (r .read-sheet .result) (r .read-sheet .ensures) (c .before .before .if1 .left) (c .if2 .left)
 
--- src/lib.rt:79:9
 read-sheet-requires : tie.Need-read-sheet-requires
 read-sheet-requires c κs = search needs
 
--- src/lib.rt:82:9
 slice-aggregate-result : tie.Need-slice-aggregate-result
 slice-aggregate-result c = search needs
 
--- src/lib.rt:82:9
 returns : tie.Need-returns
 returns c =
     let r = c .before .before in
@@ -31,11 +24,9 @@ returns c =
     let n = refused-none (a .sheet .now) (a .item) (r .read-sheet .result) (r .read-sheet .ensures) (c .before .if1 .taken) in
     (name-none (a .sheet .now) (a .item) n, (refl, start-none (a .sheet .now) (a .item) (a .sheet .ptr .1) n))
 
--- src/lib.rt:87:9
 slice-aggregate-result-2 : tie.Need-slice-aggregate-result-2
 slice-aggregate-result-2 c = search needs
 
--- src/lib.rt:87:9
 returns-2 : tie.Need-returns-2
 returns-2 c =
     let r = c .before .before .before .before in
@@ -43,29 +34,24 @@ returns-2 c =
     let n = beyond-none (a .sheet .now) (a .item) (r .read-sheet .result) (r .read-sheet .ensures) (c .before .if2 .taken) in
     (name-none (a .sheet .now) (a .item) n, (refl, start-none (a .sheet .now) (a .item) (a .sheet .ptr .1) n))
 
--- src/lib.rt:89:9
 name-span-requires : tie.Need-name-span-requires
 name-span-requires c κs = there c .few
 
--- src/lib.rt:92:5
 sub-result : tie.Need-sub-result
 sub-result c =
     let a = c .before .before .before .before .before .before .args in
     span-order (a .sheet .now) (a .item) (there (c .before)) (c .name-span .result) (c .name-span .ensures)
 
--- src/lib.rt:92:5
 part-result-start : tie.Need-part-result-start
 part-result-start c =
     let a = c .before .before .before .before .before .before .args in
     span-order (a .sheet .now) (a .item) (there (c .before)) (c .name-span .result) (c .name-span .ensures)
 
--- src/lib.rt:92:5
 part-result-end : tie.Need-part-result-end
 part-result-end c =
     let a = c .before .before .before .before .before .before .args in
     span-inside (a .sheet .now) (a .item) (there (c .before)) (c .name-span .result) (c .name-span .ensures)
 
--- src/lib.rt:74:1
 returns-3 : tie.Need-returns-3
 returns-3 c =
     let n = c .before in

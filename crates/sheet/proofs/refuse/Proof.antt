@@ -2,10 +2,7 @@ use mathlib.Core.Path.{refl}
 use Rattle.sheet_format.specs.Rows.{setupOf, verticesOf, withEdges, recoveryRows, emptyGraph}
 use Rattle.sheet.proofs.refuse.Statement.{statement}
 use Rattle.sheet.proofs.refuse.Tie as tie
-use Rattle.sheet.proofs.refuse.Reads as reads
-use Rattle.sheet.proofs.refuse.Lts as lts
 
--- src/lib.rt:12:1
 returns : tie.Need-returns
 unfolding setupOf verticesOf withEdges recoveryRows emptyGraph
 returns c = refl

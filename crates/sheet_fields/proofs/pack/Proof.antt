@@ -7,8 +7,6 @@ use Rattle.sheet_fields.specs.Keys.{packed}
 use Rattle.sheet_fields.proofs.Packing.{packed-back, packed-fits, packed-end}
 use Rattle.sheet_fields.proofs.pack.Statement.{statement}
 use Rattle.sheet_fields.proofs.pack.Tie as tie
-use Rattle.sheet_fields.proofs.pack.Reads as reads
-use Rattle.sheet_fields.proofs.pack.Lts as lts
 
 abbrev Inv-loop : tie.InvT-loop
 Inv-loop f n₀ i₀ n i = (i ≤ length f) × (n ≡ packed (drop i f))
@@ -16,23 +14,18 @@ Inv-loop f n₀ i₀ n i = (i ≤ length f) × (n ≡ packed (drop i f))
 abbrev μ-loop : tie.MeasureT-loop
 μ-loop f n₀ i₀ n i = i
 
--- src/lib.rt:205:5
 loop-holds : tie.Need-loop-holds Inv-loop μ-loop
 loop-holds c = (omega arith, packed-end (c .args .f .now))
 
--- src/lib.rt:206:9
 sub-i : tie.Need-sub-i Inv-loop μ-loop
 sub-i c = search needs
 
--- src/lib.rt:207:17
 shared-slice-read-b : tie.Need-shared-slice-read-b Inv-loop μ-loop
 shared-slice-read-b c = search needs
 
--- src/lib.rt:207:17
 cast-b : tie.Need-cast-b Inv-loop μ-loop
 cast-b c = omega (arith, c .shared-slice-known .given (c .before .before .loop .i - 1))
 
--- src/lib.rt:208:13
 mul-n : tie.Need-mul-n Inv-loop μ-loop
 mul-n c =
     let p = c .before .before in
@@ -40,7 +33,6 @@ mul-n c =
     let e = p .loop .inv .1 in
     omega arith
 
--- src/lib.rt:208:13
 add-n : tie.Need-add-n Inv-loop μ-loop
 add-n c =
     let p = c .before .before in
@@ -48,11 +40,9 @@ add-n c =
     let e = p .loop .inv .1 in
     omega arith
 
--- src/lib.rt:205:5
 loop-less : tie.Need-loop-less Inv-loop μ-loop
 loop-less c = search needs
 
--- src/lib.rt:205:5
 loop-again : tie.Need-loop-again Inv-loop μ-loop
 loop-again c =
     let p = c .before .before in
@@ -60,7 +50,6 @@ loop-again c =
     let e = p .loop .inv .1 in
     (omega arith, omega arith)
 
--- src/lib.rt:199:1
 returns : tie.Need-returns Inv-loop μ-loop
 returns c =
     let p = c .before in

@@ -8,14 +8,6 @@ use Rattle.sheet_format.specs.Rows.{emptyGraph}
 use Rattle.sheet_lines.proofs.EdgeRows.{Loop, no-edges, so-far-none, over, refused-row, repeated-row, full-row, taken-row}
 use Rattle.sheet_lines.proofs.read_edges.Statement.{statement}
 use Rattle.sheet_lines.proofs.read_edges.Tie as tie
-use Rattle.sheet_lines.proofs.read_edges.Reads as reads
-use Rattle.sheet_lines.proofs.read_edges.Lts as lts
-use Rattle.sheet_fields.proofs.find.Reads as find-reads
-use Rattle.sheet_lines.proofs.has_need.Reads as has-need-reads
-use Rattle.sheet_lines.proofs.refuse.Reads as refuse-reads
-use Rattle.sheet_lines.proofs.with_mark.Reads as with-mark-reads
-use Rattle.sheet_lines.proofs.with_need.Reads as with-need-reads
-use Rattle.sheet_rows.proofs.take_edge.Reads as take-edge-reads
 
 abbrev Inv-loop : tie.InvT-loop
 Inv-loop s start first low high count graph₀ recovery₀ edges₀ at₀ graph recovery edges at = Loop s start first low high count graph recovery edges at
@@ -43,46 +35,37 @@ places c =
     let e = t .ends z in
     (omega (arith, e .0), omega (arith, e .1), t .most z)
 
--- src/lib.rt:178:5
 loop-holds : tie.Need-loop-holds Inv-loop μ-loop
 unfolding emptyGraph
 loop-holds c = record { most = omega arith; rows = λ items t. so-far-none (c .before .before .before .args .s .now) (c .before .before .before .args .start) (c .before .before .before .args .first) items }
 
--- src/lib.rt:179:20
 add-line : tie.Need-add-line Inv-loop μ-loop
 add-line c = omega (arith, c .before .loop .inv .most, c .before .before .before .before .before .pre .3)
 
--- src/lib.rt:180:13
 find-requires : tie.Need-find-requires Inv-loop μ-loop
 find-requires c κs = search needs
 
--- src/lib.rt:181:42
 sub-take-edge : tie.Need-sub-take-edge Inv-loop μ-loop
 sub-take-edge c =
     let l = line-end c in
     omega arith
 
--- src/lib.rt:181:42
 part-take-edge-start : tie.Need-part-take-edge-start Inv-loop μ-loop
 part-take-edge-start c =
     let l = line-end c in
     omega arith
 
--- src/lib.rt:181:42
 part-take-edge-end : tie.Need-part-take-edge-end Inv-loop μ-loop
 part-take-edge-end c =
     let l = line-end c in
     omega arith
 
--- src/lib.rt:181:13
 take-edge-requires : tie.Need-take-edge-requires Inv-loop μ-loop
 take-edge-requires c κs = search needs
 
--- src/lib.rt:184:13
 refuse-requires : tie.Need-refuse-requires Inv-loop μ-loop
 refuse-requires c κs = search needs
 
--- src/lib.rt:184:13
 returns : tie.Need-returns Inv-loop μ-loop
 returns c =
     let t = c .before .before in
@@ -93,25 +76,20 @@ returns c =
     (λ items b. refused-row (a .s .now) (a .start) (a .first) items (a .low .now) (a .high .now) (a .count) _ _ _ _ (p .loop .inv .rows items b) b
     (f .before .loop-test .taken) (f .find .result) (f .find .ensures) (t .take-edge .result) (t .take-edge .ensures) (c .before .if1 .taken))
 
--- src/lib.rt:189:19
 mul-row : tie.Need-mul-row Inv-loop μ-loop
 mul-row c =
     let h = places c .1 in
     omega arith
 
--- src/lib.rt:189:19
 element-copy-out-row : tie.Need-element-copy-out-row Inv-loop μ-loop
 element-copy-out-row c = places c .1
 
--- src/lib.rt:190:12
 has-need-requires : tie.Need-has-need-requires Inv-loop μ-loop
 has-need-requires c κs = (places (c .before) .2, places (c .before) .0)
 
--- src/lib.rt:191:13
 refuse-requires-2 : tie.Need-refuse-requires-2 Inv-loop μ-loop
 refuse-requires-2 c κs = search needs
 
--- src/lib.rt:191:13
 returns-2 : tie.Need-returns-2 Inv-loop μ-loop
 returns-2 c =
     let n = c .before .before in
@@ -125,11 +103,9 @@ returns-2 c =
     (f .before .loop-test .taken) (f .find .result) (f .find .ensures) (t .take-edge .result) (t .take-edge .ensures) (z .if1 .left)
     (sym (n .has-need .ensures) ∙ c .before .if2 .taken))
 
--- src/lib.rt:194:13
 refuse-requires-3 : tie.Need-refuse-requires-3 Inv-loop μ-loop
 refuse-requires-3 c κs = search needs
 
--- src/lib.rt:194:13
 returns-3 : tie.Need-returns-3 Inv-loop μ-loop
 returns-3 c =
     let n = c .before .before .before in
@@ -143,65 +119,53 @@ returns-3 c =
     (f .before .loop-test .taken) (f .find .result) (f .find .ensures) (t .take-edge .result) (t .take-edge .ensures) (z .if1 .left)
     (sym (n .has-need .ensures) ∙ c .before .before .if2 .left) (c .before .if3 .taken))
 
--- src/lib.rt:196:13
 with-need-requires : tie.Need-with-need-requires Inv-loop μ-loop
 with-need-requires c κs =
     let z = c .before .before .before .before in
     (places z .2, places z .0)
 
--- src/lib.rt:197:9
 mul-row-2 : tie.Need-mul-row-2 Inv-loop μ-loop
 mul-row-2 c =
     let h = places (c .before .before .before .before .before) .1 in
     omega arith
 
--- src/lib.rt:197:9
 element-set-from-row : tie.Need-element-set-from-row Inv-loop μ-loop
 element-set-from-row c = places (c .before .before .before .before .before) .1
 
--- src/lib.rt:198:22
 mul-marked : tie.Need-mul-marked Inv-loop μ-loop
 mul-marked c =
     let h = places (c .before .before .before .before .before) .1 in
     omega arith
 
--- src/lib.rt:198:22
 element-copy-out-marked : tie.Need-element-copy-out-marked Inv-loop μ-loop
 element-copy-out-marked c = places (c .before .before .before .before .before) .1
 
--- src/lib.rt:199:13
 with-mark-requires : tie.Need-with-mark-requires Inv-loop μ-loop
 with-mark-requires c κs =
     let z = c .before .before .before .before .before .before in
     (places z .2, places z .0)
 
--- src/lib.rt:200:9
 mul-marked-2 : tie.Need-mul-marked-2 Inv-loop μ-loop
 mul-marked-2 c =
     let h = places (c .before .before .before .before .before .before .before) .1 in
     omega arith
 
--- src/lib.rt:200:9
 element-set-from-marked : tie.Need-element-set-from-marked Inv-loop μ-loop
 element-set-from-marked c = places (c .before .before .before .before .before .before .before) .1
 
--- src/lib.rt:201:9
 add-edges : tie.Need-add-edges Inv-loop μ-loop
 add-edges c = omega (arith, c .before .before .before .if3 .left)
 
--- src/lib.rt:202:14
 add-at : tie.Need-add-at Inv-loop μ-loop
 add-at c =
     let l = line-end (c .before .before .before .before .before .before .before .before .before .before) in
     omega arith
 
--- src/lib.rt:178:5
 loop-less : tie.Need-loop-less Inv-loop μ-loop
 loop-less c =
     let l = line-end (c .before .before .before .before .before .before .before .before .before .before) in
     omega arith
 
--- src/lib.rt:178:5
 loop-again : tie.Need-loop-again Inv-loop μ-loop
 loop-again c =
     let n = c .before .before .before .before .before in
@@ -220,7 +184,6 @@ loop-again c =
           (sym (n .has-need .ensures) ∙ c .before .before .before .before .if2 .left) (o .pre .2) less);
     }
 
--- src/lib.rt:170:1
 returns-4 : tie.Need-returns-4 Inv-loop μ-loop
 returns-4 c =
     let p = c .before in

@@ -10,9 +10,6 @@ use Rattle.sheet_fields.proofs.Cutting.{until-le}
 use Rattle.sheet_names.proofs.Starts.{start-first, start-over, start-next}
 use Rattle.sheet_names.proofs.line_start.Statement.{statement}
 use Rattle.sheet_names.proofs.line_start.Tie as tie
-use Rattle.sheet_names.proofs.line_start.Reads as reads
-use Rattle.sheet_names.proofs.line_start.Lts as lts
-use Rattle.sheet_fields.proofs.find.Reads as find-reads
 
 abbrev Inv-loop : tie.InvT-loop
 Inv-loop s k at₀ i₀ at i = (i ≤ k) × (at ≤ length s + 1) × (lineStart (linesOf s) k ≡ at + lineStart (linesOf (drop at s)) (k - i))
@@ -31,13 +28,11 @@ line-end c =
     let e = c .find .ensures in
     omega arith
 
--- src/lib.rt:22:5
 loop-holds : tie.Need-loop-holds Inv-loop μ-loop
 loop-holds c =
     let e = sub-zero (c .before .args .k) in
     (omega arith, omega arith, rw e (omega arith))
 
--- src/lib.rt:24:13
 returns : tie.Need-returns Inv-loop μ-loop
 returns c =
     let p = c .before .before in
@@ -45,25 +40,20 @@ returns c =
     let z = start-over s (p .loop .at) (p .before .before .args .k - p .loop .i) (c .if1 .taken) in
     omega (arith, p .loop .inv .2)
 
--- src/lib.rt:26:13
 find-requires : tie.Need-find-requires Inv-loop μ-loop
 find-requires c κs = search needs
 
--- src/lib.rt:27:14
 add-at : tie.Need-add-at Inv-loop μ-loop
 add-at c =
     let l = line-end c in
     omega arith
 
--- src/lib.rt:28:9
 add-i : tie.Need-add-i Inv-loop μ-loop
 add-i c = search needs
 
--- src/lib.rt:22:5
 loop-less : tie.Need-loop-less Inv-loop μ-loop
 loop-less c = search needs
 
--- src/lib.rt:22:5
 loop-again : tie.Need-loop-again Inv-loop μ-loop
 loop-again c =
     let p = c .before .before .before in
@@ -72,7 +62,6 @@ loop-again c =
     let z = start-next (a .s .now) (p .loop .at) (c .find .result) (p .loop .i) (a .k) (c .before .if1 .left) (c .find .ensures) (c .before .before .loop-test .taken) in
     (omega arith, omega arith, p .loop .inv .2 ∙ z)
 
--- src/lib.rt:16:1
 returns-2 : tie.Need-returns-2 Inv-loop μ-loop
 returns-2 c =
     let p = c .before in

@@ -8,10 +8,6 @@ use Rattle.sheet_names.proofs.Starts.{span-over, span-inside}
 use borrow.Author.Needs.{needs}
 use Rattle.sheet_names.proofs.name_span.Statement.{statement}
 use Rattle.sheet_names.proofs.name_span.Tie as tie
-use Rattle.sheet_names.proofs.name_span.Reads as reads
-use Rattle.sheet_names.proofs.name_span.Lts as lts
-use Rattle.sheet_fields.proofs.find.Reads as find-reads
-use Rattle.sheet_names.proofs.line_start.Reads as line-start-reads
 
 -- the row ends within the sheet
 line-end : (c : tie.After-find) → c .find .result ≤ length (c .before .before .before .before .args .s .now)
@@ -24,42 +20,33 @@ line-end c =
     let e = c .find .ensures in
     omega arith
 
--- src/lib.rt:38:30
 add-line-start : tie.Need-add-line-start
 add-line-start c = search needs
 
--- src/lib.rt:38:9
 line-start-requires : tie.Need-line-start-requires
 line-start-requires c κs = search needs
 
--- src/lib.rt:40:9
 returns : tie.Need-returns
 returns c =
     let p = c .before in
     let a = p .before .before .args in
     span-over (a .s .now) (a .item) (p .line-start .result) (p .line-start .ensures ∙ rw (add-one (a .item))) (c .if1 .taken)
 
--- src/lib.rt:42:9
 find-requires : tie.Need-find-requires
 find-requires c κs = search needs
 
--- src/lib.rt:43:35
 sub-find : tie.Need-sub-find
 sub-find c = search needs
 
--- src/lib.rt:43:35
 part-find-start : tie.Need-part-find-start
 part-find-start c = search needs
 
--- src/lib.rt:43:35
 part-find-end : tie.Need-part-find-end
 part-find-end c = line-end c
 
--- src/lib.rt:43:9
 find-requires-2 : tie.Need-find-requires-2
 find-requires-2 c κs = search needs
 
--- src/lib.rt:44:22
 add-t6 : tie.Need-add-t6
 add-t6 c =
     let f = c .before .before in
@@ -71,7 +58,6 @@ add-t6 c =
     let e = c .find2 .ensures in
     omega arith
 
--- src/lib.rt:34:1
 returns-2 : tie.Need-returns-2
 returns-2 c =
     let f = c .before .before in

@@ -1,0 +1,120 @@
+// Findings on an account's recovery edges, and on ranks (document 003, definitions 26 to 28).
+ghost use mathlib.Core.Path.{_≡_};
+ghost use mathlib.Core.Bool.{true, false};
+ghost use Prim.Native.Nat.{ℕ, _<_};
+ghost use Rattle.setup.specs.Setup.{WithoutRecovery};
+ghost use Rattle.bases.specs.Score.{Score};
+ghost use Rattle.answers.specs.Inner.{Asked};
+ghost use Rattle.findings.specs.Findings.{FindsBackdoor, FindsIneffective, FindsInconsistent};
+ghost use Rattle.findings.specs.Answers.{findingNumber, findingValues, BackdoorCall, IneffectiveCall, InconsistentCall};
+use answers::RecoverabilityScore;
+use answers::SecurityScore;
+use setup::Graph;
+use setup::Setup;
+
+pub enum FindingAnswer {
+    Is(bool),
+    Refused(u64),
+}
+
+// The security score of v in a graph: the setup's, or that without recovery.
+fn security_in(s: Setup, graph: Graph, v: usize) -> SecurityScore
+    requires { ⌜ Asked s v ⌝ }
+    ensures { λ r. ⌜ Score false s graph v (r .0) ⌝ }
+{
+    let r = bases::score_of(s, graph, false, v);
+    SecurityScore(r)
+}
+
+// Its recoverability score there.
+fn recoverability_in(s: Setup, graph: Graph, v: usize) -> RecoverabilityScore
+    requires { ⌜ Asked s v ⌝ }
+    ensures { λ r. ⌜ Score true s graph v (r .0) ⌝ }
+{
+    let r = bases::score_of(s, graph, true, v);
+    RecoverabilityScore(r)
+}
+
+fn find_backdoor(s: Setup, v: usize) -> bool
+    requires { ⌜ Asked s v ⌝ }
+    ensures { λ r. ⌜ FindsBackdoor s v r ⌝ }
+{
+    let graph = s.graph;
+    let less = setup::without_recovery(s);
+    let score = security_in(s, graph, v);
+    let without = security_in(s, less, v);
+    score.below(without)
+}
+
+fn find_ineffective(s: Setup, v: usize) -> bool
+    requires { ⌜ Asked s v ⌝ }
+    ensures { λ r. ⌜ FindsIneffective s v r ⌝ }
+{
+    let graph = s.graph;
+    let less = setup::without_recovery(s);
+    let score = recoverability_in(s, graph, v);
+    let without = recoverability_in(s, less, v);
+    score.at_most(without)
+}
+
+// Ranks first: where they are no finding, no score is asked.
+fn find_inconsistent(s: Setup, v: usize, w: usize) -> bool
+    requires { ⌜ Asked s v × (w < s .count) ⌝ }
+    ensures { λ r. ⌜ FindsInconsistent s v w r ⌝ }
+{
+    let graph = s.graph;
+    let higher = s.vertices[v];
+    let lower = s.vertices[w];
+    if lower.rank < higher.rank {
+        let score = security_in(s, graph, v);
+        let other = security_in(s, graph, w);
+        return score.at_most(other);
+    }
+    false
+}
+
+// Has v a backdoor: is its security score below that without recovery?
+pub fn has_backdoor(s: Setup, v: usize) -> FindingAnswer
+    ensures { λ r. ⌜ BackdoorCall s v (findingNumber r) (findingValues r) ⌝ }
+{
+    if setup::well_formed(s) {
+        if v < s.count {
+            let found = find_backdoor(s, v);
+            return FindingAnswer::Is(found);
+        }
+        return FindingAnswer::Refused(13);
+    }
+    FindingAnswer::Refused(12)
+}
+
+// Is v's recovery ineffective (document 01: idle): is its recoverability score at most that
+// without recovery?
+pub fn ineffective_recovery(s: Setup, v: usize) -> FindingAnswer
+    ensures { λ r. ⌜ IneffectiveCall s v (findingNumber r) (findingValues r) ⌝ }
+{
+    if setup::well_formed(s) {
+        if v < s.count {
+            let found = find_ineffective(s, v);
+            return FindingAnswer::Is(found);
+        }
+        return FindingAnswer::Refused(13);
+    }
+    FindingAnswer::Refused(12)
+}
+
+// Are v and w inconsistent (document 01: out of rank): has v the higher rank, and a security score
+// that is at most that of w?
+pub fn inconsistent(s: Setup, v: usize, w: usize) -> FindingAnswer
+    ensures { λ r. ⌜ InconsistentCall s v w (findingNumber r) (findingValues r) ⌝ }
+{
+    if setup::well_formed(s) {
+        if v < s.count {
+            if w < s.count {
+                let found = find_inconsistent(s, v, w);
+                return FindingAnswer::Is(found);
+            }
+        }
+        return FindingAnswer::Refused(13);
+    }
+    FindingAnswer::Refused(12)
+}

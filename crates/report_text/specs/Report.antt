@@ -1,0 +1,99 @@
+-- The report's text for the bytes of a sheet (document 01, "Report and portal").
+use mathlib.Core.Bool.{Bool, true, false, cond, _&&_}
+use mathlib.Core.List.{List, [], _∷_, _++_, map}
+use Prim.Native.Nat.{ℕ, suc, _-_, _^_}
+use lib.Bits.{bitAnd}
+use lib.Dec.{eqb, ltb, leb}
+use lib.ListN.{getD}
+use Rattle.setup.specs.declared.Kind.{Kind}
+use Rattle.setup.specs.declared.Kind.the-variants.{Credential, Account}
+use Rattle.setup.specs.declared.Rows.{Rows}
+use Rattle.setup.specs.declared.Graph.{Graph}
+use Rattle.setup.specs.declared.Setup.{Setup}
+use Rattle.setup.specs.Setup.{vertexAt, rowsAt, rowOf}
+use Rattle.sheet_format.specs.declared.Reading.{Reading}
+use Rattle.sheet_format.specs.Text.{linesOf, fieldsOf}
+use Rattle.sheet_format.specs.Read.{readSheet}
+use Rattle.reference.specs.Tests.{those}
+use Rattle.reference.specs.Bases.{baseOf, scoreOf}
+use Rattle.report_text.specs.Rows.{numbersFrom, textsOf, setRow, scoreRow, pairRow, refusedRow, listHeader, scoreHeader, pairHeader}
+
+-- ---- the graph without recovery
+
+-- The vertices of a row that are not in the row of recovery edges.
+unfoldable pub rowLess : ℕ → ℕ → ℕ
+rowLess row recovery = bitAnd row ((2 ^ 64 - 1) - recovery)
+
+unfoldable pub rowsLess : Rows → Rows → Rows
+rowsLess rows recovery = record { needs = map (λ c. rowLess (rowOf rows c) (rowOf recovery c)) (numbersFrom 0 8) }
+
+-- `WithoutRecovery s`: the graph less the recovery edges.
+unfoldable pub lessRecovery : Setup → Graph
+lessRecovery s = record { rows = map (λ v. rowsLess (rowsAt (s .graph) v) (rowsAt (s .recovery) v)) (numbersFrom 0 64) }
+
+-- ---- accounts
+
+abbrev pub isAccountKind : Kind → Bool
+isAccountKind Credential = false
+isAccountKind Account = true
+
+unfoldable pub isAccount : Setup → ℕ → Bool
+isAccount s v = isAccountKind (vertexAt s v .kind)
+
+-- The accounts of the setup, in item order.
+unfoldable pub accountsOf : Setup → List ℕ
+accountsOf s = those (isAccount s) (numbersFrom 0 (s .count))
+
+-- ---- findings
+
+-- `Backdoor s v`: the score is below that without recovery.
+unfoldable pub isBackdoor : Setup → ℕ → Bool
+isBackdoor s v = ltb (scoreOf false s (s .graph) v) (scoreOf false s (lessRecovery s) v)
+
+-- `IneffectiveRecovery s v`, idle: the risk is at most that without recovery.
+unfoldable pub isIdle : Setup → ℕ → Bool
+isIdle s v = leb (scoreOf true s (s .graph) v) (scoreOf true s (lessRecovery s) v)
+
+-- `Inconsistent s v w`, out of rank: the rank of v is above that of w, the score of v at most that of w.
+unfoldable pub isOutOfRank : Setup → ℕ → ℕ → Bool
+isOutOfRank s v w = ltb (vertexAt s w .rank) (vertexAt s v .rank) && leb (scoreOf false s (s .graph) v) (scoreOf false s (s .graph) w)
+
+-- ---- sections
+
+-- The rows of one target: its open sets, then its lock sets, in list order.
+unfoldable pub targetRows : (ℕ → List ℕ) → Setup → ℕ → List ℕ
+targetRows name s v = textsOf (setRow name s false v) (baseOf false s (s .graph) v) ++ textsOf (setRow name s true v) (baseOf true s (s .graph) v)
+
+unfoldable pub listSection : (ℕ → List ℕ) → Setup → List ℕ
+listSection name s = listHeader ++ textsOf (targetRows name s) (accountsOf s)
+
+-- The row of one target's score, risk and findings.
+unfoldable pub findingRow : (ℕ → List ℕ) → Setup → ℕ → List ℕ
+findingRow name s v = scoreRow name v (scoreOf false s (s .graph) v) (scoreOf true s (s .graph) v) (isBackdoor s v) (isIdle s v)
+
+unfoldable pub scoreSection : (ℕ → List ℕ) → Setup → List ℕ
+scoreSection name s = scoreHeader ++ textsOf (findingRow name s) (accountsOf s)
+
+-- The pairs that are out of rank with v above.
+unfoldable pub pairRows : (ℕ → List ℕ) → Setup → ℕ → List ℕ
+pairRows name s v = textsOf (pairRow name v) (those (isOutOfRank s v) (accountsOf s))
+
+unfoldable pub pairSection : (ℕ → List ℕ) → Setup → List ℕ
+pairSection name s = pairHeader ++ textsOf (pairRows name s) (accountsOf s)
+
+-- ---- the whole
+
+-- The report of an accepted sheet: three sections, parted by empty lines.
+unfoldable pub acceptedReport : (ℕ → List ℕ) → Setup → List ℕ
+acceptedReport name s = listSection name s ++ (10 ∷ (scoreSection name s ++ (10 ∷ pairSection name s)))
+
+-- The name of the vertex v: the first field of the line of item v, which stands behind the header and the v items above it.
+unfoldable pub nameIn : List ℕ → ℕ → List ℕ
+nameIn sheet v = getD (fieldsOf (getD (linesOf sheet) (suc v) [])) 0 []
+
+unfoldable pub reportAfter : List ℕ → Reading → List ℕ
+reportAfter sheet r = cond (eqb (r .number) 0) (acceptedReport (nameIn sheet) (r .setup)) (refusedRow (r .number) (r .line))
+
+-- The report for the bytes of a sheet.
+unfoldable pub reportOf : List ℕ → List ℕ
+reportOf sheet = reportAfter sheet (readSheet sheet)

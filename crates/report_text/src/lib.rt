@@ -1,0 +1,1 @@
+// The report's text. The definitions stand in specs/.

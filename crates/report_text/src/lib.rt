@@ -135,3 +135,87 @@ fn put_items(x: u64, sheet: &[u8], from: &[usize], to: &[usize], out: &mut [u8],
     }
     next
 }
+
+fn put_name_field(v: usize, end: u8, sheet: &[u8], from: &[usize], to: &[usize], out: &mut [u8], at: usize) -> usize
+    requires { ⌜ NamePlace (now sheet) (now from) (now to) v ⌝ }
+    requires { ⌜ at + length (ended (nameIn (now sheet) v) end) ≤ length (now out) ⌝ }
+    ensures { λ r. ⌜ Wrote (now (out .entry)) at (ended (nameIn (now (sheet .entry)) v) end) (now (out .exit)) r ⌝ }
+{
+    let next = put_name(v, sheet, from, to, out, at);
+    put_byte(end, out, next)
+}
+
+fn put_set_field(x: u64, end: u8, sheet: &[u8], from: &[usize], to: &[usize], out: &mut [u8], at: usize) -> usize
+    requires { ⌜ NamePlaces (now sheet) (now from) (now to) x ⌝ }
+    requires { ⌜ at + length (ended (setText (nameIn (now sheet)) x) end) ≤ length (now out) ⌝ }
+    ensures { λ r. ⌜ Wrote (now (out .entry)) at (ended (setText (nameIn (now (sheet .entry))) x) end) (now (out .exit)) r ⌝ }
+{
+    let next = put_items(x, sheet, from, to, out, at);
+    put_byte(end, out, next)
+}
+
+// A set of a target's opening list or, with loss, of its lockout list, and the sum of its values.
+pub struct SetRow {
+    pub loss: bool,
+    pub target: usize,
+    pub set: u64,
+    pub sum: u64,
+}
+
+// `order open 2 4 ordpw+token`
+pub fn put_set_row(row: SetRow, sheet: &[u8], from: &[usize], to: &[usize], out: &mut [u8], at: usize) -> usize
+    requires { ⌜ NamePlace (now sheet) (now from) (now to) (row .target) ⌝ }
+    requires { ⌜ NamePlaces (now sheet) (now from) (now to) (row .set) ⌝ }
+    requires { ⌜ at + length (setRow (nameIn (now sheet)) (row .loss) (row .target) (row .set) (row .sum)) ≤ length (now out) ⌝ }
+    ensures { λ r. ⌜ Wrote (now (out .entry)) at (setRow (nameIn (now (sheet .entry))) (row .loss) (row .target) (row .set) (row .sum)) (now (out .exit)) r ⌝ }
+{
+    let size = u64::count_ones(row.set) as u64;
+    let mut next = put_name_field(row.target, SPACE, sheet, from, to, out, at);
+    next = put_way(row.loss, SPACE, out, next);
+    next = put_number(size, SPACE, out, next);
+    next = put_number(row.sum, SPACE, out, next);
+    put_set_field(row.set, LF, sheet, from, to, out, next)
+}
+
+// A target's score, risk and findings.
+pub struct ScoreRow {
+    pub target: usize,
+    pub score: u64,
+    pub risk: u64,
+    pub back: bool,
+    pub idle: bool,
+}
+
+// `order 1 3 yes no`
+pub fn put_score_row(row: ScoreRow, sheet: &[u8], from: &[usize], to: &[usize], out: &mut [u8], at: usize) -> usize
+    requires { ⌜ NamePlace (now sheet) (now from) (now to) (row .target) ⌝ }
+    requires { ⌜ at + length (scoreRow (nameIn (now sheet)) (row .target) (row .score) (row .risk) (row .back) (row .idle)) ≤ length (now out) ⌝ }
+    ensures { λ r. ⌜ Wrote (now (out .entry)) at (scoreRow (nameIn (now (sheet .entry))) (row .target) (row .score) (row .risk) (row .back) (row .idle)) (now (out .exit)) r ⌝ }
+{
+    let mut next = put_name_field(row.target, SPACE, sheet, from, to, out, at);
+    next = put_score(row.score, SPACE, out, next);
+    next = put_score(row.risk, SPACE, out, next);
+    next = put_answer(row.back, SPACE, out, next);
+    put_answer(row.idle, LF, out, next)
+}
+
+// `order mail`
+pub fn put_pair_row(v: usize, w: usize, sheet: &[u8], from: &[usize], to: &[usize], out: &mut [u8], at: usize) -> usize
+    requires { ⌜ NamePlace (now sheet) (now from) (now to) v ⌝ }
+    requires { ⌜ NamePlace (now sheet) (now from) (now to) w ⌝ }
+    requires { ⌜ at + length (pairRow (nameIn (now sheet)) v w) ≤ length (now out) ⌝ }
+    ensures { λ r. ⌜ Wrote (now (out .entry)) at (pairRow (nameIn (now (sheet .entry))) v w) (now (out .exit)) r ⌝ }
+{
+    let next = put_name_field(v, SPACE, sheet, from, to, out, at);
+    put_name_field(w, LF, sheet, from, to, out, next)
+}
+
+// `refused 5 2`
+pub fn put_refused_row(number: u64, line: u64, out: &mut [u8], at: usize) -> usize
+    requires { ⌜ at + length (refusedRow number line) ≤ length (now out) ⌝ }
+    ensures { λ r. ⌜ Wrote (now (out .entry)) at (refusedRow number line) (now (out .exit)) r ⌝ }
+{
+    let mut next = put_field(b"refused", SPACE, out, at);
+    next = put_number(number, SPACE, out, next);
+    put_number(line, LF, out, next)
+}

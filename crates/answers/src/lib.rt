@@ -1,12 +1,58 @@
 // The calls of the second and third exercise: both lists, scores, and marks.
+ghost use mathlib.Core.Path.{_≡_};
+ghost use mathlib.Core.Bool.{true, false};
+ghost use Prim.Native.Nat.{ℕ, _-_, _≤_, _<_};
+ghost use lib.Count.{ones};
+ghost use lib.ListN.{length, getD, take};
+ghost use Rattle.vertex_set.specs.Set.{Decides};
+ghost use Rattle.vertex_set.specs.Order.{Listed};
+ghost use Rattle.setup.specs.WellFormed.{WellFormed};
+ghost use Rattle.answers.specs.Answers.{basesNumber, basesValues, BasesCall, scoreNumber, scoreValues, riskNumber, riskValues, ScoreCall, marksNumber, marksValues, MarksCall};
+ghost use Rattle.answers.specs.Demand3.{Demand3};
+ghost use Rattle.answers.specs.Inner.{Asked, BasesTaken, MarkedOne, OneMore, MarkedAll, MarksTaken};
+use setup::Graph;
 use setup::Setup;
+use vertex_set::VertexSet;
+
+// "Never": the score of an account that no set opens, above every sum.
+pub const NEVER: u64 = 0x4000_0000_0000_0000;
+
+const WORDS: usize = 256;
 
 // Document 01's score, document 003's security score. It is never added to, nor compared with, the
 // other kind.
 pub struct SecurityScore(pub u64);
 
+impl SecurityScore {
+    pub fn below(self, other: SecurityScore) -> bool
+        ensures { λ r. ⌜ Decides (self .0 < other .0) r ⌝ }
+    {
+        self.0 < other.0
+    }
+
+    pub fn at_most(self, other: SecurityScore) -> bool
+        ensures { λ r. ⌜ Decides (self .0 ≤ other .0) r ⌝ }
+    {
+        self.0 <= other.0
+    }
+}
+
 // Document 01's risk, document 003's recoverability score.
 pub struct RecoverabilityScore(pub u64);
+
+impl RecoverabilityScore {
+    pub fn below(self, other: RecoverabilityScore) -> bool
+        ensures { λ r. ⌜ Decides (self .0 < other .0) r ⌝ }
+    {
+        self.0 < other.0
+    }
+
+    pub fn at_most(self, other: RecoverabilityScore) -> bool
+        ensures { λ r. ⌜ Decides (self .0 ≤ other .0) r ⌝ }
+    {
+        self.0 <= other.0
+    }
+}
 
 pub enum BasesAnswer {
     Counts(usize, usize),
@@ -36,4 +82,239 @@ pub struct Marks {
 pub enum MarksAnswer {
     Marked(Marks),
     Refused(u64),
+}
+
+// Both lists of a setup that is well formed.
+fn write_bases(s: Setup, target: usize, out: &mut [u64]) -> BasesAnswer
+    requires { ⌜ Asked s target ⌝ }
+    ensures { λ r. ⌜ BasesTaken s target (basesNumber r) (basesValues r) (now (out .entry)) (now (out .exit)) ⌝ }
+{
+    let graph = s.graph;
+    let initial = setup::chosen(s, false);
+    let losable = setup::chosen(s, true);
+    let mut opening = [0u64; WORDS];
+    let mut lockout = [0u64; WORDS];
+    let n = bases::base_family(s, graph, false, target, initial, &mut opening);
+    let m = bases::base_family(s, graph, true, target, losable, &mut lockout);
+    if out.len() < n {
+        return BasesAnswer::Refused(15);
+    }
+    if out.len() - n < m {
+        return BasesAnswer::Refused(15);
+    }
+    let first = family_lists::write_sets(&opening, initial, out);
+    let second = family_lists::write_sets(&lockout, losable, &mut out[first..]);
+    BasesAnswer::Counts(first, second)
+}
+
+// Both lists of the target in one lent list: the access base first, then the lockout base.
+pub fn both_bases(s: Setup, target: usize, out: &mut [u64]) -> BasesAnswer
+    ensures { λ r. ⌜ BasesCall s target (basesNumber r) (basesValues r) (now (out .entry)) (now (out .exit)) ⌝ }
+{
+    if setup::well_formed(s) {
+        if target < s.count {
+            return write_bases(s, target, out);
+        }
+        return BasesAnswer::Refused(13);
+    }
+    BasesAnswer::Refused(12)
+}
+
+// The target's security score (document 01: its score).
+pub fn security_score(s: Setup, target: usize) -> ScoreAnswer
+    ensures { λ r. ⌜ ScoreCall false s target (scoreNumber r) (scoreValues r) ⌝ }
+{
+    if setup::well_formed(s) {
+        if target < s.count {
+            let graph = s.graph;
+            let r = bases::score_of(s, graph, false, target);
+            return ScoreAnswer::Score(SecurityScore(r));
+        }
+        return ScoreAnswer::Refused(13);
+    }
+    ScoreAnswer::Refused(12)
+}
+
+// The target's recoverability score (document 01: its risk).
+pub fn recoverability_score(s: Setup, target: usize) -> RiskAnswer
+    ensures { λ r. ⌜ ScoreCall true s target (riskNumber r) (riskValues r) ⌝ }
+{
+    if setup::well_formed(s) {
+        if target < s.count {
+            let graph = s.graph;
+            let r = bases::score_of(s, graph, true, target);
+            return RiskAnswer::Risk(RecoverabilityScore(r));
+        }
+        return RiskAnswer::Refused(13);
+    }
+    RiskAnswer::Refused(12)
+}
+
+// Does the set at i stand among those before it?
+fn stands_before(handed: &[u64], i: usize) -> bool
+    requires { ⌜ i < length (now handed) ⌝ }
+    ensures { λ r. ⌜ Decides (Listed (take i (now (handed .entry))) (getD (now (handed .entry)) i 0)) r ⌝ }
+{
+    let x = handed[i];
+    for j in 0..i {
+        if handed[j] == x {
+            return true;
+        }
+    }
+    false
+}
+
+// The mark of the set at i, by number: 0 repeated, 1 shut, 2 loose, 3 right.
+fn mark_of(handed: &[u64], i: usize, chosen: VertexSet, family: &[u64], minimal: &[u64]) -> u64
+    requires { ⌜ (i < length (now handed)) × (ones (chosen .0) ≤ 14) ⌝ }
+    ensures { λ r. ⌜ MarkedOne (chosen .0) (now (family .entry)) (now (minimal .entry)) (now (handed .entry)) i r ⌝ }
+{
+    if stands_before(handed, i) {
+        return 0;
+    }
+    let x = VertexSet(handed[i]);
+    if x.within(chosen) {
+        let mask = families::mask_of(chosen, x.0);
+        if families::has_mask(minimal, mask) {
+            return 3;
+        }
+        if families::has_mask(family, mask) {
+            return 2;
+        }
+    }
+    1
+}
+
+// Counts of marks so far.
+struct Tally {
+    right: usize,
+    repeated: usize,
+    shut: usize,
+    loose: usize,
+}
+
+fn one_more(t: Tally, mark: u64) -> Tally
+    requires { ⌜ (mark < 4) × (t .right < 9223372036854775808) × (t .repeated < 9223372036854775808) × (t .shut < 9223372036854775808) × (t .loose < 9223372036854775808) ⌝ }
+    ensures { λ r. ⌜ OneMore (t .right) (t .repeated) (t .shut) (t .loose) mark (r .right) (r .repeated) (r .shut) (r .loose) ⌝ }
+{
+    let mut r = t;
+    if mark == 0 {
+        r.repeated = t.repeated + 1;
+        return r;
+    }
+    if mark == 1 {
+        r.shut = t.shut + 1;
+        return r;
+    }
+    if mark == 2 {
+        r.loose = t.loose + 1;
+        return r;
+    }
+    r.right = t.right + 1;
+    r
+}
+
+fn mark_all(handed: &[u64], chosen: VertexSet, family: &[u64], minimal: &[u64]) -> Tally
+    requires { ⌜ ones (chosen .0) ≤ 14 ⌝ }
+    ensures { λ r. ⌜ MarkedAll (chosen .0) (now (family .entry)) (now (minimal .entry)) (now (handed .entry)) (r .right) (r .repeated) (r .shut) (r .loose) ⌝ }
+{
+    let mut t = Tally {
+        right: 0,
+        repeated: 0,
+        shut: 0,
+        loose: 0,
+    };
+    for i in 0..handed.len() {
+        let mark = mark_of(handed, i, chosen, family, minimal);
+        t = one_more(t, mark);
+    }
+    t
+}
+
+// What is left of a when b is taken from it, and nothing where b is more.
+fn left_of(a: usize, b: usize) -> usize
+    ensures { λ r. ⌜ r ≡ a - b ⌝ }
+{
+    if b < a { a - b } else { 0 }
+}
+
+// The marks of a setup that is well formed.
+fn take_marks(loss: bool, s: Setup, target: usize, handed: &[u64]) -> Marks
+    requires { ⌜ Asked s target ⌝ }
+    ensures { λ r. ⌜ MarksTaken loss s target (now (handed .entry)) r ⌝ }
+{
+    let graph = s.graph;
+    let chosen = setup::chosen(s, loss);
+    let mut family = [0u64; WORDS];
+    let mut minimal = [0u64; WORDS];
+    let total = bases::both_families(s, graph, loss, target, chosen, &mut family, &mut minimal);
+    let t = mark_all(handed, chosen, &family, &minimal);
+    let missing = left_of(total, t.right);
+    Marks {
+        right: t.right,
+        repeated: t.repeated,
+        shut: t.shut,
+        loose: t.loose,
+        missing,
+    }
+}
+
+fn mark(loss: bool, s: Setup, target: usize, handed: &[u64]) -> MarksAnswer
+    ensures { λ r. ⌜ MarksCall loss s target (now (handed .entry)) (marksNumber r) (marksValues r) ⌝ }
+{
+    if setup::well_formed(s) {
+        if target < s.count {
+            let marks = take_marks(loss, s, target, handed);
+            return MarksAnswer::Marked(marks);
+        }
+        return MarksAnswer::Refused(13);
+    }
+    MarksAnswer::Refused(12)
+}
+
+// Marks for sets handed in as the target's access base (document 01: openings).
+pub fn mark_access(s: Setup, target: usize, handed: &[u64]) -> MarksAnswer
+    ensures { λ r. ⌜ MarksCall false s target (now (handed .entry)) (marksNumber r) (marksValues r) ⌝ }
+{
+    mark(false, s, target, handed)
+}
+
+// Marks for sets handed in as its lockout base.
+pub fn mark_lockout(s: Setup, target: usize, handed: &[u64]) -> MarksAnswer
+    ensures { λ r. ⌜ MarksCall true s target (now (handed .entry)) (marksNumber r) (marksValues r) ⌝ }
+{
+    mark(true, s, target, handed)
+}
+
+// The answers of all calls that demand 3 speaks of, on one setup and target.
+pub struct AllAnswers {
+    pub bases: BasesAnswer,
+    pub score: ScoreAnswer,
+    pub risk: RiskAnswer,
+    pub openings: MarksAnswer,
+    pub lockouts: MarksAnswer,
+}
+
+// Demand 3, about the code: whatever these calls answer together is as it states.
+pub fn demand_three(
+    s: Setup,
+    target: usize,
+    out: &mut [u64],
+    opened: &[u64],
+    locked: &[u64],
+) -> AllAnswers
+    ensures { λ r. ⌜ Demand3 s target (now (out .entry)) (now (out .exit)) (basesNumber (r .bases)) (basesValues (r .bases)) (scoreNumber (r .score)) (scoreValues (r .score)) (riskNumber (r .risk)) (riskValues (r .risk)) (now (opened .entry)) (marksNumber (r .openings)) (marksValues (r .openings)) (now (locked .entry)) (marksNumber (r .lockouts)) (marksValues (r .lockouts)) ⌝ }
+{
+    let bases = both_bases(s, target, out);
+    let score = security_score(s, target);
+    let risk = recoverability_score(s, target);
+    let openings = mark_access(s, target, opened);
+    let lockouts = mark_lockout(s, target, locked);
+    AllAnswers {
+        bases,
+        score,
+        risk,
+        openings,
+        lockouts,
+    }
 }

@@ -3,13 +3,14 @@ use mathlib.Core.Path.{_≡_}
 use mathlib.Core.Bool.{Bool}
 use mathlib.Core.List.{List}
 use Prim.Native.Nat.{ℕ, _^_, _≤_, _<_}
+use lib.ListN.{length, getD}
 use Rattle.vertex_set.specs.Order.{Listed, sumOver}
 use Rattle.setup.specs.declared.Value.{Value}
 use Rattle.setup.specs.declared.Value.the-variants.{Blank, Of}
 use Rattle.setup.specs.declared.Graph.{Graph}
 use Rattle.setup.specs.declared.Setup.{Setup}
 use Rattle.setup.specs.Setup.{valueOf, vertexAt}
-use Rattle.bases.specs.Base.{TargetSet}
+use Rattle.bases.specs.Base.{TargetSet, Base}
 
 -- The number of a value; a blank has none, and counts as 0 where it is asked.
 abbrev pub points : Value → ℕ
@@ -42,3 +43,13 @@ pub record ScoreOver (loss : Bool) (s : Setup) (l : List ℕ) (r : ℕ) : Type 0
   pub some : (x : ℕ) → Listed l x → r < never
   pub least : (x : ℕ) → Listed l x → r ≤ sumOf loss s x
   pub reached : r < never → (x : ℕ) × Listed l x × (r ≡ sumOf loss s x)
+
+-- r has the values of all vertices.
+pub record Values (loss : Bool) (s : Setup) (r : List ℕ) : Type 0 where
+  pub long : length r ≡ 64
+  pub each : (v : ℕ) → getD r v 0 ≡ pointsAt loss s v
+
+-- r is the score, over all sets and so over the base.
+pub record ScoreBoth (loss : Bool) (s : Setup) (g : Graph) (target r : ℕ) : Type 0 where
+  pub all : Score loss s g target r
+  pub base : (l : List ℕ) → Base loss s g target l → ScoreOver loss s l r

@@ -1,1 +1,109 @@
 // Bases and scores, read from a table of all subsets.
+ghost use mathlib.Core.Path.{_≡_};
+ghost use Prim.Native.Nat.{ℕ, _*_, _<_};
+ghost use lib.ListN.{length, take, drop};
+ghost use Rattle.setup.specs.WellFormed.{WellFormed};
+ghost use Rattle.derivations.specs.Both.{ruleOf};
+ghost use Rattle.tables.specs.Table.{FamilyOf};
+ghost use Rattle.bases.specs.Score.{points, Values, ScoreBoth};
+ghost use Rattle.bases.specs.Readers.{CanCopy, CanList, BaseFamily, BothFamilies};
+use setup::Graph;
+use setup::Setup;
+use setup::Value;
+use vertex_set::VertexSet;
+
+const WORDS: usize = 256;
+
+const TABLE: usize = 16384;
+
+// The target's family, copied out of a table of all vertices.
+pub fn copy_family(w: &[u64], target: usize, out: &mut [u64])
+    requires { ⌜ CanCopy (now w) target (now out) ⌝ }
+    ensures { λ _. ⌜ now (out .exit) ≡ take 256 (drop (target * 256) (now (w .entry))) ⌝ }
+{
+    let from = target * WORDS;
+    for i in 0..WORDS {
+        out[i] = w[from + i];
+    }
+}
+
+// The family of the sets of chosen vertices from which the target has a derivation. The table of
+// all vertices is a local of this function alone.
+pub fn family_of(graph: Graph, chosen: VertexSet, loss: bool, target: usize, out: &mut [u64])
+    requires { ⌜ (target < 64) × (length (now out) ≡ 256) ⌝ }
+    ensures { λ _. ⌜ (length (now (out .exit)) ≡ 256) × FamilyOf (ruleOf loss graph) (chosen .0) target (now (out .exit)) ⌝ }
+{
+    let mut w = [0u64; TABLE];
+    tables::fill(graph, chosen, loss, &mut w);
+    copy_family(&w, target, out);
+}
+
+fn points_of(x: Value) -> u64
+    ensures { λ r. ⌜ r ≡ points x ⌝ }
+{
+    match x {
+        Value::Blank => 0,
+        Value::Of(n) => n,
+    }
+}
+
+// The start values of all vertices, or for a loss the loss values; 0 for a blank.
+pub fn values_of(s: Setup, loss: bool) -> [u64; 64]
+    ensures { λ r. ⌜ Values loss s r ⌝ }
+{
+    let mut r = [0u64; 64];
+    for v in 0..64usize {
+        let vertex = s.vertices[v];
+        let value = setup::value_of(loss, vertex);
+        r[v] = points_of(value);
+    }
+    r
+}
+
+// The least sum of start values, or for a loss of loss values, over all sets from which the target
+// has a derivation. The graph is the setup's, or that without recovery.
+pub fn score_of(s: Setup, graph: Graph, loss: bool, target: usize) -> u64
+    requires { ⌜ WellFormed s × (target < 64) ⌝ }
+    ensures { λ r. ⌜ ScoreBoth loss s graph target r ⌝ }
+{
+    let chosen = setup::chosen(s, loss);
+    let values = values_of(s, loss);
+    let mut family = [0u64; WORDS];
+    family_of(graph, chosen, loss, target, &mut family);
+    family_lists::least_sum(&family, chosen, values)
+}
+
+// The target's family, the family of its minimal members, whose sets are the target's base, and
+// their number.
+pub fn both_families(
+    s: Setup,
+    graph: Graph,
+    loss: bool,
+    target: usize,
+    chosen: VertexSet,
+    family: &mut [u64],
+    minimal: &mut [u64],
+) -> usize
+    requires { ⌜ CanList loss s target (chosen .0) (now family) × (length (now minimal) ≡ 256) ⌝ }
+    ensures { λ r. ⌜ BothFamilies loss s graph target (chosen .0) (now (family .exit)) (now (minimal .exit)) r ⌝ }
+{
+    family_of(graph, chosen, loss, target, family);
+    families::minimal_members(family, minimal);
+    families::count_members(minimal)
+}
+
+// The minimal ones alone.
+pub fn base_family(
+    s: Setup,
+    graph: Graph,
+    loss: bool,
+    target: usize,
+    chosen: VertexSet,
+    out: &mut [u64],
+) -> usize
+    requires { ⌜ CanList loss s target (chosen .0) (now out) ⌝ }
+    ensures { λ r. ⌜ BaseFamily loss s graph target (chosen .0) (now (out .exit)) r ⌝ }
+{
+    let mut family = [0u64; WORDS];
+    both_families(s, graph, loss, target, chosen, &mut family, out)
+}

@@ -1,10 +1,10 @@
 -- Laws of families: their words, and the number of their members.
 -- Assumes nothing.
-use mathlib.Core.Path.{_≡_, refl, sym, ap, _∙_, subst}
-use mathlib.Core.Bool.{Bool, false}
-use mathlib.Core.Logic.{_⊎_, inl, inr, ⊎-elim}
-use mathlib.Core.List.{List, [], _∷_}
-use Prim.Native.Nat.{ℕ, zero, suc, _+_, _-_, _*_, _/_, _%_, _^_, _≤_, _<_}
+use mathlib.Core.Path.{_≡_, sym, subst}
+use mathlib.Core.Bool.{false}
+use mathlib.Core.Logic.{_⊎_, ⊎-elim}
+use mathlib.Core.List.{List}
+use Prim.Native.Nat.{ℕ, _+_, _-_, _/_, _%_, _^_, _≤_, _<_}
 use native.Mathlib.Numerals.{add-one}
 use native.Mathlib.Omega.{arith}
 use lib.Dec.{eqb}
@@ -12,20 +12,24 @@ use lib.ListN.{length, getD, drop, set, List·getD-eq-default}
 use lib.Seq.{drop-cons, drop-length, getD-set-same, getD-set-other}
 use lib.Pow.{pow-add}
 use lib.Count.{ones}
-use Rattle.vertex_set.specs.Set.{Member, Within, ProperlyWithin, Decides, Iff}
+use Rattle.vertex_set.specs.Set.{Member, Decides, Iff}
 use Rattle.vertex_set.proofs.Cases.{false-true, less-or, same-or}
-use Rattle.vertex_set.proofs.Sets.{none-in-zero, member-decided, member-below}
+use Rattle.vertex_set.proofs.Sets.{none-in-zero, member-or, member-decided, member-below}
 use Rattle.vertex_set.proofs.Places.{member-le}
 use Rattle.vertex_set.proofs.Shifts.{in-low, in-high}
 use Rattle.vertex_set.proofs.Subsets.{proper-lacks, within-removed, removed-proper, proper-less}
 use Rattle.families.specs.Family.{In, size, Monotone, Minimal, Least, MinimalMembers}
-use Rattle.families.specs.Steps.{StepInWord, StepToWord, LeastLane, LeastWord}
+use Rattle.families.specs.Steps.{LeastLane, LeastWord}
 
 -- ---- one mask
 
 pub in-decided : (f : List ℕ) (m : ℕ) → Decides (In f m) (eqb (getD f (m / 64) 0 / 2 ^ (m % 64) % 2) 1)
 unfolding In
 in-decided f m = member-decided (getD f (m / 64) 0) (m % 64)
+
+pub in-or : (f : List ℕ) (m : ℕ) → In f m ⊎ (In f m → ⊥)
+unfolding In
+in-or f m = member-or (getD f (m / 64) 0) (m % 64)
 
 -- past the last word there is nothing
 pub none-beyond : (f : List ℕ) (m : ℕ) → length f ≤ m / 64 → In f m → ⊥
@@ -107,8 +111,8 @@ pub minimal-members : (f g : List ℕ) → ((b : ℕ) → b < 256 → LeastWord 
 unfolding In
 minimal-members f g w =
     let each : (m : ℕ) → m < 16384 → Iff (In g m) (Least f m) = λ m h.
-        let l = w (m / 64) (omega arith) .each (m % 64) (omega arith) in
-        record { to = λ i. lane-least f m h (l .to i); from = λ q. l .from (least-lane f m q) } in
+    let l = w (m / 64) (omega arith) .each (m % 64) (omega arith) in
+    record { to = λ i. lane-least f m h (l .to i); from = λ q. l .from (least-lane f m q) } in
     record {
       least = each;
       minimal = λ mono m h. record {
@@ -121,4 +125,5 @@ minimal-members f g w =
 pub word-more : (f out : List ℕ) (b r : ℕ) → b < length out → ((k : ℕ) → k < b → LeastWord f k (getD out k 0)) → LeastWord f b r
     → (k : ℕ) → k < b + 1 → LeastWord f k (getD (set out b r) k 0)
 word-more f out b r h p l k lt =
-    ⊎-elim (λ e. subst (λ (j : ℕ). LeastWord f j (getD (set out b r) j 0)) (sym e) (rw (getD-set-same out b r 0 h) l)) (λ n. rw (getD-set-other out b k r 0 n) (p k (omega arith))) (same-or k b)
+    ⊎-elim (λ e. subst (λ (j : ℕ). LeastWord f j (getD (set out b r) j 0)) (sym e) (rw (getD-set-same out b r 0 h) l))
+    (λ n. rw (getD-set-other out b k r 0 n) (p k (omega arith))) (same-or k b)

@@ -1,7 +1,7 @@
 -- Laws of masks: which set a mask stands for, which mask a set has, and that masks and sets agree on inclusion, size and order.
 -- Assumes nothing.
 use mathlib.Core.Path.{_≡_, refl, sym, ap, _∙_, subst}
-use mathlib.Core.Logic.{_⊎_, inl, inr, ⊎-elim}
+use mathlib.Core.Logic.{inl, inr, ⊎-elim}
 use mathlib.Core.List.{List, [], _∷_, map}
 use Prim.Native.Nat.{ℕ, zero, suc, _+_, _-_, _*_, _/_, _%_, _^_, _≤_, _<_}
 use native.Mathlib.Nat.{pow-suc, mul-le-mul-right}
@@ -14,7 +14,7 @@ use Rattle.vertex_set.specs.Order.{Before}
 use Rattle.vertex_set.proofs.Cases.{same-or, less-or}
 use Rattle.vertex_set.proofs.Digits.{digit, digit-lt, digit-first, digit-suc}
 use Rattle.vertex_set.proofs.Sets.{member-below, none-in-zero, same-set}
-use Rattle.vertex_set.proofs.Places.{in-first, in-later, places, places-odd, places-even, places-none, Lowest, lowest}
+use Rattle.vertex_set.proofs.Places.{in-first, in-later, places, places-odd, places-even, places-none, lowest}
 use Rattle.vertex_set.proofs.Shifts.{low-first, low-half}
 use Rattle.families.specs.Masks.{rank, Picked, SetOfMask, MaskOf}
 
@@ -90,26 +90,26 @@ in-spread (suc k) c m zero h =
     let f = in-first (spread (suc k) c m) in
     by-parity c
     (λ even. let s = spread-even k c m even in
-        record { to = λ i. let e = f .to i in absurd (omega arith); from = λ q. let e = p .to q .0 in absurd (omega arith) })
+    record { to = λ i. let e = f .to i in absurd (omega arith); from = λ q. let e = p .to q .0 in absurd (omega arith) })
     (λ odd. let s = spread-odd k c m odd in
-        record { to = λ i. let e = f .to i in p .from (odd, omega arith); from = λ q. let e = p .to q .1 in f .from (omega arith) })
+    record { to = λ i. let e = f .to i in p .from (odd, omega arith); from = λ q. let e = p .to q .1 in f .from (omega arith) })
 in-spread (suc k) c m (suc v) h =
     let l = in-later (spread (suc k) c m) v in
     let pw = pow-suc 2 k in
     let hc : c / 2 < 2 ^ k = omega arith in
     by-parity c
     (λ even.
-        let s = spread-even k c m even in
-        let e : spread (suc k) c m / 2 ≡ spread k (c / 2) m = omega arith in
-        let ih = in-spread k (c / 2) m v hc in
-        let p = picked-even c m v even in
-        record { to = λ i. p .from (ih .to (rw e at (l .to i))); from = λ q. l .from (rw e (ih .from (p .to q))) })
+    let s = spread-even k c m even in
+    let e : spread (suc k) c m / 2 ≡ spread k (c / 2) m = omega arith in
+    let ih = in-spread k (c / 2) m v hc in
+    let p = picked-even c m v even in
+    record { to = λ i. p .from (ih .to (rw e at (l .to i))); from = λ q. l .from (rw e (ih .from (p .to q))) })
     (λ odd.
-        let s = spread-odd k c m odd in
-        let e : spread (suc k) c m / 2 ≡ spread k (c / 2) (m / 2) = omega arith in
-        let ih = in-spread k (c / 2) (m / 2) v hc in
-        let p = picked-odd c m v odd in
-        record { to = λ i. p .from (ih .to (rw e at (l .to i))); from = λ q. l .from (rw e (ih .from (p .to q))) })
+    let s = spread-odd k c m odd in
+    let e : spread (suc k) c m / 2 ≡ spread k (c / 2) (m / 2) = omega arith in
+    let ih = in-spread k (c / 2) (m / 2) v hc in
+    let p = picked-odd c m v odd in
+    record { to = λ i. p .from (ih .to (rw e at (l .to i))); from = λ q. l .from (rw e (ih .from (p .to q))) })
 
 -- Every mask stands for a set, and for one only.
 pub set-of : (c m : ℕ) → c < 2 ^ 64 → SetOfMask c m (spread 64 c m)
@@ -141,19 +141,19 @@ ranked zero c j h l = let e : c ≡ 0 = omega arith in absurd (omega (arith, ap 
 ranked (suc k) c zero h l =
     by-parity c
     (λ even.
-        let pw = pow-suc 2 k in
-        let r = ranked k (c / 2) 0 (omega arith) (omega (arith, ones-step c)) in
-        (suc (r .0), in-later c (r .0) .from (r .1), rank-even c (r .0) even ∙ r .2))
+    let pw = pow-suc 2 k in
+    let r = ranked k (c / 2) 0 (omega arith) (omega (arith, ones-step c)) in
+    (suc (r .0), in-later c (r .0) .from (r .1), rank-even c (r .0) even ∙ r .2))
     (λ odd. (0, in-first c .from odd, rank-zero c))
 ranked (suc k) c (suc j) h l =
     let pw = pow-suc 2 k in
     by-parity c
     (λ even.
-        let r = ranked k (c / 2) (suc j) (omega arith) (omega (arith, ones-step c)) in
-        (suc (r .0), in-later c (r .0) .from (r .1), rank-even c (r .0) even ∙ r .2))
+    let r = ranked k (c / 2) (suc j) (omega arith) (omega (arith, ones-step c)) in
+    (suc (r .0), in-later c (r .0) .from (r .1), rank-even c (r .0) even ∙ r .2))
     (λ odd.
-        let r = ranked k (c / 2) j (omega arith) (omega (arith, ones-step c)) in
-        (suc (r .0), in-later c (r .0) .from (r .1), rank-odd c (r .0) odd ∙ ap suc (r .2)))
+    let r = ranked k (c / 2) j (omega arith) (omega (arith, ones-step c)) in
+    (suc (r .0), in-later c (r .0) .from (r .1), rank-odd c (r .0) odd ∙ ap suc (r .2)))
 
 -- A subset's mask is a submask, if it has no bit beyond the chosen vertices.
 pub subset-submask : (c k m x y : ℕ) → c < 2 ^ 64 → k < 2 ^ ones c → SetOfMask c k x → SetOfMask c m y → Within x y → Within k m
@@ -224,9 +224,9 @@ gather-lt (suc k) c x h =
     by-parity c
     (λ even. let e : ones c ≡ ones (c / 2) = omega arith in rw (gather-even k c x even, e) ih)
     (λ odd.
-        let e : ones c ≡ suc (ones (c / 2)) = omega arith in
-        let p = pow-suc 2 (ones (c / 2)) in
-        rw (gather-odd k c x odd, e) (omega arith))
+    let e : ones c ≡ suc (ones (c / 2)) = omega arith in
+    let p = pow-suc 2 (ones (c / 2)) in
+    rw (gather-odd k c x odd, e) (omega arith))
 
 pub in-gather : (k c x v : ℕ) → c < 2 ^ k → Iff (Picked c (gather k c x) v) (Member x v × Member c v)
 unfolding Picked
@@ -250,18 +250,18 @@ in-gather (suc k) c x (suc v) h =
     let b = in-later c v in
     by-parity c
     (λ even. rw (gather-even k c x even)
-        (let p = picked-even c (gather k (c / 2) (x / 2)) v even in record {
-          to = λ i. let r = ih .to (p .to i) in (a .from (r .0), b .from (r .1));
-          from = λ q. p .from (ih .from (a .to (q .0), b .to (q .1)));
-        }))
+    (let p = picked-even c (gather k (c / 2) (x / 2)) v even in record {
+      to = λ i. let r = ih .to (p .to i) in (a .from (r .0), b .from (r .1));
+      from = λ q. p .from (ih .from (a .to (q .0), b .to (q .1)));
+    }))
     (λ odd.
-        let s = gather-odd k c x odd in
-        let e : gather (suc k) c x / 2 ≡ gather k (c / 2) (x / 2) = omega arith in
-        let p = picked-odd c (gather (suc k) c x) v odd in
-        record {
-          to = λ i. let r = ih .to (rw e at (p .to i)) in (a .from (r .0), b .from (r .1));
-          from = λ q. p .from (rw e (ih .from (a .to (q .0), b .to (q .1))));
-        })
+    let s = gather-odd k c x odd in
+    let e : gather (suc k) c x / 2 ≡ gather k (c / 2) (x / 2) = omega arith in
+    let p = picked-odd c (gather (suc k) c x) v odd in
+    record {
+      to = λ i. let r = ih .to (rw e at (p .to i)) in (a .from (r .0), b .from (r .1));
+      from = λ q. p .from (rw e (ih .from (a .to (q .0), b .to (q .1))));
+    })
 
 -- Every set of chosen vertices has a mask.
 pub mask-of : (c x : ℕ) → c < 2 ^ 64 → Within x c → SetOfMask c (gather 64 c x) x
@@ -284,22 +284,22 @@ ones-spread (suc k) c m h l =
     let st = ones-step c in
     by-parity c
     (λ even.
-        let e : ones c ≡ ones (c / 2) = omega arith in
-        let ih = ones-spread k (c / 2) m (omega arith) (rw e at l) in
-        let s = spread-even k c m even in
-        let t = ones-step (spread (suc k) c m) in
-        let d : spread (suc k) c m / 2 ≡ spread k (c / 2) m = omega arith in
-        t ∙ rw d (omega arith))
+    let e : ones c ≡ ones (c / 2) = omega arith in
+    let ih = ones-spread k (c / 2) m (omega arith) (rw e at l) in
+    let s = spread-even k c m even in
+    let t = ones-step (spread (suc k) c m) in
+    let d : spread (suc k) c m / 2 ≡ spread k (c / 2) m = omega arith in
+    t ∙ rw d (omega arith))
     (λ odd.
-        let e : ones c ≡ suc (ones (c / 2)) = omega arith in
-        let pm = pow-suc 2 (ones (c / 2)) in
-        let lm : m < 2 ^ suc (ones (c / 2)) = rw e at l in
-        let ih = ones-spread k (c / 2) (m / 2) (omega arith) (omega arith) in
-        let s = spread-odd k c m odd in
-        let t = ones-step (spread (suc k) c m) in
-        let u = ones-step m in
-        let d : spread (suc k) c m / 2 ≡ spread k (c / 2) (m / 2) = omega arith in
-        t ∙ rw d (omega arith))
+    let e : ones c ≡ suc (ones (c / 2)) = omega arith in
+    let pm = pow-suc 2 (ones (c / 2)) in
+    let lm : m < 2 ^ suc (ones (c / 2)) = rw e at l in
+    let ih = ones-spread k (c / 2) (m / 2) (omega arith) (omega arith) in
+    let s = spread-odd k c m odd in
+    let t = ones-step (spread (suc k) c m) in
+    let u = ones-step m in
+    let d : spread (suc k) c m / 2 ≡ spread k (c / 2) (m / 2) = omega arith in
+    t ∙ rw d (omega arith))
 
 pub spread-lt : (k c a b : ℕ) → c < 2 ^ k → b < 2 ^ ones c → a < b → spread k c a < spread k c b
 spread-lt zero c a b h l lt =
@@ -311,18 +311,18 @@ spread-lt (suc k) c a b h l lt =
     let st = ones-step c in
     by-parity c
     (λ even.
-        let e : ones c ≡ ones (c / 2) = omega arith in
-        let ih = spread-lt k (c / 2) a b (omega arith) (rw e at l) lt in
-        rw (spread-even k c a even, spread-even k c b even) (omega arith))
+    let e : ones c ≡ ones (c / 2) = omega arith in
+    let ih = spread-lt k (c / 2) a b (omega arith) (rw e at l) lt in
+    rw (spread-even k c a even, spread-even k c b even) (omega arith))
     (λ odd.
-        let e : ones c ≡ suc (ones (c / 2)) = omega arith in
-        let pm = pow-suc 2 (ones (c / 2)) in
-        let lb : b < 2 ^ suc (ones (c / 2)) = rw e at l in
-        rw (spread-odd k c a odd, spread-odd k c b odd)
-        (⊎-elim
-        (λ half. let ih = spread-lt k (c / 2) (a / 2) (b / 2) (omega arith) (omega arith) half in omega arith)
-        (λ (ge : b / 2 ≤ a / 2). let e : a / 2 ≡ b / 2 = omega arith in rw e (omega arith))
-        (less-or (a / 2) (b / 2))))
+    let e : ones c ≡ suc (ones (c / 2)) = omega arith in
+    let pm = pow-suc 2 (ones (c / 2)) in
+    let lb : b < 2 ^ suc (ones (c / 2)) = rw e at l in
+    rw (spread-odd k c a odd, spread-odd k c b odd)
+    (⊎-elim
+    (λ half. let ih = spread-lt k (c / 2) (a / 2) (b / 2) (omega arith) (omega arith) half in omega arith)
+    (λ (ge : b / 2 ≤ a / 2). let e : a / 2 ≡ b / 2 = omega arith in rw e (omega arith))
+    (less-or (a / 2) (b / 2))))
 
 -- A set has as many vertices as its mask has bits.
 pub set-size : (c m x : ℕ) → c < 2 ^ 64 → m < 2 ^ ones c → SetOfMask c m x → ones x ≡ ones m
@@ -346,11 +346,11 @@ mask-before c a b x y h la lb p q w =
     let t = set-size c b y h lb q in
     ⊎-elim (λ less. inl (omega arith))
     (λ r.
-        let e = r .0 in
-        let l = r .1 in
-        ⊎-elim (λ k. inr (omega arith, k))
-        (λ k. ⊎-elim (λ same. absurd (let z = set-unique c a x y p (rw (← same) at q) in omega arith))
-            (λ n. absurd (let z = set-less c b a y x h la q p (omega arith) in omega arith)) (same-or a b)) (less-or a b)) w
+    let e = r .0 in
+    let l = r .1 in
+    ⊎-elim (λ k. inr (omega arith, k))
+    (λ k. ⊎-elim (λ same. absurd (let z = set-unique c a x y p (rw (← same) at q) in omega arith))
+    (λ n. absurd (let z = set-less c b a y x h la q p (omega arith) in omega arith)) (same-or a b)) (less-or a b)) w
 
 -- ---- the loop that gathers a mask
 

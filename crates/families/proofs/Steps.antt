@@ -1,10 +1,10 @@
 -- Steps down: from a lane to the lanes and words that have one bit fewer, by shifts and by words.
 -- Assumes nothing.
-use mathlib.Core.Path.{_≡_, refl, sym, ap, _∙_, subst}
-use mathlib.Core.Bool.{Bool, true, false}
-use mathlib.Core.Logic.{_⊎_, inl, inr, ⊎-elim}
+use mathlib.Core.Path.{_≡_, refl, sym, _∙_, subst}
+use mathlib.Core.Bool.{true}
+use mathlib.Core.Logic.{inl, inr, ⊎-elim}
 use mathlib.Core.List.{List}
-use Prim.Native.Nat.{ℕ, zero, suc, _+_, _-_, _*_, _/_, _%_, _^_, _≤_, _<_}
+use Prim.Native.Nat.{ℕ, suc, _+_, _-_, _*_, _%_, _^_, _<_}
 use native.Mathlib.Omega.{arith}
 use lib.Bits.{bitAnd, bitOr, or-lt}
 use lib.Dec.{eqb}
@@ -16,7 +16,7 @@ use Rattle.vertex_set.proofs.Digits.{digit}
 use Rattle.vertex_set.proofs.Sets.{in-and, in-or, in-not, member-below, none-in-zero, shifted-one}
 use Rattle.vertex_set.proofs.Places.{member-le}
 use Rattle.vertex_set.proofs.Shifts.{in-low, in-shifted, all, all-at}
-use Rattle.families.specs.Steps.{StepInWord, StepsInWord, StepToWord, StepsToWord, LeastLane, LeastWord}
+use Rattle.families.specs.Steps.{StepsInWord, StepsToWord, LeastWord}
 
 -- ---- within a word
 
@@ -65,8 +65,8 @@ below-next x p n i r t h b =
     record {
       to = λ m. ⊎-elim (λ a. let q = b .to a in (q .0, omega (arith, q .1), q .2, q .3)) (λ a. (n, omega arith, s .to a .0, s .to a .1)) (o .to m);
       from = λ q. o .from (⊎-elim
-        (λ e. inr (s .from (rw e at (q .2), subst (λ (j : ℕ). Member x (i - 2 ^ j)) e (q .3))))
-        (λ ne. inl (b .from (q .0, omega (arith, q .1), q .2, q .3))) (same-or (q .0) n));
+          (λ e. inr (s .from (rw e at (q .2), subst (λ (j : ℕ). Member x (i - 2 ^ j)) e (q .3))))
+          (λ ne. inl (b .from (q .0, omega (arith, q .1), q .2, q .3))) (same-or (q .0) n));
     }
 
 abbrev pub stepsOf : ℕ → ℕ
@@ -110,8 +110,8 @@ to-more f b j r h m s =
           record {
             to = λ n. ⊎-elim (λ a. let q = s .each i .to a in (q .0, omega (arith, q .1), q .2, q .3)) (λ a. (j, omega arith, m, a)) (o .to n);
             from = λ q. o .from (⊎-elim
-              (λ e. inr (subst (λ (k : ℕ). Member (getD f (b - 2 ^ k) 0) i) e (q .3)))
-              (λ ne. inl (s .each i .from (q .0, omega (arith, q .1), q .2, q .3))) (same-or (q .0) j));
+                (λ e. inr (subst (λ (k : ℕ). Member (getD f (b - 2 ^ k) 0) i) e (q .3)))
+                (λ ne. inl (s .each i .from (q .0, omega (arith, q .1), q .2, q .3))) (same-or (q .0) j));
           };
     })
 

@@ -1,5 +1,4 @@
 -- Families of masks: a truth table of 2^14 bits, kept as a list of 256 words.
-use mathlib.Core.Path.{_≡_}
 use mathlib.Core.List.{List, [], _∷_}
 use Prim.Native.Nat.{ℕ, _+_, _-_, _/_, _%_, _^_, _<_}
 use lib.ListN.{getD}

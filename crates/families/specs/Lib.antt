@@ -1,5 +1,4 @@
 pub mod Family
 pub mod Masks
-pub mod Lists
+pub mod Exact
 pub mod Steps
-pub mod Tables

@@ -1,5 +1,4 @@
 -- Masks: with the chosen vertices numbered from 0 in rising order, a mask stands for the set of those at its bits.
-use mathlib.Core.Path.{_≡_}
 use Prim.Native.Nat.{ℕ, _%_, _^_, _<_}
 use lib.Count.{ones}
 use Rattle.vertex_set.specs.Set.{Member, Within, Iff}

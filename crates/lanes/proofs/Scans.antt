@@ -3,17 +3,17 @@
 use mathlib.Core.Path.{_≡_, refl, sym, _∙_, subst}
 use mathlib.Core.List.{List}
 use mathlib.Core.Logic.{_⊎_, inl, inr, ⊎-elim}
-use Prim.Native.Nat.{ℕ, _+_, _-_, _*_, _^_, _<_}
+use Prim.Native.Nat.{ℕ, _+_, _-_, _*_, _<_}
 use native.Mathlib.Omega.{arith}
 use lib.ListN.{getD, take, drop}
 use lib.Seq.{getD-take, getD-drop}
 use Rattle.vertex_set.specs.Set.{Member, Within, Iff}
 use Rattle.vertex_set.proofs.Cases.{same-or}
-use Rattle.vertex_set.proofs.Sets.{within-refl, none-in-zero}
+use Rattle.vertex_set.proofs.Sets.{none-in-zero}
 use Rattle.derivations.specs.Derivation.{Vertices}
 use Rattle.derivations.specs.Lockout.{SomeLost}
 use Rattle.words.specs.Words.{At, FamilyWhere, Without}
-use Rattle.words.proofs.Families.{family-as, full-word}
+use Rattle.words.proofs.Families.{family-as}
 use Rattle.lanes.specs.Lanes.{Lane, AllHeld}
 
 -- the words from v * 256 on are the family of v
@@ -38,19 +38,38 @@ pub record Scan (P : Vertices → ℕ → ℕ → Type 0) (w : List ℕ) (row le
   pub family : FamilyWhere (λ b i. P (Lane w b i) row left) out
 
 module _ (w : List ℕ) (row : ℕ) where
-  pub all-none : (out : List ℕ) → FamilyWhere (λ b i. Member (2 ^ 64 - 1) i) out → Scan AllPassed w row row out
-  all-none out l =
-      record {
-        within = within-refl row;
-        family = family-as out l (λ b i hb hi. record { to = λ m. record { each = λ v r n. absurd (n r) }; from = λ a. full-word i hi });
-      }
+  module _ (v rest n : ℕ) (out : List ℕ) (m : Member row v) (o : Without row v rest) (h : n ≡ 256)
+      (l : FamilyWhere (λ b i. At (take n (drop (v * 256) w)) b i) out) where
+    -- only v has been passed
+    first-passed : (u : ℕ) → Member row u → (Member rest u → ⊥) → u ≡ v
+    first-passed u r g = ⊎-elim (λ q. q) (λ q. absurd (g (o .each u .from (r, q)))) (same-or u v)
 
-  pub some-none : (out : List ℕ) → FamilyWhere (λ b i. Member 0 i) out → Scan SomePassed w row row out
-  some-none out l =
-      record {
-        within = within-refl row;
-        family = family-as out l (λ b i hb hi. record { to = λ m. absurd (none-in-zero i m); from = λ s. absurd (s .passed (s .member)) });
-      }
+    first-within : Within rest row
+    first-within = record { each = λ i r. o .each i .to r .0 }
+
+    pub all-first : Scan AllPassed w row rest out
+    all-first =
+        record {
+          within = first-within;
+          family = family-as out l (λ b i hb hi.
+              let p = part-lane w v n b i (omega arith) in
+              record {
+                to = λ a. record { each = λ u r g. subst (Lane w b i) (sym (first-passed u r g)) (p .to a) };
+                from = λ a. p .from (a .each v m (λ r. o .each v .to r .1 refl));
+              });
+        }
+
+    pub some-first : Scan SomePassed w row rest out
+    some-first =
+        record {
+          within = first-within;
+          family = family-as out l (λ b i hb hi.
+              let p = part-lane w v n b i (omega arith) in
+              record {
+                to = λ a. record { vertex = v; member = m; passed = λ r. o .each v .to r .1 refl; has = p .to a };
+                from = λ s. p .from (subst (Lane w b i) (first-passed (s .vertex) (s .member) (s .passed)) (s .has));
+              });
+        }
 
   module _ (left v rest n : ℕ) (out out′ : List ℕ) (m : Member left v) (o : Without left v rest) (h : n ≡ 256) where
     fewer : Within left row → Within rest row

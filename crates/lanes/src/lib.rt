@@ -23,14 +23,17 @@ pub fn needed(rows: Rows) -> u64
     s
 }
 
-// The masks whose sets have every vertex of the row.
+// The masks whose sets have every vertex of the row, which has one.
 fn all_of(w: &[u64], row: u64, out: &mut [u64])
+    requires { ⌜ (row ≡ 0 → ⊥) ⌝ }
     requires { ⌜ length (now w) ≡ 16384 ⌝ }
     requires { ⌜ length (now out) ≡ 256 ⌝ }
     ensures { λ _. ⌜ FamilyWhere (λ b i. AllHeld (Lane (now (w .entry)) b i) row) (now (out .exit)) ⌝ }
 {
-    words::set_all(out, ALL);
-    let mut left = row;
+    let first = words::lowest(row);
+    let at = first * WORDS;
+    words::copy_in(out, &w[at..at + WORDS]);
+    let mut left = words::without(row, first);
     while left != 0 {
         let v = words::lowest(left);
         let a = v * WORDS;
@@ -39,14 +42,17 @@ fn all_of(w: &[u64], row: u64, out: &mut [u64])
     }
 }
 
-// The masks whose sets have some vertex of the row.
+// The masks whose sets have some vertex of the row, which has one.
 fn any_of(w: &[u64], row: u64, out: &mut [u64])
+    requires { ⌜ (row ≡ 0 → ⊥) ⌝ }
     requires { ⌜ length (now w) ≡ 16384 ⌝ }
     requires { ⌜ length (now out) ≡ 256 ⌝ }
     ensures { λ _. ⌜ FamilyWhere (λ b i. SomeLost (Lane (now (w .entry)) b i) row) (now (out .exit)) ⌝ }
 {
-    words::set_all(out, 0);
-    let mut left = row;
+    let first = words::lowest(row);
+    let at = first * WORDS;
+    words::copy_in(out, &w[at..at + WORDS]);
+    let mut left = words::without(row, first);
     while left != 0 {
         let v = words::lowest(left);
         let a = v * WORDS;

@@ -5,7 +5,7 @@ ghost use mathlib.Core.List.{[], _∷_, _++_};
 ghost use Prim.Native.Nat.{_+_, _≤_, _<_};
 ghost use lib.ListN.{length};
 ghost use Rattle.sheet_format.specs.Fields.{decimal};
-ghost use Rattle.families.specs.Tables.{Wrote};
+ghost use Rattle.family_lists.specs.Tables.{Wrote};
 ghost use Rattle.report_text.specs.Rows.{wayText, answerText, scoreText, setText};
 ghost use Rattle.report_text.specs.Report.{nameIn};
 ghost use Rattle.report_fields.specs.Writing.{NamePlace, NamePlaces, ended, plus};

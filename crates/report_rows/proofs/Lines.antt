@@ -6,8 +6,8 @@ use Prim.Native.Nat.{ℕ, suc, _+_, _≤_, _<_}
 use native.Mathlib.Omega.{arith}
 use lib.ListN.{length, getD, drop}
 use lib.Seq.{drop-cons, drop-length}
-use Rattle.families.specs.Tables.{Wrote}
-use Rattle.families.proofs.Lists.{Writing, writing-none, writing-part, writing-room, writing-end}
+use Rattle.family_lists.specs.Tables.{Wrote}
+use Rattle.family_lists.proofs.Lists.{Writing, writing-none, writing-part, writing-room, writing-end}
 use Rattle.sheet_format.specs.Rows.{lineText}
 use Rattle.report_fields.specs.Writing.{ended}
 

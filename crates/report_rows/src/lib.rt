@@ -2,7 +2,7 @@
 // on and gives the next place; every other byte stays as it was.
 ghost use Prim.Native.Nat.{_+_, _≤_};
 ghost use lib.ListN.{length};
-ghost use Rattle.families.specs.Tables.{Wrote};
+ghost use Rattle.family_lists.specs.Tables.{Wrote};
 ghost use Rattle.report_text.specs.Rows.{setRow, scoreRow, pairRow, refusedRow};
 ghost use Rattle.report_text.specs.Report.{nameIn};
 ghost use Rattle.report_fields.specs.Writing.{NamePlace, NamePlaces};

@@ -25,7 +25,7 @@ fn step(w: &mut [u64], v: usize, rows: Rows, loss: bool) -> bool
     words::join(&mut w[a..a + WORDS], &gains)
 }
 
-// A vertex of todo: the lowest one of those in after, if there is one, so that none waits for ever.
+// A vertex of todo: the lowest one that is in after too, else the lowest of all, so that the vertices take turns.
 fn next(todo: u64, after: u64) -> usize
     requires { ⌜ (todo ≡ 0 → ⊥) ⌝ }
     ensures { λ r. ⌜ VertexOf todo r ⌝ }

@@ -2,9 +2,9 @@
 -- Assumes nothing.
 use mathlib.Core.Path.{_≡_, refl, sym}
 use mathlib.Core.Bool.{Bool, true, false}
-use Prim.Native.Nat.{ℕ, _≤_}
-use lib.Dec.{leb, eqb}
-use borrow.Author.Tests.{leb-true, leb-false, eqb-true, eqb-false}
+use Prim.Native.Nat.{ℕ, _≤_, _<_}
+use lib.Dec.{leb, ltb, eqb}
+use borrow.Author.Tests.{leb-true, leb-false, ltb-true, ltb-false, eqb-true, eqb-false}
 use native.Mathlib.Nat.{not-le-of-lt}
 use Rattle.vertex_set.specs.Set.{Decides, Iff}
 use Rattle.vertex_set.proofs.Cases.{false-true}
@@ -23,3 +23,6 @@ decide-leb a b = record { yes = leb-true a b; no = λ e h. not-le-of-lt (leb-fal
 
 pub decide-eqb : (a b : ℕ) → Decides (a ≡ b) (eqb a b)
 decide-eqb a b = record { yes = eqb-true a b; no = eqb-false a b }
+
+pub decide-ltb : (a b : ℕ) → Decides (a < b) (ltb a b)
+decide-ltb a b = record { yes = ltb-true a b; no = λ e h. not-le-of-lt h (ltb-false a b e) }

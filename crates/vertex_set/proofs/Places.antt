@@ -2,9 +2,9 @@
 -- Assumes nothing.
 use mathlib.Core.Path.{_≡_, refl, sym, ap, _∙_, subst}
 use mathlib.Core.Bool.{Bool}
-use mathlib.Core.Logic.{_⊎_, inl, inr, ⊎-elim}
+use mathlib.Core.Logic.{inl, inr, ⊎-elim}
 use mathlib.Core.List.{List, [], _∷_, map}
-use Prim.Native.Nat.{ℕ, zero, suc, _+_, _-_, _*_, _/_, _%_, _^_, _≤_, _<_}
+use Prim.Native.Nat.{ℕ, zero, suc, _-_, _*_, _/_, _%_, _^_, _≤_, _<_}
 use native.Mathlib.Nat.{pow-suc, mod-lt}
 use native.Mathlib.Omega.{arith}
 use lib.ListN.{length, length-map}
@@ -16,7 +16,7 @@ use Rattle.vertex_set.specs.Set.{Member, Iff, Within}
 use Rattle.vertex_set.specs.Order.{Listed}
 use Rattle.vertex_set.proofs.Cases.{same-or}
 use Rattle.vertex_set.proofs.Sorted.{listed-map, listed-of-map, only, only-map, only-same, Sorted, sorted-map}
-use Rattle.vertex_set.proofs.Digits.{digit, digit-lt, digit-zero, digit-suc, digit-first}
+use Rattle.vertex_set.proofs.Digits.{digit, digit-suc, digit-first}
 use Rattle.vertex_set.proofs.Sets.{member-below, shifted-one}
 
 -- ---- membership by halves
@@ -73,8 +73,8 @@ unfolding Member
 in-removed s i j m =
     record {
       to = λ n. ⊎-elim
-        (λ e. absurd (removed-same i s m (subst (λ (k : ℕ). Member (s - 2 ^ i) k) e n)))
-        (λ o. (sym (removed-other i j s m o) ∙ n, o)) (same-or j i);
+          (λ e. absurd (removed-same i s m (subst (λ (k : ℕ). Member (s - 2 ^ i) k) e n)))
+          (λ o. (sym (removed-other i j s m o) ∙ n, o)) (same-or j i);
       from = λ p. removed-other i j s m (p .1) ∙ p .0;
     }
 
@@ -91,9 +91,9 @@ lowest-member (suc k) s h n =
     ⊎-elim
     (λ odd. subst (λ (d : ℕ). Member s (under d (trailingZeros k (s / 2)))) (sym odd) (in-first s .from odd))
     (λ o.
-        let even : s % 2 ≡ 0 = omega arith in
-        subst (λ (d : ℕ). Member s (under d (trailingZeros k (s / 2)))) (sym even)
-        (in-later s _ .from (lowest-member k (s / 2) (omega arith) (λ z. n (omega arith)))))
+    let even : s % 2 ≡ 0 = omega arith in
+    subst (λ (d : ℕ). Member s (under d (trailingZeros k (s / 2)))) (sym even)
+    (in-later s _ .from (lowest-member k (s / 2) (omega arith) (λ z. n (omega arith)))))
     (same-or (s % 2) 1)
 
 -- ---- the list of a set's vertices below k, in rising order
@@ -146,9 +146,9 @@ places-lowest (suc k) s h n =
     let l : s / 2 < 2 ^ k = omega arith in
     ⊎-elim (λ odd. lowest-odd k s odd)
     (λ o.
-        let even : s % 2 ≡ 0 = omega arith in
-        let z : s / 2 ≡ 0 → ⊥ = λ z. n (omega arith) in
-        lowest-even k s even l z (places-lowest k (s / 2) l z))
+    let even : s % 2 ≡ 0 = omega arith in
+    let z : s / 2 ≡ 0 → ⊥ = λ z. n (omega arith) in
+    lowest-even k s even l z (places-lowest k (s / 2) l z))
     (same-or (s % 2) 1)
 
 pub length-places : (k s : ℕ) → s < 2 ^ k → length (places k s) ≡ ones s
@@ -167,7 +167,7 @@ listed-places zero s i = record { to = λ z. absurd z; from = λ p. let h = p .1
 listed-places (suc k) s zero =
     record {
       to = λ h. ⊎-elim (λ odd. (in-first s .from odd, omega arith))
-        (λ o. absurd (none-suc (rw (places-even k s (omega arith)) at h))) (same-or (s % 2) 1);
+          (λ o. absurd (none-suc (rw (places-even k s (omega arith)) at h))) (same-or (s % 2) 1);
       from = λ p. rw (places-odd k s (in-first s .to (p .0))) (inl refl);
     }
   where
@@ -177,17 +177,17 @@ listed-places (suc k) s (suc i) =
     let ih = listed-places k (s / 2) i in
     let back : Listed (map suc (places k (s / 2))) (suc i) → Member s (suc i) × (suc i < suc k) =
     λ h.
-        let r = listed-of-map suc (places k (s / 2)) (suc i) h in
-        let e : r .0 ≡ i = omega (arith, r .2) in
-        let g = ih .to (subst (λ (j : ℕ). Listed (places k (s / 2)) j) e (r .1)) in
-        (in-later s i .from (g .0), omega (arith, g .1)) in
+    let r = listed-of-map suc (places k (s / 2)) (suc i) h in
+    let e : r .0 ≡ i = omega (arith, r .2) in
+    let g = ih .to (subst (λ (j : ℕ). Listed (places k (s / 2)) j) e (r .1)) in
+    (in-later s i .from (g .0), omega (arith, g .1)) in
     let there : Member s (suc i) × (suc i < suc k) → Listed (map suc (places k (s / 2))) (suc i) =
     λ p. listed-map suc (places k (s / 2)) i (ih .from (in-later s i .to (p .0), omega (arith, p .1))) in
     record {
       to = λ h. ⊎-elim (λ odd. ⊎-elim (λ e. absurd (omega (arith, e))) back (rw (places-odd k s odd) at h))
-        (λ o. back (rw (places-even k s (omega arith)) at h)) (same-or (s % 2) 1);
+          (λ o. back (rw (places-even k s (omega arith)) at h)) (same-or (s % 2) 1);
       from = λ p. ⊎-elim (λ odd. rw (places-odd k s odd) (inr (there p)))
-        (λ o. rw (places-even k s (omega arith)) (there p)) (same-or (s % 2) 1);
+          (λ o. rw (places-even k s (omega arith)) (there p)) (same-or (s % 2) 1);
     }
 
 pub sorted-places : (k s : ℕ) → Sorted _<_ (places k s)
@@ -221,13 +221,13 @@ places-and (suc k) a b =
     let half : bitAnd a b / 2 ≡ bitAnd (a / 2) (b / 2) = omega arith in
     let rest : map suc (places k (bitAnd (a / 2) (b / 2))) ≡ only (isIn b) (map suc (places k (a / 2))) =
     ap (map suc) (places-and k (a / 2) (b / 2) ∙ only-same _ _ (places k (a / 2)) (λ i m. sym (isIn-suc b i)))
-        ∙ sym (only-map (isIn b) suc (places k (a / 2))) in
+    ∙ sym (only-map (isIn b) suc (places k (a / 2))) in
     ⊎-elim
     (λ odd. ⊎-elim
-        (λ (odd-b : b % 2 ≡ 1). rw (places-odd k a odd, places-odd k (bitAnd a b) (omega arith), half, isIn-zero b 1 odd-b) (ap (λ (l : List ℕ). 0 ∷ l) rest))
-        (λ o. let even-b : b % 2 ≡ 0 = omega arith in
-            rw (places-odd k a odd, places-even k (bitAnd a b) (omega arith), half, isIn-zero b 0 even-b) rest)
-        (same-or (b % 2) 1))
+    (λ (odd-b : b % 2 ≡ 1). rw (places-odd k a odd, places-odd k (bitAnd a b) (omega arith), half, isIn-zero b 1 odd-b) (ap (λ (l : List ℕ). 0 ∷ l) rest))
+    (λ o. let even-b : b % 2 ≡ 0 = omega arith in
+    rw (places-odd k a odd, places-even k (bitAnd a b) (omega arith), half, isIn-zero b 0 even-b) rest)
+    (same-or (b % 2) 1))
     (λ o. rw (places-even k a (omega arith), places-even k (bitAnd a b) (omega arith), half) rest)
     (same-or (a % 2) 1)
 

@@ -1,8 +1,8 @@
 -- Proper subsets: each lies within the set less one vertex.
 -- Assumes nothing.
-use mathlib.Core.Path.{_≡_, refl, sym, subst}
-use mathlib.Core.Logic.{_⊎_, ⊎-elim}
-use Prim.Native.Nat.{ℕ, _-_, _^_, _≤_, _<_}
+use mathlib.Core.Path.{subst}
+use mathlib.Core.Logic.{⊎-elim}
+use Prim.Native.Nat.{ℕ, _-_, _^_, _<_}
 use native.Mathlib.Nat.{lt-of-le-of-lt}
 use native.Mathlib.Omega.{arith}
 use lib.Bits.{bitAnd}
@@ -19,9 +19,9 @@ proper-lacks a b h p =
     let rest : ℕ = bitAnd b ((2 ^ 64 - 1) - a) in
     ⊎-elim (λ e. absurd (p .other (same-set a b (p .within) (within-test b a h ha .to e))))
     (λ n.
-        let s = some-member rest n in
-        let q = in-and b ((2 ^ 64 - 1) - a) (s .0) .to (s .1) in
-        (s .0, q .0, in-not a (s .0) ha (member-below 64 b (s .0) h (q .0)) .to (q .1)))
+    let s = some-member rest n in
+    let q = in-and b ((2 ^ 64 - 1) - a) (s .0) .to (s .1) in
+    (s .0, q .0, in-not a (s .0) ha (member-below 64 b (s .0) h (q .0)) .to (q .1)))
     (same-or rest 0)
 
 pub within-removed : (a b i : ℕ) → Within a b → Member b i → (Member a i → ⊥) → Within a (b - 2 ^ i)

@@ -1,15 +1,14 @@
 -- Laws of the sum of values over a set.
 -- Assumes nothing.
-use mathlib.Core.Path.{_≡_, refl, sym, ap, _∙_, subst}
+use mathlib.Core.Path.{_≡_, refl, _∙_, subst}
 use mathlib.Core.Logic.{⊎-elim}
 use Prim.Native.Nat.{ℕ, zero, suc, _+_, _*_, _/_, _%_, _^_, _≤_, _<_}
 use native.Mathlib.Nat.{mod-eq-of-lt, mul-le-mul-right}
-use native.Mathlib.Numerals.{add-one}
 use native.Mathlib.Omega.{arith}
 use lib.Pow.{mod-pow-add}
 use Rattle.vertex_set.specs.Set.{Member, Within}
 use Rattle.vertex_set.specs.Order.{sumBelow, sumOver}
-use Rattle.vertex_set.proofs.Digits.{digit, digit-lt, digit-first, digit-suc}
+use Rattle.vertex_set.proofs.Digits.{digit, digit-first, digit-suc}
 use Rattle.vertex_set.proofs.Sets.{member-or, not-member}
 
 -- the vertex 0 first, and then the others by halves
@@ -57,3 +56,11 @@ sum-powers (suc n) s =
 pub sum-over-powers : (s : ℕ) → s < 2 ^ 64 → sumOver (λ (v : ℕ). 2 ^ v) s ≡ s
 unfolding sumOver
 sum-over-powers s h = sum-powers 64 s ∙ mod-eq-of-lt h
+
+pub sum-over-within : (value : ℕ → ℕ) (a b : ℕ) → Within a b → sumOver value a ≤ sumOver value b
+unfolding sumOver
+sum-over-within value a b w = sum-within value 64 a b w
+
+pub sum-over-same : (value other : ℕ → ℕ) (s : ℕ) → ((v : ℕ) → value v ≡ other v) → sumOver value s ≡ sumOver other s
+unfolding sumOver
+sum-over-same value other s e = sum-same value other 64 s (λ v m. e v)

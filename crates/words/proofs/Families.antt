@@ -38,6 +38,10 @@ mapped-family f P d₀ d n m h p =
       each = λ b i hb hi. subst (λ (x : ℕ). Iff (Member x i) (P b i)) (sym (m .done b (omega arith))) (p b i hb hi);
     }
 
+pub copy-family : (d₀ s d : List ℕ) (n : ℕ) → Mapped (λ b. getD s b 0) d₀ d n → 256 ≤ n → FamilyWhere (λ b i. At s b i) d
+unfolding At
+copy-family d₀ s d n m h = mapped-family _ _ d₀ d n m h (λ b i hb hi. iff-refl)
+
 pub and-family : (d₀ s d : List ℕ) (n : ℕ) → Mapped (λ b. bitAnd (getD d₀ b 0) (getD s b 0)) d₀ d n → 256 ≤ n
     → FamilyWhere (λ b i. At d₀ b i × At s b i) d
 unfolding At

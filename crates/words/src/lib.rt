@@ -20,6 +20,17 @@ pub fn set_all(d: &mut [u64], x: u64)
     }
 }
 
+// The family becomes the other.
+pub fn copy_in(d: &mut [u64], s: &[u64])
+    requires { ⌜ length (now d) ≡ 256 ⌝ }
+    requires { ⌜ length (now s) ≡ 256 ⌝ }
+    ensures { λ _. ⌜ FamilyWhere (λ b i. At (now (s .entry)) b i) (now (d .exit)) ⌝ }
+{
+    for b in 0..WORDS {
+        d[b] = s[b];
+    }
+}
+
 // The family keeps the masks that the other has.
 pub fn and_in(d: &mut [u64], s: &[u64])
     requires { ⌜ length (now d) ≡ 256 ⌝ }

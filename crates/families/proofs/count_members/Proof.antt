@@ -1,15 +1,15 @@
-use borrow.Author.Needs.{needs}
+-- `families::count_members` meets its contract. The loop's invariant: what is counted and the members of the words still to come make the family's size.
+-- Assumes nothing.
 use mathlib.Core.Path.{_≡_}
 use Prim.Native.Nat.{_+_, _-_, _*_, _≤_}
 use native.Mathlib.Omega.{arith}
 use lib.ListN.{drop, getD}
 use lib.Count.{ones, ones-le}
+use borrow.Author.Needs.{needs}
 use Rattle.families.specs.Family.{size}
 use Rattle.families.proofs.Families.{size-drop, size-end}
 use Rattle.families.proofs.count_members.Statement.{statement}
 use Rattle.families.proofs.count_members.Tie as tie
-use Rattle.families.proofs.count_members.Reads as reads
-use Rattle.families.proofs.count_members.Lts as lts
 
 abbrev Inv-loop : tie.InvT-loop
 Inv-loop f n₀ b₀ n b = (b ≤ 256) × (n ≤ 64 * b) × (n + size (drop b f) ≡ size f)
@@ -17,15 +17,12 @@ Inv-loop f n₀ b₀ n b = (b ≤ 256) × (n ≤ 64 * b) × (n + size (drop b f)
 abbrev μ-loop : tie.MeasureT-loop
 μ-loop f n₀ b₀ n b = 256 - b
 
--- src/lib.rt:29:5
 loop-holds : tie.Need-loop-holds Inv-loop μ-loop
 loop-holds c = search needs
 
--- src/lib.rt:30:30
 mul-n : tie.Need-mul-n Inv-loop μ-loop
 mul-n c = search needs
 
--- src/lib.rt:30:30
 shared-slice-read-n : tie.Need-shared-slice-read-n Inv-loop μ-loop
 shared-slice-read-n c = search needs
 
@@ -33,29 +30,23 @@ shared-slice-read-n c = search needs
 few : (c : tie.After-shared-slice-known Inv-loop μ-loop) → ones (getD (c .before .before .before .args .f .now) (c .before .before .loop .b) 0) ≤ 64
 few c = ones-le 64 _ (c .shared-slice-known .given (c .before .before .loop .b) .fits)
 
--- src/lib.rt:30:14
 cast-n : tie.Need-cast-n Inv-loop μ-loop
 cast-n c = omega (arith, few c)
 
--- src/lib.rt:30:9
 add-n : tie.Need-add-n Inv-loop μ-loop
 add-n c = omega (arith, few c)
 
--- src/lib.rt:29:9
 add-b : tie.Need-add-b Inv-loop μ-loop
 add-b c = search needs
 
--- src/lib.rt:29:5
 loop-less : tie.Need-loop-less Inv-loop μ-loop
 loop-less c = search needs
 
--- src/lib.rt:29:5
 loop-again : tie.Need-loop-again Inv-loop μ-loop
 loop-again c =
     let e = size-drop (c .before .before .before .args .f .now) (c .before .before .loop .b) (search needs) in
     omega (arith, few c)
 
--- src/lib.rt:24:1
 returns : tie.Need-returns Inv-loop μ-loop
 returns c = let e = size-end (c .before .before .args .f .now) (c .before .loop .b) (omega arith) in omega arith
 

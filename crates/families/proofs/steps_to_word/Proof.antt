@@ -1,8 +1,10 @@
-use borrow.Author.Needs.{needs}
-use mathlib.Core.Path.{_≡_, sym, subst}
+-- `families::steps_to_word` meets its contract. The loop's invariant: the lanes have the words without a bit below j.
+-- Assumes nothing.
+use mathlib.Core.Path.{_≡_}
 use mathlib.Core.Logic.{⊎-elim}
-use Prim.Native.Nat.{ℕ, _+_, _-_, _*_, _/_, _^_, _%_, _≤_, _<_}
+use Prim.Native.Nat.{ℕ, _-_, _*_, _/_, _^_, _%_, _≤_}
 use native.Mathlib.Omega.{arith}
+use borrow.Author.Needs.{needs}
 use Rattle.vertex_set.specs.Set.{Member}
 use Rattle.vertex_set.proofs.Places.{member-le}
 use Rattle.vertex_set.proofs.Sets.{shifted-one}
@@ -10,8 +12,6 @@ use Rattle.families.specs.Steps.{StepsToWord}
 use Rattle.families.proofs.Steps.{to-none, to-more, to-same}
 use Rattle.families.proofs.steps_to_word.Statement.{statement}
 use Rattle.families.proofs.steps_to_word.Tie as tie
-use Rattle.families.proofs.steps_to_word.Reads as reads
-use Rattle.families.proofs.steps_to_word.Lts as lts
 
 abbrev Inv-loop : tie.InvT-loop
 Inv-loop f b one lanes₀ j₀ lanes j = (j ≤ 8) × StepsToWord f b j lanes
@@ -19,15 +19,12 @@ Inv-loop f b one lanes₀ j₀ lanes j = (j ≤ 8) × StepsToWord f b j lanes
 abbrev μ-loop : tie.MeasureT-loop
 μ-loop f b one lanes₀ j₀ lanes j = 8 - j
 
--- src/lib.rt:57:5
 loop-holds : tie.Need-loop-holds Inv-loop μ-loop
 loop-holds c = (search needs, to-none (c .args .f .now) (c .args .b))
 
--- src/lib.rt:58:20
 shr-bit : tie.Need-shr-bit Inv-loop μ-loop
 shr-bit c = search needs
 
--- src/lib.rt:60:36
 shl-lanes : tie.Need-shl-lanes Inv-loop μ-loop
 shl-lanes c = search needs
 
@@ -42,39 +39,33 @@ is-not-set b j n = n
 down : (c : tie.Then1 Inv-loop μ-loop) → (1 * 2 ^ c .before .before .loop .j) % 2 ^ 64 ≤ c .before .before .before .args .b
 down c = rw (shifted-one (c .before .before .loop .j) (omega arith)) (member-le _ _ (is-set _ _ (c .if1 .taken)))
 
--- src/lib.rt:60:31
 sub-lanes : tie.Need-sub-lanes Inv-loop μ-loop
 sub-lanes c = down c
 
--- src/lib.rt:60:29
 mul-lanes : tie.Need-mul-lanes Inv-loop μ-loop
 mul-lanes c = record { fits = omega (arith, c .before .before .before .pre .1) }
 
--- src/lib.rt:60:29
 shared-slice-read-lanes : tie.Need-shared-slice-read-lanes Inv-loop μ-loop
 shared-slice-read-lanes c = omega (arith, c .before .before .before .before .pre .0, c .before .before .before .before .pre .1)
 
--- src/lib.rt:57:9
 add-j : tie.Need-add-j Inv-loop μ-loop
 add-j c = search needs
 
--- src/lib.rt:57:5
 loop-less : tie.Need-loop-less Inv-loop μ-loop
 loop-less c = search needs
 
--- src/lib.rt:57:5
 loop-again : tie.Need-loop-again Inv-loop μ-loop
 loop-again c =
     let b = c .before .before in
     let f = b .before .args .f .now in
-    let inv = b .loop .inv .1 in
-    (omega arith,
-        ⊎-elim
-        (λ w. rw (w .2) (to-more f (b .before .args .b) (b .loop .j) (b .loop .lanes) (omega arith) (is-set _ _ (w .0 .taken)) inv))
-        (λ w. rw (w .1) (to-same f (b .before .args .b) (b .loop .j) (b .loop .lanes) (is-not-set _ _ (w .0 .left)) inv))
-        (c .if1 .came))
+    let inv = b .loop .inv .1 in (
+      omega arith,
+      ⊎-elim
+          (λ w. rw (w .2) (to-more f (b .before .args .b) (b .loop .j) (b .loop .lanes) (omega arith) (is-set _ _ (w .0 .taken)) inv))
+          (λ w. rw (w .1) (to-same f (b .before .args .b) (b .loop .j) (b .loop .lanes) (is-not-set _ _ (w .0 .left)) inv))
+          (c .if1 .came),
+    )
 
--- src/lib.rt:50:1
 returns : tie.Need-returns Inv-loop μ-loop
 returns c = let e : c .before .loop .j ≡ 8 = omega arith in rw e at (c .before .loop .inv .1)
 

@@ -3,24 +3,52 @@
 use Prim.Native.Nat.{_+_, _-_, _*_}
 use native.Mathlib.Omega.{arith}
 use borrow.Author.Needs.{needs}
-use Rattle.lanes.proofs.Scans.{Scan, SomePassed, some-none, some-more, some-done}
+use Rattle.lanes.proofs.Scans.{Scan, SomePassed, some-first, some-more, some-done}
 use Rattle.lanes.proofs.any_of.Statement.{statement}
 use Rattle.lanes.proofs.any_of.Tie as tie
 
 abbrev Inv-loop : tie.InvT-loop
-Inv-loop w row out₀ left₀ out left = Scan SomePassed w row left out
+Inv-loop w row out₀ first at left₀ out left = Scan SomePassed w row left out
 
 abbrev μ-loop : tie.MeasureT-loop
-μ-loop w row out₀ left₀ out left = left
-
-set-all-requires : tie.Need-set-all-requires Inv-loop μ-loop
-set-all-requires c κs = search needs
-
-loop-holds : tie.Need-loop-holds Inv-loop μ-loop
-loop-holds c = some-none _ _ _ (c .before .before .set-all .ensures)
+μ-loop w row out₀ first at left₀ out left = left
 
 lowest-requires : tie.Need-lowest-requires Inv-loop μ-loop
 lowest-requires c κs = search needs
+
+mul-at : tie.Need-mul-at Inv-loop μ-loop
+mul-at c = search needs
+
+add-copy-in : tie.Need-add-copy-in Inv-loop μ-loop
+add-copy-in c = search needs
+
+mul-copy-in : tie.Need-mul-copy-in Inv-loop μ-loop
+mul-copy-in c = search needs
+
+sub-copy-in : tie.Need-sub-copy-in Inv-loop μ-loop
+sub-copy-in c = search needs
+
+part-copy-in-start : tie.Need-part-copy-in-start Inv-loop μ-loop
+part-copy-in-start c = search needs
+
+part-copy-in-end : tie.Need-part-copy-in-end Inv-loop μ-loop
+part-copy-in-end c = search needs
+
+copy-in-requires : tie.Need-copy-in-requires Inv-loop μ-loop
+copy-in-requires c κs = search needs
+
+without-requires : tie.Need-without-requires Inv-loop μ-loop
+without-requires c κs = search needs
+
+loop-holds : tie.Need-loop-holds Inv-loop μ-loop
+loop-holds c =
+    let k = c .before .before .before in
+    let l = k .before .before .before in
+    let v = l .lowest .result in
+    some-first _ _ v _ (v * 256 + 256 - v * 256) _ (l .lowest .ensures .member) (c .without .ensures) (omega arith) (k .copy-in .ensures)
+
+lowest-requires-2 : tie.Need-lowest-requires-2 Inv-loop μ-loop
+lowest-requires-2 c κs = search needs
 
 mul-a : tie.Need-mul-a Inv-loop μ-loop
 mul-a c = search needs
@@ -43,18 +71,18 @@ part-or-in-end c = search needs
 or-in-requires : tie.Need-or-in-requires Inv-loop μ-loop
 or-in-requires c κs = search needs
 
-without-requires : tie.Need-without-requires Inv-loop μ-loop
-without-requires c κs = search needs
+without-requires-2 : tie.Need-without-requires-2 Inv-loop μ-loop
+without-requires-2 c κs = search needs
 
 loop-less : tie.Need-loop-less Inv-loop μ-loop
-loop-less c = c .without .ensures .less
+loop-less c = c .without2 .ensures .less
 
 loop-again : tie.Need-loop-again Inv-loop μ-loop
 loop-again c =
     let a = c .before .before .before in
     let l = a .before .before .before in
-    let v = l .lowest .result in
-    some-more _ _ _ v _ (v * 256 + 256 - v * 256) _ _ (l .lowest .ensures .member) (c .without .ensures) (omega arith) (l .before .before .loop .inv) (a .or-in .ensures)
+    let v = l .lowest2 .result in
+    some-more _ _ _ v _ (v * 256 + 256 - v * 256) _ _ (l .lowest2 .ensures .member) (c .without2 .ensures) (omega arith) (l .before .before .loop .inv) (a .or-in .ensures)
 
 same-length : tie.Need-same-length Inv-loop μ-loop
 same-length c = search needs
@@ -68,9 +96,17 @@ any-of-spec =
     (tie.spec
     Inv-loop
     μ-loop
-    set-all-requires
-    loop-holds
     lowest-requires
+    mul-at
+    add-copy-in
+    mul-copy-in
+    sub-copy-in
+    part-copy-in-start
+    part-copy-in-end
+    copy-in-requires
+    without-requires
+    loop-holds
+    lowest-requires-2
     mul-a
     add-or-in
     mul-or-in
@@ -78,7 +114,7 @@ any-of-spec =
     part-or-in-start
     part-or-in-end
     or-in-requires
-    without-requires
+    without-requires-2
     loop-less
     loop-again
     same-length

@@ -1,0 +1,39 @@
+use mathlib.Core.Bool.{true}
+use native.Mathlib.Nat.{lt-of-lt-of-le}
+use Rattle.answers.proofs.Calls.{score-answers, score-no-target, score-malformed}
+use borrow.Author.Needs.{needs}
+use Rattle.answers.proofs.recoverability_score.Statement.{statement}
+use Rattle.answers.proofs.recoverability_score.Tie as tie
+
+well-formed-requires : tie.Need-well-formed-requires
+well-formed-requires c κs = search needs
+
+score-of-requires : tie.Need-score-of-requires
+score-of-requires c κs =
+    let k = c .before .before in
+    let f = k .before .before in
+    let a = f .before .args in
+    let w = f .well-formed .ensures .yes (k .before .if1 .taken) in
+    (w, lt-of-lt-of-le (c .before .if2 .taken) (w .most))
+
+returns : tie.Need-returns
+returns c =
+    let k = c .before .before .before in
+    let f = k .before .before in
+    let a = f .before .args in
+    score-answers true (a .s) (a .target) (f .well-formed .ensures .yes (k .before .if1 .taken)) (c .before .before .if2 .taken) (c .score-of .result) (c .score-of .ensures)
+
+returns-2 : tie.Need-returns-2
+returns-2 c =
+    let f = c .before .before .before in
+    let a = f .before .args in
+    score-no-target true (a .s) (a .target) (f .well-formed .ensures .yes (c .before .before .if1 .taken)) (c .if2 .left)
+
+returns-3 : tie.Need-returns-3
+returns-3 c =
+    let a = c .before .before .args in
+    score-malformed true (a .s) (a .target) (c .before .well-formed .ensures .no (c .if1 .left))
+
+pub recoverability-score-spec : {M : Type 1} → statement M
+recoverability-score-spec =
+    tie.close (tie.spec well-formed-requires score-of-requires returns returns-2 returns-3)

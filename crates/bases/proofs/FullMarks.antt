@@ -1,0 +1,133 @@
+-- Full marks are given exactly where they are due: the handed-in list has the base's sets, each once, and no other.
+-- Assumes nothing.
+use mathlib.Core.Path.{_≡_, refl, sym, ap, subst, _∙_}
+use mathlib.Core.Bool.{Bool}
+use mathlib.Core.List.{List, [], _∷_, _++_}
+use mathlib.Core.Logic.{_⊎_, inl, inr, ⊎-elim}
+use Prim.Native.Nat.{ℕ, suc, _+_, _-_, _≤_, _<_}
+use native.Mathlib.Omega.{arith}
+use lib.ListN.{length, length-append}
+use Rattle.vertex_set.specs.Set.{ProperlyWithin, Iff}
+use Rattle.vertex_set.specs.Order.{Listed, Before, Ordered}
+use Rattle.vertex_set.proofs.Cases.{same-or, less-or}
+use Rattle.setup.specs.declared.Graph.{Graph}
+use Rattle.setup.specs.declared.Setup.{Setup}
+use Rattle.bases.specs.Base.{Derives, TargetSet, MinimalSet, Base}
+use Rattle.bases.specs.Marks.{Mark, Repeated, Shut, Loose, Right, SmallerDerives, CountsAs, MarkedAs, tally, Counts, Once, IsBaseOnce, Full}
+
+-- ---- lists without repetition
+
+listed-or : (l : List ℕ) (x : ℕ) → Listed l x ⊎ (Listed l x → ⊥)
+listed-or [] x = inr (λ h. h)
+listed-or (y ∷ l) x = ⊎-elim (λ e. inl (inl e)) (λ n. ⊎-elim (λ h. inl (inr h)) (λ m. inr (⊎-elim n m)) (listed-or l x)) (same-or x y)
+
+-- a list without one place at which x stands
+record Removed (l : List ℕ) (x : ℕ) : Type 0 where
+  rest : List ℕ
+  shorter : length l ≡ suc (length rest)
+  kept : (y : ℕ) → Listed l y → (y ≡ x) ⊎ Listed rest y
+
+remove : (l : List ℕ) (x : ℕ) → Listed l x → Removed l x
+remove [] x h = absurd h
+remove (y ∷ l) x (inl e) = record { rest = l; shorter = refl; kept = λ z. ⊎-elim (λ q. inl (q ∙ sym e)) (λ q. inr q) }
+remove (y ∷ l) x (inr h) =
+    let r = remove l x h in
+    record {
+      rest = y ∷ r .rest;
+      shorter = ap suc (r .shorter);
+      kept = λ z. ⊎-elim (λ q. inr (inl q)) (λ q. ⊎-elim (λ e. inl e) (λ k. inr (inr k)) (r .kept z q));
+    }
+
+-- a list without repetition is no longer than one that has all of it
+pub once-le : (a b : List ℕ) → Once a → ((x : ℕ) → Listed a x → Listed b x) → length a ≤ length b
+once-le [] b o s = omega arith
+once-le (x ∷ a) b o s =
+    let r = remove b x (s x (inl refl)) in
+    let h = once-le a (r .rest) (o .1) (λ y i. ⊎-elim (λ e. absurd (o .0 (subst (Listed a) e i))) (λ k. k) (r .kept y (s y (inr i)))) in
+    let q = r .shorter in
+    omega arith
+
+-- and where it is as long, it has all of that one
+pub once-all : (a b : List ℕ) → Once a → ((x : ℕ) → Listed a x → Listed b x) → length b ≤ length a → (x : ℕ) → Listed b x → Listed a x
+once-all a b o s l x i =
+    ⊎-elim (λ h. h) (λ n. absurd (let h = once-le (x ∷ a) b (n, o) (λ y. ⊎-elim (λ e. subst (Listed b) (sym e) i) (s y)) in omega arith)) (listed-or a x)
+
+pub ordered-once : (l : List ℕ) → Ordered l → Once l
+unfolding Before
+ordered-once [] o = tt
+ordered-once (x ∷ l) o = (λ h. not-self (o .0 x h), ordered-once l (o .1))
+  where
+    not-self : Before x x → ⊥
+    not-self (inl p) = omega arith
+    not-self (inr p) = let q = p .1 in omega arith
+
+-- ---- marks, one by one
+
+module _ (loss : Bool) (s : Setup) (g : Graph) (target : ℕ) where
+  -- all marks are right: nothing is repeated, and every set is of the base
+  all-right : (earlier handed : List ℕ) (ms : List Mark) → MarkedAs loss s g target earlier handed ms → tally Repeated ms ≡ 0 → tally Shut ms ≡ 0 → tally Loose ms ≡ 0
+      → (tally Right ms ≡ length handed) × Once handed × ((x : ℕ) → Listed handed x → MinimalSet loss s g target x × (Listed earlier x → ⊥))
+  all-right earlier [] [] m r h l = (refl, tt, λ x i. absurd i)
+  all-right earlier [] (k ∷ ms) m r h l = absurd m
+  all-right earlier (x ∷ hs) [] m r h l = absurd m
+  all-right earlier (x ∷ hs) (Repeated ∷ ms) m r h l = absurd (omega arith)
+  all-right earlier (x ∷ hs) (Shut ∷ ms) m r h l = absurd (omega arith)
+  all-right earlier (x ∷ hs) (Loose ∷ ms) m r h l = absurd (omega arith)
+  all-right earlier (x ∷ hs) (Right ∷ ms) m r h l =
+      let q = all-right (x ∷ earlier) hs ms (m .1) (omega arith) (omega arith) (omega arith) in
+      let n = q .0 in (
+        omega arith,
+        (λ i. q .2 x i .1 (inl refl), q .1),
+        λ y. ⊎-elim (λ e. (subst (MinimalSet loss s g target) (sym e) (m .0 .1), subst (λ (z : ℕ). Listed earlier z → ⊥) (sym e) (m .0 .0))) (λ i. (q .2 y i .0, λ k. q .2 y i .1 (inr k))),
+      )
+
+  -- sets of the base, each once: all marks are right
+  right-all : (earlier handed : List ℕ) (ms : List Mark) → MarkedAs loss s g target earlier handed ms → Once handed
+      → ((x : ℕ) → Listed handed x → MinimalSet loss s g target x × (Listed earlier x → ⊥))
+      → (tally Right ms ≡ length handed) × (tally Repeated ms ≡ 0) × (tally Shut ms ≡ 0) × (tally Loose ms ≡ 0)
+  right-all earlier [] [] m o h = (refl, refl, refl, refl)
+  right-all earlier [] (k ∷ ms) m o h = absurd m
+  right-all earlier (x ∷ hs) [] m o h = absurd m
+  right-all earlier (x ∷ hs) (Repeated ∷ ms) m o h = absurd (h x (inl refl) .1 (m .0))
+  right-all earlier (x ∷ hs) (Shut ∷ ms) m o h = absurd (m .0 .1 (h x (inl refl) .0 .is))
+  right-all earlier (x ∷ hs) (Loose ∷ ms) m o h = let d = m .0 .2 in absurd (h x (inl refl) .0 .minimal (d .subset) (d .proper) (d .derives))
+  right-all earlier (x ∷ hs) (Right ∷ ms) m o h =
+      let q = right-all (x ∷ earlier) hs ms (m .1) (o .1) (λ y i. (h y (inr i) .0, ⊎-elim (λ e. o .0 (subst (Listed hs) e i)) (h y (inr i) .1))) in
+      let a = q .0 in
+      let b = q .1 in
+      let c = q .2 in
+      let d = q .3 in
+      (omega arith, omega arith, omega arith, omega arith)
+
+  pub full-marks : (handed : List ℕ) (right repeated shut loose missing : ℕ) → Counts loss s g target handed right repeated shut loose missing
+      → Iff (Full repeated shut loose missing) (IsBaseOnce loss s g target handed)
+  full-marks handed right repeated shut loose missing c = record { to = to; from = from }
+    where
+      to : Full repeated shut loose missing → IsBaseOnce loss s g target handed
+      to f =
+          let q = all-right [] handed (c .marks) (c .marked) (sym (c .isRepeated) ∙ f .noneRepeated) (sym (c .isShut) ∙ f .noneShut) (sym (c .isLoose) ∙ f .noneLoose) in
+          let n = q .0 in
+          let r = c .isRight in
+          let m = c .isMissing in
+          let z = f .noneMissing in
+          record {
+            sets = λ x. record {
+              to = λ i. q .2 x i .0;
+              from = λ h. once-all handed (c .base) (q .1) (λ y i. c .isBase .whole y (q .2 y i .0)) (omega arith) x (c .isBase .whole x h);
+            };
+            once = q .1;
+          }
+
+      from : IsBaseOnce loss s g target handed → Full repeated shut loose missing
+      from b =
+          let q = right-all [] handed (c .marks) (c .marked) (b .once) (λ x i. (b .sets x .to i, λ k. k)) in
+          let n = q .0 in
+          let r = c .isRight in
+          let m = c .isMissing in
+          let l = once-le (c .base) handed (ordered-once (c .base) (c .isBase .ordered)) (λ x i. b .sets x .from (c .isBase .sound x i)) in
+          record {
+            noneRepeated = c .isRepeated ∙ q .1;
+            noneShut = c .isShut ∙ q .2;
+            noneLoose = c .isLoose ∙ q .3;
+            noneMissing = omega arith;
+          }

@@ -1,0 +1,60 @@
+-- Copies of a table's parts, and the values of all vertices.
+-- Assumes nothing.
+use mathlib.Core.Path.{_≡_, refl, sym, ap, subst, _∙_}
+use mathlib.Core.Bool.{Bool, true, false}
+use mathlib.Core.List.{List, []}
+use mathlib.Core.Logic.{_⊎_, inl, inr, ⊎-elim}
+use Prim.Native.Nat.{ℕ, _+_, _*_, _≤_, _<_}
+use native.Mathlib.Omega.{arith}
+use lib.ListN.{length, getD, take, drop, set, length-set, length-take, length-drop, List·getD-eq-default}
+use lib.Seq.{getD-set-same, getD-set-other, getD-take, getD-drop, ext-getD}
+use Rattle.vertex_set.proofs.Cases.{same-or, less-or}
+use Rattle.setup.specs.declared.Vertex.{Vertex}
+use Rattle.setup.specs.declared.Setup.{Setup}
+use Rattle.setup.specs.Setup.{valueOf, vertexAt, unusedVertex}
+use Rattle.bases.specs.Score.{points, pointsAt, Values}
+
+-- ---- a list filled from the front
+
+-- out has its length, and at each place below n what g says.
+pub record FilledBelow (g : ℕ → ℕ) (long n : ℕ) (out : List ℕ) : Type 0 where
+  pub words : length out ≡ long
+  pub each : (i : ℕ) → i < n → getD out i 0 ≡ g i
+
+pub filled-none : (g : ℕ → ℕ) (long : ℕ) (out : List ℕ) → length out ≡ long → FilledBelow g long 0 out
+filled-none g long out e = record { words = e; each = λ i l. absurd (omega arith) }
+
+pub filled-more : (g : ℕ → ℕ) (long n x : ℕ) (out : List ℕ) → n < long → FilledBelow g long n out → x ≡ g n → FilledBelow g long (n + 1) (set out n x)
+filled-more g long n x out l b e =
+    record {
+      words = length-set out n x ∙ b .words;
+      each = λ i k. ⊎-elim
+          (λ q. subst (λ (j : ℕ). getD (set out n x) j 0 ≡ g j) (sym q) (getD-set-same out n x 0 (let w = b .words in omega arith) ∙ e))
+          (λ q. getD-set-other out n i x 0 q ∙ b .each i (omega (arith, q)))
+          (same-or i n);
+    }
+
+-- ---- a part of a table
+
+pub copied : (w out : List ℕ) (target : ℕ) → length w ≡ 16384 → target < 64 → FilledBelow (λ i. getD w (target * 256 + i) 0) 256 256 out
+    → out ≡ take 256 (drop (target * 256) w)
+copied w out target lw l b =
+    ext-getD 0 out (take 256 (drop (target * 256) w)) (b .words ∙ sym long)
+    (λ i k. let w′ = b .words in b .each i (omega arith) ∙ sym (getD-take 256 (drop (target * 256) w) i 0 (omega arith) ∙ getD-drop (target * 256) w i 0))
+  where
+    long : length (take 256 (drop (target * 256) w)) ≡ 256
+    long = rw (length-take 256 (drop (target * 256) w), length-drop (target * 256) w) (omega arith)
+
+-- ---- values
+
+pub values-all : (loss : Bool) (s : Setup) (r : List ℕ) → length (s .vertices) ≡ 64 → FilledBelow (pointsAt loss s) 64 64 r → Values loss s r
+values-all loss s r long b = record { long = b .words; each = λ v. ⊎-elim (b .each v) (outside v) (less-or v 64) }
+  where
+    blanks : (l : Bool) → points (valueOf l unusedVertex) ≡ 0
+    blanks true = refl
+    blanks false = refl
+
+    outside : (v : ℕ) → 64 ≤ v → getD r v 0 ≡ pointsAt loss s v
+    outside v k =
+        List·getD-eq-default r 0 (let w = b .words in omega arith)
+        ∙ sym (ap (λ (x : Vertex). points (valueOf loss x)) (List·getD-eq-default (s .vertices) unusedVertex (omega arith)) ∙ blanks loss)

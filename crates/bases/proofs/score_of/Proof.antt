@@ -1,0 +1,61 @@
+use Prim.Native.Nat.{_^_, _<_}
+use native.Mathlib.Omega.{arith}
+use Rattle.vertex_set.proofs.Sums.{sum-over-same}
+use Rattle.bases.specs.Score.{pointsAt}
+use Rattle.bases.proofs.Bridge.{score-of}
+use Rattle.bases.proofs.Scores.{score-over}
+use Rattle.bases.proofs.Formed.{few, points-small}
+use borrow.Author.Needs.{needs}
+use Rattle.bases.proofs.score_of.Statement.{statement}
+use Rattle.bases.proofs.score_of.Tie as tie
+
+chosen-requires : tie.Need-chosen-requires
+chosen-requires c κs = search needs
+
+values-of-requires : tie.Need-values-of-requires
+values-of-requires c κs = search needs
+
+slice-aggregate-family-of : tie.Need-slice-aggregate-family-of
+slice-aggregate-family-of c = search needs
+
+family-of-requires : tie.Need-family-of-requires
+family-of-requires c κs = search needs
+
+slice-aggregate-least-sum : tie.Need-slice-aggregate-least-sum
+slice-aggregate-least-sum c = search needs
+
+least-sum-requires : tie.Need-least-sum-requires
+least-sum-requires c κs =
+    let f = c .before .before in
+    let v = f .before .before in
+    let h = v .before in
+    let st = h .before in
+    record {
+      words = f .family-of .ensures .0;
+      few = few (st .args .loss) (st .args .s) (h .chosen .result .0) (st .pre .0) (h .chosen .ensures);
+      small = λ i m. let p = points-small (st .args .loss) (st .args .s) (st .pre .0) i in let e = v .values-of .ensures .each i in omega arith;
+    }
+
+returns : tie.Need-returns
+returns c =
+    let f = c .before .before .before in
+    let v = f .before .before in
+    let h = v .before in
+    let st = h .before in
+    let a = st .args in
+    let fits : h .chosen .result .0 < 2 ^ 64 = h .chosen .ok .1 .1 .0 .1 in
+    let k = few (a .loss) (a .s) (h .chosen .result .0) (st .pre .0) (h .chosen .ensures) in
+    let r = score-of (a .loss) (a .s) (a .graph) (a .target) (h .chosen .result .0) _ fits k (h .chosen .ensures) (f .family-of .ensures .1) (c .least-sum .result) _ (λ x. sum-over-same _ (pointsAt (a .loss) (a .s)) x (v .values-of .ensures .each)) (c .least-sum .ensures) in
+    record { all = r; base = score-over (a .loss) (a .s) (a .graph) (a .target) (h .chosen .result .0) _ fits k (h .chosen .ensures) (f .family-of .ensures .1) (c .least-sum .result) r }
+
+pub score-of-spec : {M : Type 1} → statement M
+score-of-spec =
+    tie.close
+    (tie.spec
+    chosen-requires
+    values-of-requires
+    slice-aggregate-family-of
+    family-of-requires
+    slice-aggregate-least-sum
+    least-sum-requires
+    returns)

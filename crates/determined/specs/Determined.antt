@@ -1,0 +1,47 @@
+-- For each kind of answer: what two answers that meet the contract have in common, which is all.
+use mathlib.Core.Path.{_≡_}
+use mathlib.Core.Bool.{Bool}
+use mathlib.Core.List.{List}
+use Prim.Native.Nat.{ℕ}
+use Rattle.setup.specs.declared.Setup.{Setup}
+use Rattle.derivations.specs.Derivation.{Closure}
+use Rattle.derivations.specs.Both.{ruleOf}
+use Rattle.access.specs.Answers.{SetCall, WayCall}
+use Rattle.answers.specs.Answers.{BasesCall, ScoreCall, MarksCall}
+
+-- Two answers, as document 01's number and values, are the same.
+pub record Same (n n′ : ℕ) (v v′ : List ℕ) : Type 0 where
+  pub number : n ≡ n′
+  pub values : v ≡ v′
+
+-- Closure and lost set.
+abbrev pub SetDetermined : Type 0
+SetDetermined = (loss : Bool) (s : Setup) (set n n′ : ℕ) (v v′ : List ℕ)
+    → SetCall (λ g. Closure (ruleOf loss g)) s set n v → SetCall (λ g. Closure (ruleOf loss g)) s set n′ v′ → Same n n′ v v′
+
+-- The way in, with both lent lists.
+pub record SameWay (n n′ : ℕ) (v v′ x x′ y y′ : List ℕ) : Type 0 where
+  pub answer : Same n n′ v v′
+  pub vertices : x ≡ x′
+  pub colours : y ≡ y′
+
+abbrev pub WayDetermined : Type 0
+WayDetermined = (s : Setup) (target set n n′ : ℕ) (v v′ a x x′ b y y′ : List ℕ)
+    → WayCall s target set n v a x b y → WayCall s target set n′ v′ a x′ b y′ → SameWay n n′ v v′ x x′ y y′
+
+-- Both lists, with the lent list.
+pub record SameBases (n n′ : ℕ) (v v′ x x′ : List ℕ) : Type 0 where
+  pub answer : Same n n′ v v′
+  pub list : x ≡ x′
+
+abbrev pub BasesDetermined : Type 0
+BasesDetermined = (s : Setup) (target n n′ : ℕ) (v v′ a x x′ : List ℕ) → BasesCall s target n v a x → BasesCall s target n′ v′ a x′ → SameBases n n′ v v′ x x′
+
+-- Score and risk.
+abbrev pub ScoreDetermined : Type 0
+ScoreDetermined = (loss : Bool) (s : Setup) (target n n′ : ℕ) (v v′ : List ℕ) → ScoreCall loss s target n v → ScoreCall loss s target n′ v′ → Same n n′ v v′
+
+-- Marks.
+abbrev pub MarksDetermined : Type 0
+MarksDetermined = (loss : Bool) (s : Setup) (target : ℕ) (handed : List ℕ) (n n′ : ℕ) (v v′ : List ℕ)
+    → MarksCall loss s target handed n v → MarksCall loss s target handed n′ v′ → Same n n′ v v′

@@ -1,0 +1,135 @@
+-- Families that are exact for a predicate on sets: monotone, with minimal members that are the minimal sets.
+-- Assumes nothing.
+use mathlib.Core.Path.{_≡_, sym, ap, _∙_, subst}
+use mathlib.Core.Logic.{_⊎_, inl, inr, ⊎-elim}
+use mathlib.Core.List.{List}
+use Prim.Native.Nat.{ℕ, zero, suc, _+_, _-_, _/_, _%_, _^_, _≤_, _<_}
+use native.Mathlib.Nat.{mod-lt}
+use native.Mathlib.Omega.{arith}
+use lib.Count.{ones, ones-cat, ones-step}
+use lib.Pow.{pow-pos, pow-mono, split}
+use Rattle.vertex_set.specs.Set.{Member, Within, Iff}
+use Rattle.vertex_set.proofs.Cases.{less-or}
+use Rattle.vertex_set.proofs.Sets.{member-or, member-below, within-le, within-trans, within-refl}
+use Rattle.vertex_set.proofs.Places.{removed-within, member-le}
+use Rattle.vertex_set.proofs.Shifts.{in-low}
+use Rattle.vertex_set.proofs.Subsets.{proper-less}
+use Rattle.families.specs.Family.{In, Monotone, Minimal, MinimalMembers}
+use Rattle.families.specs.Masks.{rank, Picked, SetOfMask}
+use Rattle.families.specs.Exact.{OnChosen, FamilyOf, MinimalSet}
+use Rattle.families.proofs.Families.{in-or}
+use Rattle.families.proofs.Masks.{spread, set-of, set-within, gather, gather-lt, mask-of, proper-subset, proper-submask}
+
+-- P keeps holding as the set grows.
+abbrev pub Rising : ((ℕ → Type 0) → Type 0) → Type 1
+Rising P = (A B : ℕ → Type 0) → ((v : ℕ) → A v → B v) → P A → P B
+
+-- ---- every member has a minimal one within
+
+-- a step down that stays in the family, by a bit below n, or none
+step-or : (f : List ℕ) (m n : ℕ) → ((j : ℕ) × Member m j × In f (m - 2 ^ j)) ⊎ ((j : ℕ) → j < n → Member m j → In f (m - 2 ^ j) → ⊥)
+step-or f m zero = inr (λ j h k i. omega arith)
+step-or f m (suc n) =
+    ⊎-elim inl
+    (λ none. ⊎-elim
+    (λ k. ⊎-elim (λ i. inl (n, k, i)) (λ o. inr (λ j h l i. ⊎-elim
+    (λ less. none j less l i) (λ ge. let e : j ≡ n = omega arith in o (subst (λ (x : ℕ). In f (m - 2 ^ x)) e i)) (less-or j n)))
+    (in-or f (m - 2 ^ n)))
+    (λ o. inr (λ j h l i. ⊎-elim (λ less. none j less l i) (λ ge. let e : j ≡ n = omega arith in o (rw e at l)) (less-or j n)))
+    (member-or m n))
+    (step-or f m n)
+
+pub above-minimal : (f g : List ℕ) → MinimalMembers f g → (m : ℕ) → m < 16384 → In f m → (k : ℕ) × (k < 16384) × Within k m × In g k
+above-minimal f g q m h i = down (suc m) m (omega arith) h i
+  where
+    down : (n m : ℕ) → m < n → m < 16384 → In f m → (k : ℕ) × (k < 16384) × Within k m × In g k
+    down zero m l h i = absurd (omega arith)
+    down (suc n) m l h i =
+        ⊎-elim
+        (λ s.
+        let le = member-le (s .0) m (s .1) in
+        let p = pow-pos (s .0) in
+        let r = down n (m - 2 ^ s .0) (omega arith) (omega arith) (s .2) in
+        (r .0, r .1, within-trans (r .2) (removed-within m (s .0) (s .1)), r .3))
+        (λ none. (m, h, within-refl m, q .least m h .from (record { is = i; none = λ j k. none j (member-below 14 m j h k) k })))
+        (step-or f m 14)
+
+-- ---- a mask's bits beyond the chosen vertices
+
+rank-lt : (c v : ℕ) → Member c v → rank c v < ones c
+unfolding rank Member
+rank-lt c v m =
+    let a : ones c ≡ ones (c / 2 ^ v) + ones (c % 2 ^ v) = ap ones (sym (split c v)) ∙ ones-cat v (c / 2 ^ v) (c % 2 ^ v) (mod-lt c (pow-pos v)) in
+    let b = ones-step (c / 2 ^ v) in
+    omega arith
+
+-- the mask without them
+low-within : (m n : ℕ) → Within (m % 2 ^ n) m
+low-within m n = record { each = λ i k. in-low n i m (member-below n (m % 2 ^ n) i (mod-lt m (pow-pos n)) k) .to k }
+
+low-picked : (c m v : ℕ) → Picked c m v → Picked c (m % 2 ^ ones c) v
+unfolding Picked
+low-picked c m v p = (p .0, in-low (ones c) (rank c v) m (rank-lt c v (p .0)) .from (p .1))
+
+-- ---- families of a predicate
+
+module _ (c : ℕ) (P : (ℕ → Type 0) → Type 0) (up : Rising P) (f : List ℕ) (e : FamilyOf c P f) where
+  pub family-monotone : Monotone f
+  unfolding Picked
+  family-monotone =
+      record {
+        up = λ k m hk hm w i. e .each m hm .from (up (Picked c k) (Picked c m) (λ v p. (p .0, w .each (rank c v) (p .1))) (e .each k hk .to i));
+      }
+
+  -- a mask is in exactly if P holds for its set
+  pub family-set : (m x : ℕ) → m < 16384 → SetOfMask c m x → Iff (In f m) (P (Member x))
+  family-set m x h s =
+      record {
+        to = λ i. up (Picked c m) (Member x) (λ v p. s .each v .from p) (e .each m h .to i);
+        from = λ p. e .each m h .from (up (Member x) (Picked c m) (λ v k. s .each v .to k) p);
+      }
+
+  module _ (g : List ℕ) (q : MinimalMembers f g) where
+    -- Minimal members have no bit beyond the chosen vertices.
+    pub minimal-on-chosen : OnChosen c g
+    minimal-on-chosen =
+        record {
+          below = λ m h i.
+              let least = q .minimal family-monotone m h .to i in
+              let k : ℕ = m % 2 ^ ones c in
+              let small = mod-lt m (pow-pos (ones c)) in
+              let le = within-le k m (low-within m (ones c)) in
+              ⊎-elim (λ l. l)
+              (λ ge. absurd (least .none k
+              (record { within = low-within m (ones c); other = λ z. omega arith })
+              (e .each k (omega arith) .from (up (Picked c m) (Picked c k) (low-picked c m) (e .each m h .to (least .is))))))
+              (less-or m (2 ^ ones c));
+        }
+
+    -- The set of a minimal member is a minimal set,
+    pub minimal-set : (m x : ℕ) → c < 2 ^ 64 → ones c ≤ 14 → m < 16384 → SetOfMask c m x → In g m → MinimalSet c P x
+    minimal-set m x hc few h s i =
+        let least = q .minimal family-monotone m h .to i in
+        record {
+          within = set-within c m x s;
+          is = family-set m x h s .to (least .is);
+          none = λ y p r.
+              let w = within-trans (p .within) (set-within c m x s) in
+              let k : ℕ = gather 64 c y in
+              let l = gather-lt 64 c y hc in
+              let room = pow-mono {i = ones c} {j = 14} few in
+              let o = mask-of c y hc w in
+              least .none k (proper-submask c k m y x hc l o s p) (family-set k y (omega arith) o .from r);
+        }
+
+    -- and the mask of a minimal set is a minimal member.
+    pub minimal-mask : (m x : ℕ) → c < 2 ^ 64 → m < 2 ^ ones c → m < 16384 → SetOfMask c m x → MinimalSet c P x → In g m
+    minimal-mask m x hc l h s p =
+        q .minimal family-monotone m h .from (record {
+          is = family-set m x h s .from (p .is);
+          none = λ k w i.
+              let less = proper-less k m w in
+              let y : ℕ = spread 64 c k in
+              let o = set-of c k hc in
+              p .none y (proper-subset c k m y x hc (omega arith) l o s w) (family-set k y (omega arith) o .to i);
+        })

@@ -1,0 +1,6 @@
+pub mod Least
+pub mod Lists
+pub mod Order
+pub mod SetLists
+pub mod Weights
+pub mod MinimalSets

@@ -1,0 +1,68 @@
+-- The sets of a family's members: their list in order, and the least sum of values over them.
+use mathlib.Core.Path.{_≡_}
+use mathlib.Core.List.{List, [], _++_}
+use Prim.Native.Nat.{ℕ, _^_, _≤_, _<_}
+use lib.Count.{ones}
+use lib.ListN.{length, drop}
+use Rattle.vertex_set.specs.Set.{Member, Within}
+use Rattle.vertex_set.specs.Order.{Listed, Ordered, sumOver}
+use Rattle.families.specs.Family.{In, size}
+use Rattle.families.specs.Masks.{SetOfMask}
+use Rattle.families.specs.Exact.{OnChosen}
+
+-- l has the sets of the members of f, each once, fewer vertices first and then the smaller number.
+pub record ListOf (chosen : ℕ) (f l : List ℕ) : Type 0 where
+  pub sound : (x : ℕ) → Listed l x → (m : ℕ) × (m < 16384) × In f m × SetOfMask chosen m x
+  pub whole : (m : ℕ) → m < 16384 → In f m → (x : ℕ) × Listed l x × SetOfMask chosen m x
+  pub ordered : Ordered l
+
+-- What write_sets asks for: a family of 256 words on at most 14 chosen vertices, and room for all its members.
+pub record Writable (chosen : ℕ) (f : List ℕ) (places : ℕ) : Type 0 where
+  pub words : length f ≡ 256
+  pub few : ones chosen ≤ 14
+  pub exact : OnChosen chosen f
+  pub room : size f ≤ places
+
+-- The list of the members' sets stands at the front of a list that was entry, and their number is r.
+pub record WroteSets (chosen : ℕ) (f entry : List ℕ) (r : ℕ) (exit : List ℕ) : Type 0 where
+  pub list : List ℕ
+  pub is : ListOf chosen f list
+  pub count : r ≡ length list
+  pub all : size f ≡ length list
+  pub wrote : exit ≡ list ++ drop (length list) entry
+
+-- What least_sum asks for: a family of 256 words on at most 14 chosen vertices, with values of at most 4,000,000,000.
+pub record Summable (chosen : ℕ) (f : List ℕ) (value : ℕ → ℕ) : Type 0 where
+  pub words : length f ≡ 256
+  pub few : ones chosen ≤ 14
+  pub small : (v : ℕ) → Member chosen v → value v ≤ 4000000000
+
+-- Some member of f stands for a set whose values sum up to r.
+pub record SumOfMember (chosen : ℕ) (f : List ℕ) (value : ℕ → ℕ) (r : ℕ) : Type 0 where
+  pub mask : ℕ
+  pub set : ℕ
+  pub below : mask < 16384
+  pub is : In f mask
+  pub of : SetOfMask chosen mask set
+  pub sum : r ≡ sumOver value set
+
+-- r is the least sum of values over the sets of the members of f, and 2^62, which is above every such sum, where f is empty.
+pub record LeastSum (chosen : ℕ) (f : List ℕ) (value : ℕ → ℕ) (r : ℕ) : Type 0 where
+  pub never : ((m : ℕ) → m < 16384 → In f m → ⊥) → r ≡ 2 ^ 62
+  pub below : (m : ℕ) → m < 16384 → In f m → r < 2 ^ 62
+  pub reached : (m : ℕ) → m < 16384 → In f m → SumOfMember chosen f value r
+  pub least : (m x : ℕ) → m < 16384 → In f m → SetOfMask chosen m x → r ≤ sumOver value x
+
+-- r is the least sum of values over all sets of chosen vertices for which P holds, and 2^62 where there is none.
+pub record LeastOver (chosen : ℕ) (P : (ℕ → Type 0) → Type 0) (value : ℕ → ℕ) (r : ℕ) : Type 0 where
+  pub never : ((x : ℕ) → Within x chosen → P (Member x) → ⊥) → r ≡ 2 ^ 62
+  pub below : (x : ℕ) → Within x chosen → P (Member x) → r < 2 ^ 62
+  pub reached : (x : ℕ) → Within x chosen → P (Member x) → (y : ℕ) × Within y chosen × P (Member y) × (r ≡ sumOver value y)
+  pub least : (x : ℕ) → Within x chosen → P (Member x) → r ≤ sumOver value x
+
+-- r is the least sum of values over the sets of the list l, and 2^62 where the list is empty.
+pub record LeastListed (value : ℕ → ℕ) (l : List ℕ) (r : ℕ) : Type 0 where
+  pub never : l ≡ [] → r ≡ 2 ^ 62
+  pub below : (x : ℕ) → Listed l x → r < 2 ^ 62
+  pub reached : (x : ℕ) → Listed l x → (y : ℕ) × Listed l y × (r ≡ sumOver value y)
+  pub least : (x : ℕ) → Listed l x → r ≤ sumOver value x

@@ -1,0 +1,89 @@
+-- Inner: sums over a mask's bits, and the lists that the functions below write_sets write.
+use mathlib.Core.Path.{_≡_}
+use mathlib.Core.List.{List, [], _∷_, _++_, map}
+use Prim.Native.Nat.{ℕ, zero, suc, _+_, _*_, _/_, _%_, _^_, min, _≤_, _<_}
+use lib.Count.{ones}
+use lib.Dec.{eqb}
+use lib.ListN.{length, getD, take, drop}
+use lib.Seq.{sets}
+use Rattle.vertex_set.specs.Set.{Member, Iff}
+use Rattle.vertex_set.specs.Order.{sumOver}
+use Rattle.vertex_set.proofs.Places.{places}
+use Rattle.vertex_set.proofs.Sorted.{only}
+use Rattle.families.specs.Masks.{SetOfMask}
+
+-- At v stands the number of the set that has v alone.
+pub record Singles (values : List ℕ) : Type 0 where
+  pub each : (v : ℕ) → v < 64 → getD values v 0 ≡ 2 ^ v
+
+-- The sum of the weights at the bits of the mask m.
+abbrev pub sumAt : List ℕ → ℕ → ℕ
+sumAt [] m = 0
+sumAt (w ∷ ws) m = m % 2 * w + sumAt ws (m / 2)
+
+-- The weights at a mask's bits sum up to the values of its set.
+pub record WeightsOf (chosen : ℕ) (value : ℕ → ℕ) (ws : List ℕ) : Type 0 where
+  pub long : length ws ≡ 14
+  pub sum : (m x : ℕ) → SetOfMask chosen m x → sumAt ws m ≡ sumOver value x
+
+-- No sum of weights is too large for a word.
+pub record SumsFit (ws : List ℕ) : Type 0 where
+  pub fits : (m : ℕ) → sumAt ws m < 2 ^ 64
+
+-- The table t has the sums of seven weights, the first of them at n.
+pub record SumTable (ws : List ℕ) (n : ℕ) (t : List ℕ) : Type 0 where
+  pub each : (k : ℕ) → k < 128 → getD t k 0 ≡ sumAt (drop n ws) k
+
+-- The lanes of word b whose masks have s bits.
+pub record LanesOfSize (b s r : ℕ) : Type 0 where
+  pub each : (i : ℕ) → i < 64 → Iff (Member r i) (ones (b * 64 + i) ≡ s)
+
+-- The masks of word b in the lanes of y, in rising order.
+abbrev pub masksIn : ℕ → ℕ → List ℕ
+masksIn b y = map (λ (i : ℕ). b * 64 + i) (places 64 y)
+
+-- The members of the family f, whose first word has the number b, in rising order.
+abbrev pub rising : ℕ → List ℕ → List ℕ
+rising b [] = []
+rising b (w ∷ f) = masksIn b w ++ rising (suc b) f
+
+-- The masks of the words with the listed numbers.
+abbrev pub ofWords : List ℕ → List ℕ → List ℕ
+ofWords f [] = []
+ofWords f (b ∷ bs) = masksIn b (getD f b 0) ++ ofWords f bs
+
+-- The first n numbers of the list are those of words in which all of the family's members are.
+pub record Occupied (f index : List ℕ) (n : ℕ) : Type 0 where
+  pub long : length index ≡ 256
+  pub most : n ≤ 256
+  pub below : (i : ℕ) → i < n → getD index i 0 < 256
+  pub all : ofWords f (take n index) ≡ rising 0 f
+
+-- Those of the masks that have s bits.
+abbrev pub ofSize : ℕ → List ℕ → List ℕ
+ofSize s l = only (λ (m : ℕ). eqb (ones m) s) l
+
+-- Those that have s bits, then those that have one more, and so on, n sizes in all.
+abbrev pub bySize : List ℕ → ℕ → ℕ → List ℕ
+bySize l s zero = []
+bySize l s (suc n) = ofSize s l ++ bySize l (suc s) n
+
+-- The sum that two tables give for the mask m: the bits from 7 on by `high`, the others by `low`.
+abbrev pub sumBy : List ℕ → List ℕ → ℕ → ℕ
+sumBy low high m = getD high (m / 128) 0 + getD low (m % 128) 0
+
+-- No such sum is too large for a word.
+pub record TablesFit (low high : List ℕ) : Type 0 where
+  pub long-low : length low ≡ 128
+  pub long-high : length high ≡ 128
+  pub fits : (m : ℕ) → m < 16384 → sumBy low high m < 2 ^ 64
+
+-- From `at` on stand the numbers xs, and r is the next place.
+pub record Wrote (entry : List ℕ) (at : ℕ) (xs after : List ℕ) (r : ℕ) : Type 0 where
+  pub exit : after ≡ sets entry at xs
+  pub next : r ≡ at + length xs
+
+-- The least of the numbers of l and d.
+abbrev pub leastOf : ℕ → List ℕ → ℕ
+leastOf d [] = d
+leastOf d (x ∷ l) = leastOf (min d x) l

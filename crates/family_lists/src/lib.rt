@@ -1,0 +1,251 @@
+// The sets of a family's members: their list in order, and the least sum of values over them. A mask's
+// set number is a sum too, of its vertices' powers of 2, so both go by the same two tables of sums.
+ghost use mathlib.Core.Path.{_≡_};
+ghost use mathlib.Core.List.{map};
+ghost use Prim.Native.Nat.{ℕ, _+_, _^_, _≤_, _<_};
+ghost use lib.ListN.{length, getD};
+ghost use lib.Count.{ones};
+ghost use Rattle.families.specs.Family.{size};
+ghost use Rattle.family_lists.specs.Lists.{Writable, WroteSets, Summable, LeastSum};
+ghost use Rattle.family_lists.specs.Tables.{Singles, WeightsOf, SumsFit, SumTable, LanesOfSize, TablesFit, Wrote, masksIn, rising, Occupied, ofSize, bySize, sumBy, leastOf};
+use families::WORDS;
+use vertex_set::VertexSet;
+
+// The least sum where there is no member: 2^62, above every sum.
+pub const NEVER: u64 = 0x4000_0000_0000_0000;
+
+// At k the lanes of a word whose number has k bits.
+const LAYERS: [u64; 7] = [
+    0x0000_0000_0000_0001,
+    0x0000_0001_0001_0116,
+    0x0001_0116_0116_1668,
+    0x0116_1668_1668_6880,
+    0x1668_6880_6880_8000,
+    0x6880_8000_8000_0000,
+    0x8000_0000_0000_0000,
+];
+
+// At v the number of the set that has v alone.
+fn singles() -> [u64; 64]
+    ensures { λ r. ⌜ Singles r ⌝ }
+{
+    let one: u64 = 1;
+    let mut values = [0u64; 64];
+    for v in 0..64usize {
+        values[v] = one << v;
+    }
+    values
+}
+
+// The values of the chosen vertices, by their numbers among them; 0 beyond.
+fn weights_of(chosen: VertexSet, values: [u64; 64]) -> [u64; 14]
+    requires { ⌜ ones (chosen .0) ≤ 14 ⌝ }
+    ensures { λ r. ⌜ WeightsOf (chosen .0) (λ (v : ℕ). getD values v 0) r ⌝ }
+{
+    let one: u64 = 1;
+    let mut weights = [0u64; 14];
+    let mut rest = chosen.0;
+    let mut n: usize = 0;
+    while rest != 0 {
+        let v = u64::trailing_zeros(rest);
+        weights[n] = values[v as usize];
+        n = n + 1;
+        rest = rest - (one << v);
+    }
+    weights
+}
+
+// The sums of seven weights, the first of them at `from`: at k the sum of those at the bits of k.
+fn fill_sums(weights: [u64; 14], from: usize, table: &mut [u64])
+    requires { ⌜ from ≤ 7 ⌝ }
+    requires { ⌜ SumsFit weights ⌝ }
+    requires { ⌜ length (now table) ≡ 128 ⌝ }
+    ensures { λ _. ⌜ SumTable weights from (now (table .exit)) ⌝ }
+{
+    let one: usize = 1;
+    table[0] = 0;
+    for k in 1..128usize {
+        let v = usize::trailing_zeros(k) as usize;
+        table[k] = table[k - (one << v)] + weights[from + v];
+    }
+}
+
+// The lanes of word b whose masks have s bits.
+fn lanes_of_size(b: usize, s: usize) -> u64
+    ensures { λ r. ⌜ LanesOfSize b s r ⌝ }
+{
+    let k = usize::count_ones(b) as usize;
+    if s < k {
+        return 0;
+    }
+    let d = s - k;
+    if d < 7 { LAYERS[d] } else { 0 }
+}
+
+// Writes the sums of the masks of word b in the lanes of y, from `at` on, and gives the next place.
+fn put_word(y: u64, b: usize, low: &[u64], high: &[u64], out: &mut [u64], at: usize) -> usize
+    requires { ⌜ b < 256 ⌝ }
+    requires { ⌜ TablesFit (now low) (now high) ⌝ }
+    requires { ⌜ at + ones y ≤ length (now out) ⌝ }
+    ensures { λ r. ⌜ Wrote (now (out .entry)) at (map (sumBy (now (low .entry)) (now (high .entry))) (masksIn b y)) (now (out .exit)) r ⌝ }
+{
+    let one: u64 = 1;
+    let base = high[b / 2];
+    let from = b % 2 * 64;
+    let mut rest = y;
+    let mut next = at;
+    while rest != 0 {
+        let i = u64::trailing_zeros(rest);
+        out[next] = base + low[from + i as usize];
+        next = next + 1;
+        rest = rest - (one << i);
+    }
+    next
+}
+
+// Does so for those of the masks of word b in the lanes of x that have s bits.
+fn put_sized(
+    x: u64,
+    b: usize,
+    s: usize,
+    low: &[u64],
+    high: &[u64],
+    out: &mut [u64],
+    at: usize,
+) -> usize
+    requires { ⌜ b < 256 ⌝ }
+    requires { ⌜ TablesFit (now low) (now high) ⌝ }
+    requires { ⌜ at + length (ofSize s (masksIn b x)) ≤ length (now out) ⌝ }
+    ensures { λ r. ⌜ Wrote (now (out .entry)) at (map (sumBy (now (low .entry)) (now (high .entry))) (ofSize s (masksIn b x))) (now (out .exit)) r ⌝ }
+{
+    let lanes = lanes_of_size(b, s);
+    put_word(x & lanes, b, low, high, out, at)
+}
+
+// The numbers of the family's words that are not empty, written to index, and how many there are.
+fn occupied_words(f: &[u64], index: &mut [usize]) -> usize
+    requires { ⌜ length (now f) ≡ 256 ⌝ }
+    requires { ⌜ length (now index) ≡ 256 ⌝ }
+    ensures { λ r. ⌜ Occupied (now (f .entry)) (now (index .exit)) r ⌝ }
+{
+    let mut n: usize = 0;
+    for b in 0..WORDS {
+        index[n] = b;
+        let x = f[b];
+        if x != 0 {
+            n = n + 1;
+        }
+    }
+    n
+}
+
+// Does so for the family's members that have s bits. All members are in the first n words of index.
+fn put_size(
+    f: &[u64],
+    index: &[usize],
+    n: usize,
+    s: usize,
+    low: &[u64],
+    high: &[u64],
+    out: &mut [u64],
+    at: usize,
+) -> usize
+    requires { ⌜ length (now f) ≡ 256 ⌝ }
+    requires { ⌜ Occupied (now f) (now index) n ⌝ }
+    requires { ⌜ TablesFit (now low) (now high) ⌝ }
+    requires { ⌜ at + length (ofSize s (rising 0 (now f))) ≤ length (now out) ⌝ }
+    ensures { λ r. ⌜ Wrote (now (out .entry)) at (map (sumBy (now (low .entry)) (now (high .entry))) (ofSize s (rising 0 (now (f .entry))))) (now (out .exit)) r ⌝ }
+{
+    let mut next = at;
+    for i in 0..n {
+        let b = index[i];
+        next = put_sized(f[b], b, s, low, high, out, next);
+    }
+    next
+}
+
+// Does so for all of the family's members, fewer bits first, and stops where all are written.
+fn put_all(f: &[u64], low: &[u64], high: &[u64], out: &mut [u64]) -> usize
+    requires { ⌜ length (now f) ≡ 256 ⌝ }
+    requires { ⌜ TablesFit (now low) (now high) ⌝ }
+    requires { ⌜ size (now f) ≤ length (now out) ⌝ }
+    ensures { λ r. ⌜ Wrote (now (out .entry)) 0 (map (sumBy (now (low .entry)) (now (high .entry))) (bySize (rising 0 (now (f .entry))) 0 15)) (now (out .exit)) r ⌝ }
+{
+    let total = families::count_members(f);
+    let mut index = [0usize; 256];
+    let n = occupied_words(f, &mut index);
+    let mut next: usize = 0;
+    for s in 0..15usize {
+        if next == total {
+            return next;
+        }
+        next = put_size(f, &index, n, s, low, high, out, next);
+    }
+    next
+}
+
+// Writes the sets of the family's members to the front of out, fewer vertices first and then the
+// smaller set number, and gives their number. A set's number is the sum of its vertices' powers of 2.
+pub fn write_sets(f: &[u64], chosen: VertexSet, out: &mut [u64]) -> usize
+    requires { ⌜ Writable (chosen .0) (now f) (length (now out)) ⌝ }
+    ensures { λ r. ⌜ WroteSets (chosen .0) (now (f .entry)) (now (out .entry)) r (now (out .exit)) ⌝ }
+{
+    let values = singles();
+    let weights = weights_of(chosen, values);
+    let mut low = [0u64; 128];
+    let mut high = [0u64; 128];
+    fill_sums(weights, 0, &mut low);
+    fill_sums(weights, 7, &mut high);
+    put_all(f, &low, &high, out)
+}
+
+// The least of `best` and the sums of the masks of word b in the lanes of y.
+fn least_in_word(y: u64, b: usize, low: &[u64], high: &[u64], best: u64) -> u64
+    requires { ⌜ b < 256 ⌝ }
+    requires { ⌜ TablesFit (now low) (now high) ⌝ }
+    ensures { λ r. ⌜ r ≡ leastOf best (map (sumBy (now (low .entry)) (now (high .entry))) (masksIn b y)) ⌝ }
+{
+    let one: u64 = 1;
+    let base = high[b / 2];
+    let from = b % 2 * 64;
+    let mut rest = y;
+    let mut least = best;
+    while rest != 0 {
+        let i = u64::trailing_zeros(rest);
+        let sum = base + low[from + i as usize];
+        if sum < least {
+            least = sum;
+        }
+        rest = rest - (one << i);
+    }
+    least
+}
+
+// The least sum over the family's members, and NEVER where there is none.
+fn least_of_all(f: &[u64], low: &[u64], high: &[u64]) -> u64
+    requires { ⌜ length (now f) ≡ 256 ⌝ }
+    requires { ⌜ TablesFit (now low) (now high) ⌝ }
+    ensures { λ r. ⌜ r ≡ leastOf (2 ^ 62) (map (sumBy (now (low .entry)) (now (high .entry))) (rising 0 (now (f .entry)))) ⌝ }
+{
+    let mut least = NEVER;
+    for b in 0..WORDS {
+        let x = f[b];
+        if x != 0 {
+            least = least_in_word(x, b, low, high, least);
+        }
+    }
+    least
+}
+
+// The least sum of values over the sets of the family's members, and NEVER where there is none.
+pub fn least_sum(f: &[u64], chosen: VertexSet, values: [u64; 64]) -> u64
+    requires { ⌜ Summable (chosen .0) (now f) (λ (v : ℕ). getD values v 0) ⌝ }
+    ensures { λ r. ⌜ LeastSum (chosen .0) (now (f .entry)) (λ (v : ℕ). getD values v 0) r ⌝ }
+{
+    let weights = weights_of(chosen, values);
+    let mut low = [0u64; 128];
+    let mut high = [0u64; 128];
+    fill_sums(weights, 0, &mut low);
+    fill_sums(weights, 7, &mut high);
+    least_of_all(f, &low, &high)
+}

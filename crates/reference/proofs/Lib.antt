@@ -1,0 +1,11 @@
+pub mod Bases
+pub mod Closures
+pub mod Graphs
+pub mod Marks
+pub mod Meaning
+pub mod Missing
+pub mod Scores
+pub mod Sets
+pub mod Tests
+pub mod Unique
+pub mod Ways

@@ -1,0 +1,89 @@
+-- `scoreOf` is the score.
+-- Assumes nothing.
+use mathlib.Core.Path.{_≡_, refl, sym, subst, _∙_}
+use mathlib.Core.Bool.{Bool}
+use mathlib.Core.List.{List, [], _∷_}
+use mathlib.Core.Logic.{inl, inr, ⊎-elim}
+use Prim.Native.Nat.{ℕ, suc, _*_, _≤_, _<_, min}
+use native.Mathlib.Nat.{le-trans, min-le-left, min-le-right}
+use native.Mathlib.Omega.{arith}
+use Rattle.vertex_set.specs.Set.{Within}
+use Rattle.vertex_set.specs.Order.{Listed, sumOver}
+use Rattle.vertex_set.proofs.Cases.{less-or}
+use Rattle.vertex_set.proofs.Sums.{sum-within, sum-bound}
+use Rattle.setup.specs.declared.Graph.{Graph}
+use Rattle.setup.specs.declared.Setup.{Setup}
+use Rattle.setup.specs.WellFormed.{WellFormed}
+use Rattle.bases.specs.Base.{TargetSet, MinimalSet, Base}
+use Rattle.bases.proofs.Formed.{points-small}
+use Rattle.bases.specs.Score.{pointsAt, sumOf, never, Score, ScoreOver}
+use Rattle.reference.specs.Bases.{baseOf, leastSum, scoreOf}
+use Rattle.reference.specs.Graphs.{GraphOf}
+use Rattle.reference.proofs.Bases.{base-of, minimal-within}
+
+-- ---- the least sum over a list
+
+first-small : (a b : ℕ) → a < never → min a b < never
+first-small a b h = omega arith
+
+later-small : (a b : ℕ) → min a b < never → b < a → b < never
+later-small a b h l = omega arith
+
+first : (a b : ℕ) → a ≤ b → min a b ≡ a
+first a b l = omega arith
+
+second : (a b : ℕ) → b < a → min a b ≡ b
+second a b l = omega arith
+
+module _ (loss : Bool) (s : Setup) where
+  pub score-over : (l : List ℕ) → ((x : ℕ) → Listed l x → sumOf loss s x < never) → ScoreOver loss s l (leastSum loss s l)
+  unfolding leastSum
+  score-over [] small = record { none = λ n. refl; some = λ x z. absurd z; least = λ x z. absurd z; reached = λ l. absurd (omega arith) }
+  score-over (y ∷ l) small =
+      let ih = score-over l (λ x m. small x (inr m)) in
+      let k = small y (inl refl) in
+      record {
+        none = λ n. absurd (n y (inl refl));
+        some = λ x m. first-small (sumOf loss s y) (leastSum loss s l) k;
+        least = λ x. ⊎-elim
+            (λ e. subst (λ (z : ℕ). min (sumOf loss s y) (leastSum loss s l) ≤ sumOf loss s z) (sym e) (min-le-left _ _))
+            (λ m. le-trans (min-le-right (sumOf loss s y) _) (ih .least x m));
+        reached = λ b. ⊎-elim
+            (λ c. let r = ih .reached (later-small (sumOf loss s y) (leastSum loss s l) b c) in (r .0, inr (r .1), second (sumOf loss s y) (leastSum loss s l) c ∙ r .2))
+            (λ c. (y, inl refl, first (sumOf loss s y) (leastSum loss s l) c))
+            (less-or (leastSum loss s l) (sumOf loss s y));
+      }
+
+-- ---- sums are small
+
+below-never : (n : ℕ) → n ≤ 64 * 4000000000 → n < never
+below-never n h = omega arith
+
+module _ (loss : Bool) (s : Setup) (wf : WellFormed s) where
+  pub sum-small : (x : ℕ) → sumOf loss s x < never
+  unfolding sumOver
+  sum-small x = below-never (sumOf loss s x) (sum-bound (pointsAt loss s) 4000000000 64 x (λ v m. points-small loss s wf v))
+
+  sum-grows : (x y : ℕ) → Within x y → sumOf loss s x ≤ sumOf loss s y
+  unfolding sumOver
+  sum-grows x y w = sum-within (pointsAt loss s) 64 x y w
+
+  module _ (g : Graph) (target : ℕ) (h : GraphOf s g) where
+    -- the least sum over a base is the score
+    pub base-score : (l : List ℕ) (r : ℕ) → Base loss s g target l → ScoreOver loss s l r → Score loss s g target r
+    base-score l r b o =
+        record {
+          none = λ n. o .none (λ x m. n x (b .sound x m .is));
+          some = λ x t. let y = under x t in o .some (y .0) (b .whole (y .0) (y .2));
+          least = λ x t. let y = under x t in le-trans (o .least (y .0) (b .whole (y .0) (y .2))) (sum-grows (y .0) x (y .1));
+          reached = λ k. let y = o .reached k in (y .0, b .sound (y .0) (y .1) .is, y .2);
+        }
+      where
+        under : (x : ℕ) → TargetSet loss s g target x → (y : ℕ) × Within y x × MinimalSet loss s g target y
+        under x t = minimal-within loss s g target wf h (suc x) x (omega arith) t
+
+    pub score-of : Score loss s g target (scoreOf loss s g target)
+    unfolding scoreOf
+    score-of =
+        base-score (baseOf loss s g target) (leastSum loss s (baseOf loss s g target)) (base-of loss s g target wf h)
+        (score-over loss s (baseOf loss s g target) (λ x m. sum-small x))

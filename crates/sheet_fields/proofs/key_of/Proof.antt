@@ -1,0 +1,64 @@
+use mathlib.Core.Path.{sym}
+use native.Mathlib.Omega.{arith}
+use lib.ListN.{length-take}
+use lib.Seq.{length-take-le}
+use Rattle.sheet_fields.specs.Keys.{keyOf}
+use Rattle.sheet_fields.proofs.Packing.{key-short}
+use Rattle.sheet_fields.proofs.Slices.{rest-part}
+use borrow.Author.Needs.{needs}
+use Rattle.sheet_fields.proofs.key_of.Statement.{statement}
+use Rattle.sheet_fields.proofs.key_of.Tie as tie
+use Rattle.sheet_fields.proofs.key_of.Reads as reads
+use Rattle.sheet_fields.proofs.key_of.Lts as lts
+use Rattle.sheet_fields.proofs.pack.Reads as pack-reads
+
+-- src/lib.rt:224:13
+pack-requires : tie.Need-pack-requires
+pack-requires c κs = search needs
+
+-- src/lib.rt:227:24
+slice-aggregate-pack : tie.Need-slice-aggregate-pack
+slice-aggregate-pack c = sym (length-take-le 8 (c .before .before .before .args .name .now) (omega arith))
+
+-- src/lib.rt:227:13
+pack-requires-2 : tie.Need-pack-requires-2
+pack-requires-2 c κs = rw (length-take 8 (c .before .before .before .args .name .now)) (omega arith)
+
+-- src/lib.rt:228:25
+sub-pack : tie.Need-sub-pack
+sub-pack c = search needs
+
+-- src/lib.rt:228:25
+part-pack-start : tie.Need-part-pack-start
+part-pack-start c = search needs
+
+-- src/lib.rt:228:25
+part-pack-end : tie.Need-part-pack-end
+part-pack-end c = search needs
+
+-- src/lib.rt:228:13
+pack-requires-3 : tie.Need-pack-requires-3
+pack-requires-3 c κs = search needs
+
+-- src/lib.rt:219:1
+returns : tie.Need-returns
+returns c = rw (c .pack .ensures) (key-short (c .before .before .before .args .name .now) (c .before .if1 .taken))
+
+-- src/lib.rt:219:1
+returns-2 : tie.Need-returns-2
+unfolding keyOf
+returns-2 c = rw (c .before .before .pack2 .ensures, c .pack3 .ensures, rest-part (c .before .before .before .before .before .before .args .name .now) 8)
+
+pub key-of-spec : {M : Type 1} → statement M
+key-of-spec =
+    tie.close
+    (tie.spec
+    pack-requires
+    slice-aggregate-pack
+    pack-requires-2
+    sub-pack
+    part-pack-start
+    part-pack-end
+    pack-requires-3
+    returns
+    returns-2)

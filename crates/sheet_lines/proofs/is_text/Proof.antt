@@ -1,0 +1,91 @@
+use borrow.Author.Needs.{needs}
+use mathlib.Core.Path.{_≡_, refl, sym, _∙_}
+use Prim.Native.Nat.{_-_, _≤_}
+use native.Mathlib.Omega.{arith}
+use lib.ListN.{length, drop}
+use Rattle.sheet_format.specs.Text.{all}
+use Rattle.sheet_format.specs.Questions.{isTextByte}
+use Rattle.sheet_fields.proofs.Scans.{all-next, all-not, all-end}
+use Rattle.sheet_lines.proofs.Texts.{text-none, text-byte, text-end}
+use Rattle.sheet_lines.proofs.is_text.Statement.{statement}
+use Rattle.sheet_lines.proofs.is_text.Tie as tie
+use Rattle.sheet_lines.proofs.is_text.Reads as reads
+use Rattle.sheet_lines.proofs.is_text.Lts as lts
+use Rattle.sheet_lines.proofs.is_text_byte.Reads as is-text-byte-reads
+
+abbrev Inv-loop : tie.InvT-loop
+Inv-loop s n i₀ i = (i ≤ length s) × (all isTextByte s ≡ all isTextByte (drop i s))
+
+abbrev μ-loop : tie.MeasureT-loop
+μ-loop s n i₀ i = length s - i
+
+-- src/lib.rt:53:9
+returns : tie.Need-returns Inv-loop μ-loop
+returns c = text-none (c .before .before .args .s .now) (c .if1 .taken)
+
+-- src/lib.rt:56:5
+loop-holds : tie.Need-loop-holds Inv-loop μ-loop
+loop-holds c = (omega arith, refl)
+
+-- src/lib.rt:57:25
+shared-slice-read-is-text-byte : tie.Need-shared-slice-read-is-text-byte Inv-loop μ-loop
+shared-slice-read-is-text-byte c = search needs
+
+-- src/lib.rt:57:12
+is-text-byte-requires : tie.Need-is-text-byte-requires Inv-loop μ-loop
+is-text-byte-requires c κs = search needs
+
+-- src/lib.rt:58:13
+returns-2 : tie.Need-returns-2 Inv-loop μ-loop
+returns-2 c =
+    let p = c .before .before .before .before in
+    let s = p .before .before .before .args .s .now in
+    text-byte s (p .loop .inv .1 ∙ all-not isTextByte s (p .loop .i) (c .before .before .before .loop-test .taken) (sym (c .before .is-text-byte .ensures) ∙ c .if2 .left))
+
+-- src/lib.rt:60:9
+add-i : tie.Need-add-i Inv-loop μ-loop
+add-i c = search needs
+
+-- src/lib.rt:56:5
+loop-less : tie.Need-loop-less Inv-loop μ-loop
+loop-less c = search needs
+
+-- src/lib.rt:56:5
+loop-again : tie.Need-loop-again Inv-loop μ-loop
+loop-again c =
+    let p = c .before .before .before .before in
+    let s = p .before .before .before .args .s .now in
+    (omega arith, p .loop .inv .1 ∙ all-next isTextByte s (p .loop .i) (c .before .before .before .loop-test .taken) (sym (c .before .is-text-byte .ensures) ∙ c .if2 .taken))
+
+-- src/lib.rt:62:7
+sub-result : tie.Need-sub-result Inv-loop μ-loop
+sub-result c = search needs
+
+-- src/lib.rt:62:5
+shared-slice-read-result : tie.Need-shared-slice-read-result Inv-loop μ-loop
+shared-slice-read-result c = search needs
+
+-- src/lib.rt:48:1
+returns-3 : tie.Need-returns-3 Inv-loop μ-loop
+returns-3 c =
+    let p = c .before .before in
+    let s = p .before .before .before .args .s .now in
+    text-end s (p .before .if1 .left) (p .loop .inv .1 ∙ all-end isTextByte s (p .loop .i) (c .before .loop-test .left))
+
+pub is-text-spec : {M : Type 1} → statement M
+is-text-spec =
+    tie.close
+    (tie.spec
+    Inv-loop
+    μ-loop
+    returns
+    loop-holds
+    shared-slice-read-is-text-byte
+    is-text-byte-requires
+    returns-2
+    add-i
+    loop-less
+    loop-again
+    sub-result
+    shared-slice-read-result
+    returns-3)

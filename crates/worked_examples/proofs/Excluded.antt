@@ -1,0 +1,163 @@
+-- Wrong answers that the contracts exclude, each at an example of the table.
+-- Assumes nothing.
+use mathlib.Core.Path.{_≡_, refl, ap, subst}
+use mathlib.Core.Bool.{true, false}
+use mathlib.Core.List.{List, [], _∷_}
+use mathlib.Core.Logic.{inl, inr}
+use Prim.Native.Nat.{ℕ, _≤_, _<_}
+use native.Mathlib.Omega.{arith}
+use lib.ListN.{length, getD}
+use Rattle.vertex_set.specs.Set.{Member}
+use Rattle.vertex_set.specs.Order.{Listed, sumOver}
+use Rattle.vertex_set.proofs.Sets.{member-below}
+use Rattle.setup.specs.WellFormed.{WellFormed}
+use Rattle.setup.specs.Calls.{Inside}
+use Rattle.derivations.specs.Access.{Step, AccessFrom}
+use Rattle.derivations.specs.Way.{Way}
+use Rattle.access.specs.Answers.{SetCall, WayCall}
+use Rattle.bases.specs.Base.{Base}
+use Rattle.bases.specs.Score.{Score, never}
+use Rattle.answers.specs.Answers.{BasesCall, ScoreCall, MarksCall}
+use Rattle.reference.specs.Tests.{lowest, some, every, those, isListed, isMember, isWithin, isMeeting, withVertex}
+use Rattle.reference.specs.Closures.{isComplete, isBroken, colourOf, isAdded, passOf, passesOf, closureOf, derivesOf, vertexOf, stepsOf, wayOf}
+use Rattle.reference.specs.Bases.{isChosen, setsOfSize, setsUpTo, setsOf, targetSetsOf, isMinimal, baseOf, leastSum, scoreOf, markOf, marksFrom, countsOf, marksOf}
+use Rattle.reference.proofs.Unique.{base-unique}
+use Rattle.worked_examples.specs.Sheets.{bench, ordpw, mailpw, token, mail, order, ring, pwdBackup, pwdManager, device, seed, accBackup, closed, only}
+use Rattle.worked_examples.specs.Table.{Example, lockout, marks, setOf, AllHold}
+use Rattle.worked_examples.proofs.Reading.{_&_, all-read, reads-well}
+use Rattle.worked_examples.proofs.Table.{all-hold, table-holds}
+use Rattle.worked_examples.proofs.Settled.{set-settled, way-counted, bases-settled, bases-counted, score-settled, marks-settled}
+
+-- ---- what is known of the examples
+
+well : WellFormed (bench .setup)
+well = reads-well bench (all-read .0)
+
+well-ring : WellFormed (ring .setup)
+well-ring = reads-well ring (all-read .1 .0)
+
+well-closed : WellFormed (closed .setup)
+well-closed = reads-well closed (all-read .1 .1 .1 .0)
+
+inside : (set : ℕ) → set < 32 → Inside (bench .setup) set
+inside set h = record { each = λ v m. member-below 5 set v h m }
+
+b2 : AccessFrom (bench .setup .graph) (setOf (mailpw ∷ [])) (setOf (mailpw ∷ mail ∷ order ∷ []))
+b2 = table-holds .1 .0
+
+b3 : Base false (bench .setup) (bench .setup .graph) order (setOf (mailpw ∷ []) ∷ setOf (ordpw ∷ token ∷ []) ∷ [])
+b3 = table-holds .1 .1 .0
+
+b4 : Base true (bench .setup) (bench .setup .graph) order (setOf (ordpw ∷ mailpw ∷ []) ∷ setOf (mailpw ∷ token ∷ []) ∷ [])
+b4 = table-holds .1 .1 .1 .0
+
+b5 : Score false (bench .setup) (bench .setup .graph) order 1
+b5 = table-holds .1 .1 .1 .1 .0
+
+abbrev steps : List Step
+steps = record { vertex = mail; colour = 0 } ∷ record { vertex = order; colour = 1 } ∷ []
+
+b6 : Way (bench .setup .graph) order (Member (setOf (mailpw ∷ []))) steps
+b6 = table-holds .1 .1 .1 .1 .1 .1 .0
+
+b8 : Base false (ring .setup) (ring .setup .graph) accBackup
+    (setOf (pwdBackup ∷ device ∷ []) ∷ setOf (pwdManager ∷ device ∷ []) ∷ setOf (pwdBackup ∷ seed ∷ []) ∷ setOf (pwdManager ∷ seed ∷ []) ∷ [])
+b8 = table-holds .1 .1 .1 .1 .1 .1 .1 .1 .0
+
+b10 : Score false (closed .setup) (closed .setup .graph) only never
+b10 = table-holds .1 .1 .1 .1 .1 .1 .1 .1 .1 .1 .0
+
+-- and of some more, shown likewise: the ring has no losable vertex; {mailpw, mail} and {mailpw} are handed in for order
+abbrev more : List Example
+more =
+    lockout ring accBackup []
+    ∷ marks bench order (setOf (mailpw ∷ mail ∷ []) ∷ []) 0 0 1 0 2
+    ∷ marks bench order (setOf (mailpw ∷ []) ∷ []) 1 0 0 0 1
+    ∷ []
+
+further : AllHold more
+unfolding lowest some every those isListed isMember isWithin isMeeting withVertex isComplete isBroken colourOf isAdded passOf passesOf closureOf derivesOf vertexOf stepsOf wayOf isChosen setsOfSize setsUpTo setsOf targetSetsOf isMinimal baseOf leastSum scoreOf markOf marksFrom countsOf marksOf sumOver
+further = all-hold more ((all-read .1 .0, refl) & (all-read .0, refl) & (all-read .0, refl) & tt)
+
+-- lists with other first elements are not equal
+apart : (a b : ℕ) (l k : List ℕ) → (a ≡ b → ⊥) → a ∷ l ≡ b ∷ k → ⊥
+apart a b l k n e = n cc
+
+-- ---- closures and ways in
+
+-- A closure that hands its set back (B2): {mailpw} opens mail and order.
+pub no-set-back : SetCall AccessFrom (bench .setup) (setOf (mailpw ∷ [])) 0 (setOf (mailpw ∷ []) ∷ []) → ⊥
+no-set-back c = apart 2 26 [] [] (omega arith) (set-settled (bench .setup) well false 2 26 0 _ (inside 2 (omega arith)) b2 c)
+
+-- "Shut" before looking (B6): there is a way in of two steps, whatever room the lists have.
+pub no-early-shut : (entry exit entry′ exit′ : List ℕ) → WayCall (bench .setup) order (setOf (mailpw ∷ [])) 0 [] entry exit entry′ exit′ → ⊥
+no-early-shut entry exit entry′ exit′ c =
+    let e = way-counted (bench .setup) well order (omega arith) 2 [] entry exit entry′ exit′ steps (inside 2 (omega arith)) b6 c in
+    let z : _≡_ {A = ℕ} 0 1 = ap length e in
+    omega arith
+
+-- ---- lists
+
+-- An always empty list (B3, B4): order has two opening sets and two lockout sets.
+pub no-empty-list : (n : ℕ) (entry exit : List ℕ) → BasesCall (bench .setup) order 0 (0 ∷ n ∷ []) entry exit → ⊥
+no-empty-list n entry exit c = apart 0 2 (n ∷ []) (2 ∷ []) (omega arith) (bases-counted (bench .setup) well order (omega arith) _ _ _ entry exit b3 b4 c)
+
+-- One minimal set instead of all, as where vertices are dropped one by one from the full set (B8): the ring has four.
+pub no-single-set : (n : ℕ) (entry exit : List ℕ) → BasesCall (ring .setup) accBackup 0 (1 ∷ n ∷ []) entry exit → ⊥
+no-single-set n entry exit c =
+    apart 1 4 (n ∷ []) (0 ∷ []) (omega arith) (bases-counted (ring .setup) well-ring accBackup (omega arith) _ _ _ entry exit b8 (further .0) c)
+
+-- Loss through one colour where another still opens (B4): without ordpw the colour of ordpw and token is broken, and mail still opens order.
+pub no-loss-by-one-colour : (l : List ℕ) → Base true (bench .setup) (bench .setup .graph) order l → Listed l (setOf (ordpw ∷ [])) → ⊥
+no-loss-by-one-colour l b m = none (subst (λ (k : List ℕ). Listed k 1) (base-unique true (bench .setup) (bench .setup .graph) order l (3 ∷ 6 ∷ []) b b4) m)
+  where
+    none : Listed (3 ∷ 6 ∷ []) 1 → ⊥
+    none (inl e) = omega arith
+    none (inr (inl e)) = omega arith
+    none (inr (inr z)) = z
+
+-- 15 at equality: four places are enough for order's two lists.
+pub no-refusal-at-equality : (entry exit : List ℕ) → length entry ≡ 4 → BasesCall (bench .setup) order 15 [] entry exit → ⊥
+no-refusal-at-equality entry exit n c =
+    let w = bases-settled (bench .setup) well order (omega arith) _ _ 15 [] entry exit b3 b4 c in
+    let z : _≡_ {A = ℕ} 15 0 = w .room (omega arith) .0 in
+    omega arith
+
+-- 15 judged by one list alone: three places have room for either list and not for both.
+pub no-room-for-one : (values entry exit : List ℕ) → length entry ≡ 3 → BasesCall (bench .setup) order 0 values entry exit → ⊥
+no-room-for-one values entry exit n c =
+    let w = bases-settled (bench .setup) well order (omega arith) _ _ 0 values entry exit b3 b4 c in
+    let z : _≡_ {A = ℕ} 0 15 = w .short (omega arith) .0 .numbered in
+    omega arith
+
+-- A lockout list one place late: behind order's two opening sets the first lockout set stands.
+pub no-gap : (number : ℕ) (values entry exit : List ℕ) → 4 ≤ length entry → BasesCall (bench .setup) order number values entry exit → getD exit 2 0 ≡ setOf (ordpw ∷ mailpw ∷ [])
+no-gap number values entry exit l c =
+    let w = bases-settled (bench .setup) well order (omega arith) _ _ number values entry exit b3 b4 c in
+    ap (λ (k : List ℕ). getD k 2 0) (w .room l .2)
+
+-- ---- scores
+
+-- "Never" beside an empty list (B5): the score is 1.
+pub no-early-never : ScoreCall false (bench .setup) order 0 (never ∷ []) → ⊥
+no-early-never c = apart never 1 [] [] (omega arith) (score-settled (bench .setup) well order (omega arith) false 1 0 _ b5 c)
+
+-- Score 0 where the list is empty (B10): it is never.
+pub no-free-score : ScoreCall false (closed .setup) only 0 (0 ∷ []) → ⊥
+no-free-score c = apart 0 never [] [] (omega arith) (score-settled (closed .setup) well-closed only (omega arith) false never 0 _ b10 c)
+
+-- ---- marks
+
+-- Loose before shut: {mailpw, mail} opens, and so does a part of it, but mail is no initial vertex.
+pub no-loose-before-shut : MarksCall false (bench .setup) order (setOf (mailpw ∷ mail ∷ []) ∷ []) 0 (0 ∷ 0 ∷ 0 ∷ 1 ∷ 2 ∷ []) → ⊥
+no-loose-before-shut c =
+    let e = marks-settled (bench .setup) well order (omega arith) false (setOf (mailpw ∷ mail ∷ []) ∷ []) 0 0 1 0 2 0 _ (further .1 .0) c in
+    let z : _≡_ {A = ℕ} 0 1 = ap (λ (l : List ℕ). getD l 2 0) e in
+    omega arith
+
+-- Full marks for a list with a set missing: {mailpw} alone is one of two.
+pub no-full-marks-early : MarksCall false (bench .setup) order (setOf (mailpw ∷ []) ∷ []) 0 (1 ∷ 0 ∷ 0 ∷ 0 ∷ 0 ∷ []) → ⊥
+no-full-marks-early c =
+    let e = marks-settled (bench .setup) well order (omega arith) false (setOf (mailpw ∷ []) ∷ []) 1 0 0 0 1 0 _ (further .1 .1 .0) c in
+    let z : _≡_ {A = ℕ} 0 1 = ap (λ (l : List ℕ). getD l 4 0) e in
+    omega arith

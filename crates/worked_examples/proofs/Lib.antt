@@ -1,0 +1,4 @@
+pub mod Excluded
+pub mod Reading
+pub mod Settled
+pub mod Table

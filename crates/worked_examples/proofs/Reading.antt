@@ -1,0 +1,24 @@
+-- The sheets' bytes are accepted with the setups that the table has: the reader's definition, computed. So the setups are well formed.
+-- Assumes nothing.
+use mathlib.Core.Path.{refl}
+use Rattle.setup.specs.WellFormed.{WellFormed}
+use Rattle.sheet_format.specs.Text.{grow, linesOf, fieldsOf, isEmpty, sameText, all}
+use Rattle.sheet_format.specs.Fields.{isDigit, isNameByte, isName, isNumber, valueBehind, numberOf, isNumberTo, isKind, kindOf, isValue, valueOf}
+use Rattle.sheet_format.specs.Rows.{firstHeader, secondHeader, startCount, lossCount, numberIn, verticesOf, emptyGraph, withEdge, withEdges, recoveryRows, setupOf}
+use Rattle.sheet_format.specs.Questions.{question1, isTextByte, endsInLF, question2, question3, question10, noneEmpty, question4, question5Item, question5Edge, itemOf, edgeOf, isKnown, question6, question8, sameEdge, isRepeated, question9, question7Item, question7Edge}
+use Rattle.sheet_format.specs.Read.{itemQuestions, edgeQuestions, questionsOf, behind, firstNo, question11, unless, readLines, readSheet}
+use Rattle.sheet_format.proofs.Question12.{question-12}
+use Rattle.worked_examples.specs.Sheets.{Sheet, Reads, AllRead, linesText}
+
+-- One more entry shown.
+infixr 20 _&_
+pub _&_ : {P Q : Type 0} → P → Q → P × Q
+p & q = (p, q)
+
+pub all-read : AllRead
+unfolding grow linesOf fieldsOf isEmpty sameText all isDigit isNameByte isName isNumber valueBehind numberOf isNumberTo isKind kindOf isValue valueOf firstHeader secondHeader startCount lossCount numberIn verticesOf emptyGraph withEdge withEdges recoveryRows setupOf question1 isTextByte endsInLF question2 question3 question10 noneEmpty question4 question5Item question5Edge itemOf edgeOf isKnown question6 question8 sameEdge isRepeated question9 question7Item question7Edge itemQuestions edgeQuestions questionsOf behind firstNo question11 unless readLines readSheet
+all-read = refl & refl & refl & refl & refl & refl & tt
+
+-- question 12: what an accepted sheet yields is well formed
+pub reads-well : (x : Sheet) → Reads x → WellFormed (x .setup)
+reads-well x e = question-12 (x .setup) .from (linesText (x .lines), e)

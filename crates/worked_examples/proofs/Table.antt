@@ -1,0 +1,83 @@
+-- The table holds: each entry is computed by the executable definitions, which are the declared ones.
+-- Assumes nothing.
+use mathlib.Core.Path.{_≡_, refl, subst}
+use mathlib.Core.Bool.{true, false}
+use mathlib.Core.List.{List, [], _∷_}
+use Rattle.vertex_set.specs.Set.{Member}
+use Rattle.vertex_set.specs.Order.{sumOver}
+use Rattle.setup.specs.WellFormed.{WellFormed}
+use Rattle.derivations.specs.Access.{AccessFrom}
+use Rattle.derivations.specs.Way.{Way}
+use Rattle.bases.specs.Base.{Base}
+use Rattle.bases.specs.Score.{Score}
+use Rattle.sheet_format.specs.Rows.{Each}
+use Rattle.reference.specs.Tests.{lowest, some, every, those, isListed, isMember, isWithin, isMeeting, withVertex}
+use Rattle.reference.specs.Closures.{isComplete, isBroken, colourOf, isAdded, passOf, passesOf, closureOf, derivesOf, vertexOf, stepsOf, wayOf}
+use Rattle.reference.specs.Bases.{isChosen, setsOfSize, setsUpTo, setsOf, targetSetsOf, isMinimal, baseOf, leastSum, scoreOf, markOf, marksFrom, countsOf, marksOf}
+use Rattle.reference.specs.Meaning.{Meaning}
+use Rattle.reference.proofs.Graphs.{own-graph}
+use Rattle.reference.proofs.Marks.{counts-of}
+use Rattle.reference.proofs.Meaning.{meaning}
+use Rattle.worked_examples.specs.Sheets.{Sheet, Reads}
+use Rattle.worked_examples.specs.Table.{Example, closure, opening, lockout, score, risk, way, marks, Holds, table, AllHold}
+use Rattle.worked_examples.proofs.Reading.{_&_, all-read, reads-well}
+
+-- The sheet of an example.
+abbrev pub sheetOf : Example → Sheet
+sheetOf (closure x set result) = x
+sheetOf (opening x target l) = x
+sheetOf (lockout x target l) = x
+sheetOf (score x target result) = x
+sheetOf (risk x target result) = x
+sheetOf (way x target set steps) = x
+sheetOf (marks x target handed right repeated shut loose missing) = x
+
+-- What the executable definitions give for an example.
+abbrev pub Computed : Example → Type 0
+Computed (closure x set result) = closureOf false (x .setup .count) (x .setup .graph) set ≡ result
+Computed (opening x target l) = baseOf false (x .setup) (x .setup .graph) target ≡ l
+Computed (lockout x target l) = baseOf true (x .setup) (x .setup .graph) target ≡ l
+Computed (score x target result) = scoreOf false (x .setup) (x .setup .graph) target ≡ result
+Computed (risk x target result) = scoreOf true (x .setup) (x .setup .graph) target ≡ result
+Computed (way x target set steps) =
+    (derivesOf false (x .setup .count) (x .setup .graph) target set ≡ true) × (wayOf (x .setup .count) (x .setup .graph) target set ≡ steps)
+Computed (marks x target handed right repeated shut loose missing) =
+    marksOf false (x .setup) (x .setup .graph) target handed ≡ right ∷ repeated ∷ shut ∷ loose ∷ missing ∷ []
+
+means : (x : Sheet) → WellFormed (x .setup) → Meaning (x .setup) (x .setup .graph)
+means x w = meaning (x .setup) (x .setup .graph) w (own-graph (x .setup) w)
+
+-- what is computed holds
+holds : (e : Example) → WellFormed (sheetOf e .setup) → Computed e → Holds e
+holds (closure x set result) w c = subst (AccessFrom (x .setup .graph) set) c (means x w .closure false set)
+holds (opening x target l) w c = subst (Base false (x .setup) (x .setup .graph) target) c (means x w .base false target)
+holds (lockout x target l) w c = subst (Base true (x .setup) (x .setup .graph) target) c (means x w .base true target)
+holds (score x target result) w c = subst (Score false (x .setup) (x .setup .graph) target) c (means x w .score false target)
+holds (risk x target result) w c = subst (Score true (x .setup) (x .setup .graph) target) c (means x w .score true target)
+holds (way x target set steps) w c = subst (Way (x .setup .graph) target (Member set)) (c .1) (means x w .way target set (c .0))
+holds (marks x target handed right repeated shut loose missing) w c =
+    counts-of false (x .setup) (x .setup .graph) target w (own-graph (x .setup) w) handed right repeated shut loose missing c
+
+-- An entry of the table is computed, and its sheet read.
+abbrev pub Shown : Example → Type 0
+Shown e = Reads (sheetOf e) × Computed e
+
+pub all-hold : (l : List Example) → Each Shown l → AllHold l
+all-hold [] s = tt
+all-hold (e ∷ l) s = (holds e (reads-well (sheetOf e) (s .0 .0)) (s .0 .1), all-hold l (s .1))
+
+table-shown : Each Shown table
+unfolding lowest some every those isListed isMember isWithin isMeeting withVertex isComplete isBroken colourOf isAdded passOf passesOf closureOf derivesOf vertexOf stepsOf wayOf isChosen setsOfSize setsUpTo setsOf targetSetsOf isMinimal baseOf leastSum scoreOf markOf marksFrom countsOf marksOf sumOver
+table-shown =
+    let bench = all-read .0 in
+    let ring = all-read .1 .0 in
+    let alone = all-read .1 .1 .0 in
+    let closed = all-read .1 .1 .1 .0 in
+    let loop = all-read .1 .1 .1 .1 .0 in
+    let pair = all-read .1 .1 .1 .1 .1 .0 in
+    (bench, refl) & (bench, refl) & (bench, refl) & (bench, refl) & (bench, refl) & (bench, refl) & (bench, (refl, refl)) & (bench, refl)
+    & (ring, refl) & (alone, refl) & (closed, refl) & (loop, refl) & (loop, refl) & (pair, refl) & tt
+
+-- B1 to B12
+pub table-holds : AllHold table
+table-holds = all-hold table table-shown

@@ -1,0 +1,78 @@
+-- Document 01's bench examples, B1 to B12, and what it is for them to hold: in terms of the definitions that the contracts cite.
+use mathlib.Core.Bool.{true, false}
+use mathlib.Core.List.{List, [], _∷_}
+use Prim.Native.Nat.{ℕ, _^_}
+use Rattle.vertex_set.specs.Set.{Member}
+use Rattle.setup.specs.Setup.{total}
+use Rattle.derivations.specs.Access.{Step, AccessFrom}
+use Rattle.derivations.specs.Way.{Way}
+use Rattle.bases.specs.Base.{Base}
+use Rattle.bases.specs.Score.{Score, never}
+use Rattle.bases.specs.Marks.{Counts}
+use Rattle.sheet_format.specs.Rows.{Each}
+use Rattle.worked_examples.specs.Sheets.{Sheet, bench, ordpw, mailpw, token, mail, order, ring, pwdBackup, pwdManager, device, seed, accBackup, alone, closed, loop, only, pair, p, q}
+
+-- The set of the vertices of the list.
+abbrev pub setOf : List ℕ → ℕ
+setOf l = total (λ v. 2 ^ v) l
+
+-- ---- what an example says
+
+pub data Example : Type 0 where
+  -- the closure of a set
+  closure : Sheet → (set result : ℕ) → Example
+  -- the opening list and the lockout list of a target
+  opening : Sheet → (target : ℕ) → List ℕ → Example
+  lockout : Sheet → (target : ℕ) → List ℕ → Example
+  -- its score and its risk
+  score : Sheet → (target result : ℕ) → Example
+  risk : Sheet → (target result : ℕ) → Example
+  -- the way in to a target from a set
+  way : Sheet → (target set : ℕ) → List Step → Example
+  -- the marks for sets handed in as the opening list: right, repeated, shut, loose, missing
+  marks : Sheet → (target : ℕ) → List ℕ → (right repeated shut loose missing : ℕ) → Example
+
+abbrev pub Holds : Example → Type 0
+Holds (closure x set result) = AccessFrom (x .setup .graph) set result
+Holds (opening x target l) = Base false (x .setup) (x .setup .graph) target l
+Holds (lockout x target l) = Base true (x .setup) (x .setup .graph) target l
+Holds (score x target result) = Score false (x .setup) (x .setup .graph) target result
+Holds (risk x target result) = Score true (x .setup) (x .setup .graph) target result
+Holds (way x target set steps) = Way (x .setup .graph) target (Member set) steps
+Holds (marks x target handed right repeated shut loose missing) =
+    Counts false (x .setup) (x .setup .graph) target handed right repeated shut loose missing
+
+-- ---- the examples
+
+abbrev pub table : List Example
+table =
+    -- B1: the closure of the empty set is empty
+    closure bench (setOf []) (setOf [])
+    -- B2: the closure of {mailpw} adds mail, order
+    ∷ closure bench (setOf (mailpw ∷ [])) (setOf (mailpw ∷ mail ∷ order ∷ []))
+    -- B3, B4: order's two lists
+    ∷ opening bench order (setOf (mailpw ∷ []) ∷ setOf (ordpw ∷ token ∷ []) ∷ [])
+    ∷ lockout bench order (setOf (ordpw ∷ mailpw ∷ []) ∷ setOf (mailpw ∷ token ∷ []) ∷ [])
+    -- B5: score 1, risk 3
+    ∷ score bench order 1
+    ∷ risk bench order 3
+    -- B6: the way in from {mailpw}
+    ∷ way bench order (setOf (mailpw ∷ [])) (record { vertex = mail; colour = 0 } ∷ record { vertex = order; colour = 1 } ∷ [])
+    -- B7: {mailpw}, {mailpw}, {mailpw, token}, {token} for order: right, repeated, loose, shut and missing are 1 each
+    ∷ marks bench order (setOf (mailpw ∷ []) ∷ setOf (mailpw ∷ []) ∷ setOf (mailpw ∷ token ∷ []) ∷ setOf (token ∷ []) ∷ []) 1 1 1 1 1
+    -- B8: the four opening sets of document 003's example 5
+    ∷ opening ring accBackup
+    (setOf (pwdBackup ∷ device ∷ []) ∷ setOf (pwdManager ∷ device ∷ []) ∷ setOf (pwdBackup ∷ seed ∷ []) ∷ setOf (pwdManager ∷ seed ∷ []) ∷ [])
+    -- B9: start 5, score 5
+    ∷ score alone only 5
+    -- B10: start `-`, score never
+    ∷ score closed only never
+    -- B11: no opening set, lockout set itself
+    ∷ opening loop only []
+    ∷ lockout loop only (setOf (only ∷ []) ∷ [])
+    -- B12: p and q open each other: lockout sets of p are {p} and {q}
+    ∷ lockout pair p (setOf (p ∷ []) ∷ setOf (q ∷ []) ∷ [])
+    ∷ []
+
+abbrev pub AllHold : List Example → Type 0
+AllHold l = Each Holds l

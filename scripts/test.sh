@@ -1,0 +1,28 @@
+#!/bin/bash
+# Everything that is to hold before a change lands. The last line is `rt ci`'s own `N passed, 0 failed`, printed again
+# if and only if all else has passed too.
+set -euo pipefail
+cd "$(dirname "$0")/.."
+
+for tool in rt python3 cargo gcc; do
+    command -v "$tool" > /dev/null || { echo "test: $tool is missing" >&2; exit 1; }
+done
+
+echo "test: layout"
+rt fmt --check
+
+echo "test: contracts"
+python3 scripts/contracts.py
+
+echo "test: proofs, must-fail edits and programs"
+log=$(mktemp)
+trap 'rm -f "$log"' EXIT
+rt ci 2>&1 | tee "$log"
+verdict=$(tail -n 1 "$log")
+[[ $verdict =~ ^[0-9]+\ passed,\ 0\ failed$ ]] || { echo "test: rt ci did not pass" >&2; exit 1; }
+
+# These come after `rt ci`, which removes target/: they use what it has built, and nothing is proved twice.
+echo "test: Rust"
+(cd tests && cargo test --release --quiet)
+
+echo "$verdict"

@@ -1,0 +1,59 @@
+//! Closures, lost sets and ways in on a well-formed setup (01, "Access" and "Loss"; 003,
+//! definitions 2, 3 and 18). No question is asked here.
+
+use crate::setup::{holds, single, within, Place, Setup, COLOURS};
+
+/// The lowest colour of an item whose row is not empty and lies within the held set.
+fn complete_colour(place: &Place, held: u64) -> Option<usize> {
+    (0..COLOURS).find(|&colour| place.rows[colour] != 0 && within(place.rows[colour], held))
+}
+
+/// Whether an item has at least one colour, and every colour of it has a lost needed item.
+fn every_colour_broken(place: &Place, lost: u64) -> bool {
+    let mut colours = place.rows.iter().filter(|&&row| row != 0).peekable();
+    colours.peek().is_some() && colours.all(|row| row & lost != 0)
+}
+
+/// The least set that has `given` and each item that `rule` allows: passes over all items
+/// until one adds nothing.
+fn least_fixpoint(setup: &Setup, given: u64, rule: fn(&Place, u64) -> bool) -> u64 {
+    let mut set = given;
+    loop {
+        let before = set;
+        for (item, place) in setup.used().iter().enumerate() {
+            if !holds(set, item) && rule(place, set) {
+                set |= single(item);
+            }
+        }
+        if set == before {
+            return set;
+        }
+    }
+}
+
+/// The closure: all items with a derivation from `held`.
+pub fn closure(setup: &Setup, held: u64) -> u64 {
+    least_fixpoint(setup, held, |place, set| complete_colour(place, set).is_some())
+}
+
+/// The lost set: all items with a loss derivation from `lost`.
+pub fn lost_set(setup: &Setup, lost: u64) -> u64 {
+    least_fixpoint(setup, lost, every_colour_broken)
+}
+
+/// The way in: while the target isn't held, the lowest-numbered item that can be added, with
+/// its lowest complete colour. `None` is "shut".
+pub fn way_in(setup: &Setup, held: u64, target: usize) -> Option<Vec<(u8, u8)>> {
+    let mut held = held;
+    let mut way = Vec::new();
+    while !holds(held, target) {
+        let mut outside = (0..setup.count as usize).filter(|&item| !holds(held, item));
+        let (item, colour) = outside.find_map(|item| {
+            let colour = complete_colour(&setup.places[item], held)?;
+            Some((item, colour))
+        })?;
+        held |= single(item);
+        way.push((item as u8, colour as u8));
+    }
+    Some(way)
+}

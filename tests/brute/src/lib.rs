@@ -1,0 +1,26 @@
+//! An independent brute force for account access graphs, written from documents 01 and 003
+//! alone. It shares no definition with the proved code: wherever the two differ on some input,
+//! one of them reads the documents wrongly.
+//!
+//! Everything is done in the plainest way there is: fixpoints by repeated passes, lists by
+//! going through all subsets. Speed comes second, and cleverness not at all.
+//!
+//! * [`sheet`] reads a sheet: the setup and the names, or the refusal's number and line.
+//! * [`setup`] is the setup as plain data, with question 12.
+//! * [`graph`] has closures, lost sets and ways in; [`lists`] the lists, least sums and marks.
+//! * [`calls`] answers as the product's calls do: questions 12 to 15 in order, lent lists.
+//! * [`report`] prints the report's bytes and the portal's numbers.
+//! * [`cases`] makes the inputs on which the two programs are compared.
+
+pub mod calls;
+pub mod cases;
+pub mod graph;
+pub mod lists;
+pub mod report;
+pub mod setup;
+pub mod sheet;
+
+pub use calls::{Calls, Way};
+pub use lists::{Least, Marks};
+pub use setup::{Place, Setup};
+pub use sheet::{Refusal, Sheet};

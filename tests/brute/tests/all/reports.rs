@@ -1,0 +1,114 @@
+//! Reports of small sheets, written out, and findings at their edges.
+
+use crate::calls;
+use brute::cases::bounds::{bounds, longest_reports};
+use brute::cases::random::{large_sheets, random_sheets};
+use brute::report::report;
+
+fn printed(sheet: &str) -> String {
+    String::from_utf8_lossy(&report(sheet.as_bytes())).into_owned()
+}
+
+#[test]
+fn no_account() {
+    let sheet = "name kind start loss rank\np c 1 1 0\n\nfrom to colour rec\n";
+    let text = "target way size sum items\n\ntarget score risk back idle\n\nabove below\n";
+    assert_eq!(printed(sheet), text);
+}
+
+#[test]
+fn no_pair() {
+    let sheet = "name kind start loss rank\np c 2 0 9\nq a - - 0\nr a 7 - 0\n\n\
+                 from to colour rec\np q 5 0\n";
+    let text = "target way size sum items\nq open 1 2 p\nq lock 1 0 p\nr open 1 7 r\n\n\
+                target score risk back idle\nq 2 0 no yes\nr 7 - no yes\n\nabove below\n";
+    assert_eq!(printed(sheet), text);
+}
+
+/// Two unreachable accounts of different rank are a pair; never against never is idle and no
+/// backdoor.
+#[test]
+fn unreachable_accounts() {
+    let sheet = "name kind start loss rank\nx a - - 1\ny a - - 2\nz a 0 - 3\n\n\
+                 from to colour rec\nx x 0 1\n";
+    let text = "target way size sum items\nz open 1 0 z\n\n\
+                target score risk back idle\nx - - no yes\ny - - no yes\nz 0 - no yes\n\n\
+                above below\ny x\nz x\nz y\n";
+    assert_eq!(printed(sheet), text);
+}
+
+#[test]
+fn refused_sheets() {
+    assert_eq!(printed(""), "refused 2 0\n");
+    assert_eq!(printed("name kind start loss rank\n"), "refused 11 2\n");
+    assert_eq!(String::from_utf8_lossy(&report(&[b'x'; 20_000])), "refused 1 0\n");
+}
+
+/// An account that opens by recovery alone has a backdoor; one that can be lost only without
+/// its recovery is not idle.
+#[test]
+fn recovery_against_never() {
+    let sheet = "name kind start loss rank\np c 1 - 0\nq c - 5 0\nr a - - 0\n\n\
+                 from to colour rec\np r 0 1\nq r 1 0\n";
+    let calls = calls(sheet);
+    assert_eq!((calls.backdoor(2), calls.idle(2)), (Ok(true), Ok(false)));
+    // Credentials and items without edges are asked as any other.
+    assert_eq!((calls.backdoor(0), calls.idle(0)), (Ok(false), Ok(true)));
+    assert_eq!(calls.idle(1), Ok(true));
+}
+
+/// One of two edges of a colour is marked: without it the other alone is enough, and so the
+/// score without recovery is lower and there is no backdoor.
+#[test]
+fn mixed_recovery_colour() {
+    let sheet = "name kind start loss rank\np c 1 1 0\nq c 1 9 0\nr a - - 0\n\n\
+                 from to colour rec\np r 0 1\nq r 0 0\n";
+    let calls = calls(sheet);
+    assert_eq!((calls.backdoor(2), calls.idle(2)), (Ok(false), Ok(true)));
+}
+
+#[test]
+fn reports_have_their_shape() {
+    for case in random_sheets(21, 1_200).chain(bounds()) {
+        let text = String::from_utf8(report(&case.sheet)).expect("plain text");
+        if text.starts_with("refused ") {
+            assert_eq!(text.lines().count(), 1);
+            continue;
+        }
+        let headers = ["target way size sum items", "target score risk back idle", "above below"];
+        let parts: Vec<&str> = text.split("\n\n").collect();
+        assert_eq!(parts.len(), 3, "{}", case.label);
+        for (part, header) in parts.iter().zip(headers) {
+            assert_eq!(part.lines().next(), Some(header), "{}", case.label);
+        }
+        assert!(text.ends_with('\n') && !text.ends_with("\n\n"));
+    }
+}
+
+#[test]
+fn large_reports() {
+    let large: Vec<_> = large_sheets(22, 12).collect();
+    for case in &large {
+        let setup = brute::sheet::setup_of(&case.sheet);
+        assert!(setup.count > 0, "{}", case.label);
+        report(&case.sheet);
+    }
+}
+
+#[test]
+fn the_longest_reports() {
+    let sizes: Vec<(usize, usize, usize)> = longest_reports()
+        .iter()
+        .map(|case| {
+            let text = report(&case.sheet);
+            let lengths: Vec<usize> =
+                text.split_inclusive(|&byte| byte == b'\n').map(<[u8]>::len).collect();
+            (lengths.len(), text.len(), lengths.into_iter().max().unwrap_or(0))
+        })
+        .collect();
+    let rows: Vec<usize> = sizes.iter().map(|size| size.0).collect();
+    let most = 28 * (3_432 + 3_003);
+    assert!(rows[0] > 20_000 && rows[1] > 20_000 && rows[2] > most, "{sizes:?}");
+    assert!(sizes[2].1 > 16_000_000, "{sizes:?}");
+    assert_eq!(sizes[3].2, 272, "{sizes:?}");
+}

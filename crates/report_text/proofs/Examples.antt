@@ -4,8 +4,6 @@ use mathlib.Core.Path.{_≡_, refl}
 use mathlib.Core.List.{List, [], _∷_}
 use Prim.Native.Nat.{ℕ}
 use lib.Count.{ones}
-use lib.Bits.{bitAnd, bitOr}
-use lib.Dec.{eqb, ltb, leb}
 use Rattle.vertex_set.specs.Order.{sumOver}
 use Rattle.sheet_format.specs.Text.{grow, linesOf, fieldsOf, isEmpty, sameText, all}
 use Rattle.sheet_format.specs.Fields.{isDigit, isNameByte, isName, isNumber, valueBehind, numberOf, isNumberTo, digitsIn, decimal, isKind, kindOf, isValue, valueOf}

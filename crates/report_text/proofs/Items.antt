@@ -63,7 +63,7 @@ from-places x (suc n) k =
     those-no (isMember x) k (numbersFrom (suc k) n) (member-no x k o) ∙ ih ∙ rw (places-even n (x / 2 ^ k) even))
     (same-or (x / 2 ^ k % 2) 1)
 
-items-places : (x : ℕ) → itemsOf x ≡ places 64 x
+pub items-places : (x : ℕ) → itemsOf x ≡ places 64 x
 unfolding itemsOf
 items-places x = let e : x / 2 ^ 0 ≡ x = omega arith in from-places x 64 0 ∙ map-zero (places 64 (x / 2 ^ 0)) ∙ ap (places 64) e
 

@@ -1,8 +1,8 @@
 -- How long rows are: at most 272 bytes, with names of at most 16 bytes, at most 14 items in a set, and a sum of at most eight digits.
 -- Assumes nothing.
-use mathlib.Core.Path.{_≡_, refl, sym, ap, _∙_, subst}
+use mathlib.Core.Path.{_≡_, refl}
 use mathlib.Core.Bool.{Bool, true, false}
-use mathlib.Core.List.{List, [], _∷_, _++_}
+use mathlib.Core.List.{List, [], _∷_}
 use mathlib.Core.Logic.{inl, inr, ⊎-elim}
 use Prim.Native.Nat.{ℕ, zero, suc, _+_, _-_, _*_, _/_, _%_, _^_, _≤_, _<_}
 use native.Mathlib.Nat.{pow-suc}
@@ -14,11 +14,11 @@ use Rattle.vertex_set.specs.Set.{Member}
 use Rattle.vertex_set.specs.Order.{Listed}
 use Rattle.vertex_set.proofs.Cases.{less-or, same-or}
 use Rattle.vertex_set.proofs.Places.{places, length-places, listed-places}
-use Rattle.sheet_format.specs.Fields.{digitsIn, decimal, dash}
+use Rattle.sheet_format.specs.Fields.{digitsIn, decimal}
 use Rattle.sheet_format.specs.Rows.{lineText}
 use Rattle.bases.specs.Score.{never}
 use Rattle.report_text.specs.Rows.{wayText, answerText, scoreText, joined, setText, setRow, scoreRow, pairRow, refusedRow}
-use Rattle.report_text.proofs.Items.{namesOf, set-text}
+use Rattle.report_text.proofs.Items.{set-text}
 use Rattle.report_text.proofs.Rows.{score-never, score-number}
 
 -- ---- fields

@@ -14,6 +14,7 @@ use Rattle.setup.specs.Setup.{vertexAt, rowsAt, rowOf}
 use Rattle.sheet_format.specs.declared.Reading.{Reading}
 use Rattle.sheet_format.specs.Text.{linesOf, fieldsOf}
 use Rattle.sheet_format.specs.Read.{readSheet}
+use Rattle.bases.specs.Score.{sumOf}
 use Rattle.reference.specs.Tests.{those}
 use Rattle.reference.specs.Bases.{baseOf, scoreOf}
 use Rattle.report_text.specs.Rows.{numbersFrom, textsOf, setRow, scoreRow, pairRow, refusedRow, listHeader, scoreHeader, pairHeader}
@@ -60,9 +61,13 @@ isOutOfRank s v w = ltb (vertexAt s w .rank) (vertexAt s v .rank) && leb (scoreO
 
 -- ---- sections
 
+-- The row of a set of the target's list. Sum adds the start or loss values of its items.
+unfoldable pub baseRow : (ℕ → List ℕ) → Setup → Bool → ℕ → ℕ → List ℕ
+baseRow name s loss v x = setRow name loss v x (sumOf loss s x)
+
 -- The rows of one target: its open sets, then its lock sets, in list order.
 unfoldable pub targetRows : (ℕ → List ℕ) → Setup → ℕ → List ℕ
-targetRows name s v = textsOf (setRow name s false v) (baseOf false s (s .graph) v) ++ textsOf (setRow name s true v) (baseOf true s (s .graph) v)
+targetRows name s v = textsOf (baseRow name s false v) (baseOf false s (s .graph) v) ++ textsOf (baseRow name s true v) (baseOf true s (s .graph) v)
 
 unfoldable pub listSection : (ℕ → List ℕ) → Setup → List ℕ
 listSection name s = listHeader ++ textsOf (targetRows name s) (accountsOf s)

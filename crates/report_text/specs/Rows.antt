@@ -4,10 +4,9 @@ use mathlib.Core.List.{List, [], _∷_, _++_}
 use Prim.Native.Nat.{ℕ, zero, suc}
 use lib.Count.{ones}
 use lib.Dec.{eqb}
-use Rattle.setup.specs.declared.Setup.{Setup}
 use Rattle.sheet_format.specs.Fields.{decimal, dash}
 use Rattle.sheet_format.specs.Rows.{lineText}
-use Rattle.bases.specs.Score.{sumOf, never}
+use Rattle.bases.specs.Score.{never}
 use Rattle.reference.specs.Tests.{those, isMember}
 
 -- n numbers from v on: v, v + 1, ..
@@ -51,9 +50,9 @@ setText name x = joined name (itemsOf x)
 
 -- ---- rows
 
--- `order open 2 4 ordpw+token`: a set of the target's list. Size counts its items, sum adds their start or loss values.
-unfoldable pub setRow : (ℕ → List ℕ) → Setup → Bool → ℕ → ℕ → List ℕ
-setRow name s loss target x = lineText (name target ∷ wayText loss ∷ decimal (ones x) ∷ decimal (sumOf loss s x) ∷ setText name x ∷ [])
+-- `order open 2 4 ordpw+token`: a set of the target's list. Size counts its items.
+unfoldable pub setRow : (ℕ → List ℕ) → Bool → ℕ → ℕ → ℕ → List ℕ
+setRow name loss target x sum = lineText (name target ∷ wayText loss ∷ decimal (ones x) ∷ decimal sum ∷ setText name x ∷ [])
 
 -- `order 1 3 yes no`: score, risk, backdoor and idle.
 unfoldable pub scoreRow : (ℕ → List ℕ) → ℕ → ℕ → ℕ → Bool → Bool → List ℕ

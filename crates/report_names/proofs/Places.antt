@@ -112,7 +112,7 @@ module _ (sheet from to : List ℕ) (v at : ℕ) (n : NamesSoFar sheet from to v
         longTo = length-set to v (at + k) ∙ n .longTo;
         each = λ w l. ⊎-elim
             (λ x. subst (NamePlace sheet (set from v at) (set to v (at + k))) (sym x)
-                (place-new sheet from to v at (at + k) (let a = n .longFrom in omega arith) (let a = n .longTo in omega arith) (omega arith) (omega arith) is))
+            (place-new sheet from to v at (at + k) (let a = n .longFrom in omega arith) (let a = n .longTo in omega arith) (omega arith) (omega arith) is))
             (λ x. place-kept sheet from to v at (at + k) w x (n .each w (omega (arith, x))))
             (same-or w v);
         lines = rw (add-one v) (tail-eq-of-cons-eq i);

@@ -134,7 +134,7 @@ module _ (s : Setup) (w : WellFormed s) where
         without = scoreOf false s (lessRecovery s) v;
         are = compared false v;
         decides = decide-iff (record { to = λ h. record { are = compared false v; below = h }; from = λ f. f .below })
-          (decide-ltb (scoreOf false s (s .graph) v) (scoreOf false s (lessRecovery s) v));
+            (decide-ltb (scoreOf false s (s .graph) v) (scoreOf false s (lessRecovery s) v));
       }
 
   finds-idle : (v : ℕ) → FindsIneffective s v (isIdle s v)
@@ -145,7 +145,7 @@ module _ (s : Setup) (w : WellFormed s) where
         without = scoreOf true s (lessRecovery s) v;
         are = compared true v;
         decides = decide-iff (record { to = λ h. record { are = compared true v; most = h }; from = λ f. f .most })
-          (decide-leb (scoreOf true s (s .graph) v) (scoreOf true s (lessRecovery s) v));
+            (decide-leb (scoreOf true s (s .graph) v) (scoreOf true s (lessRecovery s) v));
       }
 
   finds-pair : (v u : ℕ) → FindsInconsistent s v u (isOutOfRank s v u)
@@ -160,8 +160,8 @@ module _ (s : Setup) (w : WellFormed s) where
           to = λ h. record { score = own false v; other = own false u; rank = h .0; most = h .1 };
           from = λ f. (f .rank, f .most);
         })
-          (decide-and (ltb (vertexAt s u .rank) (vertexAt s v .rank)) (leb (scoreOf false s (s .graph) v) (scoreOf false s (s .graph) u))
-          (decide-ltb (vertexAt s u .rank) (vertexAt s v .rank)) (decide-leb (scoreOf false s (s .graph) v) (scoreOf false s (s .graph) u)));
+            (decide-and (ltb (vertexAt s u .rank) (vertexAt s v .rank)) (leb (scoreOf false s (s .graph) v) (scoreOf false s (s .graph) u))
+            (decide-ltb (vertexAt s u .rank) (vertexAt s v .rank)) (decide-leb (scoreOf false s (s .graph) v) (scoreOf false s (s .graph) u)));
       }
 
 pub report-meaning : (s : Setup) → WellFormed s → ReportMeaning s

@@ -41,16 +41,16 @@ impl SecurityScore {
 pub struct RecoverabilityScore(pub u64);
 
 impl RecoverabilityScore {
-    pub fn below(self, other: RecoverabilityScore) -> bool
-        ensures { λ r. ⌜ Decides (self .0 < other .0) r ⌝ }
+    pub fn below(self, than: RecoverabilityScore) -> bool
+        ensures { λ r. ⌜ Decides (self .0 < than .0) r ⌝ }
     {
-        self.0 < other.0
+        self.0 < than.0
     }
 
-    pub fn at_most(self, other: RecoverabilityScore) -> bool
-        ensures { λ r. ⌜ Decides (self .0 ≤ other .0) r ⌝ }
+    pub fn at_most(self, than: RecoverabilityScore) -> bool
+        ensures { λ r. ⌜ Decides (self .0 ≤ than .0) r ⌝ }
     {
-        self.0 <= other.0
+        self.0 <= than.0
     }
 }
 

@@ -1,15 +1,8 @@
 -- Demand 3, whole: for every setup and target, rings included, what the call for both lists, score, risk and marking answer.
-use mathlib.Core.Path.{_≡_}
-use mathlib.Core.Bool.{Bool, true, false}
-use mathlib.Core.List.{List, [], _∷_, _++_}
-use Prim.Native.Nat.{ℕ, _+_, _≤_, _<_}
-use lib.ListN.{length, drop}
-use Rattle.vertex_set.specs.Set.{Iff}
+use mathlib.Core.Bool.{true, false}
+use mathlib.Core.List.{List}
+use Prim.Native.Nat.{ℕ}
 use Rattle.setup.specs.declared.Setup.{Setup}
-use Rattle.setup.specs.WellFormed.{WellFormed}
-use Rattle.bases.specs.Base.{Base}
-use Rattle.bases.specs.Score.{Score, ScoreOver}
-use Rattle.bases.specs.Marks.{Counts, IsBaseOnce, Full}
 use Rattle.answers.specs.Answers.{BasesCall, ScoreCall, MarksCall}
 
 -- On one setup and target, with a lent list and a list handed in for each way.

@@ -15,7 +15,7 @@ use Rattle.vertex_set.proofs.Cases.{byTest, less-or, same-or}
 use Rattle.sheet_format.specs.Text.{grow, linesOf, fieldsOf}
 use Rattle.sheet_fields.specs.Parts.{until}
 use Rattle.sheet_fields.proofs.Cutting.{until-le}
-use Rattle.sheet_lines.proofs.Reading.{line-at, lines-over}
+use Rattle.sheet_fields.proofs.Lines.{line-at, lines-over}
 use Rattle.report_text.specs.Report.{nameIn}
 use Rattle.report_fields.specs.Writing.{NamePlace}
 

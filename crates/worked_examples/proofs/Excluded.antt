@@ -3,12 +3,13 @@
 use mathlib.Core.Path.{_≡_, refl, ap, subst}
 use mathlib.Core.Bool.{true, false}
 use mathlib.Core.List.{List, [], _∷_}
-use mathlib.Core.Logic.{inl, inr}
+use mathlib.Core.Logic.{inl, inr, ⊎-elim}
 use Prim.Native.Nat.{ℕ, _≤_, _<_}
 use native.Mathlib.Omega.{arith}
 use lib.ListN.{length, getD}
 use Rattle.vertex_set.specs.Set.{Member}
-use Rattle.vertex_set.specs.Order.{Listed, sumOver}
+use lib.Count.{ones}
+use Rattle.vertex_set.specs.Order.{Listed, Before, Ordered, sumOver}
 use Rattle.vertex_set.proofs.Sets.{member-below}
 use Rattle.setup.specs.WellFormed.{WellFormed}
 use Rattle.setup.specs.Calls.{Inside}
@@ -135,6 +136,11 @@ pub no-gap : (number : ℕ) (values entry exit : List ℕ) → 4 ≤ length entr
 no-gap number values entry exit l c =
     let w = bases-settled (bench .setup) well order (omega arith) _ _ number values entry exit b3 b4 c in
     ap (λ (k : List ℕ). getD k 2 0) (w .room l .2)
+
+-- Order by number only: {0, 1} is the smaller number, and {2} has fewer vertices, so it comes first.
+pub no-order-by-number : Ordered (3 ∷ 4 ∷ []) → ⊥
+unfolding Before ones
+no-order-by-number o = ⊎-elim (λ l. omega arith) (λ p. let e = p .0 in omega arith) (o .0 4 (inl refl))
 
 -- ---- scores
 

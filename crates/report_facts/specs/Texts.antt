@@ -1,0 +1,29 @@
+-- Inner: the report's text vertex by vertex. A vertex that is no account has no rows.
+use mathlib.Core.Bool.{Bool, cond}
+use mathlib.Core.List.{List, []}
+use Prim.Native.Nat.{ℕ, _/_, _%_}
+use lib.Dec.{eqb}
+use Rattle.setup.specs.declared.Setup.{Setup}
+use Rattle.reference.specs.Bases.{baseOf}
+use Rattle.report_text.specs.Rows.{textsOf}
+use Rattle.report_text.specs.Report.{isAccount, baseRow, findingRow, pairRows}
+
+-- The lists in the order of the report have numbers: 2 v is the opening list of vertex v, and 2 v + 1 its lockout list.
+abbrev pub slotLoss : ℕ → Bool
+slotLoss k = eqb (k % 2) 1
+
+unfoldable pub slotList : Setup → ℕ → List ℕ
+slotList s k = cond (isAccount s (k / 2)) (baseOf (slotLoss k) s (s .graph) (k / 2)) []
+
+unfoldable pub slotRow : (ℕ → List ℕ) → Setup → ℕ → ℕ → List ℕ
+slotRow name s k x = baseRow name s (slotLoss k) (k / 2) x
+
+unfoldable pub slotText : (ℕ → List ℕ) → Setup → ℕ → List ℕ
+slotText name s k = textsOf (slotRow name s k) (slotList s k)
+
+-- The score row of vertex v, and the pairs with v above.
+unfoldable pub scoreAt : (ℕ → List ℕ) → Setup → ℕ → List ℕ
+scoreAt name s v = cond (isAccount s v) (findingRow name s v) []
+
+unfoldable pub pairsAt : (ℕ → List ℕ) → Setup → ℕ → List ℕ
+pairsAt name s v = cond (isAccount s v) (pairRows name s v) []

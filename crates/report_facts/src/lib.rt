@@ -1,0 +1,22 @@
+// What the report's rows say of each vertex: the type, and what is meant by it. The values are worked
+// out once for the whole report.
+use vertex_set::VertexSet;
+
+// By vertex number: values, scores, whether it is an account, and the places of the names. `below`
+// has for each vertex the accounts that are out of rank with it above. `initial` and `losable` are
+// the vertices that the tables of closures are made of.
+pub struct Facts {
+    pub count: usize,
+    pub accounts: VertexSet,
+    pub initial: VertexSet,
+    pub losable: VertexSet,
+    pub starts: [u64; 64],
+    pub losses: [u64; 64],
+    pub scores: [u64; 64],
+    pub risks: [u64; 64],
+    pub back: VertexSet,
+    pub idle: VertexSet,
+    pub below: [u64; 64],
+    pub from: [usize; 64],
+    pub to: [usize; 64],
+}

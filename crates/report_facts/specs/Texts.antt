@@ -16,7 +16,7 @@ unfoldable pub slotList : Setup → ℕ → List ℕ
 slotList s k = cond (isAccount s (k / 2)) (baseOf (slotLoss k) s (s .graph) (k / 2)) []
 
 unfoldable pub slotRow : (ℕ → List ℕ) → Setup → ℕ → ℕ → List ℕ
-slotRow name s k x = baseRow name s (slotLoss k) (k / 2) x
+slotRow name s k = baseRow name s (slotLoss k) (k / 2)
 
 unfoldable pub slotText : (ℕ → List ℕ) → Setup → ℕ → List ℕ
 slotText name s k = textsOf (slotRow name s k) (slotList s k)

@@ -1,5 +1,14 @@
 // The report, part by part: each step writes the next part of its text straight into the bytes that
-// go out, and says where the next one goes on.
+// go out, and says where the report goes on.
+ghost use mathlib.Core.Path.{_≡_};
+ghost use Prim.Native.Nat.{_+_, _≤_, _<_};
+ghost use lib.ListN.{length};
+ghost use Rattle.report_steps.specs.Steps.{ValuesBy, ListGoing, ListWent, Going, Went, ScoresWent, PairsWent, Filled};
+use report_facts::Facts;
+use report_lists::RowsStep;
+
+// Room for any step: the pairs of one account are at most 64 rows of 34 bytes.
+const ROOM: usize = 4096;
 
 // Where the report goes on.
 pub enum Cursor {
@@ -14,4 +23,81 @@ pub enum Cursor {
     // The one row of a refused sheet: number and line.
     Refused(u64, u64),
     End,
+}
+
+// Where the report goes on, and the place of its next byte.
+pub struct Step {
+    pub cursor: Cursor,
+    pub at: usize,
+}
+
+// The values that the sums of a list add up.
+fn values_by(loss: bool, facts: Facts) -> [u64; 64]
+    ensures { λ r. ⌜ ValuesBy loss facts r ⌝ }
+{
+    if loss {
+        return facts.losses;
+    }
+    facts.starts
+}
+
+// Rows of the list with number k, from row i on.
+fn put_list(
+    facts: Facts,
+    k: usize,
+    i: usize,
+    n: usize,
+    sheet: &[u8],
+    list: &[u64],
+    out: &mut [u8],
+    at: usize,
+) -> RowsStep
+    requires { ⌜ ListGoing (now sheet) facts (now list) k i n ⌝ }
+    requires { ⌜ at + 4096 ≤ length (now out) ⌝ }
+    ensures { λ r. ⌜ ListWent (now (sheet .entry)) facts (now (list .entry)) k i n (now (out .entry)) at (now (out .exit)) r ⌝ }
+{
+    let loss = k % 2 == 1;
+    let values = values_by(loss, facts);
+    let from = facts.from;
+    let to = facts.to;
+    report_lists::put_rows(loss, k / 2, list, i, n, &values, sheet, &from, &to, out, at)
+}
+
+// Rows of the list with number k; where all stand, the next list, and behind the last list the
+// header of the scores.
+fn step_lists(
+    facts: Facts,
+    k: usize,
+    i: usize,
+    n: usize,
+    sheet: &[u8],
+    opening: &[u64],
+    lockout: &[u64],
+    list: &mut [u64],
+    out: &mut [u8],
+    at: usize,
+) -> Step
+    requires { ⌜ Going (now sheet) facts (now opening) (now lockout) (now list) (Cursor.Lists k i n) ⌝ }
+    requires { ⌜ at + 4096 ≤ length (now out) ⌝ }
+    ensures { λ r. ⌜ Went (now (sheet .entry)) facts (now (opening .entry)) (now (lockout .entry)) (now (list .entry)) (Cursor.Lists k i n) (now (out .entry)) at (now (list .exit)) (now (out .exit)) r ⌝ }
+{
+    if i < n {
+        let rows = put_list(facts, k, i, n, sheet, list, out, at);
+        let cursor = Cursor::Lists(k, rows.row, n);
+        return Step {
+            cursor,
+            at: rows.at,
+        };
+    }
+    if k + 1 < 2 * facts.count {
+        let accounts = facts.accounts;
+        let initial = facts.initial;
+        let losable = facts.losable;
+        let m = report_lists::load(k + 1, accounts, initial, losable, opening, lockout, list);
+        let cursor = Cursor::Lists(k + 1, 0, m);
+        return Step { cursor, at };
+    }
+    let next = report_fields::put_text(b"\ntarget score risk back idle\n", out, at);
+    let cursor = Cursor::Scores(0);
+    Step { cursor, at: next }
 }

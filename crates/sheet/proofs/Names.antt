@@ -128,7 +128,7 @@ module _ (s : List ℕ) (i : ℕ) (there : RowThere s i) (p : Span) (span : p �
 
 -- ---- whose name it is
 
-row-name : (xs : List ItemRow) (rest : List (List ℕ)) (i : ℕ) → Each ValidItem xs → i < length xs
+pub row-name : (xs : List ItemRow) (rest : List (List ℕ)) (i : ℕ) → Each ValidItem xs → i < length xs
     → field (fieldsOf (getD (map itemLine xs ++ rest) i [])) 0 ≡ getD (map (λ (x : ItemRow). x .name) xs) i []
 row-name [] rest i v h = absurd (not-suc-le-zero h)
 row-name (x ∷ xs) rest zero v h = rw (item-back x (v .0))

@@ -1,0 +1,71 @@
+-- An accepted sheet has a short name for each vertex, and its setup is well formed.
+-- Assumes nothing.
+use mathlib.Core.Path.{_≡_, refl, sym, ap, subst, _∙_}
+use mathlib.Core.Bool.{true, _&&_}
+use mathlib.Core.List.{List, [], _∷_, _++_, map}
+use mathlib.Core.Logic.{⊎-elim}
+use Prim.Native.Nat.{ℕ, zero, suc, _≤_, _<_}
+use native.Mathlib.Omega.{arith}
+use lib.ListN.{length, getD, length-append, length-map}
+use lib.Dec.{leb}
+use borrow.Author.Tests.{leb-true}
+use Rattle.setup.specs.declared.Setup.{Setup}
+use Rattle.setup.specs.WellFormed.{WellFormed}
+use Rattle.sheet_format.specs.declared.Reading.{Reading}
+use Rattle.sheet_format.specs.Fields.{isNameByte, isName}
+use Rattle.sheet_format.specs.Text.{all}
+use Rattle.sheet_format.specs.Rows.{ItemRow, Doc, Each, ValidItem, Valid, render, secondHeader, setupOf}
+use Rattle.sheet_format.specs.Read.{readSheet, accepted}
+use Rattle.sheet_format.proofs.Tests.{and-parts}
+use Rattle.sheet_format.proofs.Documents.{docLines}
+use Rattle.sheet_format.proofs.Rows.{itemLine, edgeLine}
+use Rattle.sheet_format.proofs.Meaning.{render-lines, valid-of-accepted, accepted-or-refused}
+use Rattle.sheet_format.proofs.Question12.{question-12}
+use Rattle.sheet.proofs.Names.{row-name}
+use Rattle.report_text.specs.Report.{nameIn}
+use Rattle.report_facts.specs.Facts.{HasNames}
+
+-- What an accepted sheet yields.
+pub record Yields (text : List ℕ) (s : Setup) : Type 0 where
+  pub formed : WellFormed s
+  pub names : HasNames text s
+
+name-short : (f : List ℕ) → isName f ≡ true → length f ≤ 16
+unfolding isName
+name-short f h = leb-true (length f) 16 (and-parts (leb 1 (length f)) (leb (length f) 16) (and-parts (leb 1 (length f) && leb (length f) 16) (all isNameByte f) h .0) .1)
+
+each-short : (xs : List ItemRow) (i : ℕ) → Each ValidItem xs → i < length xs → length (getD (map (λ (x : ItemRow). x .name) xs) i []) ≤ 16
+each-short [] i v h = omega arith
+each-short (x ∷ xs) zero v h = name-short (x .name) (v .0 .name)
+each-short (x ∷ xs) (suc i) v h = each-short xs i (v .1) (omega arith)
+
+doc-lines : (d : Doc) → length (d .items) < length (docLines d)
+doc-lines d =
+    let m = length-map (d .items) itemLine in
+    let a = length-append (map itemLine (d .items)) ([] ∷ secondHeader ∷ map edgeLine (d .edges)) in
+    omega arith
+
+doc-names : (d : Doc) → Valid d → HasNames (render d) (setupOf d)
+unfolding setupOf nameIn
+doc-names d v =
+    record {
+      lines = rw (render-lines d v) (doc-lines d);
+      short = λ i h. rw (render-lines d v, row-name (d .items) ([] ∷ secondHeader ∷ map edgeLine (d .edges)) i (v .items) h) (each-short (d .items) i (v .items) h);
+    }
+
+names-by : (text : List ℕ) (s : Setup) (d : Doc) → Valid d → text ≡ render d → s ≡ setupOf d → HasNames text s
+names-by text s d v e f = rw (e, f) (doc-names d v)
+
+pub accepted-yields : (text : List ℕ) (r : Reading) → r ≡ readSheet text → r .number ≡ 0 → Yields text (r .setup)
+accepted-yields text r q z =
+    ⊎-elim
+    (λ a.
+    let e : r .setup ≡ a .setup = ap (λ (x : Reading). x .setup) (q ∙ a .reading) in
+    let d = valid-of-accepted text (a .setup) (a .reading) in
+    rw e
+    (record {
+      formed = question-12 (a .setup) .from (text, a .reading);
+      names = names-by text (a .setup) (d .0) (d .1) (d .2) (d .3);
+    }))
+    (λ f. absurd (let e = ap (λ (x : Reading). x .number) (q ∙ f .reading) in omega (arith, f .least)))
+    (accepted-or-refused .either text)

@@ -2,14 +2,15 @@
 use mathlib.Core.Path.{_≡_}
 use mathlib.Core.Bool.{Bool}
 use mathlib.Core.List.{List}
-use Prim.Native.Nat.{ℕ, _≤_, _<_}
+use Prim.Native.Nat.{ℕ, _*_, _≤_, _<_}
 use lib.Count.{ones}
-use lib.ListN.{length, getD, take}
+use lib.ListN.{length, getD, take, drop}
 use Rattle.setup.specs.declared.Graph.{Graph}
 use Rattle.setup.specs.declared.Setup.{Setup}
 use Rattle.setup.specs.Setup.{ChosenSet}
 use Rattle.setup.specs.WellFormed.{WellFormed}
 use Rattle.derivations.specs.Both.{ruleOf}
+use Rattle.families.specs.Family.{size, MinimalMembers}
 use Rattle.family_lists.specs.Lists.{SumTables}
 use Rattle.tables.specs.Table.{Table}
 use Rattle.bases.specs.Base.{Base}
@@ -48,6 +49,12 @@ pub record Listing (w : List ℕ) (chosen target r : ℕ) (out : List ℕ) : Typ
 pub record Summands (values : List ℕ) : Type 0 where
   pub long : length values ≡ 64
   pub small : (v : ℕ) → getD values v 0 ≤ 4000000000
+
+-- m has the minimal members of the target's family in the table w, and no more than there are masks.
+pub record MinimalAt (w : List ℕ) (target : ℕ) (m : List ℕ) : Type 0 where
+  pub words : length m ≡ 256
+  pub is : MinimalMembers (take 256 (drop (target * 256) w)) m
+  pub most : size m ≤ 16384
 
 -- r is the target's score, whatever setup and graph w is the table of, and whatever values low and high give the sums of.
 pub record ScoreFrom (w low high : List ℕ) (target r : ℕ) : Type 0 where

@@ -5,11 +5,21 @@ ghost use Prim.Native.Nat.{ℕ, _<_};
 ghost use lib.ListN.{length, getD};
 ghost use Rattle.vertex_set.specs.Order.{sumOver};
 ghost use Rattle.family_lists.specs.Tables.{TablesFit};
-ghost use Rattle.report_scores.specs.Scores.{CanScore, Scored, CanList, Listing, Summands, ScoreFrom, ScoresFrom};
+ghost use Rattle.bases.specs.Readers.{CanCopy};
+ghost use Rattle.report_scores.specs.Scores.{CanScore, Scored, CanList, Listing, Summands, MinimalAt, ScoreFrom, ScoresFrom};
 use families::WORDS;
 use setup::Graph;
 use setup::Setup;
 use vertex_set::VertexSet;
+
+// The family of the target's minimal sets, read from the table.
+fn minimal_at(w: &[u64], target: usize, minimal: &mut [u64])
+    requires { ⌜ CanCopy (now w) target (now minimal) ⌝ }
+    ensures { λ _. ⌜ MinimalAt (now (w .entry)) target (now (minimal .exit)) ⌝ }
+{
+    let from = target * WORDS;
+    families::minimal_members(&w[from..from + WORDS], minimal);
+}
 
 // The target's base, read from the table: its sets stand at the front of out, and their number is the
 // answer.
@@ -17,9 +27,8 @@ pub fn list_from(w: &[u64], chosen: VertexSet, target: usize, out: &mut [u64]) -
     requires { ⌜ CanList (now w) (chosen .0) target (now out) ⌝ }
     ensures { λ r. ⌜ Listing (now (w .entry)) (chosen .0) target r (now (out .exit)) ⌝ }
 {
-    let from = target * WORDS;
     let mut minimal = [0u64; 256];
-    families::minimal_members(&w[from..from + WORDS], &mut minimal);
+    minimal_at(w, target, &mut minimal);
     family_lists::write_sets(&minimal, chosen, out)
 }
 
@@ -46,9 +55,8 @@ fn score_at(w: &[u64], target: usize, low: &[u64], high: &[u64]) -> u64
     requires { ⌜ TablesFit (now low) (now high) ⌝ }
     ensures { λ r. ⌜ ScoreFrom (now (w .entry)) (now (low .entry)) (now (high .entry)) target r ⌝ }
 {
-    let from = target * WORDS;
     let mut minimal = [0u64; 256];
-    families::minimal_members(&w[from..from + WORDS], &mut minimal);
+    minimal_at(w, target, &mut minimal);
     family_lists::least_by(&minimal, low, high)
 }
 

@@ -1,71 +1,46 @@
+-- `report_scores::list_from` meets its contract: the sets of the target's minimal masks are its base.
+-- Assumes nothing.
+use Prim.Native.Nat.{_^_, _<_}
+use Rattle.report_scores.proofs.Reading.{writable, listing}
 use borrow.Author.Needs.{needs}
 use Rattle.report_scores.proofs.list_from.Statement.{statement}
 use Rattle.report_scores.proofs.list_from.Tie as tie
-use Rattle.report_scores.proofs.list_from.Reads as reads
-use Rattle.report_scores.proofs.list_from.Lts as lts
-use Rattle.families.proofs.minimal_members.Reads as minimal-members-reads
-use Rattle.family_lists.proofs.write_sets.Reads as write-sets-reads
 
--- src/lib.rt:19:16
-mul-from : tie.Need-mul-from
-mul-from c = search needs
+slice-aggregate-minimal-at : tie.Need-slice-aggregate-minimal-at
+slice-aggregate-minimal-at c = search needs
 
--- src/lib.rt:21:40
-add-minimal-members : tie.Need-add-minimal-members
-add-minimal-members c = search needs
+minimal-at-requires : tie.Need-minimal-at-requires
+minimal-at-requires c κs = search needs
 
--- src/lib.rt:21:31
-mul-minimal-members : tie.Need-mul-minimal-members
-mul-minimal-members c = search needs
-
--- src/lib.rt:21:31
-sub-minimal-members : tie.Need-sub-minimal-members
-sub-minimal-members c = search needs
-
--- src/lib.rt:21:31
-part-minimal-members-start : tie.Need-part-minimal-members-start
-part-minimal-members-start c = search needs
-
--- src/lib.rt:21:31
-part-minimal-members-end : tie.Need-part-minimal-members-end
-part-minimal-members-end c = search needs
-
--- src/lib.rt:21:55
-slice-aggregate-minimal-members : tie.Need-slice-aggregate-minimal-members
-slice-aggregate-minimal-members c = search needs
-
--- src/lib.rt:21:5
-minimal-members-requires : tie.Need-minimal-members-requires
-minimal-members-requires c κs = search needs
-
--- src/lib.rt:22:30
 slice-aggregate-write-sets : tie.Need-slice-aggregate-write-sets
 slice-aggregate-write-sets c = search needs
 
--- src/lib.rt:22:5
-write-sets-requires : tie.Need-write-sets-requires
-write-sets-requires c κs = ?
+small : (c : tie.Start) → c .args .chosen .0 < 2 ^ 64
+small c = search needs
 
--- src/lib.rt:15:1
+write-sets-requires : tie.Need-write-sets-requires
+write-sets-requires c κs =
+    let a = c .before .before .before in
+    let s = a .before .before .before .before in
+    writable (s .args .w .now) (s .args .target) _ (a .minimal-at .ensures) (s .args .chosen .0) (s .args .out .now) (s .pre)
+
 same-length : tie.Need-same-length
 same-length c = search needs
 
--- src/lib.rt:15:1
 returns : tie.Need-returns
-returns c = ?
+returns c =
+    let w = c .before .before in
+    let a = w .before .before .before .before in
+    let s = a .before .before .before .before in
+    listing (s .args .w .now) (s .args .target) _ (a .minimal-at .ensures) (s .args .chosen .0) (s .args .out .now) _ (w .write-sets .result) (small s) (s .pre)
+    (w .write-sets .kept .1 .1 .0) (w .write-sets .ensures)
 
 pub list-from-spec : {M : Type 1} → statement M
 list-from-spec =
     tie.close
     (tie.spec
-    mul-from
-    add-minimal-members
-    mul-minimal-members
-    sub-minimal-members
-    part-minimal-members-start
-    part-minimal-members-end
-    slice-aggregate-minimal-members
-    minimal-members-requires
+    slice-aggregate-minimal-at
+    minimal-at-requires
     slice-aggregate-write-sets
     write-sets-requires
     same-length

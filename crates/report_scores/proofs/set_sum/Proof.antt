@@ -1,57 +1,61 @@
+-- `report_scores::set_sum` meets its contract. The loop's invariant: the sum so far, and that of the vertices still to come, make the whole.
+-- Assumes nothing.
+use Prim.Native.Nat.{ℕ}
+use native.Mathlib.Omega.{arith}
+use lib.ListN.{getD}
+use Rattle.vertex_set.proofs.Places.{Lowest, lowest}
+use Rattle.report_scores.proofs.Sums.{Summing, summing-none, summing-fits, summing-more, summing-end}
+use borrow.Author.Needs.{needs}
 use Rattle.report_scores.proofs.set_sum.Statement.{statement}
 use Rattle.report_scores.proofs.set_sum.Tie as tie
-use Rattle.report_scores.proofs.set_sum.Reads as reads
-use Rattle.report_scores.proofs.set_sum.Lts as lts
 
 abbrev Inv-loop : tie.InvT-loop
-Inv-loop x values one rest₀ sum₀ rest sum = ?
+Inv-loop x values one rest₀ sum₀ rest sum = Summing (λ (v : ℕ). getD values v 0) x rest sum
 
 abbrev μ-loop : tie.MeasureT-loop
-μ-loop x values one rest₀ sum₀ rest sum = ?
+μ-loop x values one rest₀ sum₀ rest sum = rest
 
--- src/lib.rt:33:5
 loop-holds : tie.Need-loop-holds Inv-loop μ-loop
-loop-holds c = ?
+loop-holds c = summing-none _ (c .args .x) (search needs)
 
--- src/lib.rt:35:28
+low : (c : tie.In-loop Inv-loop μ-loop) → Lowest (c .before .loop .rest)
+low c = lowest (c .before .loop .rest) (c .before .loop .inv .small) (c .loop-test .taken)
+
 cast-sum : tie.Need-cast-sum Inv-loop μ-loop
-cast-sum c = ?
+cast-sum c = omega (arith, low c)
 
--- src/lib.rt:35:21
 mul-sum : tie.Need-mul-sum Inv-loop μ-loop
-mul-sum c = ?
+mul-sum c = omega (arith, low c)
 
--- src/lib.rt:35:21
 shared-slice-read-sum : tie.Need-shared-slice-read-sum Inv-loop μ-loop
-shared-slice-read-sum c = ?
+shared-slice-read-sum c = omega (arith, low (c .before), c .before .before .before .pre .long)
 
--- src/lib.rt:35:15
 add-sum : tie.Need-add-sum Inv-loop μ-loop
-add-sum c = ?
+add-sum c =
+    let b = c .before .before in
+    record { fits = summing-fits _ (b .before .args .x) (b .loop .rest) (b .loop .sum) (c .before .loop-test .taken) (b .loop .inv) (b .before .pre .small) }
 
--- src/lib.rt:36:31
 cast-rest : tie.Need-cast-rest Inv-loop μ-loop
-cast-rest c = ?
+cast-rest c = omega (arith, low (c .before))
 
--- src/lib.rt:36:24
 shl-rest : tie.Need-shl-rest Inv-loop μ-loop
-shl-rest c = ?
+shl-rest c = low (c .before) .below
 
--- src/lib.rt:36:16
 sub-rest : tie.Need-sub-rest Inv-loop μ-loop
-sub-rest c = ?
+sub-rest c = omega (arith, low (c .before))
 
--- src/lib.rt:33:5
 loop-less : tie.Need-loop-less Inv-loop μ-loop
-loop-less c = ?
+loop-less c = omega (arith, low (c .before))
 
--- src/lib.rt:33:5
 loop-again : tie.Need-loop-again Inv-loop μ-loop
-loop-again c = ?
+loop-again c =
+    let b = c .before .before in
+    summing-more _ (b .before .args .x) (b .loop .rest) (b .loop .sum) (c .before .loop-test .taken) (b .loop .inv)
 
--- src/lib.rt:26:1
 returns : tie.Need-returns Inv-loop μ-loop
-returns c = ?
+returns c =
+    let b = c .before in
+    summing-end _ (b .before .args .x) (b .loop .rest) (b .loop .sum) (c .loop-test .left) (b .loop .inv)
 
 pub set-sum-spec : {M : Type 1} → statement M
 set-sum-spec =

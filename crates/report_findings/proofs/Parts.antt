@@ -78,29 +78,35 @@ part-wrote text sheet f v entry at row exit r same room w =
       inside = let n = w .next in let l = ap length (w .exit) ∙ length-sets entry at row in omega arith;
     }
 
+pub part-empty : (text : (ℕ → List ℕ) → Setup → ℕ → List ℕ) (sheet : List ℕ) (f : Facts) (v : ℕ) (entry : List ℕ) (at : ℕ)
+    → ((s : Setup) → FactsOf sheet s f → v < s .count → text (nameIn sheet) s v ≡ []) → PartReady sheet f v entry at
+    → WrotePart text sheet f v entry at entry at
+part-empty text sheet f v entry at same p =
+    part-wrote text sheet f v entry at [] entry at same (omega (arith, p .room)) (record { exit = refl; next = omega arith })
+
 -- ---- the parts of a vertex
 
 module _ (sheet : List ℕ) (f : Facts) (v : ℕ) where
   -- no account
-  not-account : (s : Setup) → FactsOf sheet s f → v < s .count → Decides (Member (f .accounts .0) v) false → isAccount s v ≡ false
-  not-account s g h d = same-answer false (isAccount s v) (g .accounts v h) d
+  no-account : (Member (f .accounts .0) v → ⊥) → (s : Setup) → FactsOf sheet s f → v < s .count → isAccount s v ≡ false
+  no-account n s g h = byTest (isAccount s v) (λ e. absurd (n (g .accounts v h .from e))) (λ e. e)
 
-  pub no-score : (s : Setup) → FactsOf sheet s f → v < s .count → Decides (Member (f .accounts .0) v) false → scoreAt (nameIn sheet) s v ≡ []
+  pub no-score : (Member (f .accounts .0) v → ⊥) → (s : Setup) → FactsOf sheet s f → v < s .count → scoreAt (nameIn sheet) s v ≡ []
   unfolding scoreAt
-  no-score s g h d = rw (not-account s g h d)
+  no-score n s g h = rw (no-account n s g h)
 
-  pub no-pairs : (s : Setup) → FactsOf sheet s f → v < s .count → Decides (Member (f .accounts .0) v) false → pairsAt (nameIn sheet) s v ≡ []
+  pub no-pairs : (Member (f .accounts .0) v → ⊥) → (s : Setup) → FactsOf sheet s f → v < s .count → pairsAt (nameIn sheet) s v ≡ []
   unfolding pairsAt
-  no-pairs s g h d = rw (not-account s g h d)
+  no-pairs n s g h = rw (no-account n s g h)
 
   -- an account
-  pub score-text : (back idle : Bool) (s : Setup) → FactsOf sheet s f → v < s .count
-      → Decides (Member (f .accounts .0) v) true → Decides (Member (f .back .0) v) back → Decides (Member (f .idle .0) v) idle
+  pub score-text : (back idle : Bool) → Member (f .accounts .0) v → Decides (Member (f .back .0) v) back → Decides (Member (f .idle .0) v) idle
+      → (s : Setup) → FactsOf sheet s f → v < s .count
       → scoreAt (nameIn sheet) s v ≡ scoreRow (nameIn sheet) v (getD (f .scores) v 0) (getD (f .risks) v 0) back idle
   unfolding scoreAt findingRow
-  score-text back idle s g h a b c =
-      rw (same-answer true (isAccount s v) (g .accounts v h) a, ← (g .scores v h), ← (g .risks v h),
-      same-answer back (isBackdoor s v) (g .back v h) b, same-answer idle (isIdle s v) (g .idle v h) c)
+  score-text back idle m b i s g h =
+      rw (g .accounts v h .to m, ← (g .scores v h), ← (g .risks v h),
+      same-answer back (isBackdoor s v) (g .back v h) b, same-answer idle (isIdle s v) (g .idle v h) i)
 
   -- the accounts that are out of rank with v above are the vertices of its set
   below-list : (s : Setup) → FactsOf sheet s f → v < s .count → those (isOutOfRank s v) (accountsOf s) ≡ itemsOf (getD (f .below) v 0)
@@ -114,10 +120,10 @@ module _ (sheet : List ℕ) (f : Facts) (v : ℕ) where
       ∙ those-cut (isMember x) 0 (s .count) 64 (g .formed .most)
       (λ w l. by-decision (isMember x w) (decide-member x w) (λ e m. let q = g .within v w h m in absurd (omega arith)) (λ e n. e))
 
-  pub pairs-text : (s : Setup) → FactsOf sheet s f → v < s .count → Decides (Member (f .accounts .0) v) true
+  pub pairs-text : Member (f .accounts .0) v → (s : Setup) → FactsOf sheet s f → v < s .count
       → pairsAt (nameIn sheet) s v ≡ pairsWith (nameIn sheet) v (getD (f .below) v 0)
   unfolding pairsAt pairRows pairsWith
-  pairs-text s g h d = rw (same-answer true (isAccount s v) (g .accounts v h) d) (ap (textsOf (pairRow (nameIn sheet) v)) (below-list s g h))
+  pairs-text m s g h = rw (g .accounts v h .to m) (ap (textsOf (pairRow (nameIn sheet) v)) (below-list s g h))
 
   -- ---- what is asked for at the calls
   module _ (out : List ℕ) (at : ℕ) (p : PartReady sheet f v out at) where

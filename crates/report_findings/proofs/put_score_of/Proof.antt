@@ -1,3 +1,13 @@
+use mathlib.Core.Bool.{Bool}
+use Prim.Native.Nat.{_+_, _≤_}
+use mathlib.Core.Path.{_≡_, sym}
+use lib.ListN.{length, getD}
+use mir.Syntax.{w64}
+use mir.Val.{Fits}
+use Rattle.report_text.specs.Rows.{scoreRow}
+use Rattle.report_text.specs.Report.{nameIn}
+use Rattle.report_facts.specs.Texts.{scoreAt}
+use Rattle.report_findings.proofs.Parts.{part-wrote, part-empty, no-score, score-text, score-room}
 use borrow.Author.Needs.{needs}
 use Rattle.report_findings.proofs.put_score_of.Statement.{statement}
 use Rattle.report_findings.proofs.put_score_of.Tie as tie
@@ -34,29 +44,52 @@ has-requires-2 c κs = search needs
 has-requires-3 : tie.Need-has-requires-3
 has-requires-3 c κs = search needs
 
--- src/lib.rt:26:55
+long-from : (s : tie.Start) → length (s .args .t1 .from) ≡ 64
+long-from s = search needs
+
+long-to : (s : tie.Start) → length (s .args .t1 .to) ≡ 64
+long-to s = search needs
+
+low-score : (s : tie.Start) → Fits w64 (getD (s .args .t1 .scores) (s .args .v) 0)
+low-score s = search needs
+
+low-risk : (s : tie.Start) → Fits w64 (getD (s .args .t1 .risks) (s .args .v) 0)
+low-risk s = search needs
+
+-- There is room for the row, whatever was found.
+room : (s : tie.Start) (back idle : Bool)
+    → s .args .at + length (scoreRow (nameIn (s .args .sheet .now)) (s .args .v) (getD (s .args .t1 .scores) (s .args .v) 0) (getD (s .args .t1 .risks) (s .args .v) 0) back idle) ≤ length (s .args .out .now)
+room s back idle =
+    score-room (s .args .sheet .now) (s .args .t1) (s .args .v) (s .args .out .now) (s .args .at) (s .pre) back idle (low-score s .fits) (low-risk s .fits)
+
 slice-aggregate-put-score-row : tie.Need-slice-aggregate-put-score-row
-slice-aggregate-put-score-row c = ?
+slice-aggregate-put-score-row c = sym (long-from (c .before .before .before .before .before .before .before .before .before .before .before .before .before .before))
 
--- src/lib.rt:26:62
 slice-aggregate-put-score-row-2 : tie.Need-slice-aggregate-put-score-row-2
-slice-aggregate-put-score-row-2 c = ?
+slice-aggregate-put-score-row-2 c = sym (long-to (c .before .before .before .before .before .before .before .before .before .before .before .before .before .before .before))
 
--- src/lib.rt:26:9
 put-score-row-requires : tie.Need-put-score-row-requires
-put-score-row-requires c κs = ?
+put-score-row-requires c κs =
+    let s = c .before .before .before .before .before .before .before .before .before .before .before .before .before .before .before .before in
+    (s .pre .facts .names (s .args .v) (s .pre .vertex), room s _ _)
 
 -- src/lib.rt:26:9
 same-length : tie.Need-same-length
 same-length c = search needs
 
--- src/lib.rt:26:9
 returns : tie.Need-returns
-returns c = ?
+returns c =
+    let t = c .before .before .before .before .before .before .before .before .before .before .before .before .before .before in
+    let s = t .before .before .before .before .before in
+    part-wrote scoreAt _ _ _ _ _ _ _ _
+    (score-text (s .args .sheet .now) (s .args .t1) (s .args .v) _ _ (t .before .has .ensures .yes (t .if1 .taken)) (c .before .before .before .before .before .before .before .before .before .before .has2 .ensures) (c .before .before .before .before .before .before .before .before .has3 .ensures))
+    (room s _ _)
+    (c .before .before .put-score-row .ensures)
 
--- src/lib.rt:14:1
 returns-2 : tie.Need-returns-2
-returns-2 c = ?
+returns-2 c =
+    let s = c .before .before .before .before .before in
+    part-empty scoreAt _ _ _ _ _ (no-score (s .args .sheet .now) (s .args .t1) (s .args .v) (c .before .has .ensures .no (c .if1 .left))) (s .pre)
 
 pub put-score-of-spec : {M : Type 1} → statement M
 put-score-of-spec =

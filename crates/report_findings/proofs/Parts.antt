@@ -4,7 +4,7 @@ use mathlib.Core.Path.{_≡_, refl, sym, ap, _∙_}
 use mathlib.Core.Bool.{Bool, true, false, _&&_}
 use mathlib.Core.List.{List, [], _∷_}
 use mathlib.Core.Logic.{inl, inr}
-use Prim.Native.Nat.{ℕ, zero, suc, _+_, _-_, _^_, _≤_, _<_}
+use Prim.Native.Nat.{ℕ, zero, suc, _+_, _^_, _≤_, _<_}
 use native.Mathlib.Omega.{arith}
 use lib.ListN.{length, getD}
 use lib.Seq.{length-sets}
@@ -105,8 +105,13 @@ module _ (sheet : List ℕ) (f : Facts) (v : ℕ) where
       → scoreAt (nameIn sheet) s v ≡ scoreRow (nameIn sheet) v (getD (f .scores) v 0) (getD (f .risks) v 0) back idle
   unfolding scoreAt findingRow
   score-text back idle m b i s g h =
-      rw (g .accounts v h .to m, ← (g .scores v h), ← (g .risks v h),
-      same-answer back (isBackdoor s v) (g .back v h) b, same-answer idle (isIdle s v) (g .idle v h) i)
+      rw (
+        g .accounts v h .to m,
+        ← (g .scores v h),
+        ← (g .risks v h),
+        same-answer back (isBackdoor s v) (g .back v h) b,
+        same-answer idle (isIdle s v) (g .idle v h) i,
+      )
 
   -- the accounts that are out of rank with v above are the vertices of its set
   below-list : (s : Setup) → FactsOf sheet s f → v < s .count → those (isOutOfRank s v) (accountsOf s) ≡ itemsOf (getD (f .below) v 0)

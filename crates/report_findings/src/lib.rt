@@ -20,7 +20,13 @@ pub fn put_score_of(facts: Facts, v: usize, sheet: &[u8], out: &mut [u8], at: us
         let risk = facts.risks[v];
         let back = facts.back.has(v);
         let idle = facts.idle.has(v);
-        let row = ScoreRow { target: v, score, risk, back, idle };
+        let row = ScoreRow {
+            target: v,
+            score,
+            risk,
+            back,
+            idle,
+        };
         let from = facts.from;
         let to = facts.to;
         return report_rows::put_score_row(row, sheet, &from, &to, out, at);

@@ -40,8 +40,7 @@ cast-put-pair-row c = omega (arith, low c)
 put-pair-row-requires : tie.Need-put-pair-row-requires Inv-loop μ-loop
 put-pair-row-requires c κs =
     let b = c .before .before in
-    let s = b .before .before .before .before .before in
-    (
+    let s = b .before .before .before .before .before in (
       s .pre .0,
       (s .pre .1 .0 .each _ (b .loop .inv .within .each _ (low (c .before) .member)), pairs-room _ _ _ _ _ _ _ _ (b .loop .inv) (c .before .loop-test .taken) (s .pre .1 .1)),
     )

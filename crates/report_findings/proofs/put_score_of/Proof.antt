@@ -1,9 +1,10 @@
+-- `report_findings::put_score_of` meets its contract: the row says what the facts say of v.
+use mathlib.Core.Path.{_≡_, sym}
 use mathlib.Core.Bool.{Bool}
 use Prim.Native.Nat.{_+_, _≤_}
-use mathlib.Core.Path.{_≡_, sym}
-use lib.ListN.{length, getD}
-use mir.Syntax.{w64}
 use mir.Val.{Fits}
+use mir.Syntax.{w64}
+use lib.ListN.{length, getD}
 use Rattle.report_text.specs.Rows.{scoreRow}
 use Rattle.report_text.specs.Report.{nameIn}
 use Rattle.report_facts.specs.Texts.{scoreAt}
@@ -11,36 +12,25 @@ use Rattle.report_findings.proofs.Parts.{part-wrote, part-empty, no-sco
 use borrow.Author.Needs.{needs}
 use Rattle.report_findings.proofs.put_score_of.Statement.{statement}
 use Rattle.report_findings.proofs.put_score_of.Tie as tie
-use Rattle.report_findings.proofs.put_score_of.Reads as reads
-use Rattle.report_findings.proofs.put_score_of.Lts as lts
-use Rattle.report_rows.proofs.put_score_row.Reads as put-score-row-reads
-use Rattle.vertex_set.proofs.VertexSet.has.Reads as has-reads
 
--- src/lib.rt:18:8
 has-requires : tie.Need-has-requires
 has-requires c κs = search needs
 
--- src/lib.rt:19:21
 mul-score : tie.Need-mul-score
 mul-score c = search needs
 
--- src/lib.rt:19:21
 element-copy-out-score : tie.Need-element-copy-out-score
 element-copy-out-score c = search needs
 
--- src/lib.rt:20:20
 mul-risk : tie.Need-mul-risk
 mul-risk c = search needs
 
--- src/lib.rt:20:20
 element-copy-out-risk : tie.Need-element-copy-out-risk
 element-copy-out-risk c = search needs
 
--- src/lib.rt:21:13
 has-requires-2 : tie.Need-has-requires-2
 has-requires-2 c κs = search needs
 
--- src/lib.rt:22:13
 has-requires-3 : tie.Need-has-requires-3
 has-requires-3 c κs = search needs
 
@@ -73,7 +63,6 @@ put-score-row-requires c κs =
     let s = c .before .before .before .before .before .before .before .before .before .before .before .before .before .before .before .before in
     (s .pre .facts .names (s .args .v) (s .pre .vertex), room s _ _)
 
--- src/lib.rt:26:9
 same-length : tie.Need-same-length
 same-length c = search needs
 

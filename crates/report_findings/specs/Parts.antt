@@ -4,6 +4,7 @@ use Prim.Native.Nat.{ℕ, _+_, _≤_, _<_}
 use lib.ListN.{length}
 use Rattle.setup.specs.declared.Setup.{Setup}
 use Rattle.family_lists.specs.Tables.{Wrote}
+use Rattle.report_text.specs.Rows.{textsOf, itemsOf, pairRow}
 use Rattle.report_text.specs.Report.{nameIn}
 use Rattle.report_facts.specs.declared.Facts.{Facts}
 use Rattle.report_facts.specs.Facts.{FactsOf}
@@ -20,3 +21,7 @@ pub record PartReady (sheet : List ℕ) (f : Facts) (v : ℕ) (out : List ℕ) (
 pub record WrotePart (text : (ℕ → List ℕ) → Setup → ℕ → List ℕ) (sheet : List ℕ) (f : Facts) (v : ℕ) (entry : List ℕ) (at : ℕ) (exit : List ℕ) (r : ℕ) : Type 0 where
   pub each : (s : Setup) → FactsOf sheet s f → v < s .count → Wrote entry at (text (nameIn sheet) s v) exit r
   pub inside : r ≤ length exit
+
+-- A pair with v above for each vertex of the set x, rising.
+unfoldable pub pairsWith : (ℕ → List ℕ) → ℕ → ℕ → List ℕ
+pairsWith name v x = textsOf (pairRow name v) (itemsOf x)

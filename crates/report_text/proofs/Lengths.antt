@@ -104,9 +104,13 @@ score-row-length name target score risk back idle p q t =
     let d = answer-length idle in
     omega (arith, line-length (name target) (scoreText score ∷ scoreText risk ∷ answerText back ∷ answerText idle ∷ []))
 
-pub pair-row-length : (name : ℕ → List ℕ) (v w : ℕ) → length (name v) ≤ 16 → length (name w) ≤ 16 → length (pairRow name v w) ≤ longest
+-- A pair has two names and a byte behind each.
+pub pair-row-short : (name : ℕ → List ℕ) (v w : ℕ) → length (name v) ≤ 16 → length (name w) ≤ 16 → length (pairRow name v w) ≤ 34
 unfolding pairRow bytesOf
-pair-row-length name v w p q = omega (arith, line-length (name v) (name w ∷ []))
+pair-row-short name v w p q = omega (arith, line-length (name v) (name w ∷ []))
+
+pub pair-row-length : (name : ℕ → List ℕ) (v w : ℕ) → length (name v) ≤ 16 → length (name w) ≤ 16 → length (pairRow name v w) ≤ longest
+pair-row-length name v w p q = omega (arith, pair-row-short name v w p q)
 
 pub refused-row-length : (number line : ℕ) → number < 2 ^ 64 → line < 2 ^ 64 → length (refusedRow number line) ≤ longest
 unfolding refusedRow bytesOf

@@ -1,0 +1,99 @@
+-- `report_findings::put_score_of` meets its contract: the row says what the facts say of v.
+use mathlib.Core.Path.{_≡_, sym}
+use mathlib.Core.Bool.{Bool}
+use Prim.Native.Nat.{_+_, _≤_}
+use mir.Val.{Fits}
+use mir.Syntax.{w64}
+use lib.ListN.{length, getD}
+use Rattle.report_text.specs.Rows.{scoreRow}
+use Rattle.report_text.specs.Report.{nameIn}
+use Rattle.report_facts.specs.Texts.{scoreAt}
+use Rattle.report_findings.proofs.Parts.{part-wrote, part-empty, no-score, score-text, score-room}
+use borrow.Author.Needs.{needs}
+use Rattle.report_findings.proofs.put_score_of.Statement.{statement}
+use Rattle.report_findings.proofs.put_score_of.Tie as tie
+
+has-requires : tie.Need-has-requires
+has-requires c κs = search needs
+
+mul-score : tie.Need-mul-score
+mul-score c = search needs
+
+element-copy-out-score : tie.Need-element-copy-out-score
+element-copy-out-score c = search needs
+
+mul-risk : tie.Need-mul-risk
+mul-risk c = search needs
+
+element-copy-out-risk : tie.Need-element-copy-out-risk
+element-copy-out-risk c = search needs
+
+has-requires-2 : tie.Need-has-requires-2
+has-requires-2 c κs = search needs
+
+has-requires-3 : tie.Need-has-requires-3
+has-requires-3 c κs = search needs
+
+long-from : (s : tie.Start) → length (s .args .t1 .from) ≡ 64
+long-from s = search needs
+
+long-to : (s : tie.Start) → length (s .args .t1 .to) ≡ 64
+long-to s = search needs
+
+low-score : (s : tie.Start) → Fits w64 (getD (s .args .t1 .scores) (s .args .v) 0)
+low-score s = search needs
+
+low-risk : (s : tie.Start) → Fits w64 (getD (s .args .t1 .risks) (s .args .v) 0)
+low-risk s = search needs
+
+-- There is room for the row, whatever was found.
+room : (s : tie.Start) (back idle : Bool)
+    → s .args .at + length (scoreRow (nameIn (s .args .sheet .now)) (s .args .v) (getD (s .args .t1 .scores) (s .args .v) 0) (getD (s .args .t1 .risks) (s .args .v) 0) back idle) ≤ length (s .args .out .now)
+room s back idle =
+    score-room (s .args .sheet .now) (s .args .t1) (s .args .v) (s .args .out .now) (s .args .at) (s .pre) back idle (low-score s .fits) (low-risk s .fits)
+
+slice-aggregate-put-score-row : tie.Need-slice-aggregate-put-score-row
+slice-aggregate-put-score-row c = sym (long-from (c .before .before .before .before .before .before .before .before .before .before .before .before .before .before))
+
+slice-aggregate-put-score-row-2 : tie.Need-slice-aggregate-put-score-row-2
+slice-aggregate-put-score-row-2 c = sym (long-to (c .before .before .before .before .before .before .before .before .before .before .before .before .before .before .before))
+
+put-score-row-requires : tie.Need-put-score-row-requires
+put-score-row-requires c κs =
+    let s = c .before .before .before .before .before .before .before .before .before .before .before .before .before .before .before .before in
+    (s .pre .facts .names (s .args .v) (s .pre .vertex), room s _ _)
+
+same-length : tie.Need-same-length
+same-length c = search needs
+
+returns : tie.Need-returns
+returns c =
+    let t = c .before .before .before .before .before .before .before .before .before .before .before .before .before .before in
+    let s = t .before .before .before .before .before in
+    part-wrote scoreAt _ _ _ _ _ _ _ _
+    (score-text (s .args .sheet .now) (s .args .t1) (s .args .v) _ _ (t .before .has .ensures .yes (t .if1 .taken)) (c .before .before .before .before .before .before .before .before .before .before .has2 .ensures) (c .before .before .before .before .before .before .before .before .has3 .ensures))
+    (room s _ _)
+    (c .before .before .put-score-row .ensures)
+
+returns-2 : tie.Need-returns-2
+returns-2 c =
+    let s = c .before .before .before .before .before in
+    part-empty scoreAt _ _ _ _ _ (no-score (s .args .sheet .now) (s .args .t1) (s .args .v) (c .before .has .ensures .no (c .if1 .left))) (s .pre)
+
+pub put-score-of-spec : {M : Type 1} → statement M
+put-score-of-spec =
+    tie.close
+    (tie.spec
+    has-requires
+    mul-score
+    element-copy-out-score
+    mul-risk
+    element-copy-out-risk
+    has-requires-2
+    has-requires-3
+    slice-aggregate-put-score-row
+    slice-aggregate-put-score-row-2
+    put-score-row-requires
+    same-length
+    returns
+    returns-2)

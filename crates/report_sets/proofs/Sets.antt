@@ -48,20 +48,24 @@ pub below-one : (accounts : ℕ) (ranks scores : List ℕ) (v lower strong : ℕ
     → LowerPlaces false (replicate 64 (getD scores v 0)) scores strong → BelowOne accounts ranks scores v (bitAnd (bitAnd accounts lower) strong)
 below-one accounts ranks scores v lower strong a b =
     record {
-      each = λ w l.
-          let rank = getD-replicate 64 w (getD ranks v 0) 0 l in
-          let score = getD-replicate 64 w (getD scores v 0) 0 l in
-          record {
-            to = λ m.
-                let h = in-and (bitAnd accounts lower) strong w .to m in
-                let k = in-and accounts lower w .to (h .0) in
-                (k .0, subst (λ (x : ℕ). getD ranks w 0 < x) rank (a .each w .to (k .1) .1), subst (λ (x : ℕ). x ≤ getD scores w 0) score (b .each w .to (h .1) .1));
-            from = λ h.
-                in-and (bitAnd accounts lower) strong w .from (
-                  in-and accounts lower w .from (h .0, a .each w .from (l, subst (λ (x : ℕ). getD ranks w 0 < x) (sym rank) (h .1))),
-                  b .each w .from (l, subst (λ (x : ℕ). x ≤ getD scores w 0) (sym score) (h .2)),
-                );
-          };
+      each = λ w. record {
+        to = λ m.
+            let h = in-and (bitAnd accounts lower) strong w .to m in
+            let k = in-and accounts lower w .to (h .0) in
+            let p = a .each w .to (k .1) in
+            let q = b .each w .to (h .1) in
+            let e = getD-replicate 64 w (getD ranks v 0) 0 (p .0) in
+            let f = getD-replicate 64 w (getD scores v 0) 0 (p .0) in
+            (p .0, record { account = k .0; rank = subst (λ (x : ℕ). getD ranks w 0 < x) e (p .1); score = subst (λ (x : ℕ). x ≤ getD scores w 0) f (q .1) });
+        from = λ h.
+            let o = h .1 in
+            let e = getD-replicate 64 w (getD ranks v 0) 0 (h .0) in
+            let f = getD-replicate 64 w (getD scores v 0) 0 (h .0) in
+            in-and (bitAnd accounts lower) strong w .from (
+              in-and accounts lower w .from (o .account, a .each w .from (h .0, subst (λ (x : ℕ). getD ranks w 0 < x) (sym e) (o .rank))),
+              b .each w .from (h .0, subst (λ (x : ℕ). x ≤ getD scores w 0) (sym f) (o .score)),
+            );
+      };
     }
 
 -- ---- a list filled from the front

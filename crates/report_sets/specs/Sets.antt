@@ -25,9 +25,15 @@ LowerPlaces strict a b r = Passing (λ v. Lower strict (getD a v 0) (getD b v 0)
 pub record Ranks (s : Setup) (r : List ℕ) : Type 0 where
   pub each : (v : ℕ) → v < 64 → getD r v 0 ≡ vertexAt s v .rank
 
--- r is the set of the accounts whose rank is below that of v, and whose score is not.
-pub record BelowOne (accounts : ℕ) (ranks scores : List ℕ) (v r : ℕ) : Type 0 where
-  pub each : (w : ℕ) → w < 64 → Iff (Member r w) (Member accounts w × (getD ranks w 0 < getD ranks v 0) × (getD scores v 0 ≤ getD scores w 0))
+-- w is one of the accounts, its rank is below that of v, and its score is not.
+pub record OutOfRank (accounts : ℕ) (ranks scores : List ℕ) (v w : ℕ) : Type 0 where
+  pub account : Member accounts w
+  pub rank : getD ranks w 0 < getD ranks v 0
+  pub score : getD scores v 0 ≤ getD scores w 0
+
+-- r is the set of these.
+abbrev pub BelowOne : ℕ → List ℕ → List ℕ → ℕ → ℕ → Type 0
+BelowOne accounts ranks scores v r = Passing (OutOfRank accounts ranks scores v) 64 r
 
 -- r has such a set for each vertex.
 pub record BelowAll (accounts : ℕ) (ranks scores r : List ℕ) : Type 0 where

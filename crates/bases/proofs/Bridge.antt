@@ -12,8 +12,8 @@ use lib.Count.{ones}
 use lib.Pow.{pow-mono}
 use Rattle.vertex_set.specs.Set.{Member, Within, ProperlyWithin, Iff}
 use Rattle.vertex_set.specs.Order.{Listed, Ordered, sumOver}
-use Rattle.vertex_set.proofs.Cases.{same-or, search-below}
-use Rattle.vertex_set.proofs.Sets.{within-refl, within-le, member-or}
+use Rattle.vertex_set.proofs.Cases.{search-below}
+use Rattle.vertex_set.proofs.Sets.{within-le, member-or}
 use Rattle.setup.specs.declared.Graph.{Graph}
 use Rattle.setup.specs.declared.Setup.{Setup}
 use Rattle.setup.specs.Setup.{Chosen, ChosenSet}
@@ -26,7 +26,8 @@ use Rattle.families.specs.Family.{In, Minimal, Monotone, MinimalMembers, size}
 use Rattle.families.specs.Masks.{Picked, SetOfMask}
 use Rattle.families.specs.Exact.{OnChosen}
 use Rattle.family_lists.specs.Lists.{ListOf, LeastSum, SumOfMember}
-use Rattle.families.proofs.Masks.{spread, set-of, set-unique, set-within, gather, gather-lt, mask-of, subset-submask, proper-subset, proper-submask}
+use Rattle.families.proofs.Masks.{spread, set-of, set-unique, set-within, gather, gather-lt, mask-of, proper-subset, proper-submask}
+use Rattle.families.proofs.Exact.{minimal-on-chosen}
 use Rattle.family_lists.proofs.Order.{Words}
 use Rattle.family_lists.proofs.SetLists.{setsOf, list-of, length-sets-of}
 use Rattle.tables.specs.Table.{FamilyOf}
@@ -44,6 +45,12 @@ by-set loss g target chosen m x o =
       to = monotone (ruleOf loss g) (lawful loss g) (Picked chosen m) (Member x) (λ i. o .each i .from) target;
       from = monotone (ruleOf loss g) (lawful loss g) (Member x) (Picked chosen m) (λ i. o .each i .to) target;
     }
+
+-- minimal masks have no bit beyond the chosen vertices
+pub on-chosen : (loss : Bool) (g : Graph) (target chosen : ℕ) (f m : List ℕ) → FamilyOf (ruleOf loss g) chosen target f → MinimalMembers f m → OnChosen chosen m
+on-chosen loss g target chosen f m fam min =
+    minimal-on-chosen chosen (λ held. Derivation (ruleOf loss g) held target) (λ A B h d. monotone (ruleOf loss g) (lawful loss g) A B h target d) f
+    (record { each = fam .each }) m min
 
 -- The mask of a target set.
 pub record MaskFor (f : List ℕ) (chosen x : ℕ) : Type 0 where
@@ -81,31 +88,6 @@ module _ (loss : Bool) (s : Setup) (g : Graph) (target chosen : ℕ) (f : List �
   set-for m x l i o =
       record { chosen = λ v p. ch .each v .to (set-within chosen m x o .each v p); derives = by-set loss g target chosen m x o .to (fam .each m l .to i) }
 
-  -- a minimal mask has no bit beyond the chosen vertices
-  minimal-below : (m : ℕ) → m < 16384 → Minimal f m → m < 2 ^ ones chosen
-  minimal-below m l h = ⊎-elim (λ e. subst (λ (k : ℕ). k < 2 ^ ones chosen) e below) (λ n. absurd (h .none k (record { within = inside; other = n }) member)) (same-or k m)
-    where
-      x : ℕ
-      x = spread 64 chosen m
-
-      k : ℕ
-      k = gather 64 chosen x
-
-      below : k < 2 ^ ones chosen
-      below = gather-lt 64 chosen x fits
-
-      of-m : SetOfMask chosen m x
-      of-m = set-of chosen m fits
-
-      of-k : SetOfMask chosen k x
-      of-k = mask-of chosen x fits (set-within chosen m x of-m)
-
-      inside : Within k m
-      inside = subset-submask chosen k m x x fits below of-k of-m (within-refl x)
-
-      member : In f k
-      member = fam .each k (small k below) .from (by-set loss g target chosen k x of-k .from (by-set loss g target chosen m x of-m .to (fam .each m l .to (h .is))))
-
   -- a minimal mask stands for a minimal set
   pub minimal-set : (m x : ℕ) → m < 16384 → Minimal f m → SetOfMask chosen m x → MinimalSet loss s g target x
   minimal-set m x l h o =
@@ -134,9 +116,6 @@ module _ (loss : Bool) (s : Setup) (g : Graph) (target chosen : ℕ) (f : List �
   module _ (m : List ℕ) (min : MinimalMembers f m) where
     minimals : (k : ℕ) → k < 16384 → Iff (In m k) (Minimal f k)
     minimals = min .minimal (table-family-monotone loss g chosen target f fam)
-
-    pub on-chosen : OnChosen chosen m
-    on-chosen = record { below = λ k l i. minimal-below k l (minimals k l .to i) }
 
     -- the list of the minimal members' sets is the base
     pub base-of : (l : List ℕ) → ListOf chosen m l → Base loss s g target l
@@ -189,4 +168,4 @@ both-families loss s g target chosen f m n fits w ch fam min long words e =
     k = few loss s chosen w ch
 
     on : OnChosen chosen m
-    on = on-chosen loss s g target chosen f fits k ch fam m min
+    on = on-chosen loss g target chosen f m fam min

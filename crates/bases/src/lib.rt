@@ -61,7 +61,8 @@ pub fn values_of(s: Setup, loss: bool) -> [u64; 64]
 }
 
 // The least sum of start values, or for a loss of loss values, over all sets from which the target
-// has a derivation. The graph is the setup's, or that without recovery.
+// has a derivation: it is found among the minimal ones. The graph is the setup's, or that without
+// recovery.
 pub fn score_of(s: Setup, graph: Graph, loss: bool, target: usize) -> u64
     requires { ⌜ WellFormed s × (target < 64) ⌝ }
     ensures { λ r. ⌜ ScoreBoth loss s graph target r ⌝ }
@@ -70,7 +71,9 @@ pub fn score_of(s: Setup, graph: Graph, loss: bool, target: usize) -> u64
     let values = values_of(s, loss);
     let mut family = [0u64; WORDS];
     family_of(graph, chosen, loss, target, &mut family);
-    family_lists::least_sum(&family, chosen, values)
+    let mut minimal = [0u64; WORDS];
+    families::minimal_members(&family, &mut minimal);
+    family_lists::least_sum(&minimal, chosen, values)
 }
 
 // The target's family, the family of its minimal members, whose sets are the target's base, and

@@ -14,11 +14,11 @@ use Rattle.vertex_set.proofs.Sorted.{listed-map, listed-of-map}
 use Rattle.vertex_set.proofs.Sums.{sum-bound}
 use Rattle.families.specs.Family.{In}
 use Rattle.families.proofs.Masks.{spread, set-of, set-within}
-use Rattle.family_lists.specs.Lists.{Summable, SumOfMember, LeastSum}
+use Rattle.family_lists.specs.Lists.{Summable, SumTables, SumOfMember, LeastSum, LeastBy}
 use Rattle.family_lists.specs.Tables.{sumAt, WeightsOf, SumsFit, SumTable, sumBy, masksIn, rising, leastOf}
 use Rattle.family_lists.proofs.Lists.{rising-drop, rising-end}
 use Rattle.family_lists.proofs.Order.{listed-members, member-small}
-use Rattle.family_lists.proofs.SetLists.{tables-sum}
+use Rattle.family_lists.proofs.SetLists.{tables-sum, tables-fit}
 
 -- ---- the least of a list
 
@@ -82,7 +82,7 @@ remaining-end N f least b e r = sym (ap (λ (k : List ℕ). leastOf least (map N
 
 -- ---- the least sum
 
-module _ (c : ℕ) (f : List ℕ) (value : ℕ → ℕ) (h : c < 2 ^ 64) (s : Summable c f value) (ws : List ℕ) (w : WeightsOf c value ws) where
+module _ (c : ℕ) (value : ℕ → ℕ) (h : c < 2 ^ 64) (s : Summable c value) (ws : List ℕ) (w : WeightsOf c value ws) where
   -- no sum comes near 2 ^ 62
   value-bound : (m : ℕ) → sumAt ws m ≤ 64 * 4000000000
   unfolding sumOver
@@ -94,30 +94,48 @@ module _ (c : ℕ) (f : List ℕ) (value : ℕ → ℕ) (h : c < 2 ^ 64) (s : Su
   pub value-fits : SumsFit ws
   value-fits = record { fits = λ m. let b = value-bound m in omega arith }
 
-  pub least-sum : (low high : List ℕ) (r : ℕ) → SumTable ws 0 low → SumTable ws 7 high → r ≡ leastOf (2 ^ 62) (map (sumBy low high) (rising 0 f))
-      → LeastSum c f value r
-  least-sum low high r p q e =
-      let l : List ℕ = map (sumBy low high) (rising 0 f) in
-      let among : (m : ℕ) → m < 16384 → In f m → r ≤ sumAt ws m = λ m b i.
-      let a = least-listed l (2 ^ 62) (sumBy low high m) (listed-map (sumBy low high) (rising 0 f) m (listed-members f m .from i)) in
-      let t = tables-sum ws low high p q m b in
-      omega arith in
-      let found : Listed l r → SumOfMember c f value r = λ k.
-      let g = listed-of-map (sumBy low high) (rising 0 f) r k in
-      let i = listed-members f (g .0) .to (g .1) in
-      let b = member-small f (g .0) (s .words) i in
+  pub value-tables : (low high : List ℕ) → SumTable ws 0 low → SumTable ws 7 high → length low ≡ 128 → length high ≡ 128 → SumTables c value low high
+  value-tables low high p q a b =
       record {
-        mask = g .0;
-        set = spread 64 c (g .0);
-        below = b;
-        is = i;
-        of = set-of c (g .0) h;
-        sum = g .2 ∙ tables-sum ws low high p q (g .0) b ∙ w .sum (g .0) (spread 64 c (g .0)) (set-of c (g .0) h);
-      } in
-      let some : (r ≡ 2 ^ 62) ⊎ Listed l r = subst (λ (x : ℕ). (x ≡ 2 ^ 62) ⊎ Listed l x) (sym e) (least-is l (2 ^ 62)) in
-      record {
-        never = λ none. ⊎-elim (λ z. z) (λ k. let m = found k in absurd (none (m .mask) (m .below) (m .is))) some;
-        below = λ m b i. let a = among m b i in let v = value-bound m in omega arith;
-        reached = λ m b i. let a = among m b i in let v = value-bound m in ⊎-elim (λ z. absurd (omega arith)) found some;
-        least = λ m x b i o. let a = among m b i in let t = w .sum m x o in omega arith;
+        fit = tables-fit ws low high p q value-fits a b;
+        word = h;
+        below = λ m l. let e = tables-sum ws low high p q m l in let v = value-bound m in omega arith;
+        sum = λ m x l o. tables-sum ws low high p q m l ∙ w .sum m x o;
       }
+
+pub least-sum : (f low high : List ℕ) (r : ℕ) → length f ≡ 256 → r ≡ leastOf (2 ^ 62) (map (sumBy low high) (rising 0 f)) → LeastBy f low high r
+least-sum f low high r words e = record { each = sums }
+  where
+    l : List ℕ
+    l = map (sumBy low high) (rising 0 f)
+
+    some : (r ≡ 2 ^ 62) ⊎ Listed l r
+    some = subst (λ (x : ℕ). (x ≡ 2 ^ 62) ⊎ Listed l x) (sym e) (least-is l (2 ^ 62))
+
+    among : (m : ℕ) → In f m → r ≤ sumBy low high m
+    among m i =
+        subst (λ (x : ℕ). x ≤ sumBy low high m) (sym e)
+        (least-listed l (2 ^ 62) (sumBy low high m) (listed-map (sumBy low high) (rising 0 f) m (listed-members f m .from i)))
+
+    sums : (c : ℕ) (value : ℕ → ℕ) → SumTables c value low high → LeastSum c f value r
+    sums c value t =
+        record {
+          never = λ none. ⊎-elim (λ z. z) (λ k. let m = found k in absurd (none (m .mask) (m .below) (m .is))) some;
+          below = λ m b i. let a = among m i in let v = t .below m b in omega arith;
+          reached = λ m b i. let a = among m i in let v = t .below m b in ⊎-elim (λ z. absurd (omega arith)) found some;
+          least = λ m x b i o. let a = among m i in let v = t .sum m x b o in omega arith;
+        }
+      where
+        found : Listed l r → SumOfMember c f value r
+        found k =
+            let g = listed-of-map (sumBy low high) (rising 0 f) r k in
+            let i = listed-members f (g .0) .to (g .1) in
+            let b = member-small f (g .0) words i in
+            record {
+              mask = g .0;
+              set = spread 64 c (g .0);
+              below = b;
+              is = i;
+              of = set-of c (g .0) (t .word);
+              sum = g .2 ∙ t .sum (g .0) (spread 64 c (g .0)) b (set-of c (g .0) (t .word));
+            }

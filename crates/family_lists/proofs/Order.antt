@@ -5,7 +5,7 @@ use mathlib.Core.Logic.{inl, inr, ⊎-elim}
 use mathlib.Core.List.{List, [], _∷_}
 use Prim.Native.Nat.{ℕ, zero, suc, _+_, _-_, _*_, _/_, _%_, _^_, _≤_, _<_}
 use native.Mathlib.Omega.{arith}
-use lib.Count.{ones}
+use lib.Count.{ones, ones-le}
 use lib.Dec.{eqb}
 use lib.ListN.{length, getD, length-append}
 use borrow.Author.Tests.{eqb-true, eq-eqb, ne-eqb}
@@ -77,6 +77,10 @@ length-rising [] b h = refl
 length-rising (w ∷ f) b h =
     let ih = length-rising f (suc b) (λ i. h (suc i)) in
     length-append (masksIn b w) (rising (suc b) f) ∙ rw (length-masks b w (h 0), ih)
+
+pub size-bound : (f : List ℕ) → Words f → size f ≤ 64 * length f
+size-bound [] h = omega arith
+size-bound (w ∷ f) h = let ih = size-bound f (λ i. h (suc i)) in let k = ones-le 64 w (h 0) in omega arith
 
 -- a family of 256 words has masks below 2 ^ 14, which have at most 14 bits
 pub member-small : (f : List ℕ) (m : ℕ) → length f ≡ 256 → In f m → m < 16384

@@ -9,6 +9,7 @@ use Rattle.vertex_set.specs.Order.{Listed, Ordered, sumOver}
 use Rattle.families.specs.Family.{In, size}
 use Rattle.families.specs.Masks.{SetOfMask}
 use Rattle.families.specs.Exact.{OnChosen}
+use Rattle.family_lists.specs.Tables.{TablesFit, sumBy}
 
 -- l has the sets of the members of f, each once, fewer vertices first and then the smaller number.
 pub record ListOf (chosen : ℕ) (f l : List ℕ) : Type 0 where
@@ -31,11 +32,17 @@ pub record WroteSets (chosen : ℕ) (f entry : List ℕ) (r : ℕ) (exit : List 
   pub all : size f ≡ length list
   pub wrote : exit ≡ list ++ drop (length list) entry
 
--- What least_sum asks for: a family of 256 words on at most 14 chosen vertices, with values of at most 4,000,000,000.
-pub record Summable (chosen : ℕ) (f : List ℕ) (value : ℕ → ℕ) : Type 0 where
-  pub words : length f ≡ 256
+-- What sums of values ask for: at most 14 chosen vertices, with values of at most 4,000,000,000.
+pub record Summable (chosen : ℕ) (value : ℕ → ℕ) : Type 0 where
   pub few : ones chosen ≤ 14
   pub small : (v : ℕ) → Member chosen v → value v ≤ 4000000000
+
+-- The two tables give for each mask the sum of the values of its set, and no sum comes near 2^62.
+pub record SumTables (chosen : ℕ) (value : ℕ → ℕ) (low high : List ℕ) : Type 0 where
+  pub fit : TablesFit low high
+  pub word : chosen < 2 ^ 64
+  pub below : (m : ℕ) → m < 16384 → sumBy low high m < 2 ^ 62
+  pub sum : (m x : ℕ) → m < 16384 → SetOfMask chosen m x → sumBy low high m ≡ sumOver value x
 
 -- Some member of f stands for a set whose values sum up to r.
 pub record SumOfMember (chosen : ℕ) (f : List ℕ) (value : ℕ → ℕ) (r : ℕ) : Type 0 where
@@ -52,6 +59,10 @@ pub record LeastSum (chosen : ℕ) (f : List ℕ) (value : ℕ → ℕ) (r : ℕ
   pub below : (m : ℕ) → m < 16384 → In f m → r < 2 ^ 62
   pub reached : (m : ℕ) → m < 16384 → In f m → SumOfMember chosen f value r
   pub least : (m x : ℕ) → m < 16384 → In f m → SetOfMask chosen m x → r ≤ sumOver value x
+
+-- r is the least sum of values over the sets of the members of f, whatever values the two tables give the sums of.
+pub record LeastBy (f low high : List ℕ) (r : ℕ) : Type 0 where
+  pub each : (chosen : ℕ) (value : ℕ → ℕ) → SumTables chosen value low high → LeastSum chosen f value r
 
 -- r is the least sum of values over all sets of chosen vertices for which P holds, and 2^62 where there is none.
 pub record LeastOver (chosen : ℕ) (P : (ℕ → Type 0) → Type 0) (value : ℕ → ℕ) (r : ℕ) : Type 0 where

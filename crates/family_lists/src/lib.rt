@@ -6,7 +6,7 @@ ghost use Prim.Native.Nat.{ℕ, _+_, _^_, _≤_, _<_};
 ghost use lib.ListN.{length, getD};
 ghost use lib.Count.{ones};
 ghost use Rattle.families.specs.Family.{size};
-ghost use Rattle.family_lists.specs.Lists.{Writable, WroteSets, Summable, LeastSum};
+ghost use Rattle.family_lists.specs.Lists.{Writable, WroteSets, Summable, SumTables, LeastSum, LeastBy};
 ghost use Rattle.family_lists.specs.Tables.{Singles, WeightsOf, SumsFit, SumTable, LanesOfSize, TablesFit, Wrote, masksIn, rising, Occupied, ofSize, bySize, sumBy, leastOf};
 use families::WORDS;
 use vertex_set::VertexSet;
@@ -221,11 +221,11 @@ fn least_in_word(y: u64, b: usize, low: &[u64], high: &[u64], best: u64) -> u64
     least
 }
 
-// The least sum over the family's members, and NEVER where there is none.
-fn least_of_all(f: &[u64], low: &[u64], high: &[u64]) -> u64
+// The least sum over the family's members by two tables of sums, and NEVER where there is none.
+pub fn least_by(f: &[u64], low: &[u64], high: &[u64]) -> u64
     requires { ⌜ length (now f) ≡ 256 ⌝ }
     requires { ⌜ TablesFit (now low) (now high) ⌝ }
-    ensures { λ r. ⌜ r ≡ leastOf (2 ^ 62) (map (sumBy (now (low .entry)) (now (high .entry))) (rising 0 (now (f .entry)))) ⌝ }
+    ensures { λ r. ⌜ LeastBy (now (f .entry)) (now (low .entry)) (now (high .entry)) r ⌝ }
 {
     let mut least = NEVER;
     for b in 0..WORDS {
@@ -237,15 +237,26 @@ fn least_of_all(f: &[u64], low: &[u64], high: &[u64]) -> u64
     least
 }
 
-// The least sum of values over the sets of the family's members, and NEVER where there is none.
-pub fn least_sum(f: &[u64], chosen: VertexSet, values: [u64; 64]) -> u64
-    requires { ⌜ Summable (chosen .0) (now f) (λ (v : ℕ). getD values v 0) ⌝ }
-    ensures { λ r. ⌜ LeastSum (chosen .0) (now (f .entry)) (λ (v : ℕ). getD values v 0) r ⌝ }
+// The two tables of sums of values, which serve all families on the chosen vertices.
+pub fn sum_tables(chosen: VertexSet, values: [u64; 64], low: &mut [u64], high: &mut [u64])
+    requires { ⌜ Summable (chosen .0) (λ (v : ℕ). getD values v 0) ⌝ }
+    requires { ⌜ length (now low) ≡ 128 ⌝ }
+    requires { ⌜ length (now high) ≡ 128 ⌝ }
+    ensures { λ _. ⌜ SumTables (chosen .0) (λ (v : ℕ). getD values v 0) (now (low .exit)) (now (high .exit)) ⌝ }
 {
     let weights = weights_of(chosen, values);
+    fill_sums(weights, 0, low);
+    fill_sums(weights, 7, high);
+}
+
+// The least sum of values over the sets of the family's members, and NEVER where there is none.
+pub fn least_sum(f: &[u64], chosen: VertexSet, values: [u64; 64]) -> u64
+    requires { ⌜ length (now f) ≡ 256 ⌝ }
+    requires { ⌜ Summable (chosen .0) (λ (v : ℕ). getD values v 0) ⌝ }
+    ensures { λ r. ⌜ LeastSum (chosen .0) (now (f .entry)) (λ (v : ℕ). getD values v 0) r ⌝ }
+{
     let mut low = [0u64; 128];
     let mut high = [0u64; 128];
-    fill_sums(weights, 0, &mut low);
-    fill_sums(weights, 7, &mut high);
-    least_of_all(f, &low, &high)
+    sum_tables(chosen, values, &mut low, &mut high);
+    least_by(f, &low, &high)
 }

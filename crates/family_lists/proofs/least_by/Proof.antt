@@ -1,4 +1,4 @@
--- `family_lists::least_of_all` meets its contract. The loop's invariant: the least so far, with the words still to come, is the least of all.
+-- `family_lists::least_by` meets its contract. The loop's invariant: the least so far, with the words still to come, is the least of all.
 -- Assumes nothing.
 use mathlib.Core.Path.{_≡_, _∙_}
 use mathlib.Core.Logic.{⊎-elim}
@@ -8,9 +8,9 @@ use native.Mathlib.Omega.{arith}
 use lib.ListN.{getD}
 use borrow.Author.Needs.{needs}
 use Rattle.family_lists.specs.Tables.{sumBy, masksIn, leastOf}
-use Rattle.family_lists.proofs.Least.{Remaining, remaining-more, remaining-same, remaining-end}
-use Rattle.family_lists.proofs.least_of_all.Statement.{statement}
-use Rattle.family_lists.proofs.least_of_all.Tie as tie
+use Rattle.family_lists.proofs.Least.{Remaining, remaining-more, remaining-same, remaining-end, least-sum}
+use Rattle.family_lists.proofs.least_by.Statement.{statement}
+use Rattle.family_lists.proofs.least_by.Tie as tie
 
 abbrev Inv-loop : tie.InvT-loop
 Inv-loop f low high least₀ b₀ least b = (b ≤ 256) × Remaining (sumBy low high) f least b
@@ -62,10 +62,11 @@ loop-again c =
 returns : tie.Need-returns Inv-loop μ-loop
 returns c =
     let b = c .before in
-    remaining-end (sums b) (entry b .args .f .now) (b .loop .least) (b .loop .b) (omega (arith, entry b .pre .0)) (b .loop .inv .1)
+    least-sum (entry b .args .f .now) (entry b .args .low .now) (entry b .args .high .now) (b .loop .least) (entry b .pre .0)
+    (remaining-end (sums b) (entry b .args .f .now) (b .loop .least) (b .loop .b) (omega (arith, entry b .pre .0)) (b .loop .inv .1))
 
-pub least-of-all-spec : {M : Type 1} → statement M
-least-of-all-spec =
+pub least-by-spec : {M : Type 1} → statement M
+least-by-spec =
     tie.close
     (tie.spec
     Inv-loop

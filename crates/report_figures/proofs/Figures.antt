@@ -18,12 +18,10 @@ use Rattle.setup.specs.declared.Setup.{Setup}
 use Rattle.setup.specs.Setup.{vertexAt, ChosenSet, WithoutRecovery}
 use Rattle.setup.specs.WellFormed.{WellFormed}
 use Rattle.sheet_format.proofs.Tests.{and-parts, and-both, yes-of}
-use Rattle.bases.specs.Score.{Score, Values}
+use Rattle.bases.specs.Score.{Values}
 use Rattle.reference.specs.Bases.{scoreOf}
-use Rattle.reference.specs.Graphs.{GraphOf}
 use Rattle.reference.proofs.Graphs.{own-graph, graph-without}
-use Rattle.reference.proofs.Meaning.{meaning}
-use Rattle.reference.proofs.Unique.{score-unique}
+use Rattle.reference.proofs.Meaning.{score-is}
 use Rattle.report_text.specs.Report.{lessRecovery, isAccountKind, isAccount, isBackdoor, isIdle, isOutOfRank}
 use Rattle.report_text.proofs.Meaning.{less-unique}
 use Rattle.report_sets.specs.Sets.{Passing, LowerPlaces, Ranks, BelowAll}
@@ -36,10 +34,6 @@ use Rattle.report_figures.specs.declared.Scores.{Scores}
 use Rattle.report_figures.specs.declared.Findings.{Findings}
 use Rattle.report_figures.specs.Figures.{BothScored, FindingsOf}
 
--- a score is the report's
-score-is : (loss : Bool) (s : Setup) (g : Graph) (v r : ℕ) → WellFormed s → GraphOf s g → Score loss s g v r → r ≡ scoreOf loss s g v
-score-is loss s g v r w h k = score-unique loss s g v r (scoreOf loss s g v) k (meaning s g w h .score loss v)
-
 -- the test on two numbers that are given otherwise
 told : (P : ℕ → ℕ → Type 0) (test : ℕ → ℕ → Bool) → ((a b : ℕ) → Decides (P a b) (test a b)) → (a b x y : ℕ) → a ≡ x → b ≡ y → Iff (P a b) (test x y ≡ true)
 told P test d a b x y e f =
@@ -50,12 +44,12 @@ told P test d a b x y e f =
 
 module _ (s : Setup) (w : WellFormed s) where
   own-is : (loss : Bool) (table out : List ℕ) → Scored loss s (s .graph) table out → (v : ℕ) → v < 64 → getD out v 0 ≡ scoreOf loss s (s .graph) v
-  own-is loss table out h v l = score-is loss s (s .graph) v (getD out v 0) w (own-graph s w) (h .each v l)
+  own-is loss table out h v l = score-is loss s (s .graph) v w (own-graph s w) (getD out v 0) (h .each v l)
 
   without-is : (loss : Bool) (less : Graph) (table out : List ℕ) → WithoutRecovery s less → Scored loss s less table out
       → (v : ℕ) → v < 64 → getD out v 0 ≡ scoreOf loss s (lessRecovery s) v
   without-is loss less table out r h v l =
-      score-is loss s less v (getD out v 0) w (graph-without s less w r) (h .each v l) ∙ ap (λ (g : Graph). scoreOf loss s g v) (less-unique s less w r)
+      score-is loss s less v w (graph-without s less w r) (getD out v 0) (h .each v l) ∙ ap (λ (g : Graph). scoreOf loss s g v) (less-unique s less w r)
 
   -- the findings, from the scores with recovery (in the tables) and without
   pub findings-are : (less : Graph) (opening′ lockout′ opening lockout : List ℕ) (without own : Scores) (back idle : VertexSet) → WithoutRecovery s less

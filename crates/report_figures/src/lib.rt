@@ -3,9 +3,60 @@ ghost use mathlib.Core.Path.{_≡_};
 ghost use lib.ListN.{length};
 ghost use Rattle.setup.specs.WellFormed.{WellFormed};
 ghost use Rattle.report_facts.specs.Facts.{HasNames, FactsOf, TablesOf};
+ghost use Rattle.report_figures.specs.Figures.{CanFill, BothScored, FindingsOf};
 use report_facts::Facts;
+use setup::Graph;
 use setup::Setup;
 use vertex_set::VertexSet;
+
+// The scores and risks of all vertices in one graph.
+struct Scores {
+    scores: [u64; 64],
+    risks: [u64; 64],
+}
+
+// Those with recovery, and which vertices recovery weakens (a backdoor) or does not help (idle).
+struct Findings {
+    scores: [u64; 64],
+    risks: [u64; 64],
+    back: VertexSet,
+    idle: VertexSet,
+}
+
+// Fills the two tables for the graph, and reads all scores and risks from them.
+fn scores_with(s: Setup, graph: Graph, opening: &mut [u64], lockout: &mut [u64]) -> Scores
+    requires { ⌜ CanFill s (now opening) (now lockout) ⌝ }
+    ensures { λ r. ⌜ BothScored s graph (now (opening .exit)) (now (lockout .exit)) r ⌝ }
+{
+    let mut scores = [0u64; 64];
+    let mut risks = [0u64; 64];
+    report_scores::scores_in(s, graph, false, opening, &mut scores);
+    report_scores::scores_in(s, graph, true, lockout, &mut risks);
+    Scores { scores, risks }
+}
+
+// First without recovery, then with it in the same tables.
+fn findings_of(s: Setup, opening: &mut [u64], lockout: &mut [u64]) -> Findings
+    requires { ⌜ CanFill s (now opening) (now lockout) ⌝ }
+    ensures { λ r. ⌜ FindingsOf s (now (opening .exit)) (now (lockout .exit)) r ⌝ }
+{
+    let graph = s.graph;
+    let less = setup::without_recovery(s);
+    let without = scores_with(s, less, opening, lockout);
+    let own = scores_with(s, graph, opening, lockout);
+    let scores = own.scores;
+    let risks = own.risks;
+    let scores_without = without.scores;
+    let risks_without = without.risks;
+    let back = report_sets::lower_places(true, scores, scores_without);
+    let idle = report_sets::lower_places(false, risks, risks_without);
+    Findings {
+        scores,
+        risks,
+        back,
+        idle,
+    }
+}
 
 // The facts of a sheet's setup. Each of the four tables of closures is filled once; those with
 // recovery are left in `opening` and `lockout`.
@@ -13,4 +64,36 @@ pub fn facts_of(sheet: &[u8], s: Setup, opening: &mut [u64], lockout: &mut [u64]
     requires { ⌜ WellFormed s × HasNames (now sheet) s ⌝ }
     requires { ⌜ (length (now opening) ≡ 16384) × (length (now lockout) ≡ 16384) ⌝ }
     ensures { λ r. ⌜ FactsOf (now (sheet .entry)) s r × TablesOf s r (now (opening .exit)) (now (lockout .exit)) ⌝ }
-{}
+{
+    let count = s.count;
+    let names = report_names::name_places(sheet, count);
+    let from = names.from;
+    let to = names.to;
+    let findings = findings_of(s, opening, lockout);
+    let scores = findings.scores;
+    let risks = findings.risks;
+    let back = findings.back;
+    let idle = findings.idle;
+    let accounts = report_sets::accounts_of(s);
+    let ranks = report_sets::ranks_of(s);
+    let below = report_sets::below_all(accounts, ranks, scores);
+    let initial = setup::chosen(s, false);
+    let losable = setup::chosen(s, true);
+    let starts = bases::values_of(s, false);
+    let losses = bases::values_of(s, true);
+    Facts {
+        count,
+        accounts,
+        initial,
+        losable,
+        starts,
+        losses,
+        scores,
+        risks,
+        back,
+        idle,
+        below,
+        from,
+        to,
+    }
+}

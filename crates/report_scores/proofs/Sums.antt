@@ -1,42 +1,12 @@
 -- The loop that sums up the values of a set's vertices, lowest first.
 -- Assumes nothing.
-use mathlib.Core.Path.{_≡_, refl, sym, subst}
-use mathlib.Core.Logic.{⊎-elim}
-use Prim.Native.Nat.{ℕ, zero, suc, _+_, _-_, _*_, _%_, _^_, _≤_, _<_}
+use mathlib.Core.Path.{_≡_}
+use Prim.Native.Nat.{ℕ, _+_, _-_, _*_, _%_, _^_, _≤_, _<_}
 use native.Mathlib.Omega.{arith}
 use lib.Count.{trailingZeros}
-use Rattle.vertex_set.specs.Set.{Member}
-use Rattle.vertex_set.specs.Order.{sumBelow, sumOver}
-use Rattle.vertex_set.proofs.Cases.{same-or}
-use Rattle.vertex_set.proofs.Sets.{not-member, none-in-zero}
-use Rattle.vertex_set.proofs.Places.{removed-same, removed-other, lowest}
-use Rattle.vertex_set.proofs.Sums.{sum-bound}
-
--- vertices at n and above do not count below n
-sum-untouched : (value : ℕ → ℕ) (n s i : ℕ) → Member s i → n ≤ i → sumBelow value (s - 2 ^ i) n ≡ sumBelow value s n
-sum-untouched value zero s i m h = refl
-sum-untouched value (suc n) s i m h =
-    rw (sum-untouched value n s i m (omega arith), removed-other i n s m (λ e. omega arith))
-
--- the highest vertex less
-sum-top : (value : ℕ → ℕ) (n s : ℕ) → Member s n → sumBelow value s (suc n) ≡ sumBelow value (s - 2 ^ n) (suc n) + value n
-unfolding Member
-sum-top value n s m = rw (sum-untouched value n s n m (omega arith), not-member (s - 2 ^ n) n (removed-same n s m), m) (omega arith)
-
--- one vertex less
-sum-removed : (value : ℕ → ℕ) (n s i : ℕ) → Member s i → i < n → sumBelow value s n ≡ sumBelow value (s - 2 ^ i) n + value i
-sum-removed value zero s i m h = absurd (omega arith)
-sum-removed value (suc n) s i m h =
-    ⊎-elim
-    (λ e. subst (λ (j : ℕ). sumBelow value s (suc n) ≡ sumBelow value (s - 2 ^ j) (suc n) + value j) e (sum-top value n s (subst (Member s) (sym e) m)))
-    (λ o. let ih = sum-removed value n s i m (below-top o) in rw (removed-other i n s m o, ih) (omega arith))
-    (same-or n i)
-  where
-    below-top : (n ≡ i → ⊥) → i < n
-    below-top o = omega (arith, o)
-
-sum-none : (value : ℕ → ℕ) (n s : ℕ) → s ≡ 0 → sumBelow value s n ≡ 0
-sum-none value n s z = let b = sum-bound value 0 n s (λ v m. absurd (none-in-zero v (rw z at m))) in omega arith
+use Rattle.vertex_set.specs.Order.{sumOver}
+use Rattle.vertex_set.proofs.Places.{lowest}
+use Rattle.vertex_set.proofs.Sums.{sum-bound, sum-removed, sum-none}
 
 -- The values of the vertices of rest are still to be added.
 pub record Summing (value : ℕ → ℕ) (x rest sum : ℕ) : Type 0 where

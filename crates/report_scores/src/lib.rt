@@ -1,5 +1,5 @@
 // What the report needs of a table of closures: it is filled once, and then every vertex's score and
-// list are read from it. Only minimal sets are summed up and written.
+// list are read from it. Only minimal sets are looked at.
 ghost use mathlib.Core.Path.{_≡_};
 ghost use Prim.Native.Nat.{ℕ, _<_};
 ghost use lib.ListN.{length, getD};
@@ -27,9 +27,9 @@ pub fn list_from(w: &[u64], chosen: VertexSet, target: usize, out: &mut [u64]) -
     requires { ⌜ CanList (now w) (chosen .0) target (now out) ⌝ }
     ensures { λ r. ⌜ Listing (now (w .entry)) (chosen .0) target r (now (out .exit)) ⌝ }
 {
-    let mut minimal = [0u64; 256];
-    minimal_at(w, target, &mut minimal);
-    family_lists::write_sets(&minimal, chosen, out)
+    let mut base = [0u64; 256];
+    minimal_at(w, target, &mut base);
+    family_lists::write_sets(&base, chosen, out)
 }
 
 // The sum of the values of the vertices of x.

@@ -1,15 +1,17 @@
 -- Laws of the sum of values over a set.
 -- Assumes nothing.
-use mathlib.Core.Path.{_≡_, refl, _∙_, subst}
+use mathlib.Core.Path.{_≡_, refl, sym, _∙_, subst}
 use mathlib.Core.Logic.{⊎-elim}
-use Prim.Native.Nat.{ℕ, zero, suc, _+_, _*_, _/_, _%_, _^_, _≤_, _<_}
+use Prim.Native.Nat.{ℕ, zero, suc, _+_, _-_, _*_, _/_, _%_, _^_, _≤_, _<_}
 use native.Mathlib.Nat.{mod-eq-of-lt, mul-le-mul-right}
 use native.Mathlib.Omega.{arith}
 use lib.Pow.{mod-pow-add}
 use Rattle.vertex_set.specs.Set.{Member, Within}
 use Rattle.vertex_set.specs.Order.{sumBelow, sumOver}
 use Rattle.vertex_set.proofs.Digits.{digit, digit-first, digit-suc}
-use Rattle.vertex_set.proofs.Sets.{member-or, not-member}
+use Rattle.vertex_set.proofs.Cases.{same-or}
+use Rattle.vertex_set.proofs.Sets.{member-or, not-member, none-in-zero}
+use Rattle.vertex_set.proofs.Places.{removed-same, removed-other}
 
 -- the vertex 0 first, and then the others by halves
 pub sum-first : (value : ℕ → ℕ) (n s : ℕ) → sumBelow value s (suc n) ≡ s % 2 * value 0 + sumBelow (λ (v : ℕ). value (suc v)) (s / 2) n
@@ -41,6 +43,32 @@ sum-bound value b zero s h = omega arith
 sum-bound value b (suc n) s h =
     let ih = sum-bound value b n s h in
     ⊎-elim (λ m. let l = h n m in rw m (omega arith)) (λ o. let z = not-member s n o in rw z (omega arith)) (member-or s n)
+
+-- vertices at n and above do not count below n
+sum-untouched : (value : ℕ → ℕ) (n s i : ℕ) → Member s i → n ≤ i → sumBelow value (s - 2 ^ i) n ≡ sumBelow value s n
+sum-untouched value zero s i m h = refl
+sum-untouched value (suc n) s i m h = rw (sum-untouched value n s i m (omega arith), removed-other i n s m (λ e. omega arith))
+
+-- the highest vertex less
+sum-top : (value : ℕ → ℕ) (n s : ℕ) → Member s n → sumBelow value s (suc n) ≡ sumBelow value (s - 2 ^ n) (suc n) + value n
+unfolding Member
+sum-top value n s m = rw (sum-untouched value n s n m (omega arith), not-member (s - 2 ^ n) n (removed-same n s m), m) (omega arith)
+
+-- one vertex less
+pub sum-removed : (value : ℕ → ℕ) (n s i : ℕ) → Member s i → i < n → sumBelow value s n ≡ sumBelow value (s - 2 ^ i) n + value i
+sum-removed value zero s i m h = absurd (omega arith)
+sum-removed value (suc n) s i m h =
+    ⊎-elim
+    (λ e. subst (λ (j : ℕ). sumBelow value s (suc n) ≡ sumBelow value (s - 2 ^ j) (suc n) + value j) e (sum-top value n s (subst (Member s) (sym e) m)))
+    (λ o. let ih = sum-removed value n s i m (below-top o) in rw (removed-other i n s m o, ih) (omega arith))
+    (same-or n i)
+  where
+    below-top : (n ≡ i → ⊥) → i < n
+    below-top o = omega (arith, o)
+
+-- the empty set
+pub sum-none : (value : ℕ → ℕ) (n s : ℕ) → s ≡ 0 → sumBelow value s n ≡ 0
+sum-none value n s z = let b = sum-bound value 0 n s (λ v m. absurd (none-in-zero v (rw z at m))) in omega arith
 
 -- a set is the sum of the powers of its vertices
 pub sum-powers : (n s : ℕ) → sumBelow (λ (v : ℕ). 2 ^ v) s n ≡ s % 2 ^ n

@@ -20,18 +20,18 @@ pub few : (loss : Bool) (s : Setup) (chosen : ℕ) → WellFormed s → ChosenSe
 few false s chosen w c = let a = w .initial in let b = c .size in omega arith
 few true s chosen w c = let a = w .losable in let b = c .size in omega arith
 
-in-range-small : (x : Value) → InRange x → points x ≤ 4000000000
-in-range-small Blank h = omega arith
-in-range-small (Of n) h = omega arith
+in-range : (x : Value) → InRange x → points x ≤ 1000000
+in-range Blank h = omega arith
+in-range (Of n) h = h
 
 -- a place not in use has no value
 outside : (s : Setup) → WellFormed s → (v : ℕ) → s .count ≤ v → vertexAt s v ≡ unusedVertex
 outside s w v l = ⊎-elim (λ k. w .unused v k l) (λ k. List·getD-eq-default (s .vertices) unusedVertex (let p = w .shaped .places in omega arith)) (less-or v 64)
 
-pub points-small : (loss : Bool) (s : Setup) → WellFormed s → (v : ℕ) → pointsAt loss s v ≤ 4000000000
-points-small loss s w v =
+pub points-range : (loss : Bool) (s : Setup) → WellFormed s → (v : ℕ) → pointsAt loss s v ≤ 1000000
+points-range loss s w v =
     ⊎-elim
-    (λ l. in-range-small (valueOf loss (vertexAt s v)) (range loss (w .used v l)))
+    (λ l. in-range (valueOf loss (vertexAt s v)) (range loss (w .used v l)))
     (λ l. let e = ap (λ (x : Vertex). points (valueOf loss x)) (outside s w v l) ∙ blank loss in omega arith)
     (less-or v (s .count))
   where
@@ -42,3 +42,7 @@ points-small loss s w v =
     blank : (b : Bool) → points (valueOf b unusedVertex) ≡ 0
     blank false = refl
     blank true = refl
+
+-- small enough for every sum, with room for the larger values of document 02
+pub points-small : (loss : Bool) (s : Setup) → WellFormed s → (v : ℕ) → pointsAt loss s v ≤ 4000000000
+points-small loss s w v = let r = points-range loss s w v in omega arith

@@ -1,1 +1,4 @@
 pub mod Rest
+pub mod Lists
+pub mod Steps
+pub mod Filling

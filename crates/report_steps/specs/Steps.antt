@@ -1,8 +1,8 @@
 -- Inner: what the steps ask for and write.
 use mathlib.Core.Path.{_≡_}
 use mathlib.Core.Bool.{Bool, true, false}
-use mathlib.Core.List.{List}
-use Prim.Native.Nat.{ℕ, suc, _+_, _-_, _*_, _/_, _≤_, _<_}
+use mathlib.Core.List.{List, _++_}
+use Prim.Native.Nat.{ℕ, suc, _+_, _-_, _*_, _^_, _≤_, _<_}
 use lib.ListN.{length, take}
 use Rattle.setup.specs.declared.Setup.{Setup}
 use Rattle.bases.specs.Score.{Values}
@@ -44,7 +44,7 @@ At sheet s f opening lockout list cursor.Start = FactsOf sheet s f × TablesOf s
 At sheet s f opening lockout list (cursor.Lists k i n) = ListAt sheet s f list k i n × TablesOf s f opening lockout
 At sheet s f opening lockout list (cursor.Scores v) = FactsOf sheet s f × (v ≤ s .count)
 At sheet s f opening lockout list (cursor.Pairs v) = FactsOf sheet s f × (v ≤ s .count)
-At sheet s f opening lockout list (cursor.Refused number line) = Unit {0}
+At sheet s f opening lockout list (cursor.Refused number line) = (number < 2 ^ 64) × (line < 2 ^ 64)
 At sheet s f opening lockout list cursor.End = Unit {0}
 
 pub record Going (sheet : List ℕ) (f : Facts) (opening lockout list : List ℕ) (c : Cursor) : Type 0 where
@@ -64,4 +64,28 @@ stepsLeft count cursor.End = 0
 pub record Went (sheet : List ℕ) (f : Facts) (opening lockout list : List ℕ) (c : Cursor) (entry : List ℕ) (at : ℕ) (list′ exit : List ℕ) (r : Step) : Type 0 where
   pub part : (s : Setup) → At sheet s f opening lockout list c → Part entry at (restOf (nameIn sheet) s c) (restOf (nameIn sheet) s (r .cursor)) exit (r .at)
   pub here : (s : Setup) → At sheet s f opening lockout list c → At sheet s f opening lockout list′ (r .cursor)
+  pub less : 0 < stepsLeft (f .count) c → stepsLeft (f .count) (r .cursor) < stepsLeft (f .count) c
+
+-- What the steps of the last two sections ask for.
+pub record SectionGoing (sheet : List ℕ) (f : Facts) (v : ℕ) (out : List ℕ) (at : ℕ) : Type 0 where
+  pub setup : Setup
+  pub facts : FactsOf sheet setup f
+  pub most : v ≤ setup .count
+  pub room : at + 4096 ≤ length out
+
+pub record ScoresWent (sheet : List ℕ) (f : Facts) (v : ℕ) (entry : List ℕ) (at : ℕ) (exit : List ℕ) (r : Step) : Type 0 where
+  pub part : (s : Setup) → FactsOf sheet s f → v ≤ s .count → Part entry at (scoresFrom (nameIn sheet) s v) (restOf (nameIn sheet) s (r .cursor)) exit (r .at)
+  pub more : v < f .count → r .cursor ≡ cursor.Scores (v + 1)
+  pub last : f .count ≤ v → r .cursor ≡ cursor.Pairs 0
+
+pub record PairsWent (sheet : List ℕ) (f : Facts) (v : ℕ) (entry : List ℕ) (at : ℕ) (exit : List ℕ) (r : Step) : Type 0 where
+  pub part : (s : Setup) → FactsOf sheet s f → v ≤ s .count → Part entry at (pairsFrom (nameIn sheet) s v) (restOf (nameIn sheet) s (r .cursor)) exit (r .at)
+  pub more : v < f .count → r .cursor ≡ cursor.Pairs (v + 1)
+  pub last : f .count ≤ v → r .cursor ≡ cursor.End
+
+-- The first bytes of `out` are the next part of the report, and what is left of it is left at the new cursor.
+pub record Filled (sheet : List ℕ) (f : Facts) (opening lockout list : List ℕ) (c : Cursor) (list′ out : List ℕ) (r : Step) : Type 0 where
+  pub part : (s : Setup) → At sheet s f opening lockout list c → restOf (nameIn sheet) s c ≡ take (r .at) out ++ restOf (nameIn sheet) s (r .cursor)
+  pub here : (s : Setup) → At sheet s f opening lockout list c → At sheet s f opening lockout list′ (r .cursor)
+  pub inside : r .at ≤ length out
   pub less : 0 < stepsLeft (f .count) c → stepsLeft (f .count) (r .cursor) < stepsLeft (f .count) c

@@ -3,7 +3,8 @@
 ghost use mathlib.Core.Path.{_≡_};
 ghost use Prim.Native.Nat.{_+_, _≤_, _<_};
 ghost use lib.ListN.{length};
-ghost use Rattle.report_steps.specs.Steps.{ValuesBy, ListGoing, ListWent, Going, Went, ScoresWent, PairsWent, Filled};
+ghost use Rattle.vertex_set.specs.Set.{Decides};
+ghost use Rattle.report_steps.specs.Steps.{ValuesBy, ListGoing, ListWent, Going, Went, SectionGoing, ScoresWent, PairsWent, Filled};
 use report_facts::Facts;
 use report_lists::RowsStep;
 
@@ -89,15 +90,136 @@ fn step_lists(
             at: rows.at,
         };
     }
-    if k + 1 < 2 * facts.count {
+    let next = k + 1;
+    if next < 2 * facts.count {
         let accounts = facts.accounts;
         let initial = facts.initial;
         let losable = facts.losable;
-        let m = report_lists::load(k + 1, accounts, initial, losable, opening, lockout, list);
-        let cursor = Cursor::Lists(k + 1, 0, m);
+        let m = report_lists::load(next, accounts, initial, losable, opening, lockout, list);
+        let cursor = Cursor::Lists(next, 0, m);
         return Step { cursor, at };
     }
-    let next = report_fields::put_text(b"\ntarget score risk back idle\n", out, at);
+    let behind = report_fields::put_text(b"\ntarget score risk back idle\n", out, at);
     let cursor = Cursor::Scores(0);
+    Step { cursor, at: behind }
+}
+
+// The score row of vertex v, and behind the last vertex the header of the pairs.
+fn step_scores(facts: Facts, v: usize, sheet: &[u8], out: &mut [u8], at: usize) -> Step
+    requires { ⌜ SectionGoing (now sheet) facts v (now out) at ⌝ }
+    ensures { λ r. ⌜ ScoresWent (now (sheet .entry)) facts v (now (out .entry)) at (now (out .exit)) r ⌝ }
+{
+    if v < facts.count {
+        let next = report_findings::put_score_of(facts, v, sheet, out, at);
+        let cursor = Cursor::Scores(v + 1);
+        return Step { cursor, at: next };
+    }
+    let next = report_fields::put_text(b"\nabove below\n", out, at);
+    let cursor = Cursor::Pairs(0);
     Step { cursor, at: next }
+}
+
+// The pairs with vertex v above, and behind the last vertex nothing more.
+fn step_pairs(facts: Facts, v: usize, sheet: &[u8], out: &mut [u8], at: usize) -> Step
+    requires { ⌜ SectionGoing (now sheet) facts v (now out) at ⌝ }
+    ensures { λ r. ⌜ PairsWent (now (sheet .entry)) facts v (now (out .entry)) at (now (out .exit)) r ⌝ }
+{
+    if v < facts.count {
+        let next = report_findings::put_pairs_of(facts, v, sheet, out, at);
+        let cursor = Cursor::Pairs(v + 1);
+        return Step { cursor, at: next };
+    }
+    let cursor = Cursor::End;
+    Step { cursor, at }
+}
+
+// The next part of the report.
+fn advance(
+    facts: Facts,
+    cursor: Cursor,
+    sheet: &[u8],
+    opening: &[u64],
+    lockout: &[u64],
+    list: &mut [u64],
+    out: &mut [u8],
+    at: usize,
+) -> Step
+    requires { ⌜ Going (now sheet) facts (now opening) (now lockout) (now list) cursor ⌝ }
+    requires { ⌜ at + 4096 ≤ length (now out) ⌝ }
+    ensures { λ r. ⌜ Went (now (sheet .entry)) facts (now (opening .entry)) (now (lockout .entry)) (now (list .entry)) cursor (now (out .entry)) at (now (list .exit)) (now (out .exit)) r ⌝ }
+{
+    match cursor {
+        Cursor::Start => {
+            let accounts = facts.accounts;
+            let initial = facts.initial;
+            let losable = facts.losable;
+            let next = report_fields::put_text(b"target way size sum items\n", out, at);
+            let n = report_lists::load(0, accounts, initial, losable, opening, lockout, list);
+            let first = Cursor::Lists(0, 0, n);
+            return Step {
+                cursor: first,
+                at: next,
+            };
+        }
+        Cursor::Lists(k, i, n) => {
+            return step_lists(facts, k, i, n, sheet, opening, lockout, list, out, at);
+        }
+        Cursor::Scores(v) => {
+            return step_scores(facts, v, sheet, out, at);
+        }
+        Cursor::Pairs(v) => {
+            return step_pairs(facts, v, sheet, out, at);
+        }
+        Cursor::Refused(number, line) => {
+            let next = report_rows::put_refused_row(number, line, out, at);
+            let end = Cursor::End;
+            return Step {
+                cursor: end,
+                at: next,
+            };
+        }
+        Cursor::End => {
+            let end = Cursor::End;
+            return Step { cursor: end, at };
+        }
+    }
+}
+
+// Is something left of the report?
+pub fn going(cursor: Cursor) -> bool
+    ensures { λ r. ⌜ Decides (cursor ≡ Cursor.End → ⊥) r ⌝ }
+{
+    match cursor {
+        Cursor::Start => true,
+        Cursor::Lists(_, _, _) => true,
+        Cursor::Scores(_) => true,
+        Cursor::Pairs(_) => true,
+        Cursor::Refused(_, _) => true,
+        Cursor::End => false,
+    }
+}
+
+// As many parts of the report as fit; the place behind them is in the answer.
+pub fn fill(
+    facts: Facts,
+    cursor: Cursor,
+    sheet: &[u8],
+    opening: &[u64],
+    lockout: &[u64],
+    list: &mut [u64],
+    out: &mut [u8],
+) -> Step
+    requires { ⌜ Going (now sheet) facts (now opening) (now lockout) (now list) cursor ⌝ }
+    requires { ⌜ 4096 ≤ length (now out) ⌝ }
+    ensures { λ r. ⌜ Filled (now (sheet .entry)) facts (now (opening .entry)) (now (lockout .entry)) (now (list .entry)) cursor (now (list .exit)) (now (out .exit)) r ⌝ }
+{
+    let first = advance(facts, cursor, sheet, opening, lockout, list, out, 0);
+    let mut c = first.cursor;
+    let mut at = first.at;
+    while ROOM <= out.len() - at && going(c) {
+        let next = advance(facts, c, sheet, opening, lockout, list, out, at);
+        c = next.cursor;
+        at = next.at;
+    }
+    Step { cursor: c, at }
 }

@@ -1,41 +1,41 @@
 -- From masks to sets: what a family of masks says of the target's sets, its base and its score.
 -- Assumes nothing.
-use mathlib.Core.Path.{_≡_, refl, sym, ap, subst, _∙_}
+use mathlib.Core.Path.{_≡_, sym, subst, _∙_}
 use mathlib.Core.Bool.{Bool}
 use mathlib.Core.List.{List}
-use mathlib.Core.Logic.{_⊎_, inl, inr, ⊎-elim}
+use mathlib.Core.Logic.{_⊎_, ⊎-elim}
 use Prim.Native.Nat.{ℕ, _/_, _%_, _^_, _≤_, _<_}
 use native.Mathlib.Nat.{lt-of-lt-of-le}
 use native.Mathlib.Omega.{arith}
 use lib.ListN.{length, getD}
 use lib.Count.{ones}
 use lib.Pow.{pow-mono}
-use Rattle.vertex_set.specs.Set.{Member, Within, ProperlyWithin, Iff}
-use Rattle.vertex_set.specs.Order.{Listed, Ordered, sumOver}
+use Rattle.vertex_set.specs.Set.{Member, Within, Iff}
+use Rattle.vertex_set.specs.Order.{Listed, sumOver}
 use Rattle.vertex_set.proofs.Cases.{search-below}
 use Rattle.vertex_set.proofs.Sets.{within-le, member-or}
 use Rattle.setup.specs.declared.Graph.{Graph}
 use Rattle.setup.specs.declared.Setup.{Setup}
-use Rattle.setup.specs.Setup.{Chosen, ChosenSet}
+use Rattle.setup.specs.Setup.{ChosenSet}
 use Rattle.setup.specs.WellFormed.{WellFormed}
 use Rattle.derivations.specs.Derivation.{Derivation}
 use Rattle.derivations.specs.Both.{ruleOf}
 use Rattle.derivations.proofs.Rules.{monotone}
 use Rattle.derivations.proofs.Both.{lawful}
-use Rattle.families.specs.Family.{In, Minimal, Monotone, MinimalMembers, size}
+use Rattle.families.specs.Family.{In, Minimal, MinimalMembers, size}
 use Rattle.families.specs.Masks.{Picked, SetOfMask}
 use Rattle.families.specs.Exact.{OnChosen}
-use Rattle.family_lists.specs.Lists.{ListOf, LeastSum, SumOfMember}
+use Rattle.family_lists.specs.Lists.{ListOf, LeastSum}
 use Rattle.families.proofs.Masks.{spread, set-of, set-unique, set-within, gather, gather-lt, mask-of, proper-subset, proper-submask}
 use Rattle.families.proofs.Exact.{minimal-on-chosen}
 use Rattle.family_lists.proofs.Order.{Words}
 use Rattle.family_lists.proofs.SetLists.{setsOf, list-of, length-sets-of}
 use Rattle.tables.specs.Table.{FamilyOf}
 use Rattle.tables.proofs.Tables.{table-family-monotone}
-use Rattle.bases.specs.Readers.{BaseFamily, BothFamilies}
+use Rattle.bases.specs.Readers.{BothFamilies}
 use Rattle.bases.proofs.Formed.{few}
 use Rattle.bases.specs.Base.{Derives, TargetSet, MinimalSet, Base}
-use Rattle.bases.specs.Score.{pointsAt, sumOf, never, Score}
+use Rattle.bases.specs.Score.{sumOf, never, Score}
 
 -- derivations from a mask's picks are derivations from its set
 pub by-set : (loss : Bool) (g : Graph) (target chosen m x : ℕ) → SetOfMask chosen m x

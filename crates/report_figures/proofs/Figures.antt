@@ -24,7 +24,7 @@ use Rattle.reference.proofs.Graphs.{own-graph, graph-without}
 use Rattle.reference.proofs.Meaning.{score-is}
 use Rattle.report_text.specs.Report.{lessRecovery, isAccountKind, isAccount, isBackdoor, isIdle, isOutOfRank}
 use Rattle.report_text.proofs.Meaning.{less-unique}
-use Rattle.report_sets.specs.Sets.{Passing, LowerPlaces, Ranks, BelowAll}
+use Rattle.report_sets.specs.Sets.{AccountSet, LowerPlaces, Ranks, BelowAll}
 use Rattle.report_scores.specs.Scores.{Scored}
 use Rattle.report_names.specs.declared.Names.{Names}
 use Rattle.report_names.specs.Places.{PlacesOf}
@@ -83,7 +83,7 @@ module _ (s : Setup) (w : WellFormed s) where
   -- the facts, from all their parts
   pub facts-are : (sheet opening lockout : List ℕ) (names : Names) (findings : Findings) (accounts initial losable : VertexSet)
       (ranks below starts losses : List ℕ) → HasNames sheet s → PlacesOf sheet (s .count) names → FindingsOf s opening lockout findings
-      → Passing (λ v. isAccount s v ≡ true) 64 (accounts .0) → Ranks s ranks → BelowAll (accounts .0) ranks (findings .scores) below
+      → AccountSet s (accounts .0) → Ranks s ranks → BelowAll (accounts .0) ranks (findings .scores) below
       → ChosenSet false s (initial .0) → ChosenSet true s (losable .0) → Values false s starts → Values true s losses
       → let f : Facts = record {
         count = s .count;

@@ -7,10 +7,15 @@ use lib.ListN.{getD}
 use Rattle.vertex_set.specs.Set.{Member, Iff}
 use Rattle.setup.specs.declared.Setup.{Setup}
 use Rattle.setup.specs.Setup.{vertexAt}
+use Rattle.report_text.specs.Report.{isAccount}
 
 -- r is the set of the vertices below n that have the property.
 pub record Passing (P : ℕ → Type 0) (n r : ℕ) : Type 0 where
   pub each : (v : ℕ) → Iff (Member r v) ((v < n) × P v)
+
+-- r is the set of the setup's accounts.
+abbrev pub AccountSet : Setup → ℕ → Type 0
+AccountSet s r = Passing (λ v. isAccount s v ≡ true) 64 r
 
 -- a is below b or, where not strict, at most b.
 abbrev pub Lower : Bool → ℕ → ℕ → Type 0

@@ -1,10 +1,9 @@
 // Sets of vertices by their figures: accounts, ranks, and which accounts are out of rank.
 ghost use mathlib.Core.Path.{_≡_};
-ghost use mathlib.Core.Bool.{true};
 ghost use Prim.Native.Nat.{_<_};
 ghost use Rattle.vertex_set.specs.Set.{Decides};
-ghost use Rattle.report_text.specs.Report.{isAccountKind, isAccount};
-ghost use Rattle.report_sets.specs.Sets.{Passing, Lower, LowerPlaces, Ranks, BelowOne, BelowAll};
+ghost use Rattle.report_text.specs.Report.{isAccountKind};
+ghost use Rattle.report_sets.specs.Sets.{AccountSet, Lower, LowerPlaces, Ranks, BelowOne, BelowAll};
 use setup::Kind;
 use setup::Setup;
 use vertex_set::VertexSet;
@@ -20,7 +19,7 @@ fn is_account(kind: Kind) -> bool
 
 // The accounts of the setup.
 pub fn accounts_of(s: Setup) -> VertexSet
-    ensures { λ r. ⌜ Passing (λ v. isAccount s v ≡ true) 64 (r .0) ⌝ }
+    ensures { λ r. ⌜ AccountSet s (r .0) ⌝ }
 {
     let mut r = VertexSet(0);
     for v in 0..64usize {

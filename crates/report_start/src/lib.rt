@@ -1,4 +1,52 @@
 // Where the report of a sheet begins.
-pub struct Scratch {
-    pub cursor: u64,
+ghost use mathlib.Core.Path.{_≡_};
+ghost use lib.ListN.{length};
+ghost use Rattle.report_start.specs.Whole.{Begun};
+use report_facts::Facts;
+use report_steps::Cursor;
+use vertex_set::VertexSet;
+
+// The place where the report begins, and the facts that its rows tell.
+pub struct Report {
+    pub cursor: Cursor,
+    pub facts: Facts,
+}
+
+// A refused sheet has no facts; its report does not ask for any.
+fn no_facts() -> Facts {
+    let none = VertexSet(0);
+    Facts {
+        count: 0,
+        accounts: none,
+        initial: none,
+        losable: none,
+        starts: [0; 64],
+        losses: [0; 64],
+        scores: [0; 64],
+        risks: [0; 64],
+        back: none,
+        idle: none,
+        below: [0; 64],
+        from: [0; 64],
+        to: [0; 64],
+    }
+}
+
+// Reads the sheet, and works out what its report needs. The tables of closures are left in `opening`
+// and `lockout`.
+pub fn begin(sheet: &[u8], opening: &mut [u64], lockout: &mut [u64]) -> Report
+    requires { ⌜ (length (now opening) ≡ 16384) × (length (now lockout) ≡ 16384) ⌝ }
+    ensures { λ r. ⌜ Begun (now (sheet .entry)) r (now (opening .exit)) (now (lockout .exit)) ⌝ }
+{
+    let reading = sheet::read_sheet(sheet);
+    let number = reading.number;
+    if number != 0 {
+        let facts = no_facts();
+        let cursor = Cursor::Refused(number, reading.line);
+        return Report { cursor, facts };
+    }
+    let s = reading.setup;
+    let facts = report_figures::facts_of(sheet, s, opening, lockout);
+    let cursor = Cursor::Start;
+    Report { cursor, facts }
 }

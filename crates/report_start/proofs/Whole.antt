@@ -1,0 +1,34 @@
+-- At the first place the whole report is left.
+-- Assumes nothing.
+use mathlib.Core.Path.{_≡_, refl, sym, ap, subst, _∙_}
+use mathlib.Core.List.{List}
+use Prim.Native.Nat.{ℕ, _^_, _<_}
+use lib.ListN.{length}
+use lib.Dec.{eqb}
+use borrow.Author.Tests.{ne-eqb, eq-eqb}
+use Rattle.sheet_format.specs.declared.Reading.{Reading}
+use Rattle.sheet_format.specs.Read.{readSheet}
+use Rattle.report_text.specs.Report.{nameIn, reportAfter, reportOf}
+use Rattle.report_facts.specs.declared.Facts.{Facts}
+use Rattle.report_facts.specs.Facts.{FactsOf, TablesOf}
+use Rattle.report_steps.specs.declared.Cursor.the-variants as cursor
+use Rattle.report_start.specs.Whole.{Begun}
+
+module _ (sheet : List ℕ) (r : Reading) (e : r ≡ readSheet sheet) (f : Facts) (opening lockout : List ℕ) where
+  pub begun-refused : (r .number ≡ 0 → ⊥) → r .number < 2 ^ 64 → r .line < 2 ^ 64
+      → Begun sheet (record { cursor = cursor.Refused (r .number) (r .line); facts = f }) opening lockout
+  unfolding reportOf reportAfter
+  begun-refused n a b =
+      record {
+        whole = rw (← e, ne-eqb (r .number) 0 n) refl;
+        here = λ list l. (a, b);
+      }
+
+  pub begun-accepted : r .number ≡ 0 → FactsOf sheet (r .setup) f → TablesOf (r .setup) f opening lockout
+      → Begun sheet (record { cursor = cursor.Start; facts = f }) opening lockout
+  unfolding reportOf reportAfter
+  begun-accepted z h t =
+      record {
+        whole = rw (← e, eq-eqb (r .number) 0 z) refl;
+        here = λ list l. rw (← e) (h, t, l);
+      }

@@ -1,0 +1,92 @@
+use mathlib.Core.Path.{sym}
+use native.Mathlib.Omega.{arith}
+use lib.Seq.{length-take-le}
+use borrow.Author.Needs.{needs}
+use Rattle.report_steps.specs.Steps.{stepsLeft}
+use Rattle.report_steps.proofs.Filling.{left-some}
+use Rattle.report.proofs.Printing.{Printing, printing-begun, printing-more}
+use Rattle.report.proofs.print_report.Statement.{statement}
+use Rattle.report.proofs.print_report.Tie as tie
+
+abbrev Inv-loop : tie.InvT-loop
+Inv-loop sheet opening lockout list₀ out₀ facts cursor₀ list out cursor = Printing sheet facts opening lockout list out cursor
+
+abbrev μ-loop : tie.MeasureT-loop
+μ-loop sheet opening lockout list₀ out₀ facts cursor₀ list out cursor = stepsLeft (facts .count) cursor
+
+large-buffer-requires : tie.Need-large-buffer-requires Inv-loop μ-loop
+large-buffer-requires c κs = search needs
+
+slice-aggregate-begin : tie.Need-slice-aggregate-begin Inv-loop μ-loop
+slice-aggregate-begin c = search needs
+
+slice-aggregate-begin-2 : tie.Need-slice-aggregate-begin-2 Inv-loop μ-loop
+slice-aggregate-begin-2 c = search needs
+
+begin-requires : tie.Need-begin-requires Inv-loop μ-loop
+begin-requires c κs = search needs
+
+loop-holds : tie.Need-loop-holds Inv-loop μ-loop
+loop-holds c =
+    let b = c .before .before .before in
+    printing-begun _ _ _ _ _ (b .begin .result) (b .begin .ensures) (search needs) (search needs) (search needs) (search needs)
+
+going-requires : tie.Need-going-requires Inv-loop μ-loop
+going-requires c κs = search needs
+
+slice-aggregate-fill : tie.Need-slice-aggregate-fill Inv-loop μ-loop
+slice-aggregate-fill c = search needs
+
+slice-aggregate-fill-2 : tie.Need-slice-aggregate-fill-2 Inv-loop μ-loop
+slice-aggregate-fill-2 c = search needs
+
+slice-aggregate-fill-3 : tie.Need-slice-aggregate-fill-3 Inv-loop μ-loop
+slice-aggregate-fill-3 c = search needs
+
+slice-aggregate-fill-4 : tie.Need-slice-aggregate-fill-4 Inv-loop μ-loop
+slice-aggregate-fill-4 c = search needs
+
+fill-requires : tie.Need-fill-requires Inv-loop μ-loop
+fill-requires c κs = let l = c .before .before .before .before .before .before .loop .inv in (l .going, let o = l .longOut in omega arith)
+
+array-share-prefix-out : tie.Need-array-share-prefix-out Inv-loop μ-loop
+array-share-prefix-out c = c .before .before .fill .ensures .inside
+
+slice-aggregate-write-all : tie.Need-slice-aggregate-write-all Inv-loop μ-loop
+slice-aggregate-write-all c = sym (length-take-le _ _ (c .before .before .before .fill .ensures .inside))
+
+write-all-requires : tie.Need-write-all-requires Inv-loop μ-loop
+write-all-requires c κs = search needs
+
+loop-less : tie.Need-loop-less Inv-loop μ-loop
+loop-less c = c .before .before .before .before .fill .ensures .less (left-some _ _ (c .before .before .before .before .before .before .before .before .before .before .going .ensures .yes (search needs)))
+
+loop-again : tie.Need-loop-again Inv-loop μ-loop
+loop-again c = let f = c .before .before .before .before .fill in printing-more _ _ _ _ _ _ _ _ _ _ (c .before .before .before .before .before .before .before .before .before .before .before .loop .inv) (f .ensures) (f .kept .1 .1 .1 .1 .1 .0) (f .kept .1 .1 .1 .1 .1 .1 .0)
+
+returns : tie.Need-returns Inv-loop μ-loop
+returns c = search needs
+
+pub print-report-spec : {M : Type 1} → statement M
+print-report-spec =
+    tie.close
+    (tie.spec
+    Inv-loop
+    μ-loop
+    large-buffer-requires
+    slice-aggregate-begin
+    slice-aggregate-begin-2
+    begin-requires
+    loop-holds
+    going-requires
+    slice-aggregate-fill
+    slice-aggregate-fill-2
+    slice-aggregate-fill-3
+    slice-aggregate-fill-4
+    fill-requires
+    array-share-prefix-out
+    slice-aggregate-write-all
+    write-all-requires
+    loop-less
+    loop-again
+    returns)

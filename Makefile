@@ -1,8 +1,17 @@
 # `make test` proves and tests everything; its last line is the verdict.
-.PHONY: test prove lib check-contracts
+.PHONY: test report prove lib check-contracts
 
 test:
 	@bash scripts/test.sh
+
+# The report of a sheet, and nothing else on standard output: what is built first goes to build/report.log.
+report: export SHEET ?= examples/document.sheet
+report:
+	@test -r "$$SHEET" || { echo "report: cannot read $$SHEET" >&2; exit 1; }
+	@test -x target/bin/report || echo "report: proving the program first, which takes minutes (build/report.log)" >&2
+	@mkdir -p build
+	@rt check report > build/report.log 2>&1 || { cat build/report.log >&2; exit 1; }
+	@target/bin/report < "$$SHEET"
 
 # The proofs alone: no must-fail edits, no programs, no Rust or C.
 prove:

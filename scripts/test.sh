@@ -26,6 +26,9 @@ echo "test: the portal's library, from C"
 rt staticlib portal > "$log" 2>&1 || { cat "$log"; exit 1; }
 bash tests/c/run.sh
 
+echo "test: the examples' reports"
+bash scripts/examples.sh
+
 echo "test: the brute force, in Rust"
 (cd tests && cargo test --release --quiet)
 

@@ -7,8 +7,6 @@ use lib.ListN.{getD}
 use native.Mathlib.Omega.{arith}
 use Rattle.sheet_cases.proofs.edges_into.Statement.{statement}
 use Rattle.sheet_cases.proofs.edges_into.Tie as tie
-use Rattle.sheet_cases.proofs.edges_into.Reads as reads
-use Rattle.sheet_cases.proofs.edges_into.Lts as lts
 
 abbrev Inv-loop : tie.InvT-loop
 Inv-loop rows n₀ c₀ n c = (c ≤ 8) × (n ≤ 64 * c)
@@ -16,41 +14,33 @@ Inv-loop rows n₀ c₀ n c = (c ≤ 8) × (n ≤ 64 * c)
 abbrev μ-loop : tie.MeasureT-loop
 μ-loop rows n₀ c₀ n c = 8 - c
 
--- src/main.rt:28:5
 loop-holds : tie.Need-loop-holds Inv-loop μ-loop
 loop-holds c = search needs
 
--- src/main.rt:29:30
 mul-n : tie.Need-mul-n Inv-loop μ-loop
 mul-n c = search needs
 
--- src/main.rt:29:30
 element-copy-out-n : tie.Need-element-copy-out-n Inv-loop μ-loop
 element-copy-out-n c = search needs
 
--- src/main.rt:29:9
 add-n : tie.Need-add-n Inv-loop μ-loop
 add-n c =
     let f : Fits w64 (getD (c .before .before .before .args .t1 .needs) (c .before .before .loop .c) 0) = search needs in
     let o = ones-le 64 (getD (c .before .before .before .args .t1 .needs) (c .before .before .loop .c) 0) (f .fits) in
     omega arith
 
--- src/main.rt:28:9
 add-c : tie.Need-add-c Inv-loop μ-loop
 add-c c = search needs
 
--- src/main.rt:28:5
 loop-less : tie.Need-loop-less Inv-loop μ-loop
 loop-less c = search needs
 
--- src/main.rt:28:5
 loop-again : tie.Need-loop-again Inv-loop μ-loop
 loop-again c =
     let f : Fits w64 (getD (c .before .before .before .args .t1 .needs) (c .before .before .loop .c) 0) = search needs in
     let o = ones-le 64 (getD (c .before .before .before .args .t1 .needs) (c .before .before .loop .c) 0) (f .fits) in
     (omega arith, omega arith)
 
--- src/main.rt:24:1
 returns : tie.Need-returns Inv-loop μ-loop
 returns c = search needs
 

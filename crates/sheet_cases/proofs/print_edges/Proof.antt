@@ -2,9 +2,6 @@ use borrow.Author.Needs.{needs}
 use Prim.Native.Nat.{_≤_, _-_}
 use Rattle.sheet_cases.proofs.print_edges.Statement.{statement}
 use Rattle.sheet_cases.proofs.print_edges.Tie as tie
-use Rattle.sheet_cases.proofs.print_edges.Reads as reads
-use Rattle.sheet_cases.proofs.print_edges.Lts as lts
-use Rattle.sheet_cases.proofs.print_rows.Reads as print-rows-reads
 
 abbrev Inv-loop : tie.InvT-loop
 Inv-loop text graph recovery v₀ v = v ≤ 64
@@ -12,43 +9,33 @@ Inv-loop text graph recovery v₀ v = v ≤ 64
 abbrev μ-loop : tie.MeasureT-loop
 μ-loop text graph recovery v₀ v = 64 - v
 
--- src/main.rt:156:5
 loop-holds : tie.Need-loop-holds Inv-loop μ-loop
 loop-holds c = search needs
 
--- src/main.rt:157:20
 mul-rows : tie.Need-mul-rows Inv-loop μ-loop
 mul-rows c = search needs
 
--- src/main.rt:157:20
 element-copy-out-rows : tie.Need-element-copy-out-rows Inv-loop μ-loop
 element-copy-out-rows c = search needs
 
--- src/main.rt:158:21
 mul-marks : tie.Need-mul-marks Inv-loop μ-loop
 mul-marks c = search needs
 
--- src/main.rt:158:21
 element-copy-out-marks : tie.Need-element-copy-out-marks Inv-loop μ-loop
 element-copy-out-marks c = search needs
 
--- src/main.rt:159:9
 print-rows-requires : tie.Need-print-rows-requires Inv-loop μ-loop
 print-rows-requires c κs = search needs
 
--- src/main.rt:156:9
 add-v : tie.Need-add-v Inv-loop μ-loop
 add-v c = search needs
 
--- src/main.rt:156:5
 loop-less : tie.Need-loop-less Inv-loop μ-loop
 loop-less c = search needs
 
--- src/main.rt:156:5
 loop-again : tie.Need-loop-again Inv-loop μ-loop
 loop-again c = search needs
 
--- src/main.rt:153:1
 returns : tie.Need-returns Inv-loop μ-loop
 returns c = search needs
 

@@ -2,9 +2,6 @@ use borrow.Author.Needs.{needs}
 use Prim.Native.Nat.{_≤_, _-_}
 use Rattle.sheet_cases.proofs.print_items.Statement.{statement}
 use Rattle.sheet_cases.proofs.print_items.Tie as tie
-use Rattle.sheet_cases.proofs.print_items.Reads as reads
-use Rattle.sheet_cases.proofs.print_items.Lts as lts
-use Rattle.sheet_cases.proofs.print_item.Reads as print-item-reads
 
 abbrev Inv-loop : tie.InvT-loop
 Inv-loop text setup i₀ i = i ≤ 64
@@ -12,35 +9,27 @@ Inv-loop text setup i₀ i = i ≤ 64
 abbrev μ-loop : tie.MeasureT-loop
 μ-loop text setup i₀ i = 64 - i
 
--- src/main.rt:117:5
 loop-holds : tie.Need-loop-holds Inv-loop μ-loop
 loop-holds c = search needs
 
--- src/main.rt:119:26
 mul-vertex : tie.Need-mul-vertex Inv-loop μ-loop
 mul-vertex c = search needs
 
--- src/main.rt:119:26
 element-copy-out-vertex : tie.Need-element-copy-out-vertex Inv-loop μ-loop
 element-copy-out-vertex c = search needs
 
--- src/main.rt:120:13
 print-item-requires : tie.Need-print-item-requires Inv-loop μ-loop
 print-item-requires c κs = search needs
 
--- src/main.rt:117:9
 add-i : tie.Need-add-i Inv-loop μ-loop
 add-i c = search needs
 
--- src/main.rt:117:5
 loop-less : tie.Need-loop-less Inv-loop μ-loop
 loop-less c = search needs
 
--- src/main.rt:117:5
 loop-again : tie.Need-loop-again Inv-loop μ-loop
 loop-again c = search needs
 
--- src/main.rt:116:1
 returns : tie.Need-returns Inv-loop μ-loop
 returns c = search needs
 

@@ -2,9 +2,6 @@ use borrow.Author.Needs.{needs}
 use Prim.Native.Nat.{_≤_, _-_}
 use Rattle.sheet_cases.proofs.print_row.Statement.{statement}
 use Rattle.sheet_cases.proofs.print_row.Tie as tie
-use Rattle.sheet_cases.proofs.print_row.Reads as reads
-use Rattle.sheet_cases.proofs.print_row.Lts as lts
-use Rattle.sheet_cases.proofs.print_edge.Reads as print-edge-reads
 
 abbrev Inv-loop : tie.InvT-loop
 Inv-loop text to colour needed marked from₀ from = from ≤ 64
@@ -12,35 +9,27 @@ Inv-loop text to colour needed marked from₀ from = from ≤ 64
 abbrev μ-loop : tie.MeasureT-loop
 μ-loop text to colour needed marked from₀ from = 64 - from
 
--- src/main.rt:140:5
 loop-holds : tie.Need-loop-holds Inv-loop μ-loop
 loop-holds c = search needs
 
--- src/main.rt:141:13
 shr-if1 : tie.Need-shr-if1 Inv-loop μ-loop
 shr-if1 c = search needs
 
--- src/main.rt:142:49
 shr-print-edge : tie.Need-shr-print-edge Inv-loop μ-loop
 shr-print-edge c = search needs
 
--- src/main.rt:142:13
 print-edge-requires : tie.Need-print-edge-requires Inv-loop μ-loop
 print-edge-requires c κs = search needs
 
--- src/main.rt:140:9
 add-from : tie.Need-add-from Inv-loop μ-loop
 add-from c = search needs
 
--- src/main.rt:140:5
 loop-less : tie.Need-loop-less Inv-loop μ-loop
 loop-less c = search needs
 
--- src/main.rt:140:5
 loop-again : tie.Need-loop-again Inv-loop μ-loop
 loop-again c = search needs
 
--- src/main.rt:139:1
 returns : tie.Need-returns Inv-loop μ-loop
 returns c = search needs
 

@@ -1,4 +1,3 @@
-use native.Mathlib.Omega.{arith}
 use Rattle.sheet_cases.proofs.Parts.{counts, stored}
 use borrow.Author.Needs.{needs}
 use Prim.Native.Nat.{_≤_, _<_, _-_}
@@ -6,9 +5,6 @@ use mathlib.Core.Path.{_≡_}
 use lib.ListN.{length, getD}
 use Rattle.sheet_cases.proofs.put.Statement.{statement}
 use Rattle.sheet_cases.proofs.put.Tie as tie
-use Rattle.sheet_cases.proofs.put.Reads as reads
-use Rattle.sheet_cases.proofs.put.Lts as lts
-use Rattle.sheet_cases.proofs.least.Reads as least-reads
 
 abbrev Inv-loop : tie.InvT-loop
 Inv-loop text₀ at part next₀ i₀ text next i = (length text ≡ length text₀) × (next ≤ length text)
@@ -16,43 +12,33 @@ Inv-loop text₀ at part next₀ i₀ text next i = (length text ≡ length text
 abbrev μ-loop : tie.MeasureT-loop
 μ-loop text₀ at part next₀ i₀ text next i = length part - i
 
--- src/main.rt:184:9
 least-requires : tie.Need-least-requires Inv-loop μ-loop
 least-requires c κs = search needs
 
--- src/main.rt:186:5
 loop-holds : tie.Need-loop-holds Inv-loop μ-loop
 loop-holds c = search needs
 
--- src/main.rt:188:13
 same-length : tie.Need-same-length Inv-loop μ-loop
 same-length c = search needs
 
--- src/main.rt:188:13
 returns : tie.Need-returns Inv-loop μ-loop
 returns c = counts _ _ (c .before .before .loop .inv .1)
 
--- src/main.rt:190:22
 shared-slice-read-text : tie.Need-shared-slice-read-text Inv-loop μ-loop
 shared-slice-read-text c = search needs
 
--- src/main.rt:190:9
 slice-write-text : tie.Need-slice-write-text Inv-loop μ-loop
 slice-write-text c = search needs
 
--- src/main.rt:191:9
 add-next : tie.Need-add-next Inv-loop μ-loop
 add-next c = search needs
 
--- src/main.rt:192:9
 add-i : tie.Need-add-i Inv-loop μ-loop
 add-i c = search needs
 
--- src/main.rt:186:5
 loop-less : tie.Need-loop-less Inv-loop μ-loop
 loop-less c = search needs
 
--- src/main.rt:186:5
 loop-again : tie.Need-loop-again Inv-loop μ-loop
 loop-again c =
     let b = c .before .before .before in
@@ -60,11 +46,9 @@ loop-again c =
     let lt : b .loop .next < length (b .loop .text) = search needs in
     stored (b .loop .text) _ (b .loop .next) byte (b .loop .inv .0) lt
 
--- src/main.rt:181:1
 same-length-2 : tie.Need-same-length-2 Inv-loop μ-loop
 same-length-2 c = search needs
 
--- src/main.rt:181:1
 returns-2 : tie.Need-returns-2 Inv-loop μ-loop
 returns-2 c = counts _ _ (c .before .loop .inv .1)
 

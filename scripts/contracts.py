@@ -11,6 +11,7 @@ from pathlib import Path
 
 ROOT = Path(__file__).resolve().parent.parent
 LONGEST = 40
+LITERAL = re.compile(r"""b?"(?:[^"\\]|\\.)*"|b'(?:[^'\\]|\\.)*'""")
 HEAD = re.compile(r'^\s*(pub\s+)?(?:extern\s+"C"\s+)?fn\s+(\w+)')
 
 
@@ -22,6 +23,11 @@ def inner_crates():
         if ":" in code and re.search(r"\binner\b", comment):
             inner.add(code.partition(":")[0].strip())
     return inner
+
+
+def code_of(line):
+    """A line without its texts, which may have braces, and without its comment."""
+    return LITERAL.sub("", line).split("//")[0]
 
 
 def functions(lines):
@@ -38,7 +44,7 @@ def functions(lines):
             continue
         start, clause = at, 0
         while True:
-            code = lines[at].split("//")[0]
+            code = code_of(lines[at])
             if clause > 0 or re.match(r"^\s*(requires|ensures)\b", code):
                 clause += code.count("{") - code.count("}")
             elif code.rstrip().endswith(("{", "}", ";")):
@@ -46,7 +52,7 @@ def functions(lines):
             at += 1
         head, first, depth = "\n".join(lines[start : at + 1]), at, 0
         while True:
-            code = lines[at].split("//")[0]
+            code = code_of(lines[at])
             depth += code.count("{") - code.count("}")
             at += 1
             if depth <= 0:

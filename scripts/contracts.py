@@ -11,7 +11,7 @@ from pathlib import Path
 
 ROOT = Path(__file__).resolve().parent.parent
 LONGEST = 40
-LITERAL = re.compile(r"""b?"(?:[^"\\]|\\.)*"|b'(?:[^'\\]|\\.)*'""")
+LITERAL = re.compile(r"""b"(?:[^"\\]|\\.)*"|b'(?:[^'\\]|\\.)*'""")
 HEAD = re.compile(r'^\s*(pub\s+)?(?:extern\s+"C"\s+)?fn\s+(\w+)')
 
 
@@ -25,9 +25,9 @@ def inner_crates():
     return inner
 
 
-def code_of(line):
-    """A line without its texts, which may have braces, and without its comment."""
-    return LITERAL.sub("", line).split("//")[0]
+def lines_of(text):
+    """The lines of a source without its byte strings, which may have braces."""
+    return LITERAL.sub(lambda found: "\n" * found.group().count("\n"), text).split("\n")
 
 
 def functions(lines):
@@ -44,7 +44,7 @@ def functions(lines):
             continue
         start, clause = at, 0
         while True:
-            code = code_of(lines[at])
+            code = lines[at].split("//")[0]
             if clause > 0 or re.match(r"^\s*(requires|ensures)\b", code):
                 clause += code.count("{") - code.count("}")
             elif code.rstrip().endswith(("{", "}", ";")):
@@ -52,7 +52,7 @@ def functions(lines):
             at += 1
         head, first, depth = "\n".join(lines[start : at + 1]), at, 0
         while True:
-            code = code_of(lines[at])
+            code = lines[at].split("//")[0]
             depth += code.count("{") - code.count("}")
             at += 1
             if depth <= 0:
@@ -65,7 +65,7 @@ def main():
     faults, public_count, count = [], 0, 0
     for path in sorted(ROOT.glob("crates/*/src/**/*.rt")):
         crate = path.relative_to(ROOT).parts[1]
-        for line, public, name, head, length in functions(path.read_text(encoding="utf-8").split("\n")):
+        for line, public, name, head, length in functions(lines_of(path.read_text(encoding="utf-8"))):
             count += 1
             public_count += public
             place = f"{path.relative_to(ROOT)}:{line}: {name}"

@@ -226,6 +226,40 @@ fn tell_edges(label: &[u8], edges: &[u8]) {
     tell_sheet(label, b"p c - - 0\nq a - - 0\n", edges);
 }
 
+fn tell_row(above: &[u8], row: &[u8], below: &[u8]) {
+    let mut text = [0u8; ROOM];
+    let at = put(&mut text, 0, above);
+    let at = put(&mut text, at, row);
+    let end = put(&mut text, at, below);
+    tell(row, &text[..end]);
+}
+
+// Each of the rows stands alone between these parts of a sheet, and is its own label.
+fn tell_each(above: &[u8], rows: &[u8], below: &[u8]) {
+    let mut at = 0;
+    while at < rows.len() {
+        let end = sheet_fields::find(rows, at, sheet_fields::LF);
+        tell_row(above, &rows[at..end], below);
+        at = end + 1;
+    }
+}
+
+fn tell_each_item(rows: &[u8]) {
+    tell_each(
+        b"name kind start loss rank\n",
+        rows,
+        b"\n\nfrom to colour rec\n",
+    );
+}
+
+fn tell_each_edge(rows: &[u8]) {
+    tell_each(
+        b"name kind start loss rank\np c - - 0\nq a - - 0\n\nfrom to colour rec\n",
+        rows,
+        b"\n",
+    );
+}
+
 // A name of 16 bytes; its last two are the item's number.
 fn put_name(text: &mut [u8], at: usize, item: usize) -> usize
     ensures { λ r. ⌜ Counts r (now (text .exit)) ⌝ }
@@ -480,52 +514,55 @@ fn item_fields() {
 
 fn names_and_kinds() {
     print(b"\n5, names and kinds\n");
-    tell_items(b"name of 16 bytes", b"abcdefghij_45678 c - - 0\n");
-    tell_items(b"name of 17 bytes", b"abcdefghij_456789 c - - 0\n");
-    tell_items(b"name of one digit", b"0 c - - 0\n");
-    tell_items(b"name az09_", b"az09_ c - - 0\n");
-    tell_items(b"name with -", b"p-q c - - 0\n");
-    tell_items(b"name with /", b"p/q c - - 0\n");
-    tell_items(b"name with :", b"p:q c - - 0\n");
-    tell_items(b"name with A", b"pAq c - - 0\n");
-    tell_items(b"name with Z", b"pZq c - - 0\n");
-    tell_items(b"name with ^", b"p^q c - - 0\n");
-    tell_items(b"name with `", b"p`q c - - 0\n");
-    tell_items(b"name with {", b"p{q c - - 0\n");
-    tell_items(b"kind a", b"p a - - 0\n");
-    tell_items(b"kind b", b"p b - - 0\n");
-    tell_items(b"kind C", b"p C - - 0\n");
-    tell_items(b"kind ca", b"p ca - - 0\n");
-    tell_items(b"kind -", b"p - - - 0\n");
+    tell_items(b"a name of 16 bytes", b"abcdefghij_45678 c - - 0\n");
+    tell_items(b"a name of 17 bytes", b"abcdefghij_456789 c - - 0\n");
+    tell_each_item(
+        b"0 c - - 0
+az09_ c - - 0
+p-q c - - 0
+p/q c - - 0
+p:q c - - 0
+pAq c - - 0
+pZq c - - 0
+p^q c - - 0
+p`q c - - 0
+p{q c - - 0
+p a - - 0
+p b - - 0
+p C - - 0
+p ca - - 0
+p - - - 0
+",
+    );
 }
 
 fn values() {
     print(b"\n5, start, loss and rank\n");
-    tell_items(b"start 1,000,000", b"p c 1000000 - 0\n");
-    tell_items(b"start 1,000,001", b"p c 1000001 - 0\n");
-    tell_items(b"start 00", b"p c 00 - 0\n");
-    tell_items(b"start 01", b"p c 01 - 0\n");
-    tell_items(b"start +1", b"p c +1 - 0\n");
-    tell_items(b"start -0", b"p c -0 - 0\n");
-    tell_items(b"start --", b"p c -- - 0\n");
-    tell_items(b"start 1.0", b"p c 1.0 - 0\n");
-    tell_items(b"start 2^32", b"p c 4294967296 - 0\n");
-    tell_items(b"start 2^64", b"p c 18446744073709551616 - 0\n");
-    tell_items(b"start 2^64 + 1", b"p c 18446744073709551617 - 0\n");
-    tell_items(
-        b"start of 50 digits",
-        b"p c 10000000000000000000000000000000000000000000000000 - 0\n",
+    tell_each_item(
+        b"p c 1000000 - 0
+p c 1000001 - 0
+p c 00 - 0
+p c 01 - 0
+p c +1 - 0
+p c -0 - 0
+p c -- - 0
+p c 1.0 - 0
+p c 4294967296 - 0
+p c 18446744073709551616 - 0
+p c 18446744073709551617 - 0
+p c 10000000000000000000000000000000000000000000000000 - 0
+p c - 1000000 0
+p c - 1000001 0
+p c - 00 0
+p c - -1 0
+p c - 18446744073709551616 0
+p c - - 9
+p c - - 10
+p c - - 09
+p c - - -
+p c - - 18446744073709551616
+",
     );
-    tell_items(b"loss 1,000,000", b"p c - 1000000 0\n");
-    tell_items(b"loss 1,000,001", b"p c - 1000001 0\n");
-    tell_items(b"loss 00", b"p c - 00 0\n");
-    tell_items(b"loss -1", b"p c - -1 0\n");
-    tell_items(b"loss 2^64", b"p c - 18446744073709551616 0\n");
-    tell_items(b"rank 9", b"p c - - 9\n");
-    tell_items(b"rank 10", b"p c - - 10\n");
-    tell_items(b"rank 09", b"p c - - 09\n");
-    tell_items(b"rank -", b"p c - - -\n");
-    tell_items(b"rank 2^64", b"p c - - 18446744073709551616\n");
 }
 
 fn names_again() {
@@ -637,29 +674,35 @@ fn edge_fields() {
 
 fn edge_forms() {
     print(b"\n5, edge rows\n");
-    tell_edges(b"colour 7", b"p q 7 0\n");
-    tell_edges(b"colour 8", b"p q 8 0\n");
-    tell_edges(b"colour 00", b"p q 00 0\n");
-    tell_edges(b"colour 07", b"p q 07 0\n");
-    tell_edges(b"colour -", b"p q - 0\n");
-    tell_edges(b"colour 2^64", b"p q 18446744073709551616 0\n");
-    tell_edges(b"rec 1", b"p q 0 1\n");
-    tell_edges(b"rec 2", b"p q 0 2\n");
-    tell_edges(b"rec 01", b"p q 0 01\n");
-    tell_edges(b"rec -", b"p q 0 -\n");
-    tell_edges(b"rec 2^64 + 1", b"p q 0 18446744073709551617\n");
-    tell_edges(b"from P", b"P q 0 0\n");
-    tell_edges(b"to of 17 bytes", b"p abcdefghij_456789 0 0\n");
+    tell_each_edge(
+        b"p q 7 0
+p q 8 0
+p q 00 0
+p q 07 0
+p q - 0
+p q 18446744073709551616 0
+p q 0 1
+p q 0 2
+p q 0 01
+p q 0 -
+p q 0 18446744073709551617
+P q 0 0
+p abcdefghij_456789 0 0
+",
+    );
 }
 
 fn unknown_names() {
-    print(b"\n8, unknown names\n");
-    tell_edges(b"from r", b"r q 0 0\n");
-    tell_edges(b"to r", b"p r 0 0\n");
-    tell_edges(b"from pp", b"pp q 0 0\n");
-    tell_edges(b"from r, to Q, 5 before 8", b"r Q 0 0\n");
-    tell_edges(b"from r, colour 8, 5 before 8", b"r q 8 0\n");
-    tell_edges(b"to r, rec 2, 5 before 8", b"p r 0 2\n");
+    print(b"\n8, unknown names, and 5 before 8\n");
+    tell_each_edge(
+        b"r q 0 0
+p r 0 0
+pp q 0 0
+r Q 0 0
+r q 8 0
+p r 0 2
+",
+    );
 }
 
 fn edges_again() {

@@ -11,6 +11,7 @@ from pathlib import Path
 
 ROOT = Path(__file__).resolve().parent.parent
 LONGEST = 40
+LITERAL = re.compile(r"""b"(?:[^"\\]|\\.)*"|b'(?:[^'\\]|\\.)*'""")
 HEAD = re.compile(r'^\s*(pub\s+)?(?:extern\s+"C"\s+)?fn\s+(\w+)')
 
 
@@ -22,6 +23,11 @@ def inner_crates():
         if ":" in code and re.search(r"\binner\b", comment):
             inner.add(code.partition(":")[0].strip())
     return inner
+
+
+def lines_of(text):
+    """The lines of a source without its byte strings, which may have braces."""
+    return LITERAL.sub(lambda found: "\n" * found.group().count("\n"), text).split("\n")
 
 
 def functions(lines):
@@ -59,7 +65,7 @@ def main():
     faults, public_count, count = [], 0, 0
     for path in sorted(ROOT.glob("crates/*/src/**/*.rt")):
         crate = path.relative_to(ROOT).parts[1]
-        for line, public, name, head, length in functions(path.read_text(encoding="utf-8").split("\n")):
+        for line, public, name, head, length in functions(lines_of(path.read_text(encoding="utf-8"))):
             count += 1
             public_count += public
             place = f"{path.relative_to(ROOT)}:{line}: {name}"

@@ -1,15 +1,14 @@
 -- The names of the items of a sheet, line by line.
 -- Assumes nothing.
 use mathlib.Core.Path.{_≡_, refl, sym, ap, _∙_, subst}
-use mathlib.Core.Bool.{Bool, true, false}
-use mathlib.Core.List.{List, [], _∷_, _++_, head-eq-of-cons-eq, tail-eq-of-cons-eq}
+use mathlib.Core.List.{List, [], _∷_, head-eq-of-cons-eq, tail-eq-of-cons-eq}
 use mathlib.Core.Logic.{⊎-elim}
-use Prim.Native.Nat.{ℕ, zero, suc, _+_, _-_, _≤_, _<_}
+use Prim.Native.Nat.{ℕ, suc, _+_, _-_, _≤_, _<_}
 use native.Mathlib.Nat.{not-suc-le-zero}
 use native.Mathlib.Numerals.{add-one}
 use native.Mathlib.Omega.{arith}
 use lib.Dec.{eqb}
-use lib.ListN.{length, getD, set, take, drop, length-set, length-drop, length-take, drop-of-length-le}
+use lib.ListN.{length, getD, set, take, drop, length-set, length-drop, length-take}
 use lib.Seq.{drop-cons, take-take, getD-set-same, getD-set-other}
 use Rattle.vertex_set.proofs.Cases.{byTest, less-or, same-or}
 use Rattle.sheet_format.specs.Text.{grow, linesOf, fieldsOf}

@@ -1,8 +1,6 @@
 -- Inner: where the names of a sheet's items stand.
 use mathlib.Core.List.{List}
-use mathlib.Core.Path.{_≡_}
 use Prim.Native.Nat.{ℕ, _<_}
-use lib.ListN.{length}
 use Rattle.report_fields.specs.Writing.{NamePlace}
 use Rattle.report_names.specs.declared.Names.{Names}
 

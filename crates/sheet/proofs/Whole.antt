@@ -2,19 +2,19 @@
 -- Assumes nothing.
 use mathlib.Core.Path.{_≡_, refl, sym, ap, _∙_}
 use mathlib.Core.List.{List, [], _∷_}
-use mathlib.Core.Bool.{Bool, true, false, cond}
-use Prim.Native.Nat.{ℕ, zero, suc, _+_, _-_, _≤_, _<_}
+use mathlib.Core.Bool.{true, false}
+use Prim.Native.Nat.{ℕ, _+_, _-_, _≤_, _<_}
 use native.Mathlib.Nat.{sub-zero}
 use native.Mathlib.Numerals.{add-one}
 use native.Mathlib.Omega.{arith}
 use lib.ListN.{length, take, drop}
 use borrow.Author.Tests.{le-leb, lt-leb}
-use Rattle.vertex_set.proofs.Cases.{byTest, false-true}
+use Rattle.vertex_set.proofs.Cases.{false-true}
 use Rattle.sheet_format.specs.declared.Reading.{Reading}
 use Rattle.sheet_format.specs.Text.{linesOf, all}
-use Rattle.sheet_format.specs.Rows.{ItemRow, Doc, firstHeader, secondHeader}
+use Rattle.sheet_format.specs.Rows.{firstHeader, secondHeader}
 use Rattle.sheet_format.specs.Questions.{question1, question2, question3, endsInLF}
-use Rattle.sheet_format.specs.Read.{AtFirstHeader, AmongItems, AtSecondHeader, AmongEdges, noRows, question11, accepted, refused, readLines, readSheet}
+use Rattle.sheet_format.specs.Read.{AtFirstHeader, AmongItems, AtSecondHeader, AmongEdges, noRows, question11, refused, readLines, readSheet}
 use Rattle.sheet_fields.specs.Parts.{until}
 use Rattle.sheet_lines.specs.declared.Items.{Items}
 use Rattle.sheet_lines.specs.declared.Edges.{Edges}

@@ -43,7 +43,7 @@ fn read_rest(s: &[u8], items: Items) -> Reading
         return refuse(11, line);
     }
     let end = sheet_fields::find(s, at, sheet_fields::LF);
-    if sheet_lines::is_second_header(&s[at..end]) {} else {
+    if !sheet_lines::is_second_header(&s[at..end]) {
         return refuse(3, line);
     }
     let low = items.low;
@@ -76,11 +76,11 @@ pub fn read_sheet(sheet: &[u8]) -> Reading
     if MAX_BYTES < sheet.len() {
         return refuse(1, 0);
     }
-    if sheet_lines::is_text(sheet) {} else {
+    if !sheet_lines::is_text(sheet) {
         return refuse(2, 0);
     }
     let end = sheet_fields::find(sheet, 0, sheet_fields::LF);
-    if sheet_lines::is_first_header(&sheet[..end]) {} else {
+    if !sheet_lines::is_first_header(&sheet[..end]) {
         return refuse(3, 1);
     }
     let items = sheet_lines::read_items(sheet, end + 1);

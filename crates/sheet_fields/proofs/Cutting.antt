@@ -1,21 +1,19 @@
 -- Cutting a line into its fields, one after the other.
 -- Assumes nothing.
-use mathlib.Core.Path.{_≡_, refl, sym, ap, _∙_, subst}
+use mathlib.Core.Path.{_≡_, refl, sym, ap, _∙_}
 use mathlib.Core.List.{List, [], _∷_}
-use mathlib.Core.Bool.{Bool, true, false, cond, not, _&&_, and-false}
+use mathlib.Core.Bool.{true, false, and-false}
 use mathlib.Core.Logic.{⊎-elim}
 use Prim.Native.Nat.{ℕ, zero, suc, _+_, _-_, _≤_, _<_}
 use native.Mathlib.Nat.{not-suc-le-zero, le-of-suc-le-suc, sub-zero}
-use native.Mathlib.Numerals.{add-one}
 use native.Mathlib.Omega.{arith}
 use lib.ListN.{length, take, drop, length-drop, drop-of-length-le}
 use lib.Seq.{drop-drop}
 use lib.Dec.{eqb, ltb, eqb·suc-suc}
-use borrow.Author.Tests.{eq-eqb, ne-eqb, ltb-true, ltb-false, lt-ltb, le-ltb}
+use borrow.Author.Tests.{ne-eqb, ltb-true, ltb-false, lt-ltb, le-ltb}
 use Rattle.vertex_set.proofs.Cases.{byTest, false-true, less-or}
 use Rattle.sheet_format.specs.Text.{grow, fieldsOf, isEmpty}
 use Rattle.sheet_format.specs.Questions.{noneEmpty, question4}
-use Rattle.sheet_fields.specs.declared.Cut.{Cut}
 use Rattle.sheet_fields.specs.Parts.{until, moreFollow, endAt, CutsFour}
 
 -- ---- the first field, and the others

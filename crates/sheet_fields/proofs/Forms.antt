@@ -2,21 +2,17 @@
 -- Assumes nothing.
 use mathlib.Core.Path.{_≡_, refl, sym, ap, _∙_}
 use mathlib.Core.List.{List, [], _∷_}
-use mathlib.Core.Bool.{Bool, true, false, cond, not, _&&_, _||_, and-true, or-false}
-use Prim.Native.Nat.{ℕ, suc, _+_, _-_, _*_, min, _≤_, _<_}
+use mathlib.Core.Bool.{true, false, cond, _&&_, and-true, or-false}
+use Prim.Native.Nat.{ℕ, min, _≤_, _<_}
 use native.Mathlib.Omega.{arith}
 use lib.ListN.{length, getD}
 use lib.Dec.{eqb, leb}
-use borrow.Author.Tests.{eq-eqb, ne-eqb, eqb-true, le-leb, lt-leb, leb-true}
+use borrow.Author.Tests.{ne-eqb, eqb-true, le-leb, lt-leb, leb-true}
 use Rattle.vertex_set.proofs.Cases.{byTest, false-true}
-use Rattle.setup.specs.declared.Kind.{Kind}
 use Rattle.setup.specs.declared.Kind.the-variants.{Credential, Account}
-use Rattle.setup.specs.declared.Value.{Value}
 use Rattle.setup.specs.declared.Value.the-variants.{Blank, Of}
-use Rattle.sheet_format.specs.Text.{sameText, all, isEmpty}
+use Rattle.sheet_format.specs.Text.{sameText, all}
 use Rattle.sheet_format.specs.Fields.{isDigit, isNumber, numberOf, isNumberTo, isKind, kindOf, isValue, valueOf}
-use Rattle.sheet_fields.specs.declared.KindField.{KindField}
-use Rattle.sheet_fields.specs.declared.ValueField.{ValueField}
 use Rattle.sheet_fields.specs.Forms.{cappedNumber, ReadsKind, ReadsValue}
 
 -- ---- texts of one byte

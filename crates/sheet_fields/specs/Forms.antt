@@ -1,7 +1,7 @@
 -- What the readers of single fields answer.
 use mathlib.Core.Path.{_≡_}
 use mathlib.Core.List.{List}
-use mathlib.Core.Bool.{Bool, true, cond}
+use mathlib.Core.Bool.{true, cond}
 use Prim.Native.Nat.{ℕ, _+_, _-_, _*_, min}
 use Rattle.sheet_format.specs.Fields.{isDigit, isNumber, numberOf, isKind, kindOf, isValue, valueOf}
 use Rattle.sheet_fields.specs.declared.KindField.{KindField}

@@ -1,7 +1,7 @@
 -- Names as pairs of numbers, so that two of them are compared at once.
 use mathlib.Core.Path.{_≡_}
 use mathlib.Core.List.{List, [], _∷_}
-use mathlib.Core.Bool.{Bool, true}
+use mathlib.Core.Bool.{true}
 use Prim.Native.Nat.{ℕ, _+_, _*_}
 use lib.ListN.{take, drop}
 use Rattle.sheet_format.specs.Fields.{isName}

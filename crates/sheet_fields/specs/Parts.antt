@@ -1,7 +1,7 @@
 -- Where a byte stands next, and the places at which a row of four fields is cut.
 use mathlib.Core.Path.{_≡_}
 use mathlib.Core.List.{List, [], _∷_}
-use mathlib.Core.Bool.{Bool, true, false, cond, _&&_}
+use mathlib.Core.Bool.{Bool, true, cond, _&&_}
 use Prim.Native.Nat.{ℕ, suc, _+_, _-_, _<_}
 use lib.ListN.{length, take, drop}
 use lib.Dec.{eqb, ltb}

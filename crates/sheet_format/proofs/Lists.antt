@@ -1,10 +1,6 @@
 -- Lists all of whose elements have a property, or of which no two stand to each other in a relation; and sums over lists.
 -- Assumes nothing.
-use mathlib.Core.Path.{_≡_, sym, ap, _∙_}
 use mathlib.Core.List.{List, [], _∷_, _++_, map}
-use Prim.Native.Nat.{ℕ, _+_}
-use native.Mathlib.Nat.{zero-add, add-assoc}
-use Rattle.setup.specs.Setup.{total}
 use Rattle.sheet_format.specs.Rows.{Each, Apart}
 
 module _ {A : Type 0} (P : A → Type 0) where

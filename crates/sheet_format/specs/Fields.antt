@@ -1,6 +1,6 @@
 -- The fields of a row: names, kinds, numbers and values, how each is written and how it is read.
 use mathlib.Core.List.{List, [], _∷_, _++_}
-use mathlib.Core.Bool.{Bool, true, false, cond, not, _&&_, _||_}
+use mathlib.Core.Bool.{Bool, false, cond, not, _&&_, _||_}
 use Prim.Native.Nat.{ℕ, zero, suc, _+_, _-_, _*_, _/_, _%_}
 use lib.ListN.{length}
 use lib.Dec.{eqb, leb, ltb}

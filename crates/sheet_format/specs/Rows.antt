@@ -1,15 +1,14 @@
 -- Rows as data: what makes them valid, how they are written as a text, and the setup that they state.
 use mathlib.Core.Path.{_≡_}
 use mathlib.Core.List.{List, [], _∷_, _++_, map}
-use mathlib.Core.Bool.{Bool, true, false, cond}
+use mathlib.Core.Bool.{Bool, true, cond}
 use mathlib.Core.Logic.{_⊎_}
-use Prim.Native.Nat.{ℕ, zero, suc, _+_, _-_, _^_, _≤_, _<_}
+use Prim.Native.Nat.{ℕ, suc, _-_, _^_, _≤_}
 use lib.ListN.{length, set, replicate}
 use lib.Bits.{bitOr}
 use Rattle.setup.specs.declared.Kind.{Kind}
 use Rattle.setup.specs.declared.Value.{Value}
 use Rattle.setup.specs.declared.Vertex.{Vertex}
-use Rattle.setup.specs.declared.Rows.{Rows}
 use Rattle.setup.specs.declared.Graph.{Graph}
 use Rattle.setup.specs.declared.Setup.{Setup}
 use Rattle.setup.specs.Setup.{unusedVertex, rowsAt, row, total, given}

@@ -1,29 +1,28 @@
 -- The loop over the edge rows: what it has when it stands at a place of the sheet, and each of its turns.
 -- Assumes nothing.
-use mathlib.Core.Path.{_≡_, refl, sym, ap, ap₂, _∙_, subst}
+use mathlib.Core.Path.{_≡_, refl, sym, ap, _∙_, subst}
 use mathlib.Core.List.{List, [], _∷_, _++_}
-use mathlib.Core.Bool.{Bool, true, false, cond, not, _&&_}
-use mathlib.Core.Logic.{_⊎_, inl, inr, ⊎-elim}
+use mathlib.Core.Bool.{Bool, true, false, cond, not}
+use mathlib.Core.Logic.{inr, ⊎-elim}
 use Prim.Native.Nat.{ℕ, zero, suc, _+_, _-_, _/_, _%_, _^_, _≤_, _<_}
-use native.Mathlib.Nat.{not-suc-le-zero}
 use native.Mathlib.Omega.{arith}
-use lib.ListN.{length, getD, take, drop, set, length-append}
+use lib.ListN.{length, take, drop, set, length-append}
 use lib.Seq.{set-getD}
-use lib.Dec.{eqb, leb}
-use borrow.Author.Tests.{eqb-true, eqb-false, eq-eqb, le-leb, lt-leb}
+use lib.Dec.{eqb}
+use borrow.Author.Tests.{eqb-true, eqb-false, le-leb, lt-leb}
 use Rattle.vertex_set.specs.Set.{Member}
-use Rattle.vertex_set.proofs.Cases.{byTest, false-true}
+use Rattle.vertex_set.proofs.Cases.{byTest}
 use Rattle.setup.specs.declared.Rows.{Rows}
 use Rattle.setup.specs.declared.Graph.{Graph}
-use Rattle.setup.specs.Setup.{rowsAt, row, Edge, ShapedGraph}
+use Rattle.setup.specs.Setup.{rowsAt, row, Edge}
 use Rattle.sheet_format.specs.Text.{linesOf, fieldsOf, sameText}
 use Rattle.sheet_format.specs.Rows.{ItemRow, EdgeRow, Doc, Each, Known, SameEdge, numberIn, verticesOf, emptyGraph, withEdge, withEdges, recoveryRows, setupOf}
 use Rattle.sheet_format.specs.Questions.{question4, question5Edge, question7Edge, question8, question9, isKnown, isRepeated, edgeOf}
-use Rattle.sheet_format.specs.Read.{AmongEdges, Asked, ask, firstNo, withRow, edgeQuestions, accepted, refused, readLines}
+use Rattle.sheet_format.specs.Read.{AmongEdges, ask, firstNo, edgeQuestions, accepted, refused, readLines}
 use Rattle.sheet_format.proofs.Tests.{and-parts, yes-of, no-of, text-decided, known-decided, single-decided}
 use Rattle.sheet_format.proofs.Lists.{each-append}
-use Rattle.sheet_format.proofs.Question12Lists.{In, each-of, of-each}
-use Rattle.sheet_format.proofs.Question12Edges.{empty-shaped, empty-edges, Stated, Placed, edges-shaped, edges-more}
+use Rattle.sheet_format.proofs.Question12Lists.{each-of, of-each}
+use Rattle.sheet_format.proofs.Question12Edges.{empty-shaped, empty-edges, Stated, Placed, edges-more}
 use Rattle.sheet_fields.specs.Parts.{until}
 use Rattle.sheet_rows.specs.declared.TakenEdge.{TakenEdge}
 use Rattle.sheet_rows.specs.Table.{Table}

@@ -1,33 +1,32 @@
 -- The loop over the item rows: what it has when it stands at a place of the sheet, and each of its turns.
 -- Assumes nothing.
-use mathlib.Core.Path.{_≡_, refl, sym, ap, ap₂, _∙_, subst}
+use mathlib.Core.Path.{_≡_, refl, sym, ap, _∙_}
 use mathlib.Core.List.{List, [], _∷_, _++_, map, map-append, append-assoc}
-use mathlib.Core.Bool.{Bool, true, false, not}
+use mathlib.Core.Bool.{true, false}
 use Prim.Native.Nat.{ℕ, zero, suc, _+_, _-_, _≤_, _<_}
 use native.Mathlib.Nat.{not-suc-le-zero}
 use native.Mathlib.Numerals.{add-one}
 use native.Mathlib.Omega.{arith}
-use lib.ListN.{length, getD, take, drop, set, replicate, length-drop, length-take, length-set, length-append, length-map}
+use lib.ListN.{length, take, drop, set, replicate, length-drop, length-set, length-append, length-map}
 use lib.Seq.{take-suc-set, set-at}
 use Rattle.setup.specs.declared.Vertex.{Vertex}
 use Rattle.setup.specs.Setup.{unusedVertex, total, given}
 use Rattle.setup.proofs.Counts.{total-append}
 use Rattle.sheet_format.specs.Text.{linesOf, fieldsOf, isEmpty}
 use Rattle.sheet_format.specs.Fields.{isName}
-use Rattle.sheet_format.specs.Rows.{ItemRow, Doc, Each, startCount, lossCount, vertexOf, verticesOf}
-use Rattle.sheet_format.specs.Questions.{question4, question5Item, question6, question7Item, itemOf}
-use Rattle.sheet_format.specs.Read.{AmongItems, AtSecondHeader, ask, firstNo, noRows, withItem, itemQuestions, refused, readLines, question11}
+use Rattle.sheet_format.specs.Rows.{ItemRow, Doc, startCount, lossCount, vertexOf, verticesOf}
+use Rattle.sheet_format.specs.Questions.{question4, question5Item, itemOf}
+use Rattle.sheet_format.specs.Read.{AmongItems, AtSecondHeader, firstNo, noRows, itemQuestions, refused, readLines, question11}
 use Rattle.sheet_format.proofs.Lists.{each-append}
 use Rattle.sheet_fields.specs.declared.Key.{Key}
 use Rattle.sheet_fields.specs.Parts.{until}
-use Rattle.sheet_fields.specs.Keys.{keyOf}
 use Rattle.sheet_rows.specs.declared.TakenItem.{TakenItem}
 use Rattle.sheet_rows.specs.Table.{lowOf, highOf, WellNamed, Table}
 use Rattle.sheet_rows.specs.Lines.{TakesItem}
 use Rattle.sheet_rows.proofs.Asks.{all-yes}
 use Rattle.sheet_rows.proofs.Taking.{item-name}
 use Rattle.sheet_lines.specs.declared.Items.{Items}
-use Rattle.sheet_lines.specs.Loops.{ItemsTaken, ReadsItems}
+use Rattle.sheet_lines.specs.Loops.{ReadsItems}
 use Rattle.sheet_fields.proofs.Lines.{line-at, lines-over}
 use Rattle.sheet_lines.proofs.Reading.{empty-no, empty-yes, item-no, item-yes, over-no}
 

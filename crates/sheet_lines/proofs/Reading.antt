@@ -1,21 +1,16 @@
 -- A step of the reading at each kind of line.
 -- Assumes nothing.
-use mathlib.Core.Path.{_≡_, refl, sym, ap, _∙_}
-use mathlib.Core.List.{List, [], _∷_, _++_}
-use mathlib.Core.Bool.{Bool, true, false, cond}
-use Prim.Native.Nat.{ℕ, zero, suc, _+_, _-_, _≤_, _<_}
-use native.Mathlib.Nat.{not-suc-le-zero}
+use mathlib.Core.Path.{_≡_, refl, sym, _∙_}
+use mathlib.Core.List.{List, [], _∷_}
+use mathlib.Core.Bool.{true, false}
+use Prim.Native.Nat.{ℕ, zero, suc}
 use native.Mathlib.Omega.{arith}
-use lib.ListN.{length, take, drop, length-drop, drop-of-length-le}
-use lib.Seq.{drop-drop}
-use lib.Dec.{eqb, leb}
-use borrow.Author.Tests.{le-leb, lt-leb}
-use Rattle.vertex_set.proofs.Cases.{byTest}
-use Rattle.sheet_format.specs.Text.{grow, linesOf, fieldsOf, isEmpty}
+use lib.ListN.{length}
+use borrow.Author.Tests.{le-leb}
+use Rattle.sheet_format.specs.Text.{fieldsOf, isEmpty}
 use Rattle.sheet_format.specs.Rows.{Doc, firstHeader, secondHeader, setupOf}
 use Rattle.sheet_format.specs.Questions.{question3, question10, itemOf, edgeOf}
-use Rattle.sheet_format.specs.Read.{Phase, AtFirstHeader, AmongItems, AtSecondHeader, AmongEdges, Asked, ask, withItem, withRow, itemQuestions, edgeQuestions, questionsOf, behind, firstNo, unless, accepted, refused, question11, readLines}
-use Rattle.sheet_fields.specs.Parts.{until}
+use Rattle.sheet_format.specs.Read.{Phase, AtFirstHeader, AmongItems, AtSecondHeader, AmongEdges, withItem, withRow, itemQuestions, edgeQuestions, questionsOf, behind, firstNo, unless, accepted, refused, question11, readLines}
 
 -- ---- a line with a no, and one with yeses
 

@@ -60,7 +60,7 @@ pub fn is_text(s: &[u8]) -> bool
     }
     let mut i = 0;
     while i < n {
-        if is_text_byte(s[i]) {} else {
+        if !is_text_byte(s[i]) {
             return false;
         }
         i += 1;

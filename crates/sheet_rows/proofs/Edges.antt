@@ -2,14 +2,13 @@
 -- Assumes nothing.
 use mathlib.Core.Path.{_≡_, refl, sym, ap, _∙_}
 use mathlib.Core.List.{List, [], _∷_}
-use mathlib.Core.Bool.{Bool, true, false, cond, _&&_, and-eq-true-iff}
-use Prim.Native.Nat.{ℕ, suc, _+_, _≤_, _<_}
+use mathlib.Core.Bool.{true, false, _&&_, and-eq-true-iff}
+use Prim.Native.Nat.{ℕ, _≤_}
 use native.Mathlib.Omega.{arith}
 use lib.Dec.{eqb, leb}
 use borrow.Author.Tests.{le-leb}
 use Rattle.sheet_format.specs.Text.{fieldsOf}
-use Rattle.sheet_format.specs.Fields.{isName, isNumberTo, numberOf}
-use Rattle.sheet_format.specs.Questions.{field, question4, question5Edge, edgeOf}
+use Rattle.sheet_format.specs.Questions.{question4, question5Edge, edgeOf}
 use Rattle.sheet_format.specs.Read.{ask, firstNo}
 use Rattle.sheet_fields.specs.declared.Cut.{Cut}
 use Rattle.sheet_fields.specs.declared.NameField.{NameField}
@@ -18,7 +17,7 @@ use Rattle.sheet_fields.specs.Forms.{cappedNumber}
 use Rattle.sheet_fields.specs.Keys.{ReadsName}
 use Rattle.sheet_fields.proofs.Forms.{number-to}
 use Rattle.sheet_rows.specs.declared.EdgeLine.{EdgeLine}
-use Rattle.sheet_rows.specs.Lines.{JoinsEnds, StatesEdge, ReadsEnds, ReadsEdge}
+use Rattle.sheet_rows.specs.Lines.{JoinsEnds, ReadsEnds, ReadsEdge}
 use Rattle.sheet_rows.proofs.Asks.{answer-yes, answer-no, one-yes}
 use Rattle.sheet_rows.proofs.Items.{small-number}
 

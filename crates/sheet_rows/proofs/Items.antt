@@ -1,19 +1,18 @@
 -- An item row by itself: from its fields to the row.
 -- Assumes nothing.
-use mathlib.Core.Path.{_≡_, refl, sym, ap, _∙_}
+use mathlib.Core.Path.{_≡_, refl, sym, _∙_}
 use mathlib.Core.List.{List, [], _∷_}
 use mathlib.Core.Bool.{Bool, true, false, cond, _&&_, and-eq-true-iff}
-use Prim.Native.Nat.{ℕ, suc, _+_, _≤_, _<_}
+use Prim.Native.Nat.{ℕ, _+_, _≤_, _<_}
 use native.Mathlib.Nat.{sub-zero}
 use native.Mathlib.Omega.{arith}
 use lib.ListN.{take, drop}
 use lib.Dec.{eqb, leb}
-use borrow.Author.Tests.{eq-eqb, ne-eqb, le-leb, lt-leb, leb-true}
-use Rattle.vertex_set.proofs.Cases.{byTest, false-true}
-use Rattle.setup.specs.declared.Vertex.{Vertex}
+use borrow.Author.Tests.{ne-eqb, le-leb, leb-true}
+use Rattle.vertex_set.proofs.Cases.{byTest}
 use Rattle.sheet_format.specs.Text.{fieldsOf}
-use Rattle.sheet_format.specs.Fields.{isName, isNumberTo, numberOf, isKind, isValue}
-use Rattle.sheet_format.specs.Questions.{field, question4, question5Item, itemOf}
+use Rattle.sheet_format.specs.Fields.{isName, numberOf}
+use Rattle.sheet_format.specs.Questions.{question4, question5Item, itemOf}
 use Rattle.sheet_format.specs.Read.{ask, firstNo}
 use Rattle.sheet_fields.specs.declared.Cut.{Cut}
 use Rattle.sheet_fields.specs.declared.NameField.{NameField}

@@ -1,26 +1,22 @@
 -- An item row and an edge row below the rows above them.
 -- Assumes nothing.
-use mathlib.Core.Path.{_≡_, refl, sym, ap, _∙_, subst}
+use mathlib.Core.Path.{_≡_, sym, ap, _∙_}
 use mathlib.Core.List.{List, [], _∷_}
-use mathlib.Core.Bool.{Bool, true, false, not, cond, _&&_}
+use mathlib.Core.Bool.{Bool, true, false, not, _&&_}
 use Prim.Native.Nat.{ℕ, suc, _+_, _≤_, _<_}
 use native.Mathlib.Omega.{arith}
-use lib.ListN.{length, take}
-use lib.Dec.{eqb, leb, ltb}
+use lib.ListN.{take}
+use lib.Dec.{leb, ltb}
 use borrow.Author.Tests.{le-leb, lt-leb, leb-true, lt-ltb, le-ltb}
-use Rattle.vertex_set.proofs.Cases.{byTest}
-use Rattle.setup.specs.declared.Vertex.{Vertex}
 use Rattle.setup.specs.declared.Value.{Value}
 use Rattle.setup.specs.declared.Value.the-variants.{Blank, Of}
 use Rattle.setup.specs.Setup.{given}
 use Rattle.sheet_format.specs.Text.{fieldsOf}
 use Rattle.sheet_format.specs.Fields.{isName, isKind, isValue, isNumberTo, numberOf, isNumber}
-use Rattle.sheet_format.specs.Rows.{ItemRow, EdgeRow, Doc, vertexOf, numberIn, startCount, lossCount}
+use Rattle.sheet_format.specs.Rows.{ItemRow, Doc, numberIn, startCount, lossCount}
 use Rattle.sheet_format.specs.Questions.{field, question4, question5Item, question5Edge, question6, question7Item, question8, isKnown, itemOf, edgeOf}
 use Rattle.sheet_format.specs.Read.{Asked, ask, firstNo, itemQuestions}
-use Rattle.sheet_format.proofs.Tests.{and-parts, and-both}
-use Rattle.sheet_fields.specs.declared.Key.{Key}
-use Rattle.sheet_fields.specs.Keys.{keyOf}
+use Rattle.sheet_format.proofs.Tests.{and-parts}
 use Rattle.sheet_rows.specs.declared.ItemLine.{ItemLine}
 use Rattle.sheet_rows.specs.declared.TakenItem.{TakenItem}
 use Rattle.sheet_rows.specs.declared.EdgeLine.{EdgeLine}

@@ -1,14 +1,14 @@
 -- What the readers of single lines answer.
 use mathlib.Core.Path.{_≡_}
 use mathlib.Core.List.{List, [], _∷_}
-use mathlib.Core.Bool.{Bool, true, cond, _&&_}
+use mathlib.Core.Bool.{Bool, cond, _&&_}
 use Prim.Native.Nat.{ℕ, _+_, _≤_, _<_}
 use lib.Dec.{eqb, leb}
 use Rattle.setup.specs.declared.Vertex.{Vertex}
 use Rattle.setup.specs.Setup.{given}
 use Rattle.sheet_format.specs.Text.{fieldsOf}
 use Rattle.sheet_format.specs.Fields.{numberOf, isNumberTo, isKind, kindOf, isValue, valueOf}
-use Rattle.sheet_format.specs.Rows.{ItemRow, EdgeRow, Doc, vertexOf, numberIn, startCount, lossCount}
+use Rattle.sheet_format.specs.Rows.{ItemRow, Doc, vertexOf, numberIn, startCount, lossCount}
 use Rattle.sheet_format.specs.Questions.{field, question4, question5Item, question5Edge, question8, itemOf, edgeOf}
 use Rattle.sheet_format.specs.Read.{ask, firstNo, itemQuestions}
 use Rattle.sheet_fields.specs.declared.NameField.{NameField}

@@ -87,13 +87,13 @@ fn no_vertex(number: u64) -> VertexFields
 fn join_fields(kind: KindField, start: ValueField, loss: ValueField, rank: u64) -> VertexFields
     ensures { λ r. ⌜ JoinsFields kind start loss rank r ⌝ }
 {
-    if kind.ok {} else {
+    if !kind.ok {
         return no_vertex(5);
     }
-    if start.ok {} else {
+    if !start.ok {
         return no_vertex(5);
     }
-    if loss.ok {} else {
+    if !loss.ok {
         return no_vertex(5);
     }
     if rank <= MAX_RANK {
@@ -154,7 +154,7 @@ fn join_item(name: NameField, fields: VertexFields) -> ItemLine
     if number == 4 {
         return no_item(4);
     }
-    if name.ok {} else {
+    if !name.ok {
         return no_item(5);
     }
     let key = name.key;
@@ -298,10 +298,10 @@ fn no_edge(number: u64) -> EdgeLine
 fn join_ends(from: NameField, to: NameField, colour: u64, rec: u64) -> EdgeLine
     ensures { λ r. ⌜ JoinsEnds from to colour rec r ⌝ }
 {
-    if from.ok {} else {
+    if !from.ok {
         return no_edge(5);
     }
-    if to.ok {} else {
+    if !to.ok {
         return no_edge(5);
     }
     if MAX_COLOUR < colour {

@@ -1,16 +1,12 @@
 use Rattle.sheet_fields.proofs.Cutting.{until-le}
 use borrow.Author.Needs.{needs}
-use Prim.Native.Nat.{ℕ, suc, _+_, _-_, _≤_, _<_}
+use Prim.Native.Nat.{suc, _-_, _≤_, _<_}
 use Rattle.sheet_format.specs.Text.{linesOf}
-use mathlib.Core.Path.{_≡_, refl, subst}
 use native.Mathlib.Omega.{arith}
 use lib.ListN.{length, take, drop, length-take}
-use Rattle.report_names.proofs.Places.{NamesSoFar, names-none, line-starts, line-stops, names-more}
+use Rattle.report_names.proofs.Places.{NamesSoFar, names-none, line-stops, names-more}
 use Rattle.report_names.proofs.name_places.Statement.{statement}
 use Rattle.report_names.proofs.name_places.Tie as tie
-use Rattle.report_names.proofs.name_places.Reads as reads
-use Rattle.report_names.proofs.name_places.Lts as lts
-use Rattle.sheet_fields.proofs.find.Reads as find-reads
 
 abbrev Inv-loop : tie.InvT-loop
 Inv-loop sheet count from₀ to₀ at₀ v₀ from to at v = (v ≤ count) × NamesSoFar sheet from to v at
@@ -18,21 +14,17 @@ Inv-loop sheet count from₀ to₀ at₀ v₀ from to at v = (v ≤ count) × Na
 abbrev μ-loop : tie.MeasureT-loop
 μ-loop sheet count from₀ to₀ at₀ v₀ from to at v = count - v
 
--- src/lib.rt:20:18
 find-requires : tie.Need-find-requires Inv-loop μ-loop
 find-requires c κs = search needs
 
--- src/lib.rt:20:18
 add-at : tie.Need-add-at Inv-loop μ-loop
 add-at c = let u = until-le 10 (c .before .before .args .sheet .now) in omega (arith, c .find .ensures)
 
--- src/lib.rt:21:5
 loop-holds : tie.Need-loop-holds Inv-loop μ-loop
 loop-holds c =
     let u = c .before .before .pre .1 in
     (omega arith, names-none _ _ _ _ (search needs) (search needs) (omega arith) (c .find .ensures))
 
--- src/lib.rt:22:13
 find-requires-2 : tie.Need-find-requires-2 Inv-loop μ-loop
 find-requires-2 c κs = search needs
 
@@ -42,31 +34,24 @@ more c = let u = c .before .before .before .before .pre .1 in omega arith
 bounds : (c : tie.After-find2 Inv-loop μ-loop) → (c .before .before .loop .at ≤ c .find2 .result) × (c .find2 .result ≤ length (c .before .before .before .before .before .args .sheet .now))
 bounds c = line-stops _ _ _ _ _ (c .before .before .loop .inv .1) (more (c .before)) _ (c .find2 .ensures)
 
--- src/lib.rt:23:9
 mul-from : tie.Need-mul-from Inv-loop μ-loop
 mul-from c = search needs
 
--- src/lib.rt:23:9
 array-write-from : tie.Need-array-write-from Inv-loop μ-loop
 array-write-from c = search needs
 
--- src/lib.rt:24:41
 sub-find : tie.Need-sub-find Inv-loop μ-loop
 sub-find c = bounds c .0
 
--- src/lib.rt:24:41
 part-find-start : tie.Need-part-find-start Inv-loop μ-loop
 part-find-start c = bounds c .0
 
--- src/lib.rt:24:41
 part-find-end : tie.Need-part-find-end Inv-loop μ-loop
 part-find-end c = bounds c .1
 
--- src/lib.rt:24:22
 find-requires-3 : tie.Need-find-requires-3 Inv-loop μ-loop
 find-requires-3 c κs = search needs
 
--- src/lib.rt:24:17
 add-to : tie.Need-add-to Inv-loop μ-loop
 add-to c =
     let b = bounds (c .before .before) in
@@ -76,34 +61,27 @@ add-to c =
     let t = length-take (c .before .before .find2 .result - c .before .before .before .before .loop .at) (drop (c .before .before .before .before .loop .at) (c .before .before .before .before .before .before .before .args .sheet .now)) in
     omega (arith, c .find3 .ensures)
 
--- src/lib.rt:24:9
 mul-to : tie.Need-mul-to Inv-loop μ-loop
 mul-to c = search needs
 
--- src/lib.rt:24:9
 array-write-to : tie.Need-array-write-to Inv-loop μ-loop
 array-write-to c = search needs
 
--- src/lib.rt:25:14
 add-at-2 : tie.Need-add-at-2 Inv-loop μ-loop
 add-at-2 c =
     let b = bounds (c .before .before) in
     let hi = b .1 in
     omega arith
 
--- src/lib.rt:21:9
 add-v : tie.Need-add-v Inv-loop μ-loop
 add-v c = search needs
 
--- src/lib.rt:21:5
 loop-less : tie.Need-loop-less Inv-loop μ-loop
 loop-less c = search needs
 
--- src/lib.rt:21:5
 loop-again : tie.Need-loop-again Inv-loop μ-loop
 loop-again c = (search needs, names-more _ _ _ _ _ (c .before .before .before .before .loop .inv .1) (more (c .before .before .before)) _ _ (search needs) (c .before .before .find2 .ensures) (c .find3 .ensures))
 
--- src/lib.rt:14:1
 returns : tie.Need-returns Inv-loop μ-loop
 returns c =
     let b = c .before in

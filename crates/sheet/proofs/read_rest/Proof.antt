@@ -5,6 +5,7 @@ use lib.ListN.{length, drop, length-drop}
 use Rattle.sheet_fields.proofs.Cutting.{until-le}
 use Rattle.sheet.proofs.Whole.{rest-over, rest-header, rest-no, rest-yes}
 use borrow.Author.Needs.{needs}
+use borrow.Author.Tests.{not-true, not-false}
 use Rattle.sheet.proofs.read_rest.Statement.{statement}
 use Rattle.sheet.proofs.read_rest.Tie as tie
 
@@ -53,7 +54,7 @@ returns-2 c =
     let f = h .before .before in
     let a = f .before .before .before .before .args in
     rest-header (a .s .now) (a .items) (f .before .if1 .left) (f .find .result) (f .find .ensures) (c .refuse2 .result)
-    (sym (h .is-second-header .ensures) ∙ c .before .if2 .left) (c .refuse2 .ensures)
+    (sym (h .is-second-header .ensures) ∙ not-true (h .is-second-header .result) (c .before .if2 .taken)) (c .refuse2 .ensures)
 
 add-read-edges : tie.Need-add-read-edges
 add-read-edges c =
@@ -84,7 +85,7 @@ returns-3 c =
     let h = y .before in
     let f = h .before .before in
     let a = f .before .before .before .before .args in
-    rest-no (a .s .now) (a .items) (f .before .if1 .left) (f .find .result) (f .find .ensures) (sym (h .is-second-header .ensures) ∙ y .if2 .taken)
+    rest-no (a .s .now) (a .items) (f .before .if1 .left) (f .find .result) (f .find .ensures) (sym (h .is-second-header .ensures) ∙ not-false (h .is-second-header .result) (y .if2 .left))
     (e .read-edges .result) (e .read-edges .ensures) (c .refuse3 .result) (c .before .if3 .taken) (c .refuse3 .ensures)
 
 returns-4 : tie.Need-returns-4
@@ -94,7 +95,7 @@ returns-4 c =
     let h = y .before in
     let f = h .before .before in
     let a = f .before .before .before .before .args in
-    rest-yes (a .s .now) (a .items) (f .before .if1 .left) (f .find .result) (f .find .ensures) (sym (h .is-second-header .ensures) ∙ y .if2 .taken)
+    rest-yes (a .s .now) (a .items) (f .before .if1 .left) (f .find .result) (f .find .ensures) (sym (h .is-second-header .ensures) ∙ not-false (h .is-second-header .result) (y .if2 .left))
     (e .read-edges .result) (e .read-edges .ensures) (c .before .before .before .if3 .left)
 
 pub read-rest-spec : {M : Type 1} → statement M

@@ -6,6 +6,7 @@ use lib.Seq.{length-take-le}
 use Rattle.sheet_fields.proofs.Cutting.{until-le}
 use Rattle.sheet.proofs.Whole.{too-long, no-text, no-header, no-item, all-read}
 use borrow.Author.Needs.{needs}
+use borrow.Author.Tests.{not-true, not-false}
 use Rattle.sheet.proofs.read_sheet.Statement.{statement}
 use Rattle.sheet.proofs.read_sheet.Tie as tie
 
@@ -31,7 +32,7 @@ refuse-requires-2 c κs = search needs
 returns-2 : tie.Need-returns-2
 returns-2 c =
     let t = c .before .before in
-    no-text (t .before .before .before .args .sheet .now) (c .refuse2 .result) (t .before .if1 .left) (sym (t .is-text .ensures) ∙ c .before .if2 .left) (c .refuse2 .ensures)
+    no-text (t .before .before .before .args .sheet .now) (c .refuse2 .result) (t .before .if1 .left) (sym (t .is-text .ensures) ∙ not-true (t .is-text .result) (c .before .if2 .taken)) (c .refuse2 .ensures)
 
 find-requires : tie.Need-find-requires
 find-requires c κs = search needs
@@ -53,8 +54,8 @@ returns-3 c =
     let f = h .before .before in
     let y = f .before in
     let t = y .before in
-    no-header (t .before .before .before .args .sheet .now) (t .before .if1 .left) (sym (t .is-text .ensures) ∙ y .if2 .taken) (f .find .result) (f .find .ensures)
-    (c .refuse3 .result) (sym (h .is-first-header .ensures) ∙ c .before .if3 .left) (c .refuse3 .ensures)
+    no-header (t .before .before .before .args .sheet .now) (t .before .if1 .left) (sym (t .is-text .ensures) ∙ not-false (t .is-text .result) (y .if2 .left)) (f .find .result) (f .find .ensures)
+    (c .refuse3 .result) (sym (h .is-first-header .ensures) ∙ not-true (h .is-first-header .result) (c .before .if3 .taken)) (c .refuse3 .ensures)
 
 add-read-items : tie.Need-add-read-items
 add-read-items c =
@@ -75,8 +76,8 @@ returns-4 c =
     let f = h .before .before in
     let y = f .before in
     let t = y .before in
-    no-item (t .before .before .before .args .sheet .now) (t .before .if1 .left) (sym (t .is-text .ensures) ∙ y .if2 .taken) (f .find .result) (f .find .ensures)
-    (sym (h .is-first-header .ensures) ∙ z .if3 .taken) (i .read-items .result) (i .read-items .ensures) (c .refuse4 .result) (c .before .if4 .taken) (c .refuse4 .ensures)
+    no-item (t .before .before .before .args .sheet .now) (t .before .if1 .left) (sym (t .is-text .ensures) ∙ not-false (t .is-text .result) (y .if2 .left)) (f .find .result) (f .find .ensures)
+    (sym (h .is-first-header .ensures) ∙ not-false (h .is-first-header .result) (z .if3 .left)) (i .read-items .result) (i .read-items .ensures) (c .refuse4 .result) (c .before .if4 .taken) (c .refuse4 .ensures)
 
 read-rest-requires : tie.Need-read-rest-requires
 read-rest-requires c κs = c .before .read-items .ensures .taken (c .if4 .left) .bounds
@@ -89,8 +90,8 @@ returns-5 c =
     let f = h .before .before in
     let y = f .before in
     let t = y .before in
-    all-read (t .before .before .before .args .sheet .now) (t .before .if1 .left) (sym (t .is-text .ensures) ∙ y .if2 .taken) (f .find .result) (f .find .ensures)
-    (sym (h .is-first-header .ensures) ∙ z .if3 .taken) (i .read-items .result) (i .read-items .ensures) (c .read-rest .result) (c .before .if4 .left) (c .read-rest .ensures)
+    all-read (t .before .before .before .args .sheet .now) (t .before .if1 .left) (sym (t .is-text .ensures) ∙ not-false (t .is-text .result) (y .if2 .left)) (f .find .result) (f .find .ensures)
+    (sym (h .is-first-header .ensures) ∙ not-false (h .is-first-header .result) (z .if3 .left)) (i .read-items .result) (i .read-items .ensures) (c .read-rest .result) (c .before .if4 .left) (c .read-rest .ensures)
 
 pub read-sheet-spec : {M : Type 1} → statement M
 read-sheet-spec =

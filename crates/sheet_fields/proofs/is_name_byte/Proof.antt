@@ -1,4 +1,3 @@
-use borrow.Author.Needs.{needs}
 use Rattle.sheet_fields.proofs.Names.{byte-letter, byte-line, byte-low, byte-digit}
 use Rattle.sheet_fields.proofs.is_name_byte.Statement.{statement}
 use Rattle.sheet_fields.proofs.is_name_byte.Tie as tie

@@ -1,4 +1,5 @@
 use borrow.Author.Needs.{needs}
+use borrow.Author.Tests.{not-true, not-false}
 use mathlib.Core.Path.{_≡_, refl, sym, _∙_}
 use Prim.Native.Nat.{_-_, _≤_}
 use native.Mathlib.Omega.{arith}
@@ -32,7 +33,7 @@ returns-2 : tie.Need-returns-2 Inv-loop μ-loop
 returns-2 c =
     let p = c .before .before .before .before in
     let s = p .before .before .before .args .s .now in
-    text-byte s (p .loop .inv .1 ∙ all-not isTextByte s (p .loop .i) (c .before .before .before .loop-test .taken) (sym (c .before .is-text-byte .ensures) ∙ c .if2 .left))
+    text-byte s (p .loop .inv .1 ∙ all-not isTextByte s (p .loop .i) (c .before .before .before .loop-test .taken) (sym (c .before .is-text-byte .ensures) ∙ not-true (c .before .is-text-byte .result) (c .if2 .taken)))
 
 add-i : tie.Need-add-i Inv-loop μ-loop
 add-i c = search needs
@@ -44,7 +45,7 @@ loop-again : tie.Need-loop-again Inv-loop μ-loop
 loop-again c =
     let p = c .before .before .before .before in
     let s = p .before .before .before .args .s .now in
-    (omega arith, p .loop .inv .1 ∙ all-next isTextByte s (p .loop .i) (c .before .before .before .loop-test .taken) (sym (c .before .is-text-byte .ensures) ∙ c .if2 .taken))
+    (omega arith, p .loop .inv .1 ∙ all-next isTextByte s (p .loop .i) (c .before .before .before .loop-test .taken) (sym (c .before .is-text-byte .ensures) ∙ not-false (c .before .is-text-byte .result) (c .if2 .left)))
 
 sub-result : tie.Need-sub-result Inv-loop μ-loop
 sub-result c = search needs

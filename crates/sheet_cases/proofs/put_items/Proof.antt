@@ -1,0 +1,52 @@
+use borrow.Author.Needs.{needs}
+use Prim.Native.Nat.{_≤_, _-_}
+use mathlib.Core.Path.{_≡_}
+use lib.ListN.{length}
+use Rattle.sheet_cases.proofs.Parts.{counts}
+use Rattle.sheet_cases.proofs.put_items.Statement.{statement}
+use Rattle.sheet_cases.proofs.put_items.Tie as tie
+
+abbrev Inv-loop : tie.InvT-loop
+Inv-loop text₀ at count next₀ i₀ text next i = (length text ≡ length text₀) × (next ≤ length text)
+
+abbrev μ-loop : tie.MeasureT-loop
+μ-loop text₀ at count next₀ i₀ text next i = count - i
+
+least-requires : tie.Need-least-requires Inv-loop μ-loop
+least-requires c κs = search needs
+
+loop-holds : tie.Need-loop-holds Inv-loop μ-loop
+loop-holds c = search needs
+
+put-item-requires : tie.Need-put-item-requires Inv-loop μ-loop
+put-item-requires c κs = search needs
+
+add-i : tie.Need-add-i Inv-loop μ-loop
+add-i c = search needs
+
+loop-less : tie.Need-loop-less Inv-loop μ-loop
+loop-less c = search needs
+
+loop-again : tie.Need-loop-again Inv-loop μ-loop
+loop-again c = search needs
+
+same-length : tie.Need-same-length Inv-loop μ-loop
+same-length c = search needs
+
+returns : tie.Need-returns Inv-loop μ-loop
+returns c = counts _ _ (c .before .loop .inv .1)
+
+pub put-items-spec : {M : Type 1} → statement M
+put-items-spec =
+    tie.close
+    (tie.spec
+    Inv-loop
+    μ-loop
+    least-requires
+    loop-holds
+    put-item-requires
+    add-i
+    loop-less
+    loop-again
+    same-length
+    returns)

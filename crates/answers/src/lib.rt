@@ -1,53 +1,18 @@
 // The calls of the second and third exercise: both lists, scores, and marks.
 ghost use mathlib.Core.Path.{_≡_};
 ghost use mathlib.Core.Bool.{true, false};
-ghost use Prim.Native.Nat.{_-_, _≤_, _<_};
-ghost use Rattle.vertex_set.specs.Set.{Decides};
+ghost use Prim.Native.Nat.{_-_, _<_};
 ghost use Rattle.answers.specs.Answers.{basesNumber, basesValues, BasesCall, scoreNumber, scoreValues, riskNumber, riskValues, ScoreCall, marksNumber, marksValues, MarksCall};
 ghost use Rattle.answers.specs.Demand3.{Demand3};
 ghost use Rattle.answers.specs.Inner.{Asked, BasesTaken, MarksTaken};
-use setup::Graph;
+use scores::RecoverabilityScore;
+use scores::SecurityScore;
 use setup::Setup;
 
 // "Never": the score of an account that no set opens, above every sum.
 pub const NEVER: u64 = 0x4000_0000_0000_0000;
 
 const WORDS: usize = 256;
-
-// Document 01's score, document 003's security score. It is never added to, nor compared with, the
-// other kind.
-pub struct SecurityScore(pub u64);
-
-impl SecurityScore {
-    pub fn below(self, other: SecurityScore) -> bool
-        ensures { λ r. ⌜ Decides (self .0 < other .0) r ⌝ }
-    {
-        self.0 < other.0
-    }
-
-    pub fn at_most(self, other: SecurityScore) -> bool
-        ensures { λ r. ⌜ Decides (self .0 ≤ other .0) r ⌝ }
-    {
-        self.0 <= other.0
-    }
-}
-
-// Document 01's risk, document 003's recoverability score.
-pub struct RecoverabilityScore(pub u64);
-
-impl RecoverabilityScore {
-    pub fn below(self, than: RecoverabilityScore) -> bool
-        ensures { λ r. ⌜ Decides (self .0 < than .0) r ⌝ }
-    {
-        self.0 < than.0
-    }
-
-    pub fn at_most(self, than: RecoverabilityScore) -> bool
-        ensures { λ r. ⌜ Decides (self .0 ≤ than .0) r ⌝ }
-    {
-        self.0 <= than.0
-    }
-}
 
 pub enum BasesAnswer {
     Counts(usize, usize),

@@ -1,58 +1,18 @@
 // The calls of the second and third exercise: both lists, scores, and marks.
 ghost use mathlib.Core.Path.{_≡_};
 ghost use mathlib.Core.Bool.{true, false};
-ghost use Prim.Native.Nat.{ℕ, _-_, _≤_, _<_};
-ghost use lib.Count.{ones};
-ghost use lib.ListN.{length, getD, take};
-ghost use Rattle.vertex_set.specs.Set.{Decides};
-ghost use Rattle.vertex_set.specs.Order.{Listed};
-ghost use Rattle.setup.specs.WellFormed.{WellFormed};
+ghost use Prim.Native.Nat.{_-_, _<_};
 ghost use Rattle.answers.specs.Answers.{basesNumber, basesValues, BasesCall, scoreNumber, scoreValues, riskNumber, riskValues, ScoreCall, marksNumber, marksValues, MarksCall};
 ghost use Rattle.answers.specs.Demand3.{Demand3};
-ghost use Rattle.answers.specs.Inner.{Asked, BasesTaken, MarkedOne, OneMore, MarkedAll, MarksTaken};
-use setup::Graph;
+ghost use Rattle.answers.specs.Inner.{Asked, BasesTaken, MarksTaken};
+use scores::RecoverabilityScore;
+use scores::SecurityScore;
 use setup::Setup;
-use vertex_set::VertexSet;
 
 // "Never": the score of an account that no set opens, above every sum.
 pub const NEVER: u64 = 0x4000_0000_0000_0000;
 
 const WORDS: usize = 256;
-
-// Document 01's score, document 003's security score. It is never added to, nor compared with, the
-// other kind.
-pub struct SecurityScore(pub u64);
-
-impl SecurityScore {
-    pub fn below(self, other: SecurityScore) -> bool
-        ensures { λ r. ⌜ Decides (self .0 < other .0) r ⌝ }
-    {
-        self.0 < other.0
-    }
-
-    pub fn at_most(self, other: SecurityScore) -> bool
-        ensures { λ r. ⌜ Decides (self .0 ≤ other .0) r ⌝ }
-    {
-        self.0 <= other.0
-    }
-}
-
-// Document 01's risk, document 003's recoverability score.
-pub struct RecoverabilityScore(pub u64);
-
-impl RecoverabilityScore {
-    pub fn below(self, than: RecoverabilityScore) -> bool
-        ensures { λ r. ⌜ Decides (self .0 < than .0) r ⌝ }
-    {
-        self.0 < than.0
-    }
-
-    pub fn at_most(self, than: RecoverabilityScore) -> bool
-        ensures { λ r. ⌜ Decides (self .0 ≤ than .0) r ⌝ }
-    {
-        self.0 <= than.0
-    }
-}
 
 pub enum BasesAnswer {
     Counts(usize, usize),
@@ -150,87 +110,6 @@ pub fn recoverability_score(s: Setup, target: usize) -> RiskAnswer
     RiskAnswer::Refused(12)
 }
 
-// Does the set at i stand among those before it?
-fn stands_before(handed: &[u64], i: usize) -> bool
-    requires { ⌜ i < length (now handed) ⌝ }
-    ensures { λ r. ⌜ Decides (Listed (take i (now (handed .entry))) (getD (now (handed .entry)) i 0)) r ⌝ }
-{
-    let x = handed[i];
-    for j in 0..i {
-        if handed[j] == x {
-            return true;
-        }
-    }
-    false
-}
-
-// The mark of the set at i, by number: 0 repeated, 1 shut, 2 loose, 3 right.
-fn mark_of(handed: &[u64], i: usize, chosen: VertexSet, family: &[u64], minimal: &[u64]) -> u64
-    requires { ⌜ (i < length (now handed)) × (ones (chosen .0) ≤ 14) ⌝ }
-    ensures { λ r. ⌜ MarkedOne (chosen .0) (now (family .entry)) (now (minimal .entry)) (now (handed .entry)) i r ⌝ }
-{
-    if stands_before(handed, i) {
-        return 0;
-    }
-    let x = VertexSet(handed[i]);
-    if x.within(chosen) {
-        let mask = families::mask_of(chosen, x.0);
-        if families::has_mask(minimal, mask) {
-            return 3;
-        }
-        if families::has_mask(family, mask) {
-            return 2;
-        }
-    }
-    1
-}
-
-// Counts of marks so far.
-struct Tally {
-    right: usize,
-    repeated: usize,
-    shut: usize,
-    loose: usize,
-}
-
-fn one_more(t: Tally, mark: u64) -> Tally
-    requires { ⌜ (mark < 4) × (t .right < 9223372036854775808) × (t .repeated < 9223372036854775808) × (t .shut < 9223372036854775808) × (t .loose < 9223372036854775808) ⌝ }
-    ensures { λ r. ⌜ OneMore (t .right) (t .repeated) (t .shut) (t .loose) mark (r .right) (r .repeated) (r .shut) (r .loose) ⌝ }
-{
-    let mut r = t;
-    if mark == 0 {
-        r.repeated = t.repeated + 1;
-        return r;
-    }
-    if mark == 1 {
-        r.shut = t.shut + 1;
-        return r;
-    }
-    if mark == 2 {
-        r.loose = t.loose + 1;
-        return r;
-    }
-    r.right = t.right + 1;
-    r
-}
-
-fn mark_all(handed: &[u64], chosen: VertexSet, family: &[u64], minimal: &[u64]) -> Tally
-    requires { ⌜ ones (chosen .0) ≤ 14 ⌝ }
-    ensures { λ r. ⌜ MarkedAll (chosen .0) (now (family .entry)) (now (minimal .entry)) (now (handed .entry)) (r .right) (r .repeated) (r .shut) (r .loose) ⌝ }
-{
-    let mut t = Tally {
-        right: 0,
-        repeated: 0,
-        shut: 0,
-        loose: 0,
-    };
-    for i in 0..handed.len() {
-        let mark = mark_of(handed, i, chosen, family, minimal);
-        t = one_more(t, mark);
-    }
-    t
-}
-
 // What is left of a when b is taken from it, and nothing where b is more.
 fn left_of(a: usize, b: usize) -> usize
     ensures { λ r. ⌜ r ≡ a - b ⌝ }
@@ -248,7 +127,7 @@ fn take_marks(loss: bool, s: Setup, target: usize, handed: &[u64]) -> Marks
     let mut family = [0u64; WORDS];
     let mut minimal = [0u64; WORDS];
     let total = bases::both_families(s, graph, loss, target, chosen, &mut family, &mut minimal);
-    let t = mark_all(handed, chosen, &family, &minimal);
+    let t = marking::mark_all(handed, chosen, &family, &minimal);
     let missing = left_of(total, t.right);
     Marks {
         right: t.right,

@@ -17,7 +17,7 @@ use Rattle.bases.specs.Marks.{Mark, Repeated, Shut, Loose, Right, Smalle
 
 -- ---- lists without repetition
 
-listed-or : (l : List ℕ) (x : ℕ) → Listed l x ⊎ (Listed l x → ⊥)
+pub listed-or : (l : List ℕ) (x : ℕ) → Listed l x ⊎ (Listed l x → ⊥)
 listed-or [] x = inr (λ h. h)
 listed-or (y ∷ l) x = ⊎-elim (λ e. inl (inl e)) (λ n. ⊎-elim (λ h. inl (inr h)) (λ m. inr (⊎-elim n m)) (listed-or l x)) (same-or x y)
 

@@ -7,8 +7,8 @@ ghost use Rattle.bases.specs.Score.{Score};
 ghost use Rattle.answers.specs.Inner.{Asked};
 ghost use Rattle.findings.specs.Findings.{FindsBackdoor, FindsIneffective, FindsInconsistent};
 ghost use Rattle.findings.specs.Answers.{findingNumber, findingValues, BackdoorCall, IneffectiveCall, InconsistentCall};
-use answers::RecoverabilityScore;
-use answers::SecurityScore;
+use scores::RecoverabilityScore;
+use scores::SecurityScore;
 use setup::Graph;
 use setup::Setup;
 

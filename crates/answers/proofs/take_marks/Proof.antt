@@ -27,7 +27,9 @@ slice-aggregate-mark-all-2 : tie.Need-slice-aggregate-mark-all-2
 slice-aggregate-mark-all-2 c = search needs
 
 mark-all-requires : tie.Need-mark-all-requires
-mark-all-requires c κs = search needs
+mark-all-requires c κs =
+    let f = c .before .before .before .before .both-families .ensures in
+    record { few = f .base .few; words = search needs; wordsMinimal = f .base .words; isMinimal = f .isMinimal }
 
 left-of-requires : tie.Need-left-of-requires
 left-of-requires c κs = search needs

@@ -1,0 +1,5 @@
+pub mod Seeing
+pub mod Sizes
+pub mod Strays
+pub mod Tallies
+pub mod Values

@@ -1,0 +1,38 @@
+// The two kinds of score, each a type of its own, so that no code compares or adds one of each.
+ghost use Prim.Native.Nat.{_≤_, _<_};
+ghost use Rattle.vertex_set.specs.Set.{Decides};
+
+// Document 01's score, document 003's security score. It is never added to, nor compared with, the
+// other kind.
+pub struct SecurityScore(pub u64);
+
+impl SecurityScore {
+    pub fn below(self, other: SecurityScore) -> bool
+        ensures { λ r. ⌜ Decides (self .0 < other .0) r ⌝ }
+    {
+        self.0 < other.0
+    }
+
+    pub fn at_most(self, other: SecurityScore) -> bool
+        ensures { λ r. ⌜ Decides (self .0 ≤ other .0) r ⌝ }
+    {
+        self.0 <= other.0
+    }
+}
+
+// Document 01's risk, document 003's recoverability score.
+pub struct RecoverabilityScore(pub u64);
+
+impl RecoverabilityScore {
+    pub fn below(self, than: RecoverabilityScore) -> bool
+        ensures { λ r. ⌜ Decides (self .0 < than .0) r ⌝ }
+    {
+        self.0 < than.0
+    }
+
+    pub fn at_most(self, than: RecoverabilityScore) -> bool
+        ensures { λ r. ⌜ Decides (self .0 ≤ than .0) r ⌝ }
+    {
+        self.0 <= than.0
+    }
+}

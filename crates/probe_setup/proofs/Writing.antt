@@ -1,14 +1,14 @@
 -- Writing words one after the other.
 -- Assumes nothing.
-use mathlib.Core.Path.{_≡_, refl, sym, ap, _∙_}
+use mathlib.Core.Path.{_≡_, refl, sym, ap, subst, _∙_}
 use mathlib.Core.List.{List, [], _∷_, _++_}
-use Prim.Native.Nat.{ℕ, suc, _+_, _*_, _≤_, _<_}
+use Prim.Native.Nat.{ℕ, suc, _+_, _≤_, _<_}
 use native.Mathlib.Numerals.{add-one}
 use native.Mathlib.Omega.{arith}
-use lib.ListN.{length, getD, set, take, drop, length-set}
-use lib.Seq.{paste, paste-zero, paste-suc, sets-eq, take-length, drop-length, drop-cons}
+use lib.ListN.{length, getD, set, drop, length-set, length-append}
+use lib.Seq.{paste, paste-zero, paste-suc, sets-eq, take-length, drop-length, drop-cons, length-sets}
 use Rattle.family_lists.specs.Tables.{Wrote}
-use Rattle.family_lists.proofs.Lists.{Writing, writing-none, writing-part, writing-end}
+use Rattle.family_lists.proofs.Lists.{Writing, writing-none, writing-part, writing-end, wrote-one}
 use Rattle.probe_setup.specs.Words.{flat}
 use Rattle.probe_setup.specs.Inner.{WroteAll}
 
@@ -55,3 +55,26 @@ module _ {A : Type 0} (f : A → List ℕ) (xs : List A) (d : List ℕ) (at : �
       let none : flat f (drop v xs) ≡ [] = rw (e, drop-length xs) in
       let all = writing-end d at (flat f xs) (flat f (drop v xs)) out next none w in
       record { long = omega (arith, all .next); wrote = all }
+
+-- ---- one run of words behind another
+
+pub wrote-as : {d : List ℕ} {at : ℕ} {xs ys out : List ℕ} {r : ℕ} → xs ≡ ys → Wrote d at xs out r → Wrote d at ys out r
+wrote-as {d} {at} {out = out} {r = r} e w = subst (λ (l : List ℕ). Wrote d at l out r) e w
+
+pub all-one : (d : List ℕ) (at x : ℕ) → WroteAll 1 d at (x ∷ []) (set d at x) (at + 1)
+all-one d at x = record { long = refl; wrote = wrote-one d at x }
+
+module _ (n : ℕ) (d : List ℕ) (at : ℕ) (xs out : List ℕ) (next : ℕ) (w : WroteAll n d at xs out next) where
+  pub all-long : length out ≡ length d
+  all-long = ap length (w .wrote .exit) ∙ length-sets d at xs
+
+  pub all-next : next ≡ at + n
+  all-next = w .wrote .next ∙ ap (λ (k : ℕ). at + k) (w .long)
+
+  pub all-then : (m : ℕ) (ys after : List ℕ) (r : ℕ) → WroteAll m out next ys after r → WroteAll (n + m) d at (xs ++ ys) after r
+  all-then m ys after r v =
+      let p = writing-part d at (xs ++ ys) xs ys d at out next (writing-none d at (xs ++ ys)) (w .wrote) in
+      let a = length-append xs ys in
+      let l = w .long in
+      let k = v .long in
+      record { long = omega arith; wrote = record { exit = v .wrote .exit ∙ p .value; next = v .wrote .next ∙ p .count } }

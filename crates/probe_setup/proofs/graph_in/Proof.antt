@@ -1,14 +1,11 @@
 use borrow.Author.Needs.{needs}
-use Prim.Native.Nat.{ℕ, _+_, _*_, _-_, _≤_, _<_}
+use Prim.Native.Nat.{ℕ, _+_, _*_, _-_, _≤_}
 use mathlib.Core.Path.{_≡_, refl}
 use native.Mathlib.Omega.{arith}
 use Rattle.probe_setup.specs.Words.{rowsIn}
 use Rattle.probe_setup.proofs.Filling.{Filled, filled-none, filled-more, filled-all}
 use Rattle.probe_setup.proofs.graph_in.Statement.{statement}
 use Rattle.probe_setup.proofs.graph_in.Tie as tie
-use Rattle.probe_setup.proofs.graph_in.Reads as reads
-use Rattle.probe_setup.proofs.graph_in.Lts as lts
-use Rattle.probe_setup.proofs.rows_in.Reads as rows-in-reads
 
 abbrev Inv-loop : tie.InvT-loop
 Inv-loop words at r₀ v₀ r v = (v ≤ 64) × Filled (λ (k : ℕ). rowsIn words (at + 8 * k)) 64 v (r .rows)
@@ -16,45 +13,35 @@ Inv-loop words at r₀ v₀ r v = (v ≤ 64) × Filled (λ (k : ℕ). rowsIn wor
 abbrev μ-loop : tie.MeasureT-loop
 μ-loop words at r₀ v₀ r v = 64 - v
 
--- src/lib.rt:82:5
 loop-holds : tie.Need-loop-holds Inv-loop μ-loop
 loop-holds c = (search needs, filled-none _ 64 _ refl)
 
--- src/lib.rt:83:40
 mul-rows-in : tie.Need-mul-rows-in Inv-loop μ-loop
 mul-rows-in c = search needs
 
--- src/lib.rt:83:35
 add-rows-in : tie.Need-add-rows-in Inv-loop μ-loop
 add-rows-in c = search needs
 
--- src/lib.rt:83:13
 rows-in-requires : tie.Need-rows-in-requires Inv-loop μ-loop
 rows-in-requires c κs = search needs
 
--- src/lib.rt:84:9
 mul-rows : tie.Need-mul-rows Inv-loop μ-loop
 mul-rows c = search needs
 
--- src/lib.rt:84:9
 element-set-from-rows : tie.Need-element-set-from-rows Inv-loop μ-loop
 element-set-from-rows c = search needs
 
--- src/lib.rt:82:9
 add-v : tie.Need-add-v Inv-loop μ-loop
 add-v c = search needs
 
--- src/lib.rt:82:5
 loop-less : tie.Need-loop-less Inv-loop μ-loop
 loop-less c = search needs
 
--- src/lib.rt:82:5
 loop-again : tie.Need-loop-again Inv-loop μ-loop
 loop-again c =
     let l = c .before .before in
     (omega arith, filled-more _ 64 (l .loop .r .rows) (l .loop .v) _ (omega arith) (c .rows-in .ensures) (l .loop .inv .1))
 
--- src/lib.rt:75:1
 returns : tie.Need-returns Inv-loop μ-loop
 returns c =
     let e : c .before .loop .v ≡ 64 = omega arith in

@@ -1,23 +1,21 @@
+use mathlib.Core.Path.{_≡_}
+use native.Mathlib.Omega.{arith}
+use lib.ListN.{length}
 use borrow.Author.Needs.{needs}
 use Rattle.probe_setup.proofs.put_rows.Statement.{statement}
 use Rattle.probe_setup.proofs.put_rows.Tie as tie
-use Rattle.probe_setup.proofs.put_rows.Reads as reads
-use Rattle.probe_setup.proofs.put_rows.Lts as lts
-use Rattle.probe_setup.proofs.put_words.Reads as put-words-reads
 
--- src/lib.rt:173:15
 slice-aggregate-put-words : tie.Need-slice-aggregate-put-words
 slice-aggregate-put-words c = search needs
 
--- src/lib.rt:173:5
 put-words-requires : tie.Need-put-words-requires
-put-words-requires c κs = ?
+put-words-requires c κs =
+    let long : length (c .before .before .before .before .args .rows .needs) ≡ 8 = search needs in
+    omega arith
 
--- src/lib.rt:168:1
 same-length : tie.Need-same-length
 same-length c = search needs
 
--- src/lib.rt:168:1
 returns : tie.Need-returns
 returns c = search needs
 

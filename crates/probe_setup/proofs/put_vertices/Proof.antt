@@ -1,15 +1,12 @@
 use borrow.Author.Needs.{needs}
-use Prim.Native.Nat.{ℕ, _+_, _*_, _-_, _≤_, _<_}
-use mathlib.Core.Path.{_≡_, refl, sym, _∙_}
+use Prim.Native.Nat.{_+_, _*_, _-_, _≤_}
+use mathlib.Core.Path.{_≡_}
 use native.Mathlib.Omega.{arith}
 use lib.ListN.{length, length-map}
 use Rattle.probe_setup.specs.Words.{vertexWords}
 use Rattle.probe_setup.proofs.Writing.{Put, put-none, put-more, put-all}
 use Rattle.probe_setup.proofs.put_vertices.Statement.{statement}
 use Rattle.probe_setup.proofs.put_vertices.Tie as tie
-use Rattle.probe_setup.proofs.put_vertices.Reads as reads
-use Rattle.probe_setup.proofs.put_vertices.Lts as lts
-use Rattle.probe_setup.proofs.put_vertex.Reads as put-vertex-reads
 
 abbrev Inv-loop : tie.InvT-loop
 Inv-loop out₀ at s next₀ v₀ out next v = (v ≤ 64) × (next ≡ at + 4 * v) × Put vertexWords (s .vertices) out₀ at out next v
@@ -17,41 +14,45 @@ Inv-loop out₀ at s next₀ v₀ out next v = (v ≤ 64) × (next ≡ at + 4 * 
 abbrev μ-loop : tie.MeasureT-loop
 μ-loop out₀ at s next₀ v₀ out next v = 64 - v
 
--- src/lib.rt:161:5
 loop-holds : tie.Need-loop-holds Inv-loop μ-loop
 loop-holds c = (search needs, search needs, put-none _ _ _ _)
 
--- src/lib.rt:162:22
 mul-vertex : tie.Need-mul-vertex Inv-loop μ-loop
 mul-vertex c = search needs
 
--- src/lib.rt:162:22
 element-copy-out-vertex : tie.Need-element-copy-out-vertex Inv-loop μ-loop
 element-copy-out-vertex c = search needs
 
--- src/lib.rt:163:9
 put-vertex-requires : tie.Need-put-vertex-requires Inv-loop μ-loop
 put-vertex-requires c κs = search needs
 
--- src/lib.rt:161:9
 add-v : tie.Need-add-v Inv-loop μ-loop
 add-v c = search needs
 
--- src/lib.rt:161:5
 loop-less : tie.Need-loop-less Inv-loop μ-loop
 loop-less c = search needs
 
--- src/lib.rt:161:5
 loop-again : tie.Need-loop-again Inv-loop μ-loop
-loop-again c = search needs
+loop-again c =
+    let p = c .before .before in
+    let l = p .before .before .before .before in
+    let st = l .before .before in
+    let a = st .args in
+    let long : length (a .t1 .vertices) ≡ 64 = simp length-map at (st .good .0 .1 .1 .1 .0 .1 .0 .1) in
+    let w = p .put-vertex .ensures in
+    let n : p .put-vertex .result ≡ l .loop .next + 4 = w .next in
+    (omega arith, omega arith, put-more vertexWords (a .t1 .vertices) (a .out .now) (a .at) (l .loop .out) (l .loop .next) (l .loop .v) _ _ _ (omega arith) (l .loop .inv .2) w)
 
--- src/lib.rt:156:1
 same-length : tie.Need-same-length Inv-loop μ-loop
 same-length c = search needs
 
--- src/lib.rt:156:1
 returns : tie.Need-returns Inv-loop μ-loop
-returns c = search needs
+returns c =
+    let l = c .before in
+    let st = l .before .before in
+    let a = st .args in
+    let long : length (a .t1 .vertices) ≡ 64 = simp length-map at (st .good .0 .1 .1 .1 .0 .1 .0 .1) in
+    put-all vertexWords (a .t1 .vertices) (a .out .now) (a .at) (l .loop .out) (l .loop .next) (l .loop .v) 256 (omega arith) (omega arith) (l .loop .inv .2)
 
 pub put-vertices-spec : {M : Type 1} → statement M
 put-vertices-spec =

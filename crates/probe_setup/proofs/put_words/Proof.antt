@@ -1,13 +1,11 @@
 use borrow.Author.Needs.{needs}
-use Prim.Native.Nat.{_+_, _-_, _≤_, _<_}
+use Prim.Native.Nat.{_-_, _≤_}
 use mathlib.Core.Path.{_≡_, refl}
 use native.Mathlib.Omega.{arith}
 use lib.ListN.{length}
 use Rattle.probe_setup.proofs.Writing.{Copied, copied-none, copied-more, copied-all}
 use Rattle.probe_setup.proofs.put_words.Statement.{statement}
 use Rattle.probe_setup.proofs.put_words.Tie as tie
-use Rattle.probe_setup.proofs.put_words.Reads as reads
-use Rattle.probe_setup.proofs.put_words.Lts as lts
 
 abbrev Inv-loop : tie.InvT-loop
 Inv-loop words out₀ at i₀ i-end out i = (i ≤ length words) × (i-end ≡ length words) × Copied out₀ at words out i
@@ -15,54 +13,42 @@ Inv-loop words out₀ at i₀ i-end out i = (i ≤ length words) × (i-end ≡ l
 abbrev μ-loop : tie.MeasureT-loop
 μ-loop words out₀ at i₀ i-end out i = length words - i
 
--- src/lib.rt:138:5
 loop-holds : tie.Need-loop-holds Inv-loop μ-loop
 loop-holds c = (omega arith, refl, copied-none _ _ _)
 
--- src/lib.rt:139:23
 mul-out : tie.Need-mul-out Inv-loop μ-loop
 mul-out c = search needs
 
--- src/lib.rt:139:23
 shared-slice-read-out : tie.Need-shared-slice-read-out Inv-loop μ-loop
 shared-slice-read-out c = search needs
 
--- src/lib.rt:139:13
 add-out : tie.Need-add-out Inv-loop μ-loop
 add-out c = search needs
 
--- src/lib.rt:139:9
 mul-out-2 : tie.Need-mul-out-2 Inv-loop μ-loop
 mul-out-2 c = search needs
 
--- src/lib.rt:139:9
 slice-write-out : tie.Need-slice-write-out Inv-loop μ-loop
 slice-write-out c = search needs
 
--- src/lib.rt:138:9
 add-i : tie.Need-add-i Inv-loop μ-loop
 add-i c = search needs
 
--- src/lib.rt:138:5
 loop-less : tie.Need-loop-less Inv-loop μ-loop
 loop-less c = search needs
 
--- src/lib.rt:138:5
 loop-again : tie.Need-loop-again Inv-loop μ-loop
 loop-again c =
     let b = c .before .before in
     let a = b .before .args in
     (search needs, b .loop .inv .1, copied-more (a .out .now) (a .at) (a .words .now) (b .before .pre) (b .loop .out) (b .loop .i) (search needs) (b .loop .inv .2))
 
--- src/lib.rt:141:5
 add-result : tie.Need-add-result Inv-loop μ-loop
 add-result c = search needs
 
--- src/lib.rt:134:1
 same-length : tie.Need-same-length Inv-loop μ-loop
 same-length c = search needs
 
--- src/lib.rt:134:1
 returns : tie.Need-returns Inv-loop μ-loop
 returns c =
     let b = c .before in

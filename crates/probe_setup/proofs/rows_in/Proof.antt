@@ -1,14 +1,11 @@
 use borrow.Author.Needs.{needs}
-use Prim.Native.Nat.{ℕ, _+_, _-_, _≤_, _<_}
+use Prim.Native.Nat.{ℕ, _+_, _-_, _≤_}
 use mathlib.Core.Path.{_≡_, refl}
 use native.Mathlib.Omega.{arith}
 use Rattle.probe_setup.specs.Words.{wordAt}
 use Rattle.probe_setup.proofs.Filling.{Filled, filled-none, filled-more, filled-all}
 use Rattle.probe_setup.proofs.rows_in.Statement.{statement}
 use Rattle.probe_setup.proofs.rows_in.Tie as tie
-use Rattle.probe_setup.proofs.rows_in.Reads as reads
-use Rattle.probe_setup.proofs.rows_in.Lts as lts
-use Rattle.probe_setup.proofs.word_at.Reads as word-at-reads
 
 abbrev Inv-loop : tie.InvT-loop
 Inv-loop words at r₀ c₀ r c = (c ≤ 8) × Filled (λ (k : ℕ). wordAt words (at + k)) 8 c (r .needs)
@@ -16,41 +13,32 @@ Inv-loop words at r₀ c₀ r c = (c ≤ 8) × Filled (λ (k : ℕ). wordAt word
 abbrev μ-loop : tie.MeasureT-loop
 μ-loop words at r₀ c₀ r c = 8 - c
 
--- src/lib.rt:68:5
 loop-holds : tie.Need-loop-holds Inv-loop μ-loop
 loop-holds c = (search needs, filled-none _ 8 _ refl)
 
--- src/lib.rt:69:37
 add-word-at : tie.Need-add-word-at Inv-loop μ-loop
 add-word-at c = search needs
 
--- src/lib.rt:69:22
 word-at-requires : tie.Need-word-at-requires Inv-loop μ-loop
 word-at-requires c κs = search needs
 
--- src/lib.rt:69:9
 mul-r : tie.Need-mul-r Inv-loop μ-loop
 mul-r c = search needs
 
--- src/lib.rt:69:9
 element-write-r : tie.Need-element-write-r Inv-loop μ-loop
 element-write-r c = search needs
 
--- src/lib.rt:68:9
 add-c : tie.Need-add-c Inv-loop μ-loop
 add-c c = search needs
 
--- src/lib.rt:68:5
 loop-less : tie.Need-loop-less Inv-loop μ-loop
 loop-less c = search needs
 
--- src/lib.rt:68:5
 loop-again : tie.Need-loop-again Inv-loop μ-loop
 loop-again c =
     let l = c .before .before in
     (omega arith, filled-more _ 8 (l .loop .r .needs) (l .loop .c) _ (omega arith) (c .word-at .ensures) (l .loop .inv .1))
 
--- src/lib.rt:63:1
 returns : tie.Need-returns Inv-loop μ-loop
 returns c =
     let e : c .before .loop .c ≡ 8 = omega arith in

@@ -1,16 +1,11 @@
 use borrow.Author.Needs.{needs}
-use Prim.Native.Nat.{ℕ, _+_, _*_, _-_, _≤_, _<_}
+use Prim.Native.Nat.{_-_, _≤_}
 use mathlib.Core.Path.{_≡_, refl, _∙_}
 use native.Mathlib.Omega.{arith}
 use Rattle.probe_setup.specs.Words.{vertexIn, setupIn}
 use Rattle.probe_setup.proofs.Filling.{Filled, filled-none, filled-more, filled-all}
 use Rattle.probe_setup.proofs.setup_in.Statement.{statement}
 use Rattle.probe_setup.proofs.setup_in.Tie as tie
-use Rattle.probe_setup.proofs.setup_in.Reads as reads
-use Rattle.probe_setup.proofs.setup_in.Lts as lts
-use Rattle.probe_setup.proofs.graph_in.Reads as graph-in-reads
-use Rattle.probe_setup.proofs.vertex_in.Reads as vertex-in-reads
-use Rattle.probe_setup.proofs.word_at.Reads as word-at-reads
 
 abbrev Inv-loop : tie.InvT-loop
 Inv-loop words count s₀ v₀ s v = (v ≤ 64) × (s .count ≡ s₀ .count) × (s .graph ≡ s₀ .graph) × (s .recovery ≡ s₀ .recovery) × Filled (vertexIn words) 64 v (s .vertices)
@@ -18,50 +13,39 @@ Inv-loop words count s₀ v₀ s v = (v ≤ 64) × (s .count ≡ s₀ .count) ×
 abbrev μ-loop : tie.MeasureT-loop
 μ-loop words count s₀ v₀ s v = 64 - v
 
--- src/lib.rt:94:17
 word-at-requires : tie.Need-word-at-requires Inv-loop μ-loop
 word-at-requires c κs = search needs
 
--- src/lib.rt:95:9
 graph-in-requires : tie.Need-graph-in-requires Inv-loop μ-loop
 graph-in-requires c κs = search needs
 
--- src/lib.rt:96:9
 graph-in-requires-2 : tie.Need-graph-in-requires-2 Inv-loop μ-loop
 graph-in-requires-2 c κs = search needs
 
--- src/lib.rt:109:5
 loop-holds : tie.Need-loop-holds Inv-loop μ-loop
 loop-holds c = (search needs, refl, refl, refl, filled-none _ 64 _ refl)
 
--- src/lib.rt:110:13
 vertex-in-requires : tie.Need-vertex-in-requires Inv-loop μ-loop
 vertex-in-requires c κs = search needs
 
--- src/lib.rt:111:9
 mul-vertex : tie.Need-mul-vertex Inv-loop μ-loop
 mul-vertex c = search needs
 
--- src/lib.rt:111:9
 element-set-from-vertex : tie.Need-element-set-from-vertex Inv-loop μ-loop
 element-set-from-vertex c = search needs
 
--- src/lib.rt:109:9
 add-v : tie.Need-add-v Inv-loop μ-loop
 add-v c = search needs
 
--- src/lib.rt:109:5
 loop-less : tie.Need-loop-less Inv-loop μ-loop
 loop-less c = search needs
 
--- src/lib.rt:109:5
 loop-again : tie.Need-loop-again Inv-loop μ-loop
 loop-again c =
     let l = c .before .before in
     let i = l .loop .inv in
     (omega arith, i .1, i .2, i .3, filled-more _ 64 (l .loop .s .vertices) (l .loop .v) _ (omega arith) (c .vertex-in .ensures) (i .4))
 
--- src/lib.rt:91:1
 returns : tie.Need-returns Inv-loop μ-loop
 unfolding setupIn
 returns c =

@@ -142,6 +142,17 @@ pub fn put_words(words: &[u64], out: &mut [u64], at: usize) -> usize
     at + words.len()
 }
 
+// Writes bytes, one a word.
+pub fn put_bytes(bytes: &[u8], out: &mut [u64], at: usize) -> usize
+    requires { ⌜ at + length (now bytes) ≤ length (now out) ⌝ }
+    ensures { λ r. ⌜ Wrote (now (out .entry)) at (now (bytes .entry)) (now (out .exit)) r ⌝ }
+{
+    for i in 0..bytes.len() {
+        out[at + i] = bytes[i] as u64;
+    }
+    at + bytes.len()
+}
+
 fn put_vertex(x: Vertex, out: &mut [u64], at: usize) -> usize
     requires { ⌜ at + 4 ≤ length (now out) ⌝ }
     ensures { λ r. ⌜ Wrote (now (out .entry)) at (vertexWords x) (now (out .exit)) r ⌝ }

@@ -1,6 +1,6 @@
 -- What the harness is told: an answer's number is returned, and its values stand at the front of a lent list.
 use mathlib.Core.Path.{_≡_}
-use mathlib.Core.List.{List, [], _∷_}
+use mathlib.Core.List.{List, _∷_}
 use Prim.Native.Nat.{ℕ, _≤_, _<_}
 use lib.ListN.{length}
 use Rattle.setup.specs.declared.Setup.{Setup}

@@ -1,30 +1,43 @@
+use Rattle.sheet.proofs.Names.{refused-none, beyond-none, item-there, RowThere, row-there}
+use Rattle.probe.proofs.Sheets.{start-zero, start-there}
 use borrow.Author.Needs.{needs}
 use Rattle.probe.proofs.name_start.Statement.{statement}
 use Rattle.probe.proofs.name_start.Tie as tie
-use Rattle.probe.proofs.name_start.Reads as reads
-use Rattle.probe.proofs.name_start.Lts as lts
-use Rattle.sheet.proofs.read_sheet.Reads as read-sheet-reads
-use Rattle.sheet_names.proofs.name_span.Reads as name-span-reads
 
--- src/lib.rt:295:9
+-- the item's row is in the sheet
+there : (c : tie.Else2) → RowThere (c .before .before .before .before .before .before .args .sheet .now) (c .before .before .before .before .before .before .args .item)
+there c =
+    let e = c .before .before .before in
+    let r = e .before in
+    let a = r .before .before .args in
+    row-there (a .sheet .now) (a .item) (r .read-sheet .result) (r .read-sheet .ensures) (e .if1 .left) (c .if2 .left)
+
 read-sheet-requires : tie.Need-read-sheet-requires
 read-sheet-requires c κs = search needs
 
--- src/lib.rt:298:9
 returns : tie.Need-returns
-returns c = ?
+returns c =
+    let r = c .before in
+    let a = r .before .before .args in
+    start-zero (a .sheet .now) (a .item) (refused-none (a .sheet .now) (a .item) (r .read-sheet .result) (r .read-sheet .ensures) (c .if1 .taken))
 
--- src/lib.rt:302:9
 returns-2 : tie.Need-returns-2
-returns-2 c = ?
+returns-2 c =
+    let r = c .before .before .before .before in
+    let a = r .before .before .args in
+    start-zero (a .sheet .now) (a .item) (beyond-none (a .sheet .now) (a .item) (r .read-sheet .result) (r .read-sheet .ensures) (c .if2 .taken))
 
--- src/lib.rt:304:9
 name-span-requires : tie.Need-name-span-requires
-name-span-requires c κs = ?
+name-span-requires c κs = there c .few
 
--- src/lib.rt:292:1
 returns-3 : tie.Need-returns-3
-returns-3 c = ?
+returns-3 c =
+    let y = c .before in
+    let e = y .before .before .before in
+    let r = e .before in
+    let a = r .before .before .args in
+    let h = item-there (a .sheet .now) (a .item) (r .read-sheet .result) (r .read-sheet .ensures) (e .if1 .left) (y .if2 .left) in
+    start-there (a .sheet .now) (a .item) (there y) (c .name-span .result) (c .name-span .ensures) h
 
 pub name-start-spec : {M : Type 1} → statement M
 name-start-spec =

@@ -5,29 +5,19 @@ use Rattle.probe.proofs.Telling.{told}
 use borrow.Author.Needs.{needs}
 use Rattle.probe.proofs.probe_access_from.Statement.{statement}
 use Rattle.probe.proofs.probe_access_from.Tie as tie
-use Rattle.probe.proofs.probe_access_from.Reads as reads
-use Rattle.probe.proofs.probe_access_from.Lts as lts
-use Rattle.access.proofs.access_from.Reads as access-from-reads
-use Rattle.probe.proofs.tell_set.Reads as tell-set-reads
-use Rattle.probe_setup.proofs.setup_in.Reads as setup-in-reads
 
--- src/lib.rt:148:9
 setup-in-requires : tie.Need-setup-in-requires
 setup-in-requires c κs = search needs
 
--- src/lib.rt:149:9
 access-from-requires : tie.Need-access-from-requires
 access-from-requires c κs = search needs
 
--- src/lib.rt:150:5
 tell-set-requires : tie.Need-tell-set-requires
 tell-set-requires c κs = search needs
 
--- src/lib.rt:144:1
 same-length : tie.Need-same-length
 same-length c = search needs
 
--- src/lib.rt:144:1
 returns : tie.Need-returns
 returns c =
     let t = c .before .before in

@@ -4,29 +4,19 @@ use Rattle.probe.proofs.Telling.{told}
 use borrow.Author.Needs.{needs}
 use Rattle.probe.proofs.probe_inconsistent.Statement.{statement}
 use Rattle.probe.proofs.probe_inconsistent.Tie as tie
-use Rattle.probe.proofs.probe_inconsistent.Reads as reads
-use Rattle.probe.proofs.probe_inconsistent.Lts as lts
-use Rattle.findings.proofs.inconsistent.Reads as inconsistent-reads
-use Rattle.probe.proofs.tell_finding.Reads as tell-finding-reads
-use Rattle.probe_setup.proofs.setup_in.Reads as setup-in-reads
 
--- src/lib.rt:273:9
 setup-in-requires : tie.Need-setup-in-requires
 setup-in-requires c κs = search needs
 
--- src/lib.rt:274:9
 inconsistent-requires : tie.Need-inconsistent-requires
 inconsistent-requires c κs = search needs
 
--- src/lib.rt:275:5
 tell-finding-requires : tie.Need-tell-finding-requires
 tell-finding-requires c κs = search needs
 
--- src/lib.rt:264:1
 same-length : tie.Need-same-length
 same-length c = search needs
 
--- src/lib.rt:264:1
 returns : tie.Need-returns
 returns c =
     let t = c .before .before in

@@ -5,29 +5,19 @@ use Rattle.probe.proofs.Telling.{told}
 use borrow.Author.Needs.{needs}
 use Rattle.probe.proofs.probe_mark_access.Statement.{statement}
 use Rattle.probe.proofs.probe_mark_access.Tie as tie
-use Rattle.probe.proofs.probe_mark_access.Reads as reads
-use Rattle.probe.proofs.probe_mark_access.Lts as lts
-use Rattle.answers.proofs.mark_access.Reads as mark-access-reads
-use Rattle.probe.proofs.tell_marks.Reads as tell-marks-reads
-use Rattle.probe_setup.proofs.setup_in.Reads as setup-in-reads
 
--- src/lib.rt:225:9
 setup-in-requires : tie.Need-setup-in-requires
 setup-in-requires c κs = search needs
 
--- src/lib.rt:226:9
 mark-access-requires : tie.Need-mark-access-requires
 mark-access-requires c κs = search needs
 
--- src/lib.rt:227:5
 tell-marks-requires : tie.Need-tell-marks-requires
 tell-marks-requires c κs = search needs
 
--- src/lib.rt:216:1
 same-length : tie.Need-same-length
 same-length c = search needs
 
--- src/lib.rt:216:1
 returns : tie.Need-returns
 returns c =
     let t = c .before .before in

@@ -5,29 +5,19 @@ use Rattle.probe.proofs.Telling.{told}
 use borrow.Author.Needs.{needs}
 use Rattle.probe.proofs.probe_mark_lockout.Statement.{statement}
 use Rattle.probe.proofs.probe_mark_lockout.Tie as tie
-use Rattle.probe.proofs.probe_mark_lockout.Reads as reads
-use Rattle.probe.proofs.probe_mark_lockout.Lts as lts
-use Rattle.answers.proofs.mark_lockout.Reads as mark-lockout-reads
-use Rattle.probe.proofs.tell_marks.Reads as tell-marks-reads
-use Rattle.probe_setup.proofs.setup_in.Reads as setup-in-reads
 
--- src/lib.rt:240:9
 setup-in-requires : tie.Need-setup-in-requires
 setup-in-requires c κs = search needs
 
--- src/lib.rt:241:9
 mark-lockout-requires : tie.Need-mark-lockout-requires
 mark-lockout-requires c κs = search needs
 
--- src/lib.rt:242:5
 tell-marks-requires : tie.Need-tell-marks-requires
 tell-marks-requires c κs = search needs
 
--- src/lib.rt:231:1
 same-length : tie.Need-same-length
 same-length c = search needs
 
--- src/lib.rt:231:1
 returns : tie.Need-returns
 returns c =
     let t = c .before .before in

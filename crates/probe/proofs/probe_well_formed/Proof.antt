@@ -3,26 +3,18 @@ use Rattle.setup.specs.WellFormed.{WellFormed}
 use borrow.Author.Needs.{needs}
 use Rattle.probe.proofs.probe_well_formed.Statement.{statement}
 use Rattle.probe.proofs.probe_well_formed.Tie as tie
-use Rattle.probe.proofs.probe_well_formed.Reads as reads
-use Rattle.probe.proofs.probe_well_formed.Lts as lts
-use Rattle.probe_setup.proofs.setup_in.Reads as setup-in-reads
-use Rattle.setup.proofs.well_formed.Reads as well-formed-reads
 
--- src/lib.rt:136:9
 setup-in-requires : tie.Need-setup-in-requires
 setup-in-requires c κs = search needs
 
--- src/lib.rt:137:8
 well-formed-requires : tie.Need-well-formed-requires
 well-formed-requires c κs = search needs
 
--- src/lib.rt:138:9
 returns : tie.Need-returns
 returns c =
     let w = c .before in
     record { yes = λ h. refl; no = λ n. absurd (n (subst WellFormed (w .before .setup-in .ensures) (w .well-formed .ensures .yes (c .if1 .taken)))) }
 
--- src/lib.rt:132:1
 returns-2 : tie.Need-returns-2
 returns-2 c =
     let w = c .before in

@@ -2,7 +2,7 @@
 
 use crate::compare::Difference;
 use crate::program::Program;
-use crate::setups::{compare_setup, Depth, FEW, FULL, MANY};
+use crate::setups::{compare_setup, Depth, FEW, FULL, MANY, MOST};
 use crate::sheets::compare_sheet;
 use brute::cases::draft::sheet_of_setup;
 use brute::cases::{
@@ -52,10 +52,10 @@ impl Run {
         compare_sheet(case, &mut self.rng, depth, program)
     }
 
-    fn tiny(&mut self, case: SetupCase) -> Outcome {
+    fn tiny(&mut self, case: SetupCase, depth: Depth) -> Outcome {
         self.counts.tiny += 1;
         let sheet = sheet_of_setup(&case.setup);
-        self.sheet(&SheetCase::accepted(case.label, sheet), MANY, false)
+        self.sheet(&SheetCase::accepted(case.label, sheet), depth, false)
     }
 
     fn setup(&mut self, case: &SetupCase, depth: Depth) -> Outcome {
@@ -74,12 +74,12 @@ impl Run {
             self.counts.texts += 1;
             self.sheet(&case, FULL, true)?;
         }
-        for case in tiny::all_unmarked().chain(tiny::all_marked(107)) {
-            self.tiny(case)?;
+        for case in tiny::all_unmarked().chain(tiny::all_marked(401)) {
+            self.tiny(case, MANY)?;
         }
-        for (number, case) in random::random_sheets(seed, 3_000).enumerate() {
+        for (number, case) in random::random_sheets(seed, 2_500).enumerate() {
             self.counts.random += 1;
-            let depth = if number % 10 == 0 { FULL } else { MANY };
+            let depth = if number % 20 == 0 { FULL } else { MANY };
             self.sheet(&case, depth, number % 4 == 0)?;
         }
         for case in random::large_sheets(seed, 12) {
@@ -116,7 +116,7 @@ impl Run {
         for _ in 0..400 {
             let family = *self.rng.pick(tiny::FAMILIES);
             let case = family.case(self.rng.number() % family.count());
-            self.tiny(case)?;
+            self.tiny(case, MOST)?;
         }
         for case in random::random_sheets(self.rng.number(), 2 * random::SHAPES.len()) {
             self.counts.random += 1;

@@ -12,26 +12,40 @@ use brute::setup::{Setup, PLACES};
 /// How much is asked of a setup.
 #[derive(Clone, Copy)]
 pub struct Depth {
-    /// Sets for closures and lost sets, and of them for ways in to each target.
+    /// Sets for closures and lost sets.
     pub sets: usize,
+    /// The most items that are targets, and how many numbers that are no items.
+    pub items: usize,
+    pub strangers: usize,
+    /// For each target: ways in, lent lists, handed-in lists and pairs that may be out of rank.
     pub ways: usize,
-    /// The most targets; `usize::MAX` for all, and the item numbers that are not there.
-    pub targets: usize,
-    /// Lent lists and handed-in lists, for each target.
     pub lent: usize,
     pub handed: usize,
-    /// Pairs that may be out of rank, for each target.
     pub pairs: usize,
+    /// All calls on each target; otherwise some of those that are alike are left out, at random.
+    pub all: bool,
 }
 
-/// All there is, for setups of few items.
-pub const FULL: Depth =
-    Depth { sets: 12, ways: 3, targets: usize::MAX, lent: 4, handed: usize::MAX, pairs: 4 };
+/// All there is, for some setups.
+pub const FULL: Depth = Depth {
+    sets: 12,
+    items: PLACES,
+    strangers: 9,
+    ways: 3,
+    lent: 4,
+    handed: usize::MAX,
+    pairs: 4,
+    all: true,
+};
 /// For many small setups.
 pub const MANY: Depth =
-    Depth { sets: 4, ways: 1, targets: usize::MAX, lent: 1, handed: 1, pairs: 1 };
+    Depth { sets: 4, items: 5, strangers: 1, ways: 1, lent: 1, handed: 1, pairs: 1, all: false };
+/// For a million tiny ones.
+pub const MOST: Depth =
+    Depth { sets: 4, items: 2, strangers: 1, ways: 1, lent: 1, handed: 1, pairs: 1, all: false };
 /// For setups at the bounds, where the brute force takes long.
-pub const FEW: Depth = Depth { sets: 8, ways: 2, targets: 6, lent: 2, handed: 4, pairs: 2 };
+pub const FEW: Depth =
+    Depth { sets: 8, items: 5, strangers: 1, ways: 2, lent: 2, handed: 4, pairs: 2, all: true };
 
 type Outcome = Result<(), Box<Difference>>;
 
@@ -78,46 +92,77 @@ impl Compare<'_> {
         Ok(())
     }
 
-    /// All items of the setup and numbers that are no items, or some of both.
+    /// Items of the setup, and numbers that are no items.
     fn targets(&mut self, count: u64) -> Vec<u64> {
-        let mut targets = probes::item_numbers(count);
-        if self.depth.targets < targets.len() {
-            self.rng.shuffle(&mut targets);
-            targets.truncate(self.depth.targets);
-        }
-        targets
+        let mut strangers = probes::item_numbers(count);
+        let mut items: Vec<u64> = strangers.drain(..count as usize).collect();
+        self.rng.shuffle(&mut items);
+        self.rng.shuffle(&mut strangers);
+        items.truncate(self.depth.items);
+        items.extend(strangers.iter().take(self.depth.strangers));
+        items
+    }
+
+    /// Whether a call is made that is like another.
+    fn more(&mut self) -> bool {
+        self.depth.all || self.rng.chance(1, 3)
     }
 
     fn target(&mut self, target: u64, sets: &[u64], count: u64) -> Outcome {
-        let calls = self.calls;
         self.lists(target)?;
-        let coded = |least: Least| if let Least::Sum(sum) = least { sum } else { PORTAL_NEVER };
-        let score = calls.score(target).map(coded);
-        self.number("security_score", target, score, product::security_score)?;
-        let risk = calls.risk(target).map(coded);
-        self.number("recoverability_score", target, risk, product::recoverability_score)?;
-        let backdoor = calls.backdoor(target).map(u64::from);
-        self.number("has_backdoor", target, backdoor, product::has_backdoor)?;
-        let idle = calls.idle(target).map(u64::from);
-        self.number("ineffective_recovery", target, idle, product::ineffective_recovery)?;
+        self.scores(target)?;
         for _ in 0..self.depth.pairs {
             let others = [self.rng.below(count.max(1) as usize) as u64, target, count, u64::MAX];
             let other = others[[0, 0, 0, 0, 0, 1, 2, 3][self.rng.below(8)]];
             self.pair(target, other)?;
-            self.pair(other, target)?;
+            if self.depth.all {
+                self.pair(other, target)?;
+            }
         }
         for _ in 0..self.depth.ways {
             let set = *self.rng.pick(sets);
             self.way(target, set)?;
         }
-        let starting = calls.setup().starting();
-        let opening = calls.opening_list(target).unwrap_or_default();
-        let mark = |handed: &[u64]| calls.mark_openings(target, handed);
-        self.marks("mark_access", target, opening, &starting, mark, product::mark_access)?;
-        let losable = calls.setup().losable();
-        let lockout = calls.lockout_list(target).unwrap_or_default();
-        let mark = |handed: &[u64]| calls.mark_lockouts(target, handed);
-        self.marks("mark_lockout", target, lockout, &losable, mark, product::mark_lockout)
+        self.all_marks(target)
+    }
+
+    fn scores(&mut self, target: u64) -> Outcome {
+        let calls = self.calls;
+        let coded = |least: Least| if let Least::Sum(sum) = least { sum } else { PORTAL_NEVER };
+        if self.more() {
+            let score = calls.score(target).map(coded);
+            self.number("security_score", target, score, product::security_score)?;
+        }
+        if self.more() {
+            let risk = calls.risk(target).map(coded);
+            self.number("recoverability_score", target, risk, product::recoverability_score)?;
+        }
+        if self.more() {
+            let backdoor = calls.backdoor(target).map(u64::from);
+            self.number("has_backdoor", target, backdoor, product::has_backdoor)?;
+        }
+        if self.more() {
+            let idle = calls.idle(target).map(u64::from);
+            self.number("ineffective_recovery", target, idle, product::ineffective_recovery)?;
+        }
+        Ok(())
+    }
+
+    fn all_marks(&mut self, target: u64) -> Outcome {
+        let calls = self.calls;
+        if self.more() {
+            let members = calls.setup().starting();
+            let right = calls.opening_list(target).unwrap_or_default();
+            let mark = |handed: &[u64]| calls.mark_openings(target, handed);
+            self.marks("mark_access", target, right, &members, mark, product::mark_access)?;
+        }
+        if self.more() {
+            let members = calls.setup().losable();
+            let right = calls.lockout_list(target).unwrap_or_default();
+            let mark = |handed: &[u64]| calls.mark_lockouts(target, handed);
+            self.marks("mark_lockout", target, right, &members, mark, product::mark_lockout)?;
+        }
+        Ok(())
     }
 
     /// A call on one number with one value.
@@ -150,7 +195,10 @@ impl Compare<'_> {
         let mut lengths = probes::lent_lengths(first, second);
         self.rng.shuffle(&mut lengths);
         lengths.truncate(self.depth.lent);
-        lengths.push(first + second + self.rng.below(2));
+        // The sets themselves are seen only where there is room for them.
+        if self.depth.all || self.rng.chance(3, 4) {
+            lengths[0] = first + second + self.rng.below(2);
+        }
         for length in lengths {
             let before = probes::lent_sets(self.rng, length);
             let (mut proved, mut brute) = (before.clone(), before);

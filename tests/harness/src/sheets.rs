@@ -105,7 +105,7 @@ fn portal(
     let count = read.as_ref().map_or(0, |sheet| sheet.setup.count);
     let mut items = probes::item_numbers(count);
     rng.shuffle(&mut items);
-    items.truncate(depth.targets.min(2 * depth.lent + 2));
+    items.truncate(depth.items);
     let calls = read.as_ref().map(|sheet| Calls::new(&sheet.setup));
     for item in items {
         let (score, risk) = match &calls {

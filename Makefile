@@ -1,5 +1,5 @@
 # `make test` proves and tests everything; its last line is the verdict.
-.PHONY: test report prove lib check-contracts
+.PHONY: test report prove lib fuzz check-contracts
 
 test:
 	@bash scripts/test.sh
@@ -20,6 +20,11 @@ prove:
 # The portal's library for C: target/staticlib/libportal.a, with include/portal.h.
 lib:
 	@rt staticlib portal
+
+# Fresh inputs against the brute force: make fuzz, make fuzz SECONDS=600, make fuzz SEED=7 to repeat a run.
+SECONDS = 60
+fuzz:
+	@bash scripts/fuzz.sh $(SECONDS) $(SEED)
 
 check-contracts:
 	@python3 scripts/contracts.py

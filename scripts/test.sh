@@ -32,4 +32,8 @@ bash scripts/examples.sh
 echo "test: the brute force, in Rust"
 (cd tests && cargo test --release --quiet)
 
+echo "test: the proved code and the brute force, side by side"
+rt staticlib probe > "$log" 2>&1 || { cat "$log"; exit 1; }
+(cd tests && cargo run --release --quiet -p harness -- gate)
+
 echo "$verdict"

@@ -23,6 +23,15 @@ pub const TWO_ITEMS_MARKED: Tiny = Tiny { items: 2, colours: 2, edge_states: 3 }
 /// 3 items and 1 colour, every edge also as a recovery edge: 1,259,712 setups.
 pub const THREE_ITEMS_MARKED: Tiny = Tiny { items: 3, colours: 1, edge_states: 3 };
 
+/// 3 items and 2 colours, every edge also as a recovery edge: 24,794,911,296 setups.
+pub const THREE_ITEMS_TWO_COLOURS: Tiny = Tiny { items: 3, colours: 2, edge_states: 3 };
+/// 4 items and 1 colour, every edge also as a recovery edge: 11,019,960,576 setups.
+pub const FOUR_ITEMS: Tiny = Tiny { items: 4, colours: 1, edge_states: 3 };
+
+/// Families to draw from.
+pub const FAMILIES: &[Tiny] =
+    &[TWO_ITEMS_MARKED, THREE_ITEMS_MARKED, THREE_ITEMS_TWO_COLOURS, FOUR_ITEMS];
+
 impl Tiny {
     /// How many setups there are.
     pub fn count(self) -> u64 {
@@ -69,13 +78,15 @@ impl Tiny {
         setup
     }
 
+    /// One of them, as a case.
+    pub fn case(self, index: u64) -> SetupCase {
+        SetupCase { label: format!("{self:?}, index {index}"), setup: self.setup(index) }
+    }
+
     /// Every `stride`-th of them, from the first on.
     pub fn cases(self, stride: u64) -> impl Iterator<Item = SetupCase> {
         let indices = (0..self.count()).step_by(stride as usize);
-        indices.map(move |index| SetupCase {
-            label: format!("{self:?}, index {index}"),
-            setup: self.setup(index),
-        })
+        indices.map(move |index| self.case(index))
     }
 }
 

@@ -1,0 +1,36 @@
+use Rattle.setup.specs.declared.Setup.{Setup}
+use Rattle.findings.specs.Answers.{IneffectiveCall}
+use Rattle.probe.proofs.Telling.{told}
+use borrow.Author.Needs.{needs}
+use Rattle.probe.proofs.probe_ineffective_recovery.Statement.{statement}
+use Rattle.probe.proofs.probe_ineffective_recovery.Tie as tie
+
+setup-in-requires : tie.Need-setup-in-requires
+setup-in-requires c κs = search needs
+
+ineffective-recovery-requires : tie.Need-ineffective-recovery-requires
+ineffective-recovery-requires c κs = search needs
+
+tell-finding-requires : tie.Need-tell-finding-requires
+tell-finding-requires c κs = search needs
+
+same-length : tie.Need-same-length
+same-length c = search needs
+
+returns : tie.Need-returns
+returns c =
+    let t = c .before .before in
+    let k = t .before .before in
+    let s = k .before in
+    let a = s .before .before .before .args in
+    told (λ (s : Setup). IneffectiveCall s (a .item)) _ _ (s .setup-in .ensures) _ _ _ _ _ (k .ineffective-recovery .ensures) (t .tell-finding .ensures)
+
+pub probe-ineffective-recovery-spec : {M : Type 1} → statement M
+probe-ineffective-recovery-spec =
+    tie.close
+    (tie.spec
+    setup-in-requires
+    ineffective-recovery-requires
+    tell-finding-requires
+    same-length
+    returns)

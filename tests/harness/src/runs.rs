@@ -1,0 +1,145 @@
+//! What is compared: the gate's fixed part, and rounds of a seed for as long as one likes.
+
+use crate::compare::Difference;
+use crate::program::Program;
+use crate::setups::{compare_setup, Depth, FEW, FULL, MANY, MOST};
+use crate::sheets::compare_sheet;
+use brute::cases::draft::sheet_of_setup;
+use brute::cases::{
+    bounds, damaged, noise, random, readings, setups, tiny, Rng, SetupCase, SheetCase,
+};
+use std::fmt;
+use std::time::{Duration, Instant};
+
+type Outcome = Result<(), Box<Difference>>;
+
+/// How many inputs were compared, and how many reports among them.
+#[derive(Default)]
+pub struct Counts {
+    pub tiny: u64,
+    pub random: u64,
+    pub bounds: u64,
+    pub damaged: u64,
+    pub texts: u64,
+    pub setups: u64,
+    pub reports: u64,
+}
+
+impl fmt::Display for Counts {
+    fn fmt(&self, out: &mut fmt::Formatter<'_>) -> fmt::Result {
+        let Counts { tiny, random, bounds, damaged, texts, setups, reports } = self;
+        write!(out, "{tiny} tiny sheets, {random} random ones, {bounds} at the bounds, ")?;
+        write!(out, "{damaged} damaged, {texts} other texts, {setups} setups as plain numbers; ")?;
+        write!(out, "{reports} whole reports")
+    }
+}
+
+/// A run of comparisons.
+pub struct Run {
+    pub counts: Counts,
+    rng: Rng,
+    program: Option<Program>,
+}
+
+impl Run {
+    pub fn new(seed: u64, program: Option<Program>) -> Run {
+        Run { counts: Counts::default(), rng: Rng::new(seed), program }
+    }
+
+    fn sheet(&mut self, case: &SheetCase, depth: Depth, report: bool) -> Outcome {
+        let program = self.program.as_ref().filter(|_| report);
+        self.counts.reports += u64::from(program.is_some());
+        compare_sheet(case, &mut self.rng, depth, program)
+    }
+
+    fn tiny(&mut self, case: SetupCase, depth: Depth) -> Outcome {
+        self.counts.tiny += 1;
+        let sheet = sheet_of_setup(&case.setup);
+        self.sheet(&SheetCase::accepted(case.label, sheet), depth, false)
+    }
+
+    fn setup(&mut self, case: &SetupCase, depth: Depth) -> Outcome {
+        let said = compare_setup(&case.label, None, &case.setup, &mut self.rng, depth)?;
+        self.counts.setups += u64::from(said);
+        Ok(())
+    }
+
+    /// The gate's part: the same inputs in every run with one seed.
+    pub fn gate(&mut self, seed: u64) -> Outcome {
+        for case in bounds::bounds() {
+            self.counts.bounds += 1;
+            self.sheet(&case, FEW, true)?;
+        }
+        for case in readings::readings() {
+            self.counts.texts += 1;
+            self.sheet(&case, FULL, true)?;
+        }
+        for case in tiny::all_unmarked().chain(tiny::all_marked(401)) {
+            self.tiny(case, MANY)?;
+        }
+        for (number, case) in random::random_sheets(seed, 2_500).enumerate() {
+            self.counts.random += 1;
+            let depth = if number % 20 == 0 { FULL } else { MANY };
+            self.sheet(&case, depth, number % 4 == 0)?;
+        }
+        for case in random::large_sheets(seed, 12) {
+            self.counts.bounds += 1;
+            self.sheet(&case, FEW, true)?;
+        }
+        for case in damaged::damaged_sheets(seed, 3_000) {
+            self.counts.damaged += 1;
+            self.sheet(&case, MANY, self.counts.damaged % 8 == 0)?;
+        }
+        for case in noise::noise(seed, 3_000) {
+            self.counts.texts += 1;
+            self.sheet(&case, MANY, self.counts.texts % 8 == 0)?;
+        }
+        let mut given = setups::malformed_setups(seed, 3);
+        given.extend(setups::near_misses(seed, 3));
+        given.extend(setups::shaken_setups(seed, 300));
+        for case in &given {
+            self.setup(case, MANY)?;
+        }
+        Ok(())
+    }
+
+    /// Rounds of fresh inputs until the time is over.
+    pub fn fuzz(&mut self, time: Duration) -> Outcome {
+        let start = Instant::now();
+        while start.elapsed() < time {
+            self.round()?;
+        }
+        Ok(())
+    }
+
+    fn round(&mut self) -> Outcome {
+        for _ in 0..400 {
+            let family = *self.rng.pick(tiny::FAMILIES);
+            let case = family.case(self.rng.number() % family.count());
+            self.tiny(case, MOST)?;
+        }
+        for case in random::random_sheets(self.rng.number(), 2 * random::SHAPES.len()) {
+            self.counts.random += 1;
+            self.sheet(&case, MANY, self.counts.random % 8 == 0)?;
+        }
+        if self.rng.chance(1, 20) {
+            for case in random::large_sheets(self.rng.number(), 1) {
+                self.counts.bounds += 1;
+                self.sheet(&case, FEW, true)?;
+            }
+        }
+        for case in damaged::damaged_sheets(self.rng.number(), 11) {
+            self.counts.damaged += 1;
+            self.sheet(&case, MANY, false)?;
+        }
+        for case in noise::noise(self.rng.number(), 10) {
+            self.counts.texts += 1;
+            self.sheet(&case, MANY, false)?;
+        }
+        let shaken: Vec<SetupCase> = setups::shaken_setups(self.rng.number(), 6).collect();
+        for case in &shaken {
+            self.setup(case, MANY)?;
+        }
+        Ok(())
+    }
+}

@@ -1,0 +1,286 @@
+//! All calls on a setup that is given as plain numbers.
+
+use crate::compare::{told, Difference, Subject};
+use crate::product::{self, MarkCall, NumberCall};
+use crate::words::words_of;
+use brute::calls::{Calls, Way};
+use brute::cases::{probes, Rng};
+use brute::lists::{Least, Marks};
+use brute::report::PORTAL_NEVER;
+use brute::setup::{Setup, PLACES};
+
+/// How much is asked of a setup.
+#[derive(Clone, Copy)]
+pub struct Depth {
+    /// Sets for closures and lost sets.
+    pub sets: usize,
+    /// The most items that are targets, and how many numbers that are no items.
+    pub items: usize,
+    pub strangers: usize,
+    /// For each target: ways in, lent lists, handed-in lists and pairs that may be out of rank.
+    pub ways: usize,
+    pub lent: usize,
+    pub handed: usize,
+    pub pairs: usize,
+    /// All calls on each target; otherwise some of those that are alike are left out, at random.
+    pub all: bool,
+}
+
+/// All there is, for some setups.
+pub const FULL: Depth = Depth {
+    sets: 12,
+    items: PLACES,
+    strangers: 9,
+    ways: 3,
+    lent: 4,
+    handed: usize::MAX,
+    pairs: 4,
+    all: true,
+};
+/// For many small setups.
+pub const MANY: Depth =
+    Depth { sets: 4, items: 5, strangers: 1, ways: 1, lent: 1, handed: 1, pairs: 1, all: false };
+/// For a million tiny ones.
+pub const MOST: Depth =
+    Depth { sets: 4, items: 2, strangers: 1, ways: 1, lent: 1, handed: 1, pairs: 1, all: false };
+/// For setups at the bounds, where the brute force takes long.
+pub const FEW: Depth =
+    Depth { sets: 8, items: 5, strangers: 1, ways: 2, lent: 2, handed: 4, pairs: 2, all: true };
+
+type Outcome = Result<(), Box<Difference>>;
+
+/// Compares all calls on a setup. A setup that words can't say is passed over: `false`.
+pub fn compare_setup(
+    label: &str,
+    sheet: Option<&[u8]>,
+    setup: &Setup,
+    rng: &mut Rng,
+    depth: Depth,
+) -> Result<bool, Box<Difference>> {
+    let Some(words) = words_of(setup) else { return Ok(false) };
+    let subject = Subject { label, sheet, setup: Some(setup) };
+    let calls = Calls::new(setup);
+    Compare { subject, words, calls: &calls, rng, depth }.all()?;
+    Ok(true)
+}
+
+struct Compare<'a> {
+    subject: Subject<'a>,
+    words: Vec<u64>,
+    calls: &'a Calls,
+    rng: &'a mut Rng,
+    depth: Depth,
+}
+
+impl Compare<'_> {
+    fn all(&mut self) -> Outcome {
+        let calls = self.calls;
+        let expected = if calls.well_formed() { 0 } else { 12 };
+        let call = || "well_formed".to_string();
+        self.subject.same(call, product::well_formed(&self.words), expected)?;
+        // A malformed setup's count may be any number.
+        let count = calls.setup().count.min(PLACES as u64);
+        let mut sets = probes::sets_within(self.rng, count, self.depth.sets);
+        sets.extend(probes::sets_outside(self.rng, count));
+        for &set in &sets {
+            self.number("access_from", set, calls.closure(set), product::access_from)?;
+            self.number("lockout_from", set, calls.lost_set(set), product::lockout_from)?;
+        }
+        for target in self.targets(count) {
+            self.target(target, &sets, count)?;
+        }
+        Ok(())
+    }
+
+    /// Items of the setup, and numbers that are no items.
+    fn targets(&mut self, count: u64) -> Vec<u64> {
+        let mut strangers = probes::item_numbers(count);
+        let mut items: Vec<u64> = strangers.drain(..count as usize).collect();
+        self.rng.shuffle(&mut items);
+        self.rng.shuffle(&mut strangers);
+        items.truncate(self.depth.items);
+        items.extend(strangers.iter().take(self.depth.strangers));
+        items
+    }
+
+    /// Whether a call is made that is like another.
+    fn more(&mut self) -> bool {
+        self.depth.all || self.rng.chance(1, 3)
+    }
+
+    fn target(&mut self, target: u64, sets: &[u64], count: u64) -> Outcome {
+        self.lists(target)?;
+        self.scores(target)?;
+        for _ in 0..self.depth.pairs {
+            let others = [self.rng.below(count.max(1) as usize) as u64, target, count, u64::MAX];
+            let other = others[[0, 0, 0, 0, 0, 1, 2, 3][self.rng.below(8)]];
+            self.pair(target, other)?;
+            if self.depth.all {
+                self.pair(other, target)?;
+            }
+        }
+        for _ in 0..self.depth.ways {
+            let set = *self.rng.pick(sets);
+            self.way(target, set)?;
+        }
+        self.all_marks(target)
+    }
+
+    fn scores(&mut self, target: u64) -> Outcome {
+        let calls = self.calls;
+        let coded = |least: Least| if let Least::Sum(sum) = least { sum } else { PORTAL_NEVER };
+        if self.more() {
+            let score = calls.score(target).map(coded);
+            self.number("security_score", target, score, product::security_score)?;
+        }
+        if self.more() {
+            let risk = calls.risk(target).map(coded);
+            self.number("recoverability_score", target, risk, product::recoverability_score)?;
+        }
+        if self.more() {
+            let backdoor = calls.backdoor(target).map(u64::from);
+            self.number("has_backdoor", target, backdoor, product::has_backdoor)?;
+        }
+        if self.more() {
+            let idle = calls.idle(target).map(u64::from);
+            self.number("ineffective_recovery", target, idle, product::ineffective_recovery)?;
+        }
+        Ok(())
+    }
+
+    fn all_marks(&mut self, target: u64) -> Outcome {
+        let calls = self.calls;
+        if self.more() {
+            let members = calls.setup().starting();
+            let right = calls.opening_list(target).unwrap_or_default();
+            let mark = |handed: &[u64]| calls.mark_openings(target, handed);
+            self.marks("mark_access", target, right, &members, mark, product::mark_access)?;
+        }
+        if self.more() {
+            let members = calls.setup().losable();
+            let right = calls.lockout_list(target).unwrap_or_default();
+            let mark = |handed: &[u64]| calls.mark_lockouts(target, handed);
+            self.marks("mark_lockout", target, right, &members, mark, product::mark_lockout)?;
+        }
+        Ok(())
+    }
+
+    /// A call on one number with one value.
+    fn number(
+        &mut self,
+        name: &str,
+        number: u64,
+        expected: Result<u64, u8>,
+        call: NumberCall,
+    ) -> Outcome {
+        let expected = expected.map(|value| vec![value]);
+        let named = || format!("{name}({number:#x})");
+        let words = &self.words;
+        self.subject.same_values(self.rng, named, &expected, |values| call(words, number, values))
+    }
+
+    fn pair(&mut self, above: u64, below: u64) -> Outcome {
+        let expected = self.calls.out_of_rank(above, below).map(|is| vec![u64::from(is)]);
+        let named = || format!("inconsistent({above}, {below})");
+        let words = &self.words;
+        let call = |values: &mut [u64]| product::inconsistent(words, above, below, values);
+        self.subject.same_values(self.rng, named, &expected, call)
+    }
+
+    /// Both lists, to lent lists around the length that they need.
+    fn lists(&mut self, target: u64) -> Outcome {
+        let calls = self.calls;
+        let first = calls.opening_list(target).map_or(0, <[u64]>::len);
+        let second = calls.lockout_list(target).map_or(0, <[u64]>::len);
+        let mut lengths = probes::lent_lengths(first, second);
+        self.rng.shuffle(&mut lengths);
+        lengths.truncate(self.depth.lent);
+        // The sets themselves are seen only where there is room for them.
+        if self.depth.all || self.rng.chance(3, 4) {
+            lengths[0] = first + second + self.rng.below(2);
+        }
+        for length in lengths {
+            let before = probes::lent_sets(self.rng, length);
+            let (mut proved, mut brute) = (before.clone(), before);
+            let expected = calls.lists(target, &mut brute);
+            let expected = expected.map(|(n, m)| vec![n as u64, m as u64]);
+            let lent = probes::lent_sets(self.rng, 3);
+            let mut values = lent.clone();
+            let number = product::both_bases(&self.words, target, &mut proved, &mut values);
+            let named = || format!("both_bases({target}), with {length} places");
+            let proved = ((number, values), proved);
+            self.subject.same(named, proved, (told(&expected, lent), brute))?;
+        }
+        Ok(())
+    }
+
+    /// The way in, to two lent lists around the lengths that they need.
+    fn way(&mut self, target: u64, set: u64) -> Outcome {
+        let calls = self.calls;
+        let steps = match calls.way_in(set, target, &mut [0; PLACES], &mut [0; PLACES]) {
+            Ok(Way::Steps(steps)) => steps,
+            _ => 2,
+        };
+        let short = steps.saturating_sub(1);
+        let pairs =
+            [(steps, steps), (short, steps), (steps, short), (0, 0), (steps + 3, steps + 1)];
+        for (items, colours) in [(steps + 1, steps + 2), *self.rng.pick(&pairs)] {
+            let items = probes::lent_bytes(self.rng, items);
+            let colours = probes::lent_bytes(self.rng, colours);
+            let (mut items_brute, mut colours_brute) = (items.clone(), colours.clone());
+            let expected = calls.way_in(set, target, &mut items_brute, &mut colours_brute);
+            let expected = expected.map(|way| match way {
+                Way::Steps(steps) => vec![steps as u64],
+                Way::Shut => Vec::new(),
+            });
+            let (mut items_proved, mut colours_proved) = (items.clone(), colours.clone());
+            let lent = probes::lent_sets(self.rng, 2);
+            let mut values = lent.clone();
+            let number = product::access_derivation(
+                &self.words,
+                target,
+                set,
+                &mut items_proved,
+                &mut colours_proved,
+                &mut values,
+            );
+            let lengths = (items.len(), colours.len());
+            let named = || format!("access_derivation({target}, {set:#x}), places {lengths:?}");
+            let proved = ((number, values), items_proved, colours_proved);
+            let brute = (told(&expected, lent), items_brute, colours_brute);
+            self.subject.same(named, proved, brute)?;
+        }
+        Ok(())
+    }
+
+    /// Marks of some handed-in lists.
+    fn marks(
+        &mut self,
+        name: &str,
+        target: u64,
+        right: &[u64],
+        members: &[(usize, u64)],
+        brute: impl Fn(&[u64]) -> Result<Marks, u8>,
+        proved: MarkCall,
+    ) -> Outcome {
+        let allowed = members.iter().fold(0, |set, &(item, _)| set | 1 << item);
+        let count = self.calls.setup().count.min(PLACES as u64);
+        let mut handed = probes::hand_ins(self.rng, right, allowed, count);
+        if self.depth.handed < handed.len() {
+            self.rng.shuffle(&mut handed);
+            handed.truncate(self.depth.handed);
+        }
+        let words = &self.words;
+        for list in &handed {
+            let marks = brute(&list.sets);
+            let expected = marks.map(|marks| {
+                let Marks { repeated, shut, loose, right, missing } = marks;
+                [right, repeated, shut, loose, missing].map(|count| count as u64).to_vec()
+            });
+            let named = || format!("{name}({target}), {}: {:x?}", list.label, list.sets);
+            let call = |values: &mut [u64]| proved(words, target, &list.sets, values);
+            self.subject.same_values(self.rng, named, &expected, call)?;
+        }
+        Ok(())
+    }
+}

@@ -1,0 +1,129 @@
+//! A text: its reading, its items' names, the portal's numbers, all calls on the setup that it
+//! yields, and the whole report.
+
+use crate::compare::{told, Difference, Subject};
+use crate::product;
+use crate::program::Program;
+use crate::setups::{compare_setup, Depth};
+use crate::words::{words_of, WORDS};
+use brute::cases::{probes, Rng, SheetCase, Told};
+use brute::lists::Least;
+use brute::report::PORTAL_NEVER;
+use brute::setup::Setup;
+use brute::sheet::{self, Refusal, Sheet};
+use brute::Calls;
+
+type Outcome = Result<(), Box<Difference>>;
+
+/// Compares all that is asked of a text; the report too, where `program` is given.
+pub fn compare_sheet(
+    case: &SheetCase,
+    rng: &mut Rng,
+    depth: Depth,
+    program: Option<&Program>,
+) -> Outcome {
+    let read = sheet::read(&case.sheet);
+    let subject = Subject { label: &case.label, sheet: Some(&case.sheet), setup: None };
+    let outcome = read.as_ref().map(|_| ()).map_err(|refusal| *refusal);
+    match case.told {
+        Told::Nothing => {}
+        Told::Accepted => subject.same(|| "the case's own word".to_string(), Ok(()), outcome)?,
+        Told::Refused(refusal) => {
+            subject.same(|| "the case's own word".to_string(), Err(refusal), outcome)?;
+        }
+    }
+    reading(&subject, rng, &case.sheet, &read)?;
+    names(&subject, rng, &case.sheet, &read)?;
+    portal(&subject, rng, &case.sheet, &read, depth)?;
+    if let Some(program) = program {
+        let printed = program.report(&case.sheet);
+        let expected = brute::report::report(&case.sheet);
+        subject.same(|| "the program report".to_string(), text(&printed), text(&expected))?;
+    }
+    if let Ok(sheet) = &read {
+        compare_setup(&case.label, Some(&case.sheet), &sheet.setup, rng, depth)?;
+    }
+    Ok(())
+}
+
+fn text(bytes: &[u8]) -> String {
+    String::from_utf8_lossy(bytes).into_owned()
+}
+
+/// The number; then the line and the setup's words to lists with room and without.
+fn reading(
+    subject: &Subject,
+    rng: &mut Rng,
+    sheet: &[u8],
+    read: &Result<Sheet, Refusal>,
+) -> Outcome {
+    let (number, line, setup) = match read {
+        Ok(sheet) => (0, 0, sheet.setup.clone()),
+        Err(refusal) => (u64::from(refusal.number), refusal.line, Setup::empty()),
+    };
+    let mut expected = vec![line];
+    expected.extend(words_of(&setup).expect("a sheet's setup can be said in words"));
+    let other = *rng.pick(&[0, 1, WORDS, WORDS + 1, WORDS + 9]);
+    for length in [WORDS + 2, other] {
+        let lent = probes::lent_sets(rng, length);
+        let mut values = lent.clone();
+        let proved = product::read_sheet(sheet, &mut values);
+        let (_, lent) = told(&Ok(expected.clone()), lent);
+        let call = || format!("read_sheet, with {length} places for values");
+        subject.same(call, (proved, values), (number, lent))?;
+    }
+    Ok(())
+}
+
+/// Where each name begins, and its bytes.
+fn names(subject: &Subject, rng: &mut Rng, sheet: &[u8], read: &Result<Sheet, Refusal>) -> Outcome {
+    let count = read.as_ref().map_or(0, |sheet| sheet.setup.count);
+    let mut items = probes::item_numbers(count);
+    rng.shuffle(&mut items);
+    for &item in items.iter().take(6) {
+        let range = match read {
+            Ok(read) if item < count => read.names[item as usize].clone(),
+            _ => 0..0,
+        };
+        let bytes = sheet[range.clone()].iter().map(|&byte| u64::from(byte));
+        let expected: Vec<u64> = std::iter::once(range.start as u64).chain(bytes).collect();
+        let call = || format!("name_of({item})");
+        let name = |values: &mut [u64]| product::name_of(sheet, item, values);
+        subject.same_values(rng, call, &Ok(expected), name)?;
+    }
+    Ok(())
+}
+
+/// The portal's score and risk, of items that are there and not.
+fn portal(
+    subject: &Subject,
+    rng: &mut Rng,
+    sheet: &[u8],
+    read: &Result<Sheet, Refusal>,
+    depth: Depth,
+) -> Outcome {
+    let count = read.as_ref().map_or(0, |sheet| sheet.setup.count);
+    let mut items = probes::item_numbers(count);
+    rng.shuffle(&mut items);
+    items.truncate(depth.items);
+    let calls = read.as_ref().map(|sheet| Calls::new(&sheet.setup));
+    for item in items {
+        let (score, risk) = match &calls {
+            Ok(calls) => (calls.score(item), calls.risk(item)),
+            Err(refusal) => (Err(refusal.number), Err(refusal.number)),
+        };
+        let call = || format!("portal_score({item})");
+        subject.same(call, product::portal_score(sheet, item), coded(score))?;
+        let call = || format!("portal_risk({item})");
+        subject.same(call, product::portal_risk(sheet, item), coded(risk))?;
+    }
+    Ok(())
+}
+
+fn coded(answer: Result<Least, u8>) -> u64 {
+    match answer {
+        Ok(Least::Sum(sum)) => sum,
+        Ok(Least::Never) => PORTAL_NEVER,
+        Err(number) => PORTAL_NEVER + u64::from(number),
+    }
+}

@@ -1,16 +1,14 @@
 -- Writing the rows of a list, one after the other.
 -- Assumes nothing.
-use mathlib.Core.Path.{_≡_, refl, _∙_}
+use mathlib.Core.Path.{_≡_, refl}
 use mathlib.Core.Bool.{Bool}
-use mathlib.Core.List.{List, _∷_, _++_}
+use mathlib.Core.List.{List, _++_}
 use mathlib.Core.Logic.{⊎-elim}
 use Prim.Native.Nat.{ℕ, suc, _+_, _*_, _^_, _≤_, _<_}
 use native.Mathlib.Numerals.{add-one}
 use native.Mathlib.Omega.{arith}
-use lib.Count.{ones}
-use lib.ListN.{length, getD, take, drop, length-take}
+use lib.ListN.{length, getD, take, length-take}
 use lib.Seq.{drop-cons, getD-take}
-use Rattle.vertex_set.specs.Set.{Member}
 use Rattle.vertex_set.specs.Order.{sumOver}
 use Rattle.vertex_set.proofs.Cases.{less-or}
 use Rattle.vertex_set.proofs.Sums.{sum-bound}
@@ -20,7 +18,7 @@ use Rattle.report_text.specs.Report.{nameIn}
 use Rattle.report_text.proofs.Lengths.{set-row-length}
 use Rattle.report_facts.specs.Parts.{Part}
 use Rattle.report_facts.proofs.Parts.{part-none, part-one, part-then, part-length, wrote-inside}
-use Rattle.report_lists.specs.Lists.{SetReady, RowsReady, rowOf, rowsFrom, RowsWent}
+use Rattle.report_lists.specs.Lists.{RowsReady, rowOf, rowsFrom, RowsWent}
 
 sum-small : (values : List ℕ) (x : ℕ) → ((v : ℕ) → getD values v 0 ≤ 1000000) → sumOver (λ (v : ℕ). getD values v 0) x < 100000000
 unfolding sumOver

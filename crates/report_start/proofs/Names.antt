@@ -1,8 +1,8 @@
 -- An accepted sheet has a short name for each vertex, and its setup is well formed.
 -- Assumes nothing.
-use mathlib.Core.Path.{_≡_, refl, sym, ap, subst, _∙_}
+use mathlib.Core.Path.{_≡_, ap, _∙_}
 use mathlib.Core.Bool.{true, _&&_}
-use mathlib.Core.List.{List, [], _∷_, _++_, map}
+use mathlib.Core.List.{List, [], _∷_, map}
 use mathlib.Core.Logic.{⊎-elim}
 use Prim.Native.Nat.{ℕ, zero, suc, _≤_, _<_}
 use native.Mathlib.Omega.{arith}
@@ -15,7 +15,7 @@ use Rattle.sheet_format.specs.declared.Reading.{Reading}
 use Rattle.sheet_format.specs.Fields.{isNameByte, isName}
 use Rattle.sheet_format.specs.Text.{all}
 use Rattle.sheet_format.specs.Rows.{ItemRow, Doc, Each, ValidItem, Valid, render, secondHeader, setupOf}
-use Rattle.sheet_format.specs.Read.{readSheet, accepted}
+use Rattle.sheet_format.specs.Read.{readSheet}
 use Rattle.sheet_format.proofs.Tests.{and-parts}
 use Rattle.sheet_format.proofs.Documents.{docLines}
 use Rattle.sheet_format.proofs.Rows.{itemLine, edgeLine}

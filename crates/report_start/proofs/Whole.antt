@@ -1,18 +1,19 @@
--- At the first place the whole report is left.
+-- At the first place the whole report is left, and the parts that are written from there on are the whole of it.
 -- Assumes nothing.
-use mathlib.Core.Path.{_≡_, refl, sym, ap, subst, _∙_}
-use mathlib.Core.List.{List}
+use mathlib.Core.Path.{_≡_, refl, sym, ap, _∙_}
+use mathlib.Core.List.{List, [], _∷_, _++_}
 use Prim.Native.Nat.{ℕ, _^_, _<_}
-use lib.ListN.{length}
-use lib.Dec.{eqb}
 use borrow.Author.Tests.{ne-eqb, eq-eqb}
+use Rattle.setup.specs.declared.Setup.{Setup}
 use Rattle.sheet_format.specs.declared.Reading.{Reading}
 use Rattle.sheet_format.specs.Read.{readSheet}
 use Rattle.report_text.specs.Report.{nameIn, reportAfter, reportOf}
 use Rattle.report_facts.specs.declared.Facts.{Facts}
 use Rattle.report_facts.specs.Facts.{FactsOf, TablesOf}
+use Rattle.report_steps.specs.declared.Cursor.{Cursor}
 use Rattle.report_steps.specs.declared.Cursor.the-variants as cursor
-use Rattle.report_start.specs.Whole.{Begun}
+use Rattle.report_steps.specs.Rest.{restOf}
+use Rattle.report_start.specs.Whole.{Begun, Run, inOne, WholeReport}
 
 module _ (sheet : List ℕ) (r : Reading) (e : r ≡ readSheet sheet) (f : Facts) (opening lockout : List ℕ) where
   pub begun-refused : (r .number ≡ 0 → ⊥) → r .number < 2 ^ 64 → r .line < 2 ^ 64
@@ -32,3 +33,10 @@ module _ (sheet : List ℕ) (r : Reading) (e : r ≡ readSheet sheet) (f : Facts
         whole = rw (← e, eq-eqb (r .number) 0 z) refl;
         here = λ list l. rw (← e) (h, t, l);
       }
+
+run-rest : (name : ℕ → List ℕ) (s : Setup) (c : Cursor) (parts : List (List ℕ)) → Run name s c parts → inOne parts ≡ restOf name s c
+run-rest name s c [] e = sym (ap (restOf name s) e)
+run-rest name s c (p ∷ ps) r = ap (λ t. p ++ t) (run-rest name s (r .0) ps (r .2)) ∙ sym (r .1)
+
+pub whole-report : WholeReport
+whole-report sheet r opening lockout b parts run = run-rest (nameIn sheet) (readSheet sheet .setup) (r .cursor) parts run ∙ b .whole

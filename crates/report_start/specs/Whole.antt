@@ -1,11 +1,14 @@
--- Where a report begins.
+-- Where a report begins, and that its parts, one after the other, are the whole of it.
 use mathlib.Core.Path.{_≡_}
-use mathlib.Core.List.{List}
+use mathlib.Core.List.{List, [], _∷_, _++_}
 use Prim.Native.Nat.{ℕ}
 use lib.ListN.{length}
+use Rattle.setup.specs.declared.Setup.{Setup}
 use Rattle.sheet_format.specs.declared.Reading.{Reading}
 use Rattle.sheet_format.specs.Read.{readSheet}
 use Rattle.report_text.specs.Report.{nameIn, reportOf}
+use Rattle.report_steps.specs.declared.Cursor.{Cursor}
+use Rattle.report_steps.specs.declared.Cursor.the-variants as cursor
 use Rattle.report_steps.specs.Rest.{restOf}
 use Rattle.report_steps.specs.Steps.{At}
 use Rattle.report_start.specs.declared.Report.{Report}
@@ -14,3 +17,18 @@ use Rattle.report_start.specs.declared.Report.{Report}
 pub record Begun (sheet : List ℕ) (r : Report) (opening lockout : List ℕ) : Type 0 where
   pub whole : restOf (nameIn sheet) (readSheet sheet .setup) (r .cursor) ≡ reportOf sheet
   pub here : (list : List ℕ) → length list ≡ 16384 → At sheet (readSheet sheet .setup) (r .facts) opening lockout list (r .cursor)
+
+-- The parts that are written from the place c on up to the end, each by a `fill` from one place to the next (its contract is `Filled`).
+abbrev pub Run : (ℕ → List ℕ) → Setup → Cursor → List (List ℕ) → Type 0
+Run name s c [] = c ≡ cursor.End
+Run name s c (p ∷ ps) = (d : Cursor) × (restOf name s c ≡ p ++ restOf name s d) × Run name s d ps
+
+-- Texts one after the other.
+abbrev pub inOne : List (List ℕ) → List ℕ
+inOne [] = []
+inOne (p ∷ ps) = p ++ inOne ps
+
+-- What the steps write, one after the other, is the report's text, all of it and nothing else.
+abbrev pub WholeReport : Type 0
+WholeReport = (sheet : List ℕ) (r : Report) (opening lockout : List ℕ) → Begun sheet r opening lockout → (parts : List (List ℕ))
+    → Run (nameIn sheet) (readSheet sheet .setup) (r .cursor) parts → inOne parts ≡ reportOf sheet

@@ -4,18 +4,17 @@ use mathlib.Core.Path.{_≡_, refl, sym, ap, subst, _∙_}
 use mathlib.Core.Bool.{Bool, true, false}
 use mathlib.Core.List.{List, [], _∷_, _++_}
 use mathlib.Core.Logic.{inl, inr}
-use Prim.Native.Nat.{ℕ, zero, suc, _+_, _*_, _/_, _^_, _≤_, _<_}
+use Prim.Native.Nat.{ℕ, zero, suc, _+_, _/_, _^_, _≤_, _<_}
 use native.Mathlib.Omega.{arith}
 use lib.Count.{ones, ones-le}
 use lib.ListN.{length, getD, take, drop, length-take}
 use lib.Seq.{getD-take}
 use Rattle.vertex_set.specs.Set.{Member, Within}
-use Rattle.vertex_set.specs.Order.{Listed, sumOver}
+use Rattle.vertex_set.specs.Order.{Listed}
 use Rattle.vertex_set.proofs.Cases.{byTest}
 use Rattle.vertex_set.proofs.Sums.{sum-over-same}
 use Rattle.setup.specs.declared.Setup.{Setup}
-use Rattle.setup.specs.Setup.{Chosen, ChosenSet}
-use Rattle.setup.specs.WellFormed.{WellFormed}
+use Rattle.setup.specs.Setup.{Chosen}
 use Rattle.families.proofs.Masks.{gather, gather-lt, mask-of, set-size}
 use Rattle.bases.specs.Base.{MinimalSet}
 use Rattle.bases.specs.Score.{Values}
@@ -27,12 +26,11 @@ use Rattle.report_text.proofs.Meaning.{report-meaning}
 use Rattle.report_facts.specs.declared.Facts.{Facts}
 use Rattle.report_facts.specs.Facts.{FactsOf}
 use Rattle.report_facts.specs.Texts.{slotLoss, slotList, slotRow}
-use Rattle.report_facts.specs.Parts.{Part}
 use Rattle.report_lists.specs.declared.RowsStep.{RowsStep}
 use Rattle.report_lists.specs.Lists.{SetReady, RowsReady, rowOf, RowsWent}
 use Rattle.report_lists.specs.Lists as lists
 use Rattle.report_steps.specs.Rest.{rowsFrom}
-use Rattle.report_steps.specs.Steps.{ValuesBy, ListAt, ListGoing, ListWent}
+use Rattle.report_steps.specs.Steps.{ValuesBy, ListGoing, ListWent}
 use Rattle.report_steps.proofs.Rest.{rows-next}
 
 -- ---- the values that are added up

@@ -4,11 +4,11 @@ use mathlib.Core.Path.{_≡_, refl, sym, ap, subst, _∙_}
 use mathlib.Core.Bool.{true, false}
 use mathlib.Core.List.{List, [], _∷_, _++_, append-nil}
 use mathlib.Core.Logic.{⊎-elim}
-use Prim.Native.Nat.{ℕ, suc, _+_, _-_, _*_, _/_, _≤_, _<_}
+use Prim.Native.Nat.{ℕ, suc, _+_, _*_, _/_, _≤_, _<_}
 use native.Mathlib.Numerals.{add-one}
 use native.Mathlib.Omega.{arith}
 use lib.ListN.{length, take, length-take}
-use Rattle.vertex_set.specs.Set.{Decides, Iff}
+use Rattle.vertex_set.specs.Set.{Decides}
 use Rattle.vertex_set.proofs.Cases.{less-or, false-true}
 use Rattle.setup.specs.declared.Setup.{Setup}
 use Rattle.bases.proofs.Formed.{few}
@@ -19,7 +19,6 @@ use Rattle.report_text.proofs.Lengths.{refused-row-length}
 use Rattle.report_facts.specs.declared.Facts.{Facts}
 use Rattle.report_facts.specs.Facts.{FactsOf, TablesOf}
 use Rattle.report_facts.specs.Texts.{slotList, scoreAt, pairsAt}
-use Rattle.report_facts.specs.Parts.{Part}
 use Rattle.report_facts.proofs.Parts.{part-none, part-one, wrote-inside}
 use Rattle.report_findings.specs.Parts.{PartReady, WrotePart}
 use Rattle.report_lists.specs.declared.RowsStep.{RowsStep}
@@ -27,7 +26,7 @@ use Rattle.report_lists.specs.Lists.{CanLoad, Loaded}
 use Rattle.report_steps.specs.declared.Cursor.{Cursor}
 use Rattle.report_steps.specs.declared.Cursor.the-variants as cursor
 use Rattle.report_steps.specs.declared.Step.{Step}
-use Rattle.report_steps.specs.Rest.{rowsFrom, listsFrom, scoresFrom, pairsFrom, restOf}
+use Rattle.report_steps.specs.Rest.{rowsFrom, listsFrom, scoresFrom, pairsFrom}
 use Rattle.report_steps.specs.Steps.{ListAt, ListWent, At, Going, stepsLeft, Went, SectionGoing, ScoresWent, PairsWent}
 use Rattle.report_steps.proofs.Rest.{start-next, list-next, lists-end, rows-end, score-next, scores-end, pairs-next, pairs-end}
 

@@ -14,6 +14,9 @@ rt fmt --check
 echo "test: contracts"
 python3 scripts/contracts.py
 
+echo "test: the index"
+python3 scripts/index.py
+
 echo "test: proofs, must-fail edits and programs"
 log=$(mktemp)
 trap 'rm -f "$log"' EXIT

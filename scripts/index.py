@@ -1,0 +1,59 @@
+#!/usr/bin/env python3
+"""Checks docs/INDEX.md, and the line counts in docs/TRUST.md, against the tree.
+
+What stands in backquotes in the index is a path, or a name directly behind a path or behind another of its names: the file
+defines it, or the directory has an edit of that name. Every row of a table names a path, and every public function of a crate
+that is offered (crates.txt, no comment with the word `inner`) stands in the index. Else the exit status is 1.
+"""
+import re
+import sys
+from pathlib import Path
+
+ROOT = Path(__file__).resolve().parent.parent
+FEWEST = {"files": 100, "names": 250, "public functions": 40, "line counts": 20}
+DEFINES = {
+    ".antt": r"^\s*(?:(?:abbrev|unfoldable) (?:pub )?|pub (?:record |data )?){}(?=[ \n])",
+    ".rt": r'^\s*(?:pub )?(?:extern "C" )?(?:fn|struct|enum) {}\b',
+    ".rs": r"^\s*(?:pub )?fn {}\b",
+    ".h": r"^\w[\w ]* {}\(",
+    ".py": r"^def {}\b",
+}
+
+
+def read(path):
+    return (ROOT / path).read_text(encoding="utf-8")
+
+
+def defines(path, name):
+    if (ROOT / path).is_dir():
+        return (ROOT / path / f"{name}.edit").is_file()
+    text = read(path) if (ROOT / path).is_file() else ""
+    return re.search(DEFINES.get(Path(path).suffix, "(?!)").format(re.escape(name)), text, re.M) is not None
+
+
+index, faults, files, names, path, end = read("docs/INDEX.md"), [], set(), set(), "", 0
+for found in re.finditer(r"`([^`\n]*)`", index):
+    token, directly, end = found.group(1), index[end : found.start()] in (" ", "\n"), found.end()
+    if "/" in token or "." in token:
+        files.add(path := token)
+    else:
+        names.add((path if directly else "", token))
+faults += [f"{path} is not there" for path in sorted(files) if not (ROOT / path).exists()]
+faults += [f"{name} is not in {path or 'any file'}" for path, name in sorted(names) if not defines(path, name)]
+rows = re.findall(r"^\|(?!-)(?!.*\n\|-).*", index, re.M)
+faults += [f"no path in the row {row}" for row in rows if not re.search(r"`[^`]*/[^`]*`", row)]
+calls = []
+for crate in re.findall(r"^(\w+):(?!.*#.*\binner\b)", read("crates.txt"), re.M):
+    for source in sorted(ROOT.glob(f"crates/{crate}/src/*.rt")):
+        place = str(source.relative_to(ROOT))
+        calls += [(place, call) for call in re.findall(r'^\s*pub (?:extern "C" )?fn (\w+)', read(place), re.M)]
+faults += [f"{call} of {place} is not in the index" for place, call in calls if (place, call) not in names]
+counts = re.findall(r"^\| `([\w/]+\.antt)` \| (\d+) \|", read("docs/TRUST.md"), re.M)
+for file, count in counts:
+    lines = read(f"crates/{file}").count("\n") if (ROOT / "crates" / file).is_file() else "no"
+    faults += [f"docs/TRUST.md: {file} has {lines} lines, not {count}"] * (str(lines) != count)
+numbers = dict(zip(FEWEST, (len(files), len(names), len(calls), len(counts))))
+faults += [f"only {numbers[what]} {what}" for what in FEWEST if numbers[what] < FEWEST[what]]
+print(*(f"index: {fault}\n" for fault in faults), sep="", end="")
+print("index:", ", ".join(f"{n} {what}" for what, n in numbers.items()) + f", {len(faults)} faults")
+sys.exit(1 if faults else 0)

@@ -1,0 +1,159 @@
+//! One call at a time: both lists of a target, and the reading of the longest sheet.
+
+use crate::grid::{micros, millis, ratio, with_commas, Grid};
+use crate::kinds::{longest_sheet, random, Kind, CHOSEN, EDGES, ROOM};
+use crate::product::{self, READING};
+use crate::targets::{largest, Target};
+use crate::timing::{in_turn, median, once};
+use crate::twin::{self, Setup};
+use crate::{plain, Rounds};
+use std::hint::black_box;
+
+/// The proved call for both lists of a target, and the twin.
+fn both_lists(kind: &Kind, rounds: usize) -> [f64; 2] {
+    let (mut proved, mut same) = (vec![0; ROOM], vec![0; ROOM]);
+    in_turn(
+        rounds,
+        || {
+            black_box(product::both_bases(black_box(&kind.words), kind.target, &mut proved));
+        },
+        || {
+            let setup = Setup::from_words(black_box(&kind.words));
+            black_box(twin::both_bases(&setup, kind.target, &mut same));
+        },
+    )
+}
+
+/// The brute force's time for the same two lists.
+fn brute_lists(kind: &Kind) -> f64 {
+    let work = || {
+        for loss in [false, true] {
+            let closed = plain::closures(&kind.setup, &kind.setup.graph, loss);
+            black_box(plain::list(&closed, kind.target));
+        }
+    };
+    median((0..3).map(|_| once(work)).collect())
+}
+
+/// Question 12 alone, with the setup taken from its words.
+fn question(kind: &Kind, rounds: usize) -> f64 {
+    let ask = || once(|| assert_eq!(black_box(product::well_formed(black_box(&kind.words))), 0));
+    median((0..rounds).map(|_| ask()).collect())
+}
+
+/// One target's both lists on each kind of sheet.
+pub fn one_target(kinds: &[Kind], rounds: &Rounds, targets: &mut Vec<Target>) -> Grid {
+    let mut grid = Grid::new(
+        "Both lists of one target",
+        &[
+            "sheet",
+            "edges",
+            "sets",
+            "proved, µs",
+            "of it question 12",
+            "twin, µs",
+            "proved / twin",
+            "brute force, ms",
+            "brute / proved",
+        ],
+    );
+    grid.note(
+        "`both_bases` by the harness's library, for the target with the longest lists. Proved and \
+         twin take the setup from the same words and are called in turn; both clear their tables \
+         of 128 KB in each call, and the lent list is not cleared between calls. Only the proved \
+         call asks question 12. The brute force (a closure for each subset) is the median of 3 runs.",
+    );
+    let mut ratios = Vec::new();
+    for kind in kinds {
+        let [proved, same] = both_lists(kind, rounds.calls);
+        let brute = brute_lists(kind);
+        let (opening, lockout) = twin::both_bases(&kind.setup, kind.target, &mut [0; ROOM]);
+        grid.row(vec![
+            kind.name.clone(),
+            kind.edges().to_string(),
+            with_commas((opening + lockout) as u64),
+            micros(proved),
+            micros(question(kind, rounds.calls)),
+            micros(same),
+            ratio(proved, same),
+            millis(brute),
+            ratio(brute, proved),
+        ]);
+        ratios.push((kind.name.clone(), proved / same));
+    }
+    let (worst, most) = largest(&ratios);
+    let others = ratios.iter().filter(|(name, times)| name != worst && *times > 1.3).count();
+    let seen = format!("at most {most:.2} ({worst}); {others} other kinds above 1.3");
+    let met = most <= 2.0 && others == 0;
+    let bound = "at most 1.3 times; 2 on the worst sheet";
+    targets.push(Target::measured("one target's lists, against the twin", bound, seen, met));
+    grid
+}
+
+/// The reading of the longest accepted sheet against one list call.
+pub fn reading(rounds: &Rounds, targets: &mut Vec<Target>) -> Grid {
+    let kind = longest_sheet();
+    let mut values = [0; READING];
+    let mut out = vec![0; ROOM];
+    let [read, listed] = in_turn(
+        rounds.calls,
+        || {
+            black_box(product::read_sheet(black_box(&kind.sheet), &mut values));
+        },
+        || {
+            black_box(product::both_bases(black_box(&kind.words), kind.target, &mut out));
+        },
+    );
+    let mut grid = Grid::new(
+        "Reading the longest accepted sheet",
+        &["sheet", "bytes", "reading, µs", "both lists of one target, µs", "reading / lists"],
+    );
+    let bytes = with_commas(kind.sheet.len() as u64);
+    let times = ratio(read, listed);
+    grid.row(vec![kind.name, bytes, micros(read), micros(listed), times.clone()]);
+    let what = "reading the longest accepted sheet";
+    let seen = format!("{times} times a list call");
+    targets.push(Target::measured(what, "less than one list call", seen, read < listed));
+    grid
+}
+
+/// The numbers of initial vertices that a chart shows.
+pub const STARTS: [usize; 13] = [2, 3, 4, 5, 6, 7, 8, 9, 10, 11, 12, 13, 14];
+/// The numbers of edges that a chart shows.
+pub const EDGE_STEPS: [usize; 16] =
+    [16, 32, 48, 64, 80, 96, 112, 128, 144, 160, 176, 192, 208, 224, 240, 256];
+/// How many sheets make one point.
+const SHEETS: u64 = 5;
+
+/// Times of one target's both lists, proved and by the twin: means of medians over random sheets.
+fn points(chosen: usize, edges: usize, rounds: usize) -> [f64; 2] {
+    let mut sums = [0.0; 2];
+    for seed in 0..SHEETS {
+        let kind = Kind::new("a random sheet", random(100 + seed, chosen, edges).text());
+        let times = both_lists(&kind, rounds);
+        sums.iter_mut().zip(times).for_each(|(sum, time)| *sum += time);
+    }
+    sums.map(|sum| sum / SHEETS as f64)
+}
+
+/// The two lines of a chart: numbers with times in seconds.
+pub type Series = Vec<(usize, [f64; 2])>;
+
+/// Times against the number of initial vertices, which is that of losable ones too.
+pub fn by_starts(rounds: &Rounds) -> Series {
+    STARTS.iter().map(|&chosen| (chosen, points(chosen, EDGES, rounds.points))).collect()
+}
+
+/// Times against the number of edges.
+pub fn by_edges(rounds: &Rounds) -> Series {
+    EDGE_STEPS.iter().map(|&edges| (edges, points(CHOSEN, edges, rounds.points))).collect()
+}
+
+/// A chart's numbers as a table.
+pub fn series_grid(title: &str, number: &str, series: &Series) -> Grid {
+    let mut grid = Grid::new(title, &[number, "proved, µs", "twin, µs", "proved / twin"]);
+    for (at, [proved, same]) in series {
+        grid.row(vec![at.to_string(), micros(*proved), micros(*same), ratio(*proved, *same)]);
+    }
+    grid
+}

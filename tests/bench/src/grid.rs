@@ -1,0 +1,103 @@
+//! Plain tables and numbers as text.
+
+/// A table with a title and notes.
+pub struct Grid {
+    title: String,
+    notes: Vec<String>,
+    rows: Vec<Vec<String>>,
+}
+
+impl Grid {
+    /// A table that has no row yet.
+    pub fn new(title: &str, header: &[&str]) -> Grid {
+        let header = header.iter().map(|cell| cell.to_string()).collect();
+        Grid { title: title.to_string(), notes: Vec::new(), rows: vec![header] }
+    }
+
+    /// Adds a line of text that stands above the table.
+    pub fn note(&mut self, note: &str) {
+        self.notes.push(note.to_string());
+    }
+
+    /// Adds a row.
+    pub fn row(&mut self, cells: Vec<String>) {
+        assert_eq!(cells.len(), self.rows[0].len(), "a row of \"{}\"", self.title);
+        self.rows.push(cells);
+    }
+
+    /// The table as it is printed and as it stands in the document.
+    pub fn text(&self) -> String {
+        let widths: Vec<usize> = (0..self.rows[0].len())
+            .map(|column| self.rows.iter().map(|row| row[column].len()).max().unwrap_or(0))
+            .collect();
+        let mut text = format!("## {}\n\n", self.title);
+        self.notes.iter().for_each(|note| text += &format!("{note}\n\n"));
+        for (number, row) in self.rows.iter().enumerate() {
+            text += &line(row, &widths);
+            if number == 0 {
+                let rules = |(column, &width): (usize, &usize)| rule(column, width);
+                text += &format!("|{}\n", widths.iter().enumerate().map(rules).collect::<String>());
+            }
+        }
+        text
+    }
+}
+
+/// The first cell stands left, the others right.
+fn line(row: &[String], widths: &[usize]) -> String {
+    let cell = |(column, (cell, &width)): (usize, (&String, &usize))| match column {
+        0 => format!(" {cell:<width$} |"),
+        _ => format!(" {cell:>width$} |"),
+    };
+    format!("|{}\n", row.iter().zip(widths).enumerate().map(cell).collect::<String>())
+}
+
+fn rule(column: usize, width: usize) -> String {
+    match column {
+        0 => format!("{}|", "-".repeat(width + 2)),
+        _ => format!("{}:|", "-".repeat(width + 1)),
+    }
+}
+
+/// A time in microseconds.
+pub fn micros(seconds: f64) -> String {
+    let time = seconds * 1e6;
+    if time < 100.0 {
+        format!("{time:.1}")
+    } else {
+        with_commas(time.round() as u64)
+    }
+}
+
+/// A time in milliseconds.
+pub fn millis(seconds: f64) -> String {
+    let time = seconds * 1e3;
+    match time {
+        t if t < 10.0 => format!("{t:.3}"),
+        t if t < 1000.0 => format!("{t:.1}"),
+        t => with_commas(t.round() as u64),
+    }
+}
+
+/// How many times one is the other.
+pub fn ratio(one: f64, other: f64) -> String {
+    let times = one / other;
+    if times < 100.0 {
+        format!("{times:.2}")
+    } else {
+        with_commas(times.round() as u64)
+    }
+}
+
+/// A number with commas between thousands.
+pub fn with_commas(number: u64) -> String {
+    let digits = number.to_string();
+    let mut text = String::new();
+    for (place, digit) in digits.chars().enumerate() {
+        if place > 0 && (digits.len() - place) % 3 == 0 {
+            text.push(',');
+        }
+        text.push(digit);
+    }
+    text
+}

@@ -1,0 +1,53 @@
+//! The targets of the benchmark, with what was seen.
+
+use crate::grid::Grid;
+
+/// A target and what became of it.
+pub struct Target {
+    what: &'static str,
+    bound: &'static str,
+    seen: String,
+    met: Option<bool>,
+}
+
+impl Target {
+    /// A target that was measured.
+    pub fn measured(what: &'static str, bound: &'static str, seen: String, met: bool) -> Target {
+        Target { what, bound, seen, met: Some(met) }
+    }
+
+    /// One that was not, and why.
+    pub fn not_measured(what: &'static str, bound: &'static str, why: &str) -> Target {
+        Target { what, bound, seen: why.to_string(), met: None }
+    }
+
+    fn verdict(&self) -> &'static str {
+        match self.met {
+            Some(true) => "met",
+            Some(false) => "missed",
+            None => "not measured",
+        }
+    }
+}
+
+/// All targets as a table.
+pub fn grid(targets: &[Target]) -> Grid {
+    let mut grid = Grid::new("Targets", &["what", "target", "seen", "verdict"]);
+    for target in targets {
+        let verdict = target.verdict().to_string();
+        grid.row(vec![target.what.into(), target.bound.into(), target.seen.clone(), verdict]);
+    }
+    grid
+}
+
+/// The largest of some numbers with its name.
+pub fn largest(numbers: &[(String, f64)]) -> (&str, f64) {
+    let found = numbers.iter().max_by(|one, other| one.1.total_cmp(&other.1));
+    found.map(|(name, number)| (name.as_str(), *number)).expect("some kind was measured")
+}
+
+/// The smallest.
+pub fn smallest(numbers: &[(String, f64)]) -> (&str, f64) {
+    let found = numbers.iter().min_by(|one, other| one.1.total_cmp(&other.1));
+    found.map(|(name, number)| (name.as_str(), *number)).expect("some kind was measured")
+}

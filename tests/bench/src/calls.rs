@@ -9,18 +9,25 @@ use crate::twin::{self, Setup};
 use crate::{plain, Rounds};
 use std::hint::black_box;
 
-/// The proved call for both lists of a target, and the twin.
-fn both_lists(kind: &Kind, rounds: usize) -> [f64; 2] {
-    let (mut proved, mut same) = (vec![0; ROOM], vec![0; ROOM]);
+/// The times of both lists of a target: by the proved call, the twin and the lean twin.
+fn both_lists(kind: &Kind, rounds: usize) -> [f64; 3] {
+    let mut lists = [const { [0; ROOM] }; 3];
+    let [proved, same, lean] = &mut lists;
     in_turn(
         rounds,
-        || {
-            black_box(product::both_bases(black_box(&kind.words), kind.target, &mut proved));
-        },
-        || {
-            let setup = Setup::from_words(black_box(&kind.words));
-            black_box(twin::both_bases(&setup, kind.target, &mut same));
-        },
+        [
+            &mut || {
+                black_box(product::both_bases(black_box(&kind.words), kind.target, proved));
+            },
+            &mut || {
+                let setup = Setup::from_words(black_box(&kind.words));
+                black_box(twin::both_bases::<false>(&setup, kind.target, same));
+            },
+            &mut || {
+                let setup = Setup::from_words(black_box(&kind.words));
+                black_box(twin::both_bases::<true>(&setup, kind.target, lean));
+            },
+        ],
     )
 }
 
@@ -53,21 +60,24 @@ pub fn one_target(kinds: &[Kind], rounds: &Rounds, targets: &mut Vec<Target>) ->
             "of it question 12",
             "twin, µs",
             "proved / twin",
+            "lean twin, µs",
+            "proved / lean",
             "brute force, ms",
             "brute / proved",
         ],
     );
     grid.note(
-        "`both_bases` by the harness's library, for the target with the longest lists. Proved and \
-         twin take the setup from the same words and are called in turn; both clear their tables \
-         of 128 KB in each call, and the lent list is not cleared between calls. Only the proved \
-         call asks question 12. The brute force (a closure for each subset) is the median of 3 runs.",
+        "`both_bases` by the harness's library, for the target with the longest lists. Proved, twin \
+         and lean twin take the setup from the same words and are called in turn; all clear their \
+         tables of 128 KB in each call, and the lent list is not cleared between calls. Only the \
+         proved call asks question 12. The brute force (a closure for each subset) is the median of \
+         3 runs.",
     );
-    let mut ratios = Vec::new();
+    let mut ratios = [Vec::new(), Vec::new()];
     for kind in kinds {
-        let [proved, same] = both_lists(kind, rounds.calls);
+        let [proved, same, lean] = both_lists(kind, rounds.calls);
         let brute = brute_lists(kind);
-        let (opening, lockout) = twin::both_bases(&kind.setup, kind.target, &mut [0; ROOM]);
+        let (opening, lockout) = twin::both_bases::<true>(&kind.setup, kind.target, &mut [0; ROOM]);
         grid.row(vec![
             kind.name.clone(),
             kind.edges().to_string(),
@@ -76,18 +86,26 @@ pub fn one_target(kinds: &[Kind], rounds: &Rounds, targets: &mut Vec<Target>) ->
             micros(question(kind, rounds.calls)),
             micros(same),
             ratio(proved, same),
+            micros(lean),
+            ratio(proved, lean),
             millis(brute),
             ratio(brute, proved),
         ]);
-        ratios.push((kind.name.clone(), proved / same));
+        ratios[0].push((kind.name.clone(), proved / same));
+        ratios[1].push((kind.name.clone(), proved / lean));
     }
-    let (worst, most) = largest(&ratios);
+    targets.push(against_twin("one target's lists, against the twin", &ratios[0]));
+    targets.push(against_twin("the same, against the lean twin (not asked for)", &ratios[1]));
+    grid
+}
+
+/// At most 1.3 times the twin, and 2 on the worst sheet.
+fn against_twin(what: &'static str, ratios: &[(String, f64)]) -> Target {
+    let (worst, most) = largest(ratios);
     let others = ratios.iter().filter(|(name, times)| name != worst && *times > 1.3).count();
     let seen = format!("at most {most:.2} ({worst}); {others} other kinds above 1.3");
     let met = most <= 2.0 && others == 0;
-    let bound = "at most 1.3 times; 2 on the worst sheet";
-    targets.push(Target::measured("one target's lists, against the twin", bound, seen, met));
-    grid
+    Target::measured(what, "at most 1.3 times; 2 on the worst sheet", seen, met)
 }
 
 /// The reading of the longest accepted sheet against one list call.
@@ -95,22 +113,32 @@ pub fn reading(rounds: &Rounds, targets: &mut Vec<Target>) -> Grid {
     let kind = longest_sheet();
     let mut values = [0; READING];
     let mut out = vec![0; ROOM];
-    let [read, listed] = in_turn(
+    let [read, listed, scored] = in_turn(
         rounds.calls,
-        || {
-            black_box(product::read_sheet(black_box(&kind.sheet), &mut values));
-        },
-        || {
-            black_box(product::both_bases(black_box(&kind.words), kind.target, &mut out));
-        },
+        [
+            &mut || {
+                black_box(product::read_sheet(black_box(&kind.sheet), &mut values));
+            },
+            &mut || {
+                black_box(product::both_bases(black_box(&kind.words), kind.target, &mut out));
+            },
+            &mut || {
+                black_box(product::portal_score(black_box(&kind.sheet), kind.target));
+            },
+        ],
     );
     let mut grid = Grid::new(
         "Reading the longest accepted sheet",
-        &["sheet", "bytes", "reading, µs", "both lists of one target, µs", "reading / lists"],
+        &["sheet", "bytes", "reading, µs", "both lists, µs", "reading / lists", "portal_score, µs"],
+    );
+    grid.note(
+        "Reading by the harness's library, which also writes the setup's words; both lists of the \
+         target with the longest ones; and the portal's call, which reads the sheet and works out \
+         one score.",
     );
     let bytes = with_commas(kind.sheet.len() as u64);
     let times = ratio(read, listed);
-    grid.row(vec![kind.name, bytes, micros(read), micros(listed), times.clone()]);
+    grid.row(vec![kind.name, bytes, micros(read), micros(listed), times.clone(), micros(scored)]);
     let what = "reading the longest accepted sheet";
     let seen = format!("{times} times a list call");
     targets.push(Target::measured(what, "less than one list call", seen, read < listed));
@@ -130,7 +158,8 @@ fn points(chosen: usize, edges: usize, rounds: usize) -> [f64; 2] {
     let mut sums = [0.0; 2];
     for seed in 0..SHEETS {
         let kind = Kind::new("a random sheet", random(100 + seed, chosen, edges).text());
-        let times = both_lists(&kind, rounds);
+        let [proved, same, _] = both_lists(&kind, rounds);
+        let times = [proved, same];
         sums.iter_mut().zip(times).for_each(|(sum, time)| *sum += time);
     }
     sums.map(|sum| sum / SHEETS as f64)

@@ -19,7 +19,7 @@ pub fn same_answers(kind: &Kind) {
                 let list = plain::list(&closed[way], target);
                 assert_eq!(list, lists[way], "{}: the brute force lists otherwise", part.name);
                 let score = product::score(&part.words, target, loss);
-                assert_eq!(scores[way][target], score, "{}: the twin scores", part.name);
+                assert_eq!(scores[way][target], score, "{}: the twin scores otherwise", part.name);
                 let least = plain::score(&part.setup, loss, &list).unwrap_or(NEVER);
                 assert_eq!(least, score, "{}: the brute force scores otherwise", part.name);
             }
@@ -38,9 +38,11 @@ fn same_lists(kind: &Kind, target: usize) -> [Vec<u64>; 2] {
     let mut proved = vec![0; ROOM];
     let mut same = vec![0; ROOM];
     let counts = product::both_bases(&kind.words, target, &mut proved);
-    let others = twin::both_bases(&kind.setup, target, &mut same);
-    assert_eq!(counts, others, "{}: the twin has lists of other lengths", kind.name);
-    assert_eq!(proved, same, "{}: the twin lists otherwise", kind.name);
+    for twin in [twin::both_bases::<false>, twin::both_bases::<true>] {
+        let others = twin(&kind.setup, target, &mut same);
+        assert_eq!(counts, others, "{}: the twin has lists of other lengths", kind.name);
+        assert_eq!(proved, same, "{}: the twin lists otherwise", kind.name);
+    }
     let lockout = proved[counts.0..counts.0 + counts.1].to_vec();
     proved.truncate(counts.0);
     [proved, lockout]

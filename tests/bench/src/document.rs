@@ -53,7 +53,9 @@ fn opening() -> String {
          - Rust: {compiler}, -O3, no overflow checks, for the baseline of the machine's family.\n\
          - Date: {date}.\n\n\
          \"Proved\" is the Rattle code, called through the harness's library. The \"twin\" is the same\n\
-         algorithm in plain Rust (`tests/bench/src/twin.rs`), and the brute force a closure for each\n\
+         algorithm in plain Rust, step by step (`tests/bench/src/twin.rs`). The \"lean twin\" takes two\n\
+         shortcuts besides: the vertices that need another are found once and not at each growth, and\n\
+         vertices that need nothing are never looked at. The brute force makes a closure for each\n\
          subset (`tests/bench/src/plain.rs`). Their answers were compared with the proved calls before\n\
          anything was timed. Sheets have 64 vertices (63 in the first antichain), all accounts, 14\n\
          initial and 14 losable ones, and 256 edges where the kind allows it.\n\n"

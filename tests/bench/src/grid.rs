@@ -5,13 +5,20 @@ pub struct Grid {
     title: String,
     notes: Vec<String>,
     rows: Vec<Vec<String>>,
+    /// So many columns have words, which stand left; the others have numbers, which stand right.
+    words: usize,
 }
 
 impl Grid {
     /// A table that has no row yet.
     pub fn new(title: &str, header: &[&str]) -> Grid {
         let header = header.iter().map(|cell| cell.to_string()).collect();
-        Grid { title: title.to_string(), notes: Vec::new(), rows: vec![header] }
+        Grid { title: title.to_string(), notes: Vec::new(), rows: vec![header], words: 1 }
+    }
+
+    /// The same with words in all columns.
+    pub fn of_words(title: &str, header: &[&str]) -> Grid {
+        Grid { words: header.len(), ..Grid::new(title, header) }
     }
 
     /// Adds a line of text that stands above the table.
@@ -28,34 +35,39 @@ impl Grid {
     /// The table as it is printed and as it stands in the document.
     pub fn text(&self) -> String {
         let widths: Vec<usize> = (0..self.rows[0].len())
-            .map(|column| self.rows.iter().map(|row| row[column].len()).max().unwrap_or(0))
+            .map(|column| {
+                self.rows.iter().map(|row| row[column].chars().count()).max().unwrap_or(0)
+            })
             .collect();
         let mut text = format!("## {}\n\n", self.title);
         self.notes.iter().for_each(|note| text += &format!("{note}\n\n"));
         for (number, row) in self.rows.iter().enumerate() {
-            text += &line(row, &widths);
+            text += &self.line(row, &widths);
             if number == 0 {
-                let rules = |(column, &width): (usize, &usize)| rule(column, width);
-                text += &format!("|{}\n", widths.iter().enumerate().map(rules).collect::<String>());
+                text += &self.rule(&widths);
             }
         }
         text
     }
-}
 
-/// The first cell stands left, the others right.
-fn line(row: &[String], widths: &[usize]) -> String {
-    let cell = |(column, (cell, &width)): (usize, (&String, &usize))| match column {
-        0 => format!(" {cell:<width$} |"),
-        _ => format!(" {cell:>width$} |"),
-    };
-    format!("|{}\n", row.iter().zip(widths).enumerate().map(cell).collect::<String>())
-}
+    fn line(&self, row: &[String], widths: &[usize]) -> String {
+        let mut line = String::from("|");
+        for (column, (cell, &width)) in row.iter().zip(widths).enumerate() {
+            line += &match column < self.words {
+                true => format!(" {cell:<width$} |"),
+                false => format!(" {cell:>width$} |"),
+            };
+        }
+        line + "\n"
+    }
 
-fn rule(column: usize, width: usize) -> String {
-    match column {
-        0 => format!("{}|", "-".repeat(width + 2)),
-        _ => format!("{}:|", "-".repeat(width + 1)),
+    fn rule(&self, widths: &[usize]) -> String {
+        let mut line = String::from("|");
+        for (column, &width) in widths.iter().enumerate() {
+            line += &"-".repeat(width + 1);
+            line += if column < self.words { "-|" } else { ":|" };
+        }
+        line + "\n"
     }
 }
 

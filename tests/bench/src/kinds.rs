@@ -222,6 +222,6 @@ fn looks(draft: &Draft) -> usize {
     let graph: twin::Graph = std::array::from_fn(|v| setup.places[v].rows);
     let set = |items: Vec<(usize, u64)>| items.iter().fold(0u64, |set, (v, _)| set | 1 << v);
     let mut table = [[0; WORDS]; VERTICES];
-    twin::fill(&graph, set(setup.starting()), false, &mut table)
-        + twin::fill(&graph, set(setup.losable()), true, &mut table)
+    twin::fill::<false>(&graph, set(setup.starting()), false, &mut table)
+        + twin::fill::<false>(&graph, set(setup.losable()), true, &mut table)
 }

@@ -11,17 +11,18 @@ mod kinds;
 mod marking;
 mod plain;
 mod product;
+mod programs;
 mod ready;
 mod targets;
 mod timing;
 mod twin;
 mod whole;
 
+use programs::Programs;
 use std::path::Path;
 use std::process::ExitCode;
 use std::time::Instant;
 use targets::Target;
-use whole::Programs;
 
 /// How often each kind of work is timed.
 struct Rounds {
@@ -66,13 +67,13 @@ fn run(rounds: &Rounds, write: bool) {
         grids.push(grid);
     };
     show(calls::one_target(&kinds, rounds, &mut targets));
-    let (grid, reports) = whole::programs(&kinds, &programs, rounds, &mut targets);
+    let (grid, timed) = programs::programs(&kinds, &programs, rounds, &mut targets);
     show(grid);
-    show(whole::all_lists(&kinds, &reports, rounds, &mut targets));
+    show(whole::all_lists(&kinds, &timed, rounds, &mut targets));
     show(calls::reading(rounds, &mut targets));
     let antichain = kinds.iter().find(|kind| kind.name == "antichain of 3,432");
     show(marking::marking(antichain.expect("a kind has that name"), rounds, &mut targets));
-    show(whole::case_study(&root, &programs, rounds));
+    show(programs::case_study(&root, &programs, rounds));
     let series = [calls::by_starts(rounds), calls::by_edges(rounds)];
     show(calls::series_grid("Against initial vertices", "initial and losable", &series[0]));
     show(calls::series_grid("Against edges", "edges", &series[1]));

@@ -12,6 +12,9 @@ use std::hint::black_box;
 
 const COUNTS: [usize; 4] = [1_000, 10_000, 100_000, 1_000_000];
 
+/// The sorting sees that such a list falls, and turns it round.
+const FALLING: &str = "falling";
+
 /// A sheet's target with what its marks hang on.
 struct Asked<'a> {
     kind: &'a Kind,
@@ -78,7 +81,7 @@ impl Asked<'_> {
             ("one value", vec![self.right[0]; n]),
             ("one stray", vec![u64::MAX; n]),
             ("consecutive", (0..many).collect()),
-            ("falling", (0..many).rev().map(|number| number + (1 << 40)).collect()),
+            (FALLING, (0..many).rev().map(|number| number + (1 << 40)).collect()),
         ]
     }
 
@@ -86,15 +89,17 @@ impl Asked<'_> {
     fn times(&self, handed: &[u64], rounds: usize) -> [f64; 2] {
         in_turn(
             rounds,
-            || {
-                let words = black_box(&self.kind.words);
-                black_box(product::mark_access(words, self.kind.target, handed));
-            },
-            || {
-                let mut sorted = black_box(handed).to_vec();
-                sorted.sort_unstable();
-                black_box(sorted);
-            },
+            [
+                &mut || {
+                    let words = black_box(&self.kind.words);
+                    black_box(product::mark_access(words, self.kind.target, handed));
+                },
+                &mut || {
+                    let mut sorted = black_box(handed).to_vec();
+                    sorted.sort_unstable();
+                    black_box(sorted);
+                },
+            ],
         )
     }
 }
@@ -138,12 +143,15 @@ pub fn marking(kind: &Kind, rounds: &Rounds, targets: &mut Vec<Target>) -> Grid 
             }
         }
     }
-    let (name, most) = largest(&ratios);
-    targets.push(Target::measured(
-        "marking a million sets",
-        "at most 10 times sorting them",
-        format!("at most {most:.2} ({name})"),
-        most <= 10.0,
-    ));
+    let (falling, asked_for): (Vec<_>, Vec<_>) =
+        ratios.into_iter().partition(|(name, _)| name == FALLING);
+    targets.push(judged("marking a million sets", &asked_for));
+    targets.push(judged("the same, falling ones (not asked for)", &falling));
     grid
+}
+
+fn judged(what: &'static str, ratios: &[(String, f64)]) -> Target {
+    let (name, most) = largest(ratios);
+    let seen = format!("at most {most:.2} ({name})");
+    Target::measured(what, "at most 10 times sorting them", seen, most <= 10.0)
 }

@@ -1,9 +1,14 @@
-//! The proved code's calls that are timed, from `libprobe.a`, as safe functions. A setup is given
+//! The proved code's calls that are timed, from `libprobe.a` and `libportal.a`, as safe functions. A setup is given
 //! as words: the count; then of each of 64 vertices kind, start, loss and rank; then of each eight
 //! rows; then the same rows of recovery edges. A call returns its number and writes its values to
 //! the front of `values`. A slice is a pointer and a length there.
 
 mod linked {
+    #[link(name = "portal", kind = "static")]
+    extern "C" {
+        pub fn portal_score(sheet: *const u8, length: usize, item: u64) -> u64;
+    }
+
     #[link(name = "probe", kind = "static")]
     extern "C" {
         pub fn probe_read_sheet(sheet: *const u8, length: usize, values: *mut u64, n: usize)
@@ -46,6 +51,11 @@ mod linked {
 
 /// How many values a reading has: the line, then the setup's words.
 pub const READING: usize = 1282;
+
+/// The portal's score of a vertex of a sheet.
+pub fn portal_score(sheet: &[u8], target: usize) -> u64 {
+    unsafe { linked::portal_score(sheet.as_ptr(), sheet.len(), target as u64) }
+}
 
 /// Reads a sheet; values: the line, then the words of the setup.
 pub fn read_sheet(sheet: &[u8], values: &mut [u64; READING]) -> u64 {

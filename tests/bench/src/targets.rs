@@ -32,7 +32,7 @@ impl Target {
 
 /// All targets as a table.
 pub fn grid(targets: &[Target]) -> Grid {
-    let mut grid = Grid::new("Targets", &["what", "target", "seen", "verdict"]);
+    let mut grid = Grid::of_words("Targets", &["what", "target", "seen", "verdict"]);
     for target in targets {
         let verdict = target.verdict().to_string();
         grid.row(vec![target.what.into(), target.bound.into(), target.seen.clone(), verdict]);

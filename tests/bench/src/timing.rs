@@ -17,13 +17,13 @@ pub fn once(work: impl FnOnce()) -> f64 {
     start.elapsed().as_secs_f64()
 }
 
-/// The medians of two pieces of work that are done in turn, after one round that does not count.
-pub fn in_turn(rounds: usize, mut one: impl FnMut(), mut other: impl FnMut()) -> [f64; 2] {
-    let mut times = [Vec::new(), Vec::new()];
-    for round in 0..=rounds {
-        let pair = [once(&mut one), once(&mut other)];
-        if round > 0 {
-            times.iter_mut().zip(pair).for_each(|(list, time)| list.push(time));
+/// The medians of pieces of work that are done in turn, after one round that does not count.
+pub fn in_turn<const N: usize>(rounds: usize, mut works: [&mut dyn FnMut(); N]) -> [f64; N] {
+    let mut times = [const { Vec::new() }; N];
+    works.iter_mut().for_each(|work| work());
+    for _ in 0..rounds {
+        for (list, work) in times.iter_mut().zip(&mut works) {
+            list.push(once(work));
         }
     }
     times.map(median)

@@ -2,6 +2,10 @@
 //! taken at once: bit i of word b of a vertex's family tells whether the subset with the mask
 //! b * 64 + i has it. The parts are those of the crates tables, lanes, words, families and
 //! family_lists; no question is asked of the setup.
+//!
+//! The twin takes the steps of the proved code one by one. The lean twin (`LEAN`) takes two
+//! shortcuts besides: the vertices that need another are found once and not at each growth, and
+//! vertices that need nothing are never looked at.
 
 pub use crate::ready::members;
 
@@ -128,37 +132,50 @@ fn take_colour(table: &Table, row: u64, loss: bool, out: &mut Family) {
 
 /// Adds the vertex in each mask that admits it. Was one new?
 fn step(table: &mut Table, v: usize, rows: &Rows, loss: bool) -> bool {
-    if rows.iter().all(|&row| row == 0) {
-        return false;
-    }
-    let mut gains = [if loss { u64::MAX } else { 0 }; WORDS];
+    let coloured = needed(rows) != 0;
+    let mut gains = [if loss && coloured { u64::MAX } else { 0 }; WORDS];
     for &row in rows {
         take_colour(table, row, loss, &mut gains);
     }
     join(&mut table[v], &gains)
 }
 
-/// For each vertex those that need it.
-fn users_of(graph: &Graph) -> [u64; VERTICES] {
-    let mut users = [0; VERTICES];
-    for (u, rows) in graph.iter().enumerate() {
-        for v in members(rows.iter().fold(0, |all, row| all | row)) {
-            users[v] |= 1 << u;
-        }
+/// All vertices that some colour needs.
+fn needed(rows: &Rows) -> u64 {
+    rows.iter().fold(0, |all, row| all | row)
+}
+
+/// The vertices that need v.
+fn users(needs: &[u64; VERTICES], v: usize) -> u64 {
+    needs.iter().enumerate().fold(0, |users, (u, needed)| users | (needed >> v & 1) << u)
+}
+
+/// Those of each vertex.
+fn all_users(needs: &[u64; VERTICES]) -> [u64; VERTICES] {
+    let mut all = [0; VERTICES];
+    for (u, &needed) in needs.iter().enumerate() {
+        members(needed).for_each(|v| all[v] |= 1 << u);
     }
-    users
+    all
+}
+
+/// The vertices that need some vertex.
+fn coloured(needs: &[u64; VERTICES]) -> u64 {
+    needs.iter().enumerate().fold(0, |set, (v, &needed)| set | u64::from(needed != 0) << v)
 }
 
 /// Fills the table: which vertices are opened by which mask's set or, with loss, lost by its loss.
 /// A vertex is looked at again when one that it needs has grown; they take turns. Gives the number
 /// of looks.
-pub fn fill(graph: &Graph, chosen: u64, loss: bool, table: &mut Table) -> usize {
+pub fn fill<const LEAN: bool>(graph: &Graph, chosen: u64, loss: bool, table: &mut Table) -> usize {
     table.iter_mut().for_each(|family| *family = [0; WORDS]);
     for (k, v) in members(chosen).enumerate() {
         table[v] = masks_with(k);
     }
-    let users = users_of(graph);
-    let (mut todo, mut after, mut looks) = (u64::MAX, u64::MAX, 0);
+    let needs = graph.map(|rows| needed(&rows));
+    let known = if LEAN { all_users(&needs) } else { [0; VERTICES] };
+    let mut todo = if LEAN { coloured(&needs) } else { u64::MAX };
+    let (mut after, mut looks) = (u64::MAX, 0);
     while todo != 0 {
         let later = if todo & after == 0 { todo } else { todo & after };
         let v = later.trailing_zeros() as usize;
@@ -166,7 +183,7 @@ pub fn fill(graph: &Graph, chosen: u64, loss: bool, table: &mut Table) -> usize 
         after = 0xFFFF_FFFF_FFFF_FFFE << v;
         looks += 1;
         if step(table, v, &graph[v], loss) {
-            todo |= users[v];
+            todo |= if LEAN { known[v] } else { users(&needs, v) };
         }
     }
     looks
@@ -262,10 +279,14 @@ pub fn write_sets(family: &Family, chosen: u64, out: &mut [u64]) -> usize {
 }
 
 /// Both lists of a target in one lent list, and their lengths. One table is alive at a time.
-pub fn both_bases(setup: &Setup, target: usize, out: &mut [u64]) -> (usize, usize) {
+pub fn both_bases<const LEAN: bool>(
+    setup: &Setup,
+    target: usize,
+    out: &mut [u64],
+) -> (usize, usize) {
     let base = |loss: bool| {
         let mut table = [[0; WORDS]; VERTICES];
-        fill(&setup.graph, setup.chosen(loss), loss, &mut table);
+        fill::<LEAN>(&setup.graph, setup.chosen(loss), loss, &mut table);
         minimal_members(&table[target])
     };
     let (opening, lockout) = (base(false), base(true));
@@ -283,7 +304,7 @@ pub fn scores(setup: &Setup, graph: &Graph, tables: &mut Tables) -> [[u64; VERTI
         let chosen = setup.chosen(loss);
         let sums = Sums::new(chosen, |v| setup.value(loss, v));
         let table = &mut tables[usize::from(loss)];
-        fill(graph, chosen, loss, table);
+        fill::<false>(graph, chosen, loss, table);
         std::array::from_fn(|v| sums.least(&minimal_members(&table[v])))
     })
 }

@@ -1,6 +1,6 @@
 #!/bin/bash
 # Times the proved code beside the same algorithm in Rust, and writes docs/PERFORMANCE.md and its charts: bench.sh [quick].
-# With quick it makes few rounds and writes nothing.
+# With quick it makes few rounds and writes to build/bench/ instead.
 set -euo pipefail
 cd "$(dirname "$0")/.."
 
@@ -14,6 +14,7 @@ make_older() {
         "$@" > "$log" 2>&1 || { cat "$log"; exit 1; }
     fi
 }
+make_older target/staticlib/libportal.a rt staticlib portal
 make_older target/staticlib/libprobe.a rt staticlib probe
 make_older target/bin/report rt check report
 

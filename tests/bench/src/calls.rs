@@ -94,8 +94,16 @@ pub fn one_target(kinds: &[Kind], rounds: &Rounds, targets: &mut Vec<Target>) ->
         ratios[0].push((kind.name.clone(), proved / same));
         ratios[1].push((kind.name.clone(), proved / lean));
     }
-    targets.push(against_twin("one target's lists, against the twin", &ratios[0]));
-    targets.push(against_twin("the same, against the lean twin (not asked for)", &ratios[1]));
+    targets.push(against_twin("one target's lists, against the twin", &ratios[0]).because(
+        "The steps are the same, so it is what the compilers make of them, question 12, and the \
+         copying of the setup.",
+    ));
+    let lean = against_twin("the same, against the lean twin (not asked for)", &ratios[1]);
+    targets.push(lean.because(
+        "The two shortcuts make the difference: the proved code goes through all 64 vertices at each \
+         growth to find those that need the grown one, and looks once at each vertex that needs \
+         nothing. The column of the twin, which does so too, tells how much that is.",
+    ));
     grid
 }
 

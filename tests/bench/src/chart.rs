@@ -32,7 +32,8 @@ const BOTTOM: f64 = 60.0;
 impl Chart<'_> {
     /// The file's text.
     pub fn svg(&self) -> String {
-        let top = self.top();
+        let (step, count) = self.steps();
+        let top = step * count as f64;
         let mut svg = format!(
             "<svg xmlns=\"http://www.w3.org/2000/svg\" viewBox=\"0 0 {WIDTH} {HEIGHT}\" \
              width=\"{WIDTH}\" height=\"{HEIGHT}\" font-family=\"sans-serif\" font-size=\"13\">\n\
@@ -41,7 +42,7 @@ impl Chart<'_> {
         svg += &text(WIDTH / 2.0, 22.0, "middle", self.title);
         svg += &text(LEFT + (WIDTH - LEFT - RIGHT) / 2.0, HEIGHT - 12.0, "middle", self.across);
         svg += &text(LEFT - 8.0, TOP - 14.0, "middle", "microseconds");
-        svg += &self.upward_axis(top);
+        svg += &upward_axis(step, count);
         svg += &self.marks_across();
         for (place, line) in self.lines.iter().enumerate() {
             svg += &self.line(line, top);
@@ -50,35 +51,20 @@ impl Chart<'_> {
         svg + "</svg>\n"
     }
 
-    /// The largest number of the upward axis: a round one above all points.
-    fn top(&self) -> f64 {
+    /// The distance between two numbers of the upward axis, a round one, and how many there are.
+    fn steps(&self) -> (f64, usize) {
         let points = self.lines.iter().flat_map(|line| &line.points);
         let most = points.map(|point| point.1).fold(1.0, f64::max);
-        let unit = 10f64.powf(most.log10().floor());
-        let round = [1.0, 1.5, 2.0, 3.0, 4.0, 5.0, 6.0, 8.0, 10.0].map(|times| times * unit);
-        round.into_iter().find(|&number| number >= most).unwrap_or(most)
+        let unit = 10f64.powf((most / 5.0).log10().floor());
+        let round = [1.0, 2.0, 2.5, 5.0, 10.0].map(|times| times * unit);
+        let step = round.into_iter().find(|&step| step * 5.0 >= most).unwrap_or(most);
+        (step, (most / step).ceil() as usize)
     }
 
     fn x(&self, number: usize) -> f64 {
         let first = self.marks[0] as f64;
         let last = self.marks[self.marks.len() - 1] as f64;
         LEFT + (number as f64 - first) / (last - first) * (WIDTH - LEFT - RIGHT)
-    }
-
-    fn upward_axis(&self, top: f64) -> String {
-        let mut svg = String::new();
-        for fifth in 0..=5 {
-            let number = top * f64::from(fifth) / 5.0;
-            let height = y(number, top);
-            let end = WIDTH - RIGHT;
-            svg += &format!(
-                "<line x1=\"{LEFT}\" y1=\"{height:.1}\" x2=\"{end}\" y2=\"{height:.1}\" \
-                 stroke=\"#cccccc\"/>\n"
-            );
-            let digits = usize::from(top < 10.0);
-            svg += &text(LEFT - 8.0, height + 4.0, "end", &format!("{number:.digits$}"));
-        }
-        svg
     }
 
     fn marks_across(&self) -> String {
@@ -109,6 +95,21 @@ impl Chart<'_> {
         }
         svg
     }
+}
+
+fn upward_axis(step: f64, count: usize) -> String {
+    let mut svg = String::new();
+    for place in 0..=count {
+        let number = step * place as f64;
+        let (height, end) = (y(number, step * count as f64), WIDTH - RIGHT);
+        svg += &format!(
+            "<line x1=\"{LEFT}\" y1=\"{height:.1}\" x2=\"{end}\" y2=\"{height:.1}\" \
+             stroke=\"#cccccc\"/>\n"
+        );
+        let digits = usize::from(step < 5.0);
+        svg += &text(LEFT - 8.0, height + 4.0, "end", &format!("{number:.digits$}"));
+    }
+    svg
 }
 
 fn y(number: f64, top: f64) -> f64 {

@@ -18,21 +18,28 @@ pub const NOT_MEASURED: &str = "\
 - Stack use, and the gate's time by crate, which the gate itself prints.
 ";
 
+const CHARTS: &str = "
+## Charts
+
+Both lists of one target, each point the mean over five random sheets of 64 vertices. A table always
+has all 2^14 masks; with fewer initial vertices less can be opened, and the tables settle sooner.
+
+![Time against initial vertices](performance-starts.svg)
+
+![Time against edges](performance-edges.svg)
+
+";
+
 /// Writes the document and the charts.
-pub fn write(root: &Path, verdicts: &Grid, grids: &[Grid], series: &[Series; 2]) {
-    let docs = root.join("docs");
+pub fn write(folder: &Path, verdicts: &str, grids: &[Grid], series: &[Series; 2]) {
     let put = |name: &str, text: String| {
-        std::fs::write(docs.join(name), text).unwrap_or_else(|why| panic!("docs/{name}: {why}"));
+        std::fs::write(folder.join(name), text).unwrap_or_else(|why| panic!("{name}: {why}"));
     };
     put("performance-starts.svg", starts_chart(&series[0]));
     put("performance-edges.svg", edges_chart(&series[1]));
     let mut text = opening();
-    text += &verdicts.text();
-    text += "\n## Charts\n\n\
-        Both lists of one target, each point the mean over five random sheets of 64 vertices. A table\n\
-        always has all 2^14 masks, so fewer initial vertices save little; edges are what is worked on.\n\n\
-        ![Time against initial vertices](performance-starts.svg)\n\n\
-        ![Time against edges](performance-edges.svg)\n\n";
+    text += verdicts;
+    text += CHARTS;
     for grid in grids {
         text += &grid.text();
         text += "\n";
@@ -108,8 +115,7 @@ fn starts_chart(series: &Series) -> String {
 
 fn edges_chart(series: &Series) -> String {
     let title = "Both lists of one target, 64 vertices, 14 initial and 14 losable";
-    let marks: Vec<usize> = EDGE_STEPS.iter().copied().filter(|edges| edges % 16 == 0).collect();
-    chart(title, "edges", &marks, series)
+    chart(title, "edges", &EDGE_STEPS, series)
 }
 
 fn chart(title: &str, across: &str, marks: &[usize], series: &Series) -> String {

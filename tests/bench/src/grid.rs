@@ -40,7 +40,7 @@ impl Grid {
             })
             .collect();
         let mut text = format!("## {}\n\n", self.title);
-        self.notes.iter().for_each(|note| text += &format!("{note}\n\n"));
+        self.notes.iter().for_each(|note| text += &format!("{}\n", wrapped(note)));
         for (number, row) in self.rows.iter().enumerate() {
             text += &self.line(row, &widths);
             if number == 0 {
@@ -69,6 +69,22 @@ impl Grid {
         }
         line + "\n"
     }
+}
+
+/// A text in lines of at most 100 letters. The further lines of an entry of a list are indented.
+pub fn wrapped(text: &str) -> String {
+    let indent = if text.starts_with("- ") { "  " } else { "" };
+    let mut lines = String::new();
+    let mut line = String::new();
+    for word in text.split(' ') {
+        if line.chars().count() + word.chars().count() >= 100 {
+            lines += &format!("{}\n", line.trim_end());
+            line = indent.to_string();
+        }
+        line += word;
+        line.push(' ');
+    }
+    format!("{lines}{}\n", line.trim_end())
 }
 
 /// A time in microseconds.

@@ -1,6 +1,6 @@
 //! Times the proved code beside the same algorithm in plain Rust, a brute force, and plain
 //! programs. `bench` prints tables and writes docs/PERFORMANCE.md with two charts; `bench quick`
-//! makes few rounds and writes nothing.
+//! makes few rounds and writes the same files to build/bench/.
 
 mod calls;
 mod chart;
@@ -43,8 +43,8 @@ fn main() -> ExitCode {
     let arguments: Vec<String> = std::env::args().skip(1).collect();
     let words: Vec<&str> = arguments.iter().map(String::as_str).collect();
     match words[..] {
-        [] => run(&FULL, true),
-        ["quick"] => run(&QUICK, false),
+        [] => run(&FULL, "docs"),
+        ["quick"] => run(&QUICK, "build/bench"),
         _ => {
             eprintln!("usage: bench [quick]");
             return ExitCode::from(2);
@@ -53,7 +53,7 @@ fn main() -> ExitCode {
     ExitCode::SUCCESS
 }
 
-fn run(rounds: &Rounds, write: bool) {
+fn run(rounds: &Rounds, folder: &str) {
     let start = Instant::now();
     let root = Path::new(env!("CARGO_MANIFEST_DIR")).join("../..");
     let programs = Programs::at(&root);
@@ -79,12 +79,12 @@ fn run(rounds: &Rounds, write: bool) {
     show(calls::series_grid("Against edges", "edges", &series[1]));
     targets.push(clingo());
     let verdicts = targets::grid(&targets);
-    println!("{}", verdicts.text());
+    let reasons = targets::reasons(&targets);
+    println!("{}\n{reasons}", verdicts.text());
     println!("{}", document::NOT_MEASURED);
     println!("bench: {} seconds", start.elapsed().as_secs());
-    if write {
-        document::write(&root, &verdicts, &grids, &series);
-    }
+    let verdicts = format!("{}\n{reasons}", verdicts.text());
+    document::write(&root.join(folder), &verdicts, &grids, &series);
 }
 
 /// Clingo is not driven here, so its target is not measured.

@@ -5,7 +5,7 @@ use crate::kinds::{tables, Kind, ROOM};
 use crate::ready::{List, Ready};
 use crate::targets::{largest, Target};
 use crate::timing::{median, processor_time};
-use crate::whole::twin_time;
+use crate::whole::{twin_time, Lists};
 use crate::{twin, Rounds};
 use std::path::{Path, PathBuf};
 use std::process::{Command, Stdio};
@@ -115,7 +115,7 @@ fn time_programs(kind: &Kind, programs: &Programs, rounds: &Rounds) -> Timed {
         times[3].push(processor_time(&programs.stand_in, &["bytes"], &ready));
     }
     let [report, read, by_write, by_bytes] = times.map(median);
-    let twin = twin_time(kind, false, rounds.whole);
+    let twin = twin_time(kind, Lists::WithRecovery, rounds.whole);
     Timed { name: kind.name.clone(), rows, report, read, twin, by_write, by_bytes }
 }
 

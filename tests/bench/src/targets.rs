@@ -1,6 +1,6 @@
 //! The targets of the benchmark, with what was seen.
 
-use crate::grid::Grid;
+use crate::grid::{wrapped, Grid};
 
 /// A target and what became of it.
 pub struct Target {
@@ -8,17 +8,24 @@ pub struct Target {
     bound: &'static str,
     seen: String,
     met: Option<bool>,
+    /// Why it may be missed.
+    reason: &'static str,
 }
 
 impl Target {
     /// A target that was measured.
     pub fn measured(what: &'static str, bound: &'static str, seen: String, met: bool) -> Target {
-        Target { what, bound, seen, met: Some(met) }
+        Target { what, bound, seen, met: Some(met), reason: "" }
     }
 
     /// One that was not, and why.
     pub fn not_measured(what: &'static str, bound: &'static str, why: &str) -> Target {
-        Target { what, bound, seen: why.to_string(), met: None }
+        Target { what, bound, seen: why.to_string(), met: None, reason: "" }
+    }
+
+    /// Adds the reason that is told where the target is missed.
+    pub fn because(self, reason: &'static str) -> Target {
+        Target { reason, ..self }
     }
 
     fn verdict(&self) -> &'static str {
@@ -38,6 +45,12 @@ pub fn grid(targets: &[Target]) -> Grid {
         grid.row(vec![target.what.into(), target.bound.into(), target.seen.clone(), verdict]);
     }
     grid
+}
+
+/// The reasons of the targets that are missed.
+pub fn reasons(targets: &[Target]) -> String {
+    let missed = targets.iter().filter(|target| target.met == Some(false));
+    missed.map(|target| wrapped(&format!("- Missed: {}. {}", target.what, target.reason))).collect()
 }
 
 /// The largest of some numbers with its name.

@@ -5,7 +5,8 @@
 //!
 //! The twin takes the steps of the proved code one by one. The lean twin (`LEAN`) takes two
 //! shortcuts besides: the vertices that need another are found once and not at each growth, and
-//! vertices that need nothing are never looked at.
+//! vertices that need nothing are never looked at. Its inner functions are inlined always, as the
+//! proved code's are: that is the faster way.
 
 pub use crate::ready::members;
 
@@ -111,6 +112,7 @@ fn masks_with(k: usize) -> Family {
 
 /// The masks of sets that have the whole row or, with loss, some vertex of it, joined to `out` or,
 /// with loss, kept in it. An empty row is no colour.
+#[inline(always)]
 fn take_colour(table: &Table, row: u64, loss: bool, out: &mut Family) {
     if row == 0 {
         return;
@@ -131,6 +133,7 @@ fn take_colour(table: &Table, row: u64, loss: bool, out: &mut Family) {
 }
 
 /// Adds the vertex in each mask that admits it. Was one new?
+#[inline(always)]
 fn step(table: &mut Table, v: usize, rows: &Rows, loss: bool) -> bool {
     let coloured = needed(rows) != 0;
     let mut gains = [if loss && coloured { u64::MAX } else { 0 }; WORDS];
@@ -167,6 +170,7 @@ fn coloured(needs: &[u64; VERTICES]) -> u64 {
 /// Fills the table: which vertices are opened by which mask's set or, with loss, lost by its loss.
 /// A vertex is looked at again when one that it needs has grown; they take turns. Gives the number
 /// of looks.
+#[inline(always)]
 pub fn fill<const LEAN: bool>(graph: &Graph, chosen: u64, loss: bool, table: &mut Table) -> usize {
     table.iter_mut().for_each(|family| *family = [0; WORDS]);
     for (k, v) in members(chosen).enumerate() {

@@ -10,6 +10,17 @@ use crate::twin::{self, Graph, Tables};
 use crate::{plain, Rounds};
 use std::hint::black_box;
 
+/// How much the twin is to do: all scores with and without recovery, and these lists of all vertices.
+#[derive(Clone, Copy, PartialEq)]
+pub enum Lists {
+    /// None.
+    None,
+    /// Those with recovery, as the report does.
+    WithRecovery,
+    /// Those with and those without.
+    All,
+}
+
 /// All scores of a graph and, where they are wanted, all lists.
 fn graph_work(kind: &Kind, graph: &Graph, lists: bool, tables: &mut Tables, out: &mut [u64]) {
     black_box(twin::scores(&kind.setup, graph, tables));
@@ -20,15 +31,14 @@ fn graph_work(kind: &Kind, graph: &Graph, lists: bool, tables: &mut Tables, out:
     }
 }
 
-/// The twin's time for all scores with and without recovery, all lists with recovery and, for the
-/// whole, those without.
-pub fn twin_time(kind: &Kind, whole: bool, rounds: usize) -> f64 {
+/// The twin's time.
+pub fn twin_time(kind: &Kind, lists: Lists, rounds: usize) -> f64 {
     let mut tables = tables();
     let mut out = vec![0; ROOM];
     let mut work = || {
         let less = black_box(&kind.setup).without_recovery();
-        graph_work(kind, &less, whole, &mut tables, &mut out);
-        graph_work(kind, &kind.setup.graph, true, &mut tables, &mut out);
+        graph_work(kind, &less, lists == Lists::All, &mut tables, &mut out);
+        graph_work(kind, &kind.setup.graph, lists != Lists::None, &mut tables, &mut out);
     };
     work();
     median((0..rounds).map(|_| once(&mut work)).collect())
@@ -73,11 +83,13 @@ pub fn all_lists(
     let mut twins = Vec::new();
     let mut proved = Vec::new();
     for (kind, program) in kinds.iter().zip(programs) {
-        let same = twin_time(kind, true, rounds.whole);
+        let same = twin_time(kind, Lists::All, rounds.whole);
+        let scores = twin_time(kind, Lists::None, rounds.whole);
         let [brute, shared] = median_brute_times(kind);
         grid.row(vec![
             kind.name.clone(),
             millis(same),
+            millis(scores),
             millis(brute),
             ratio(brute, same),
             millis(program.computing()),
@@ -90,9 +102,16 @@ pub fn all_lists(
             proved.push((kind.name.clone(), brute / program.computing()));
         }
     }
-    targets.push(judged("all lists and scores, twin against brute force", &twins));
+    targets.push(judged("all lists and scores, twin against brute force", &twins).because(
+        "Where many vertices have long lists, writing these is most of the twin's time (see the \
+         column without lists): 360,360 sets where 28 vertices have the longest ones. The brute \
+         force's closures are as many there as elsewhere.",
+    ));
     let what = "the same, program less start against brute force, rows below 1 MB";
-    targets.push(judged(what, &proved));
+    targets.push(judged(what, &proved).because(
+        "The program's time has the reading of fields and the printing in it; where the lists are \
+         longest, printing is most of it (compare the time of writing the rows from ready lists).",
+    ));
     grid
 }
 
@@ -102,6 +121,7 @@ fn new_grid() -> Grid {
         &[
             "sheet",
             "twin, ms",
+            "without lists, ms",
             "brute force, ms",
             "brute / twin",
             "report less start, ms",
@@ -111,7 +131,8 @@ fn new_grid() -> Grid {
         ],
     );
     grid.note(
-        "Brute force: a closure for each subset and target. The closures of the four tables are \
+        "Twin: all scores and lists; without lists: the tables and scores alone. Brute force: a \
+         closure for each subset and target. The closures of the four tables are \
          timed for one target, and lists and scores for 3 targets, and both are extrapolated to all; \
          median of 3. Shared closures: one closure for each subset serves all targets. The twin's \
          tables are not cleared between runs (filling them writes every word). No call of the \

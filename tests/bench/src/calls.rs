@@ -3,7 +3,7 @@
 use crate::grid::{micros, millis, ratio, with_commas, Grid};
 use crate::kinds::{longest_sheet, random, Kind, CHOSEN, EDGES, ROOM};
 use crate::product::{self, READING};
-use crate::targets::{largest, Target};
+use crate::targets::{against_twin, Target};
 use crate::timing::{in_turn, median, once};
 use crate::twin::{self, Setup};
 use crate::{plain, Rounds};
@@ -105,15 +105,6 @@ pub fn one_target(kinds: &[Kind], rounds: &Rounds, targets: &mut Vec<Target>) ->
          nothing. The column of the twin, which does so too, tells how much that is.",
     ));
     grid
-}
-
-/// At most 1.3 times the twin, and 2 on the worst sheet.
-fn against_twin(what: &'static str, ratios: &[(String, f64)]) -> Target {
-    let (worst, most) = largest(ratios);
-    let others = ratios.iter().filter(|(name, times)| name != worst && *times > 1.3).count();
-    let seen = format!("at most {most:.2} ({worst}); {others} other kinds above 1.3");
-    let met = most <= 2.0 && others == 0;
-    Target::measured(what, "at most 1.3 times; 2 on the worst sheet", seen, met)
 }
 
 /// The reading of the longest accepted sheet against one list call.

@@ -55,7 +55,8 @@ fn opening() -> String {
     format!(
         "# Performance\n\n\
          Written by `make bench`. Everything is measured side by side in one run, with release builds,\n\
-         and each time is a median unless its table says otherwise.\n\n\
+         and each time is a median unless its table says otherwise. Calls are timed by the clock, programs by\n\
+         their processor time.\n\n\
          - Machine: {machine}.\n\
          - Rust: {compiler}, -O3, no overflow checks, for the baseline of the machine's family.\n\
          - Date: {date}.\n\n\

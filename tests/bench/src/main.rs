@@ -69,6 +69,7 @@ fn run(rounds: &Rounds, folder: &str) {
     show(calls::one_target(&kinds, rounds, &mut targets));
     let (grid, timed) = programs::programs(&kinds, &programs, rounds, &mut targets);
     show(grid);
+    show(programs::tables_and_scores(&timed, &mut targets));
     show(whole::all_lists(&kinds, &timed, rounds, &mut targets));
     show(calls::reading(rounds, &mut targets));
     let antichain = kinds.iter().find(|kind| kind.name == "antichain of 3,432");

@@ -3,7 +3,7 @@
 use crate::grid::{millis, ratio, with_commas, Grid};
 use crate::kinds::{tables, Kind, ROOM};
 use crate::ready::{List, Ready};
-use crate::targets::{largest, Target};
+use crate::targets::{against_twin, largest, Target};
 use crate::timing::{median, processor_time};
 use crate::whole::{twin_time, Lists};
 use crate::{twin, Rounds};
@@ -75,6 +75,10 @@ pub struct Timed {
     twin: f64,
     by_write: f64,
     by_bytes: f64,
+    /// The report where all items are credentials.
+    bare: f64,
+    /// The twin's tables and scores.
+    scores: f64,
 }
 
 impl Timed {
@@ -87,6 +91,11 @@ impl Timed {
     pub fn computing(&self) -> f64 {
         self.report - self.read
     }
+}
+
+/// The sheet with credentials in the place of accounts: its report has no rows.
+fn credentials_only(sheet: &[u8]) -> Vec<u8> {
+    String::from_utf8_lossy(sheet).replace(" a ", " c ").into_bytes()
 }
 
 /// Fails where the rows written from the twin's lists are not the report's. Gives their length.
@@ -106,17 +115,21 @@ fn time_programs(kind: &Kind, programs: &Programs, rounds: &Rounds) -> Timed {
     let sheet = programs.input(&kind.name, "sheet", &kind.sheet);
     let ready = programs.input(&kind.name, "ready", &ready_lists(kind).bytes());
     let rows = same_rows(kind, programs, &sheet, &ready);
+    let bare = programs.input(&kind.name, "bare", &credentials_only(&kind.sheet));
     let many = if rows >= LONG { rounds.long_programs } else { rounds.programs };
-    let mut times: [Vec<f64>; 4] = Default::default();
+    let mut times: [Vec<f64>; 5] = Default::default();
     for _ in 0..many {
         times[0].push(processor_time(&programs.report, &[], &sheet));
         times[1].push(processor_time(&programs.stand_in, &["read"], &sheet));
         times[2].push(processor_time(&programs.stand_in, &["rows"], &ready));
         times[3].push(processor_time(&programs.stand_in, &["bytes"], &ready));
+        times[4].push(processor_time(&programs.report, &[], &bare));
     }
-    let [report, read, by_write, by_bytes] = times.map(median);
+    let [report, read, by_write, by_bytes, bare] = times.map(median);
     let twin = twin_time(kind, Lists::WithRecovery, rounds.whole);
-    Timed { name: kind.name.clone(), rows, report, read, twin, by_write, by_bytes }
+    let scores = twin_time(kind, Lists::None, rounds.whole);
+    let name = kind.name.clone();
+    Timed { name, rows, report, read, twin, by_write, by_bytes, bare, scores }
 }
 
 /// The program `report` on each kind of sheet, and its times.
@@ -197,6 +210,38 @@ fn judge(timed: &[Timed], targets: &mut Vec<Target>) {
         let bound = "at most 2.5 times writing the rows";
         targets.push(Target::measured(what, bound, seen, times <= 2.5));
     }
+}
+
+/// The program's tables and scores alone: the report of each sheet with credentials only.
+pub fn tables_and_scores(timed: &[Timed], targets: &mut Vec<Target>) -> Grid {
+    let mut grid = Grid::new(
+        "Tables and scores of a whole sheet by the program",
+        &["sheet", "report without rows, ms", "start, ms", "difference, ms", "twin, ms", "ratio"],
+    );
+    grid.note(
+        "The same sheets with credentials in the place of accounts: the program fills its four tables \
+         and works out the scores of all 64 vertices with and without recovery, but makes no list and \
+         prints three headers. Less the time of a program that starts and reads, this is the reading \
+         of fields, the computing and the first touch of memory, against the twin's tables and scores.",
+    );
+    let mut ratios = Vec::new();
+    for t in timed {
+        let difference = t.bare - t.read;
+        grid.row(vec![
+            t.name.clone(),
+            millis(t.bare),
+            millis(t.read),
+            millis(difference),
+            millis(t.scores),
+            ratio(difference, t.scores),
+        ]);
+        ratios.push((t.name.clone(), difference / t.scores));
+    }
+    let what = "tables and scores of whole sheets, program less start against the twin";
+    targets.push(against_twin(what, &ratios).because(
+        "The program also reads the sheet's fields and touches fresh memory, which the twin does not.",
+    ));
+    grid
 }
 
 /// The report of the paper's case study.

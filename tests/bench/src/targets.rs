@@ -53,6 +53,15 @@ pub fn reasons(targets: &[Target]) -> String {
     missed.map(|target| wrapped(&format!("- Missed: {}. {}", target.what, target.reason))).collect()
 }
 
+/// At most 1.3 times the twin, and 2 on the worst sheet.
+pub fn against_twin(what: &'static str, ratios: &[(String, f64)]) -> Target {
+    let (worst, most) = largest(ratios);
+    let others = ratios.iter().filter(|(name, times)| name != worst && *times > 1.3).count();
+    let seen = format!("at most {most:.2} ({worst}); {others} other kinds above 1.3");
+    let met = most <= 2.0 && others == 0;
+    Target::measured(what, "at most 1.3 times; 2 on the worst sheet", seen, met)
+}
+
 /// The largest of some numbers with its name.
 pub fn largest(numbers: &[(String, f64)]) -> (&str, f64) {
     let found = numbers.iter().max_by(|one, other| one.1.total_cmp(&other.1));

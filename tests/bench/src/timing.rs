@@ -56,6 +56,7 @@ extern "C" {
 }
 
 /// The processor time of a program from start to end, its output thrown away.
+#[allow(clippy::zombie_processes)] // It is waited for by `wait4`, which tells the time.
 pub fn processor_time(program: &Path, arguments: &[&str], input: &Path) -> f64 {
     let sheet = std::fs::File::open(input).expect("the input of a timed program is there");
     let mut command = Command::new(program);

@@ -320,9 +320,10 @@ pub fn lists(
     out: &mut [u64],
     mut take: impl FnMut(usize, bool, &[u64]),
 ) {
-    for target in 0..setup.count {
-        for loss in [false, true] {
-            let base = minimal_members(&tables[usize::from(loss)][target]);
+    let [opening, lockout] = tables;
+    for (target, families) in opening.iter().zip(lockout).enumerate().take(setup.count) {
+        for (loss, family) in [(false, families.0), (true, families.1)] {
+            let base = minimal_members(family);
             let n = write_sets(&base, setup.chosen(loss), out);
             take(target, loss, &out[..n]);
         }

@@ -35,7 +35,7 @@ struct Rounds {
 }
 
 const FULL: Rounds =
-    Rounds { calls: 301, points: 101, whole: 41, programs: 101, long_programs: 15, marking: 7 };
+    Rounds { calls: 301, points: 101, whole: 201, programs: 101, long_programs: 21, marking: 7 };
 const QUICK: Rounds =
     Rounds { calls: 5, points: 3, whole: 3, programs: 5, long_programs: 1, marking: 1 };
 

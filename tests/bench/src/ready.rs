@@ -61,9 +61,7 @@ impl Ready {
 
     /// What the bytes say.
     pub fn read(bytes: &[u8]) -> Ready {
-        let mut numbers = bytes
-            .chunks_exact(8)
-            .map(|part| u64::from_le_bytes(part.try_into().expect("a part has eight bytes")));
+        let mut numbers = numbers(bytes);
         let mut some = |n: usize| -> Vec<u64> { numbers.by_ref().take(n).collect() };
         let names = some(1)[0];
         let names = (0..names)
@@ -80,6 +78,12 @@ impl Ready {
         }
         Ready { names, values, lists }
     }
+}
+
+/// The numbers in bytes.
+pub fn numbers(bytes: &[u8]) -> impl Iterator<Item = u64> + '_ {
+    let parts = bytes.chunks_exact(8);
+    parts.map(|part| u64::from_le_bytes(part.try_into().expect("a part has eight bytes")))
 }
 
 /// The members of a set, lowest first.

@@ -1,9 +1,13 @@
 //! What the program `report` is held against. `stand_in read` starts and reads its standard input.
 //! `stand_in rows` reads ready lists and writes their rows by `write!`; `stand_in bytes` writes the
-//! same rows by appending bytes. `src/ready.rs` tells how ready lists stand in the input.
+//! same rows by appending bytes. `stand_in scores` reads a setup's words and makes the twin's four
+//! tables and all scores. `src/ready.rs` tells how ready lists stand in the input.
 
 #[path = "../ready.rs"]
 mod ready;
+#[allow(dead_code)] // Only scores are wanted here.
+#[path = "../twin.rs"]
+mod twin;
 
 use ready::Ready;
 use std::fs::File;
@@ -23,7 +27,20 @@ fn main() -> io::Result<()> {
         "read" => Ok(()),
         "rows" => write_rows(&Ready::read(&input), &mut output),
         "bytes" => append_rows(&Ready::read(&input), &mut output),
-        _ => Err(io::Error::other("usage: stand_in read | rows | bytes")),
+        "scores" => {
+            make_scores(&ready::numbers(&input).collect::<Vec<u64>>());
+            Ok(())
+        }
+        _ => Err(io::Error::other("usage: stand_in read | rows | bytes | scores")),
+    }
+}
+
+/// The twin's tables and scores, with and without recovery.
+fn make_scores(words: &[u64]) {
+    let setup = twin::Setup::from_words(words);
+    let mut tables = [[[0; twin::WORDS]; twin::VERTICES]; 2];
+    for graph in [&setup.without_recovery(), &setup.graph] {
+        std::hint::black_box(twin::scores(&setup, graph, &mut tables));
     }
 }
 

@@ -1,5 +1,5 @@
 # `make test` proves and tests everything; its last line is the verdict.
-.PHONY: test report prove lib fuzz check-contracts
+.PHONY: test report prove lib fuzz bench check-contracts
 
 test:
 	@bash scripts/test.sh
@@ -25,6 +25,10 @@ lib:
 SECONDS = 60
 fuzz:
 	@bash scripts/fuzz.sh $(SECONDS) $(SEED)
+
+# The proved code beside the same algorithm in Rust; writes docs/PERFORMANCE.md. On a machine with nothing else to do.
+bench:
+	@bash scripts/bench.sh
 
 check-contracts:
 	@python3 scripts/contracts.py

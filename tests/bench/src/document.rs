@@ -1,0 +1,130 @@
+//! docs/PERFORMANCE.md and its charts.
+
+use crate::calls::{Series, EDGE_STEPS, STARTS};
+use crate::chart::{Chart, Line};
+use crate::grid::Grid;
+use std::path::Path;
+use std::process::Command;
+use std::time::{SystemTime, UNIX_EPOCH};
+
+/// What the benchmark does not measure, said in the output and in the document.
+pub const NOT_MEASURED: &str = "\
+## Not measured
+
+- All lists of a sheet by the proved code within one process: no exported call gives them. The
+  program `report` stands in for it, with its start, reading and printing.
+- The lists without recovery by the proved code: the report needs only the scores of that graph.
+- Clingo (Debian's gringo and clasp).
+- Stack use, and the gate's time by crate, which the gate itself prints.
+";
+
+const CHARTS: &str = "
+## Charts
+
+Both lists of one target, each point the mean over five random sheets of 64 vertices. A table always
+has all 2^14 masks; with fewer initial vertices less can be opened, and the tables settle sooner.
+
+![Time against initial vertices](performance-starts.svg)
+
+![Time against edges](performance-edges.svg)
+
+";
+
+/// Writes the document and the charts.
+pub fn write(folder: &Path, verdicts: &str, grids: &[Grid], series: &[Series; 2]) {
+    let put = |name: &str, text: String| {
+        std::fs::write(folder.join(name), text).unwrap_or_else(|why| panic!("{name}: {why}"));
+    };
+    put("performance-starts.svg", starts_chart(&series[0]));
+    put("performance-edges.svg", edges_chart(&series[1]));
+    let mut text = opening();
+    text += verdicts;
+    text += CHARTS;
+    for grid in grids {
+        text += &grid.text();
+        text += "\n";
+    }
+    put("PERFORMANCE.md", text + NOT_MEASURED);
+}
+
+/// What was run, where and when.
+fn opening() -> String {
+    let machine = machine();
+    let compiler = compiler();
+    let date = today();
+    format!(
+        "# Performance\n\n\
+         Written by `make bench`. Everything is measured side by side in one run, with release builds,\n\
+         and each time is a median unless its table says otherwise. Calls are timed by the clock, programs by\n\
+         their processor time.\n\n\
+         - Machine: {machine}.\n\
+         - Rust: {compiler}, -O3, no overflow checks, for the baseline of the machine's family.\n\
+         - Date: {date}.\n\n\
+         \"Proved\" is the Rattle code, called through the harness's library. The \"twin\" is the same\n\
+         algorithm in plain Rust, step by step (`tests/bench/src/twin.rs`). The \"lean twin\" takes two\n\
+         shortcuts besides: the vertices that need another are found once and not at each growth, and\n\
+         vertices that need nothing are never looked at. The brute force makes a closure for each\n\
+         subset (`tests/bench/src/plain.rs`). Their answers were compared with the proved calls before\n\
+         anything was timed. Sheets have 64 vertices (63 in the first antichain), all accounts, 14\n\
+         initial and 14 losable ones, and 256 edges where the kind allows it.\n\n"
+    )
+}
+
+fn compiler() -> String {
+    let asked = Command::new("rustc").arg("--version").output();
+    asked.map_or("unknown".into(), |told| String::from_utf8_lossy(&told.stdout).trim().to_string())
+}
+
+/// The processor and how many of its cores there are.
+fn machine() -> String {
+    let told = std::fs::read_to_string("/proc/cpuinfo").unwrap_or_default();
+    let field = |name: &str| {
+        let line = told.lines().find(|line| line.starts_with(name));
+        line.and_then(|line| line.split(": ").nth(1)).unwrap_or("unknown").to_string()
+    };
+    let cores = told.lines().filter(|line| line.starts_with("processor")).count();
+    let (model, clock, cache) = (field("model name"), field("cpu MHz"), field("cache size"));
+    let family = format!("family {} model {}", field("cpu family"), field("model\t"));
+    format!("{model} ({family}), {clock} MHz, cache {cache}, {cores} cores, Linux of 64 bits")
+}
+
+/// The day, as year, month and day.
+fn today() -> String {
+    let since = SystemTime::now().duration_since(UNIX_EPOCH).expect("the clock is past 1970");
+    let (year, month, day) = civil((since.as_secs() / 86_400) as i64);
+    format!("{year}-{month:02}-{day:02}")
+}
+
+/// The date of a day counted from 1970-01-01.
+fn civil(days: i64) -> (i64, i64, i64) {
+    // Years are taken to begin in March, so that a leap day is a year's last.
+    let shifted = days + 719_468;
+    let era = shifted.div_euclid(146_097);
+    let of_era = shifted.rem_euclid(146_097);
+    let year = (of_era - of_era / 1460 + of_era / 36_524 - of_era / 146_096) / 365;
+    let of_year = of_era - (365 * year + year / 4 - year / 100);
+    let shifted_month = (5 * of_year + 2) / 153;
+    let day = of_year - (153 * shifted_month + 2) / 5 + 1;
+    let month = if shifted_month < 10 { shifted_month + 3 } else { shifted_month - 9 };
+    (year + era * 400 + i64::from(month <= 2), month, day)
+}
+
+fn starts_chart(series: &Series) -> String {
+    let title = "Both lists of one target, 64 vertices and 256 edges";
+    chart(title, "initial vertices, and as many losable ones", &STARTS, series)
+}
+
+fn edges_chart(series: &Series) -> String {
+    let title = "Both lists of one target, 64 vertices, 14 initial and 14 losable";
+    chart(title, "edges", &EDGE_STEPS, series)
+}
+
+fn chart(title: &str, across: &str, marks: &[usize], series: &Series) -> String {
+    let points =
+        |which: usize| series.iter().map(|(at, times)| (*at, times[which] * 1e6)).collect();
+    let lines = [
+        Line { name: "proved code", colour: "#1f5fa8", points: points(0) },
+        Line { name: "twin in Rust", colour: "#c8641e", points: points(1) },
+    ];
+    Chart { title, across, marks, lines }.svg()
+}

@@ -1,0 +1,101 @@
+//! Times the proved code beside the same algorithm in plain Rust, a brute force, and plain
+//! programs. `bench` prints tables and writes docs/PERFORMANCE.md with two charts; `bench quick`
+//! makes few rounds and writes the same files to build/bench/.
+
+mod calls;
+mod chart;
+mod check;
+mod document;
+mod grid;
+mod kinds;
+mod marking;
+mod plain;
+mod product;
+mod programs;
+mod ready;
+mod targets;
+mod timing;
+mod twin;
+mod whole;
+
+use programs::Programs;
+use std::path::Path;
+use std::process::ExitCode;
+use std::time::Instant;
+use targets::Target;
+
+/// How often each kind of work is timed.
+struct Rounds {
+    calls: usize,
+    points: usize,
+    whole: usize,
+    programs: usize,
+    long_programs: usize,
+    marking: usize,
+}
+
+const FULL: Rounds =
+    Rounds { calls: 301, points: 101, whole: 201, programs: 101, long_programs: 21, marking: 7 };
+const QUICK: Rounds =
+    Rounds { calls: 5, points: 3, whole: 3, programs: 5, long_programs: 1, marking: 1 };
+
+fn main() -> ExitCode {
+    let arguments: Vec<String> = std::env::args().skip(1).collect();
+    let words: Vec<&str> = arguments.iter().map(String::as_str).collect();
+    match words[..] {
+        [] => run(&FULL, "docs"),
+        ["quick"] => run(&QUICK, "build/bench"),
+        _ => {
+            eprintln!("usage: bench [quick]");
+            return ExitCode::from(2);
+        }
+    }
+    ExitCode::SUCCESS
+}
+
+fn run(rounds: &Rounds, folder: &str) {
+    let start = Instant::now();
+    let root = Path::new(env!("CARGO_MANIFEST_DIR")).join("../..");
+    let programs = Programs::at(&root);
+    let kinds = kinds::all();
+    kinds.iter().for_each(check::same_answers);
+    println!("bench: twin and brute force answer as the proved calls, on {} sheets\n", kinds.len());
+    let mut targets = Vec::new();
+    let mut grids = Vec::new();
+    let mut show = |grid: grid::Grid| {
+        println!("{}", grid.text());
+        grids.push(grid);
+    };
+    show(calls::one_target(&kinds, rounds, &mut targets));
+    let (grid, timed) = programs::programs(&kinds, &programs, rounds, &mut targets);
+    show(grid);
+    show(programs::tables_and_scores(&timed, &mut targets));
+    show(whole::all_lists(&kinds, &timed, rounds, &mut targets));
+    show(calls::reading(rounds, &mut targets));
+    let antichain = kinds.iter().find(|kind| kind.name == "antichain of 3,432");
+    show(marking::marking(antichain.expect("a kind has that name"), rounds, &mut targets));
+    show(programs::case_study(&root, &programs, rounds));
+    let series = [calls::by_starts(rounds), calls::by_edges(rounds)];
+    show(calls::series_grid("Against initial vertices", "initial and losable", &series[0]));
+    show(calls::series_grid("Against edges", "edges", &series[1]));
+    targets.push(clingo());
+    let verdicts = targets::grid(&targets);
+    let reasons = targets::reasons(&targets);
+    println!("{}\n{reasons}", verdicts.text());
+    println!("{}", document::NOT_MEASURED);
+    println!("bench: {} seconds", start.elapsed().as_secs());
+    let verdicts = format!("{}\n{reasons}", verdicts.text());
+    document::write(&root.join(folder), &verdicts, &grids, &series);
+}
+
+/// Clingo is not driven here, so its target is not measured.
+fn clingo() -> Target {
+    let installed = std::process::Command::new("clingo").arg("--version").output().is_ok();
+    let why = if installed {
+        "clingo is installed, but this benchmark has no encoding for it yet"
+    } else {
+        "clingo is not installed"
+    };
+    println!("bench: skipped: {why}\n");
+    Target::not_measured("one target's opening list, against clingo", "at least 10 times", why)
+}

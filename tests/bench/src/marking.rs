@@ -1,0 +1,161 @@
+//! Marks of many handed-in sets, against copying the list to a Vec and sorting it.
+
+use crate::grid::{micros, ratio, with_commas, Grid};
+use crate::kinds::{tables, Kind};
+use crate::targets::{largest, Target};
+use crate::timing::in_turn;
+use crate::twin::{self, members, Family};
+use crate::{product, Rounds};
+use brute::cases::Rng;
+use std::collections::HashSet;
+use std::hint::black_box;
+
+const COUNTS: [usize; 4] = [1_000, 10_000, 100_000, 1_000_000];
+
+/// The sorting sees that such a list falls, and turns it round.
+const FALLING: &str = "falling";
+
+/// A sheet's target with what its marks hang on.
+struct Asked<'a> {
+    kind: &'a Kind,
+    initial: Vec<usize>,
+    opening: Family,
+    right: Vec<u64>,
+}
+
+impl Asked<'_> {
+    fn new(kind: &Kind) -> Asked<'_> {
+        let mut tables = tables();
+        twin::scores(&kind.setup, &kind.setup.graph, &mut tables);
+        let opening = tables[0][kind.target];
+        let chosen = kind.setup.chosen(false);
+        let minimal = twin::minimal_members(&opening);
+        let mut right = vec![0; 3432];
+        let n = twin::write_sets(&minimal, chosen, &mut right);
+        right.truncate(n);
+        Asked { kind, initial: members(chosen).collect(), opening, right }
+    }
+
+    /// The set that a mask stands for.
+    fn set(&self, mask: u64) -> u64 {
+        members(mask).fold(0, |set, k| set | 1 << self.initial[k])
+    }
+
+    /// Whether a set of initial vertices opens the target.
+    fn opens(&self, set: u64) -> bool {
+        let place = |v: usize| self.initial.iter().position(|&u| u == v);
+        let mask: Option<usize> =
+            members(set).try_fold(0, |mask, v| place(v).map(|k| mask | 1 << k));
+        mask.is_some_and(|mask| self.opening[mask / 64] >> (mask % 64) & 1 == 1)
+    }
+
+    /// The marks by a set of those seen.
+    fn marks(&self, handed: &[u64]) -> [u64; 5] {
+        let right: HashSet<u64> = self.right.iter().copied().collect();
+        let mut seen = HashSet::new();
+        let mut marks = [0; 5];
+        for &set in handed {
+            let place = match () {
+                () if !seen.insert(set) => 1,
+                () if right.contains(&set) => 0,
+                () if self.opens(set) => 3,
+                () => 2,
+            };
+            marks[place] += 1;
+        }
+        marks[4] = right.len() as u64 - marks[0];
+        marks
+    }
+
+    /// Lists of n sets, by kinds.
+    fn lists(&self, n: usize) -> Vec<(&'static str, Vec<u64>)> {
+        let mut rng = Rng::new(7);
+        let many = n as u64;
+        let right = (0..n).map(|_| *rng.pick(&self.right)).collect();
+        let subsets = (0..n).map(|_| self.set(rng.number() >> 50)).collect();
+        let strays = (0..n).map(|_| rng.number()).collect();
+        vec![
+            ("right ones", right),
+            ("subsets", subsets),
+            ("strays", strays),
+            ("one value", vec![self.right[0]; n]),
+            ("one stray", vec![u64::MAX; n]),
+            ("consecutive", (0..many).collect()),
+            (FALLING, (0..many).rev().map(|number| number + (1 << 40)).collect()),
+        ]
+    }
+
+    /// Marking and sorting in turn.
+    fn times(&self, handed: &[u64], rounds: usize) -> [f64; 2] {
+        in_turn(
+            rounds,
+            [
+                &mut || {
+                    let words = black_box(&self.kind.words);
+                    black_box(product::mark_access(words, self.kind.target, handed));
+                },
+                &mut || {
+                    let mut sorted = black_box(handed).to_vec();
+                    sorted.sort_unstable();
+                    black_box(sorted);
+                },
+            ],
+        )
+    }
+}
+
+/// Marks against sorting, from a thousand sets to a million.
+pub fn marking(kind: &Kind, rounds: &Rounds, targets: &mut Vec<Target>) -> Grid {
+    let mut grid = Grid::new(
+        "Marking handed-in sets",
+        &[
+            "list",
+            "sets",
+            "marking, µs",
+            "to_vec and sort_unstable, µs",
+            "marking / sorting",
+            "marking, ns a set",
+        ],
+    );
+    grid.note(&format!(
+        "`mark_access` on the sheet \"{}\", whose target has a list of 3,432 sets. The call fills \
+         its table first, which is most of the time of short lists. Marks were compared with a \
+         plain count by a HashSet before they were timed; both are called in turn, medians. Sorting \
+         sees that a list rises, falls or has one value, and is then a mere pass over it.",
+        kind.name
+    ));
+    let asked = Asked::new(kind);
+    let mut ratios = Vec::new();
+    for n in COUNTS {
+        for (name, handed) in asked.lists(n) {
+            let marks = product::mark_access(&kind.words, kind.target, &handed);
+            assert_eq!(marks, asked.marks(&handed), "marks of {n} sets: {name}");
+            let [marked, sorted] = asked.times(&handed, rounds.marking);
+            grid.row(vec![
+                name.to_string(),
+                with_commas(n as u64),
+                micros(marked),
+                micros(sorted),
+                ratio(marked, sorted),
+                format!("{:.1}", marked * 1e9 / n as f64),
+            ]);
+            if n == COUNTS[3] {
+                ratios.push((name.to_string(), marked / sorted));
+            }
+        }
+    }
+    let (falling, asked_for): (Vec<_>, Vec<_>) =
+        ratios.into_iter().partition(|(name, _)| name == FALLING);
+    targets.push(judged("marking a million sets", &asked_for));
+    targets.push(judged("the same, falling ones (not asked for)", &falling).because(
+        "Sorting sees that the list falls, and turns it round in one pass; marking takes falling \
+         strays as any others, and about as long as for random ones.",
+    ));
+    grid
+}
+
+fn judged(what: &'static str, ratios: &[(String, f64)]) -> Target {
+    let (name, most) = largest(ratios);
+    let seen = format!("at most {most:.2} ({name})");
+    Target::measured(what, "at most 10 times sorting them", seen, most <= 10.0)
+}

@@ -1,0 +1,331 @@
+//! The twin: the algorithm of the proved code in plain Rust. All subsets of the chosen vertices are
+//! taken at once: bit i of word b of a vertex's family tells whether the subset with the mask
+//! b * 64 + i has it. The parts are those of the crates tables, lanes, words, families and
+//! family_lists; no question is asked of the setup.
+//!
+//! The twin takes the steps of the proved code one by one. The lean twin (`LEAN`) takes two
+//! shortcuts besides: the vertices that need another are found once and not at each growth, and
+//! vertices that need nothing are never looked at. Its inner functions are inlined always, as the
+//! proved code's are: that is the faster way.
+
+pub use crate::ready::members;
+
+/// The vertices of a setup.
+pub const VERTICES: usize = 64;
+/// The words of a family: 2^14 masks.
+pub const WORDS: usize = 256;
+/// The least sum over no set.
+pub const NEVER: u64 = 1 << 62;
+/// What stands for a blank value among a setup's words.
+const BLANK: u64 = u64::MAX;
+const COLOURS: usize = 8;
+
+/// A family of masks.
+pub type Family = [u64; WORDS];
+/// A family for each vertex.
+pub type Table = [Family; VERTICES];
+/// The needed vertices of one vertex, by colours.
+pub type Rows = [u64; COLOURS];
+/// The rows of all vertices.
+pub type Graph = [Rows; VERTICES];
+
+/// A setup, as far as lists and scores hang on it.
+#[derive(Clone)]
+pub struct Setup {
+    /// How many vertices it has.
+    pub count: usize,
+    /// Start and loss values.
+    values: [[u64; VERTICES]; 2],
+    /// All edges.
+    pub graph: Graph,
+    recovery: Graph,
+}
+
+impl Setup {
+    /// The setup in the words that the proved calls take.
+    pub fn from_words(words: &[u64]) -> Setup {
+        let vertex = |v: usize| &words[1 + 4 * v..];
+        let value = |place: usize| std::array::from_fn(|v| vertex(v)[place]);
+        let rows = |from: usize| -> Graph {
+            std::array::from_fn(|v| std::array::from_fn(|c| words[from + v * COLOURS + c]))
+        };
+        let first_row = 1 + 4 * VERTICES;
+        Setup {
+            count: words[0] as usize,
+            values: [value(1), value(2)],
+            graph: rows(first_row),
+            recovery: rows(first_row + VERTICES * COLOURS),
+        }
+    }
+
+    /// The graph without the recovery edges.
+    pub fn without_recovery(&self) -> Graph {
+        let row = |v: usize, c: usize| self.graph[v][c] & !self.recovery[v][c];
+        std::array::from_fn(|v| std::array::from_fn(|c| row(v, c)))
+    }
+
+    /// The initial vertices or, with loss, the losable ones.
+    pub fn chosen(&self, loss: bool) -> u64 {
+        let values = self.values[usize::from(loss)].iter().enumerate();
+        values.filter(|(_, &value)| value != BLANK).fold(0, |set, (v, _)| set | 1 << v)
+    }
+
+    /// The start or loss value of a chosen vertex.
+    pub fn value(&self, loss: bool, v: usize) -> u64 {
+        self.values[usize::from(loss)][v]
+    }
+}
+
+fn and_in(family: &mut Family, other: &Family) {
+    family.iter_mut().zip(other).for_each(|(word, more)| *word &= more);
+}
+
+fn or_in(family: &mut Family, other: &Family) {
+    family.iter_mut().zip(other).for_each(|(word, more)| *word |= more);
+}
+
+/// The family gains what the other has. Was something new?
+fn join(family: &mut Family, other: &Family) -> bool {
+    let mut fresh = 0;
+    for (word, &more) in family.iter_mut().zip(other) {
+        fresh |= more & !*word;
+        *word |= more;
+    }
+    fresh != 0
+}
+
+/// The masks that have the bit k.
+fn masks_with(k: usize) -> Family {
+    const WITHIN: [u64; 6] = [
+        0xAAAA_AAAA_AAAA_AAAA,
+        0xCCCC_CCCC_CCCC_CCCC,
+        0xF0F0_F0F0_F0F0_F0F0,
+        0xFF00_FF00_FF00_FF00,
+        0xFFFF_0000_FFFF_0000,
+        0xFFFF_FFFF_0000_0000,
+    ];
+    if k < 6 {
+        return [WITHIN[k]; WORDS];
+    }
+    std::array::from_fn(|b| if b >> (k - 6) & 1 == 1 { u64::MAX } else { 0 })
+}
+
+/// The masks of sets that have the whole row or, with loss, some vertex of it, joined to `out` or,
+/// with loss, kept in it. An empty row is no colour.
+#[inline(always)]
+fn take_colour(table: &Table, row: u64, loss: bool, out: &mut Family) {
+    if row == 0 {
+        return;
+    }
+    let mut part = table[row.trailing_zeros() as usize];
+    for v in members(row & (row - 1)) {
+        if loss {
+            or_in(&mut part, &table[v]);
+        } else {
+            and_in(&mut part, &table[v]);
+        }
+    }
+    if loss {
+        and_in(out, &part);
+    } else {
+        or_in(out, &part);
+    }
+}
+
+/// Adds the vertex in each mask that admits it. Was one new?
+#[inline(always)]
+fn step(table: &mut Table, v: usize, rows: &Rows, loss: bool) -> bool {
+    let coloured = needed(rows) != 0;
+    let mut gains = [if loss && coloured { u64::MAX } else { 0 }; WORDS];
+    for &row in rows {
+        take_colour(table, row, loss, &mut gains);
+    }
+    join(&mut table[v], &gains)
+}
+
+/// All vertices that some colour needs.
+fn needed(rows: &Rows) -> u64 {
+    rows.iter().fold(0, |all, row| all | row)
+}
+
+/// The vertices that need v.
+fn users(needs: &[u64; VERTICES], v: usize) -> u64 {
+    needs.iter().enumerate().fold(0, |users, (u, needed)| users | (needed >> v & 1) << u)
+}
+
+/// Those of each vertex.
+fn all_users(needs: &[u64; VERTICES]) -> [u64; VERTICES] {
+    let mut all = [0; VERTICES];
+    for (u, &needed) in needs.iter().enumerate() {
+        members(needed).for_each(|v| all[v] |= 1 << u);
+    }
+    all
+}
+
+/// The vertices that need some vertex.
+fn coloured(needs: &[u64; VERTICES]) -> u64 {
+    needs.iter().enumerate().fold(0, |set, (v, &needed)| set | u64::from(needed != 0) << v)
+}
+
+/// Fills the table: which vertices are opened by which mask's set or, with loss, lost by its loss.
+/// A vertex is looked at again when one that it needs has grown; they take turns. Gives the number
+/// of looks.
+#[inline(always)]
+pub fn fill<const LEAN: bool>(graph: &Graph, chosen: u64, loss: bool, table: &mut Table) -> usize {
+    table.iter_mut().for_each(|family| *family = [0; WORDS]);
+    for (k, v) in members(chosen).enumerate() {
+        table[v] = masks_with(k);
+    }
+    let needs = graph.map(|rows| needed(&rows));
+    let known = if LEAN { all_users(&needs) } else { [0; VERTICES] };
+    let mut todo = if LEAN { coloured(&needs) } else { u64::MAX };
+    let (mut after, mut looks) = (u64::MAX, 0);
+    while todo != 0 {
+        let later = if todo & after == 0 { todo } else { todo & after };
+        let v = later.trailing_zeros() as usize;
+        todo &= !(1 << v);
+        after = 0xFFFF_FFFF_FFFF_FFFE << v;
+        looks += 1;
+        if step(table, v, &graph[v], loss) {
+            todo |= if LEAN { known[v] } else { users(&needs, v) };
+        }
+    }
+    looks
+}
+
+/// The members of a monotone family of which none has a member one bit smaller.
+pub fn minimal_members(family: &Family) -> Family {
+    std::array::from_fn(|b| {
+        let x = family[b];
+        let within = (x << 1 & 0xAAAA_AAAA_AAAA_AAAA)
+            | (x << 2 & 0xCCCC_CCCC_CCCC_CCCC)
+            | (x << 4 & 0xF0F0_F0F0_F0F0_F0F0)
+            | (x << 8 & 0xFF00_FF00_FF00_FF00)
+            | (x << 16 & 0xFFFF_0000_FFFF_0000)
+            | (x << 32 & 0xFFFF_FFFF_0000_0000);
+        let smaller = (0..8).filter(|j| b >> j & 1 == 1).map(|j| family[b - (1 << j)]);
+        x & !smaller.fold(within, |all, word| all | word)
+    })
+}
+
+/// The sums of weights over masks, by two tables of 2^7.
+pub struct Sums {
+    low: [u64; 128],
+    high: [u64; 128],
+}
+
+impl Sums {
+    /// The sums of the chosen vertices' weights.
+    pub fn new(chosen: u64, weight: impl Fn(usize) -> u64) -> Sums {
+        let mut weights = [0; 14];
+        members(chosen).zip(&mut weights).for_each(|(v, place)| *place = weight(v));
+        let sums = |from: usize| {
+            let mut table = [0; 128];
+            for k in 1..128usize {
+                table[k] = table[k & (k - 1)] + weights[from + k.trailing_zeros() as usize];
+            }
+            table
+        };
+        Sums { low: sums(0), high: sums(7) }
+    }
+
+    /// The sum of the mask b * 64 + i.
+    fn at(&self, b: usize, i: usize) -> u64 {
+        self.high[b / 2] + self.low[b % 2 * 64 + i]
+    }
+
+    /// The least sum over a family.
+    pub fn least(&self, family: &Family) -> u64 {
+        let mut least = NEVER;
+        for (b, &word) in family.iter().enumerate() {
+            members(word).for_each(|i| least = least.min(self.at(b, i)));
+        }
+        least
+    }
+}
+
+/// At k the places of a word whose number has k bits.
+const LAYERS: [u64; 7] = [
+    0x0000_0000_0000_0001,
+    0x0000_0001_0001_0116,
+    0x0001_0116_0116_1668,
+    0x0116_1668_1668_6880,
+    0x1668_6880_6880_8000,
+    0x6880_8000_8000_0000,
+    0x8000_0000_0000_0000,
+];
+
+/// Writes the sets of a family's masks to the front of `out`, fewer vertices first, then the
+/// smaller set number, and gives their number.
+pub fn write_sets(family: &Family, chosen: u64, out: &mut [u64]) -> usize {
+    let numbers = Sums::new(chosen, |v| 1 << v);
+    let total: usize = family.iter().map(|word| word.count_ones() as usize).sum();
+    let mut occupied = [0; WORDS];
+    let mut words = 0;
+    for b in (0..WORDS).filter(|&b| family[b] != 0) {
+        occupied[words] = b;
+        words += 1;
+    }
+    let mut next = 0;
+    for size in 0..15usize {
+        if next == total {
+            break;
+        }
+        for &b in &occupied[..words] {
+            let layer = size.checked_sub(b.count_ones() as usize).and_then(|k| LAYERS.get(k));
+            for i in members(family[b] & layer.copied().unwrap_or(0)) {
+                out[next] = numbers.at(b, i);
+                next += 1;
+            }
+        }
+    }
+    next
+}
+
+/// Both lists of a target in one lent list, and their lengths. One table is alive at a time.
+pub fn both_bases<const LEAN: bool>(
+    setup: &Setup,
+    target: usize,
+    out: &mut [u64],
+) -> (usize, usize) {
+    let base = |loss: bool| {
+        let mut table = [[0; WORDS]; VERTICES];
+        fill::<LEAN>(&setup.graph, setup.chosen(loss), loss, &mut table);
+        minimal_members(&table[target])
+    };
+    let (opening, lockout) = (base(false), base(true));
+    let first = write_sets(&opening, setup.chosen(false), out);
+    let second = write_sets(&lockout, setup.chosen(true), &mut out[first..]);
+    (first, second)
+}
+
+/// The opening and the lockout table of one graph.
+pub type Tables = [Table; 2];
+
+/// Fills both tables of the graph and reads the scores and risks of all vertices.
+pub fn scores(setup: &Setup, graph: &Graph, tables: &mut Tables) -> [[u64; VERTICES]; 2] {
+    [false, true].map(|loss| {
+        let chosen = setup.chosen(loss);
+        let sums = Sums::new(chosen, |v| setup.value(loss, v));
+        let table = &mut tables[usize::from(loss)];
+        fill::<false>(graph, chosen, loss, table);
+        std::array::from_fn(|v| sums.least(&minimal_members(&table[v])))
+    })
+}
+
+/// Reads both lists of every vertex from filled tables; each is handed to `take`.
+pub fn lists(
+    setup: &Setup,
+    tables: &Tables,
+    out: &mut [u64],
+    mut take: impl FnMut(usize, bool, &[u64]),
+) {
+    let [opening, lockout] = tables;
+    for (target, families) in opening.iter().zip(lockout).enumerate().take(setup.count) {
+        for (loss, family) in [(false, families.0), (true, families.1)] {
+            let base = minimal_members(family);
+            let n = write_sets(&base, setup.chosen(loss), out);
+            take(target, loss, &out[..n]);
+        }
+    }
+}

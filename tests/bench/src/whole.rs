@@ -65,11 +65,11 @@ fn brute_times(kind: &Kind) -> [f64; 2] {
     [closing * count + listing, closing + listing]
 }
 
-/// The middle one of three such times, by the first of them.
+/// The middle one of nine such times, by the first of them.
 fn median_brute_times(kind: &Kind) -> [f64; 2] {
-    let mut times: Vec<[f64; 2]> = (0..3).map(|_| brute_times(kind)).collect();
+    let mut times: Vec<[f64; 2]> = (0..9).map(|_| brute_times(kind)).collect();
     times.sort_by(|one, other| one[0].total_cmp(&other[0]));
-    times[1]
+    times[4]
 }
 
 /// All lists and scores of all vertices, with and without recovery.
@@ -103,9 +103,10 @@ pub fn all_lists(
         }
     }
     targets.push(judged("all lists and scores, twin against brute force", &twins).because(
-        "Where many vertices have long lists, writing these is most of the twin's time (see the \
-         column without lists): 360,360 sets where 28 vertices have the longest ones. The brute \
-         force's closures are as many there as elsewhere.",
+        "Where many vertices have long lists, making these is most of the twin's time (see the \
+         column without lists): 360,360 sets where 28 vertices have the longest ones. Where a chain \
+         goes with vertex order, each closure of the brute force takes two passes, as few as can be, \
+         and the minimal members of 64 vertices are most of the twin's time.",
     ));
     let what = "the same, program less start against brute force, rows below 1 MB";
     targets.push(judged(what, &proved).because(
@@ -134,7 +135,7 @@ fn new_grid() -> Grid {
         "Twin: all scores and lists; without lists: the tables and scores alone. Brute force: a \
          closure for each subset and target. The closures of the four tables are \
          timed for one target, and lists and scores for 3 targets, and both are extrapolated to all; \
-         median of 3. Shared closures: one closure for each subset serves all targets. The twin's \
+         median of 9. Shared closures: one closure for each subset serves all targets. The twin's \
          tables are not cleared between runs (filling them writes every word). No call of the \
          proved code gives all lists at once. Its program does all of this but the lists without \
          recovery; its time less that of a program that starts and reads has also the reading of \

@@ -245,7 +245,7 @@ writing-all g target s now i entry cur entry′ cur′ h m =
 
 -- ---- shut, the way in, or no room for it
 
-pub way-taken-shut : (g : Graph) (target s : ℕ) (entry entry′ : List ℕ) → (HasAccess g (Member s) target → ⊥) → WayTaken g target s 0 [] entry entry entry′ entry′
+pub way-taken-shut : (g : Graph) (target s : ℕ) (entry entry′ : List ℕ) → (HasAccess g (Member s) target → ⊥) → WayTaken g target s 0 (0 ∷ []) entry entry entry′ entry′
 way-taken-shut g target s entry entry′ n = record { shut = λ d. (refl, refl, record { first = refl; second = refl }); found = λ a. absurd (n a) }
 
 module _ (g : Graph) (target s : ℕ) (d : List Step) (w : Way g target (Member s) d) (entry entry′ : List ℕ) where
@@ -264,7 +264,7 @@ module _ (g : Graph) (target s : ℕ) (d : List Step) (w : Way g target (Member 
       }
 
   pub taken-room : (k : ℕ) (exit exit′ : List ℕ) → k ≡ length d → k ≤ length entry → k ≤ length entry′ → Written g target s entry exit entry′ exit′
-      → WayTaken g target s 0 (k ∷ []) entry exit entry′ exit′
+      → WayTaken g target s 0 (1 ∷ k ∷ []) entry exit entry′ exit′
   taken-room k exit exit′ e p q h =
       record {
         shut = λ no-way. absurd (no-way (way-derives g target (Member s) d w));
@@ -272,7 +272,7 @@ module _ (g : Graph) (target s : ℕ) (d : List Step) (w : Way g target (Member 
           d,
           w,
           record {
-            room = λ m l. (refl, ap (λ (n : ℕ). n ∷ []) e, h .each d w .0, h .each d w .1);
+            room = λ m l. (refl, ap (λ (n : ℕ). 1 ∷ n ∷ []) e, h .each d w .0, h .each d w .1);
             short = λ l. absurd (⊎-elim (λ m. omega (arith, m)) (λ m. omega (arith, m)) l);
           },
         );

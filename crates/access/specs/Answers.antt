@@ -43,10 +43,10 @@ wayNumber (way.Steps n) = 0
 wayNumber way.Shut = 0
 wayNumber (way.Refused q) = q
 
--- Its values: the count of steps; none where the target is shut.
+-- Its values: 0 where the target is shut, else 1 and the count of steps. A refusal has none, so no refusal looks like "shut".
 abbrev pub wayValues : WayAnswer → List ℕ
-wayValues (way.Steps n) = n ∷ []
-wayValues way.Shut = []
+wayValues (way.Steps n) = 1 ∷ n ∷ []
+wayValues way.Shut = 0 ∷ []
 wayValues (way.Refused q) = []
 
 -- xs stand in the first places of the lent list, and the places behind them are unchanged.
@@ -61,7 +61,7 @@ pub record Untouched (entry exit entry′ exit′ : List ℕ) : Type 0 where
 -- Of the way d, its vertices stand in the one list and its colours in the other, where both have room; 15 where one has not.
 pub record WayWritten (d : List Step) (number : ℕ) (values entry exit entry′ exit′ : List ℕ) : Type 0 where
   pub room : length d ≤ length entry → length d ≤ length entry′
-      → (number ≡ 0) × (values ≡ length d ∷ []) × (exit ≡ written (map (λ e. e .vertex) d) entry) × (exit′ ≡ written (map (λ e. e .colour) d) entry′)
+      → (number ≡ 0) × (values ≡ 1 ∷ length d ∷ []) × (exit ≡ written (map (λ e. e .vertex) d) entry) × (exit′ ≡ written (map (λ e. e .colour) d) entry′)
   pub short : (length entry < length d) ⊎ (length entry′ < length d) → Refuses 15 number values × Untouched entry exit entry′ exit′
 
 -- 12, 13, 14; "shut" exactly where no derivation of the target exists; else the way in.
@@ -70,6 +70,6 @@ pub record WayCall (s : Setup) (target set number : ℕ) (values entry exit entr
   pub noTarget : WellFormed s → s .count ≤ target → Refuses 13 number values × Untouched entry exit entry′ exit′
   pub outside : WellFormed s → target < s .count → (Inside s set → ⊥) → Refuses 14 number values × Untouched entry exit entry′ exit′
   pub shut : WellFormed s → target < s .count → Inside s set → (HasAccess (s .graph) (Member set) target → ⊥)
-      → (number ≡ 0) × (values ≡ []) × Untouched entry exit entry′ exit′
+      → (number ≡ 0) × (values ≡ 0 ∷ []) × Untouched entry exit entry′ exit′
   pub found : WellFormed s → target < s .count → Inside s set → HasAccess (s .graph) (Member set) target
       → (d : List Step) × Way (s .graph) target (Member set) d × WayWritten d number values entry exit entry′ exit′

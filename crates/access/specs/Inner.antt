@@ -1,7 +1,7 @@
 -- What the inner functions answer. Nothing of this has to be believed: the contracts of the calls do not cite it.
 use mathlib.Core.Path.{_≡_}
 use mathlib.Core.Bool.{Bool, true, false}
-use mathlib.Core.List.{List, [], map}
+use mathlib.Core.List.{List, [], _∷_, map}
 use Prim.Native.Nat.{ℕ, _≤_, _<_}
 use lib.ListN.{length}
 use Rattle.vertex_set.specs.Set.{Member, Within}
@@ -71,5 +71,5 @@ pub record Written (g : Graph) (target s : ℕ) (entry exit entry′ exit′ : L
 
 -- Questions 12 to 14 are answered: shut, or the way in with room or without.
 pub record WayTaken (g : Graph) (target s number : ℕ) (values entry exit entry′ exit′ : List ℕ) : Type 0 where
-  pub shut : (HasAccess g (Member s) target → ⊥) → (number ≡ 0) × (values ≡ []) × Untouched entry exit entry′ exit′
+  pub shut : (HasAccess g (Member s) target → ⊥) → (number ≡ 0) × (values ≡ 0 ∷ []) × Untouched entry exit entry′ exit′
   pub found : HasAccess g (Member s) target → (d : List Step) × Way g target (Member s) d × WayWritten d number values entry exit entry′ exit′

@@ -53,10 +53,13 @@ fn tell_way(answer: WayAnswer, values: &mut [u64]) -> u64
 {
     match answer {
         WayAnswer::Steps(count) => {
-            tell(&[count as u64], values);
+            tell(&[1, count as u64], values);
             0
         }
-        WayAnswer::Shut => 0,
+        WayAnswer::Shut => {
+            tell(&[0], values);
+            0
+        }
         WayAnswer::Refused(q) => q,
     }
 }

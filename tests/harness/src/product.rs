@@ -165,7 +165,7 @@ pub fn inconsistent(words: &[u64], above: u64, below: u64, values: &mut [u64]) -
     unsafe { linked::probe_inconsistent(setup, length, above, below, front, n) }
 }
 
-/// The way in: items and colours to two lists; one value, the count, or none for "shut".
+/// The way in: items and colours to two lists; values: 1 and the count, or 0 for "shut".
 pub fn access_derivation(
     words: &[u64],
     target: u64,

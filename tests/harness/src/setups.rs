@@ -230,11 +230,11 @@ impl Compare<'_> {
             let (mut items_brute, mut colours_brute) = (items.clone(), colours.clone());
             let expected = calls.way_in(set, target, &mut items_brute, &mut colours_brute);
             let expected = expected.map(|way| match way {
-                Way::Steps(steps) => vec![steps as u64],
-                Way::Shut => Vec::new(),
+                Way::Steps(steps) => vec![1, steps as u64],
+                Way::Shut => vec![0],
             });
             let (mut items_proved, mut colours_proved) = (items.clone(), colours.clone());
-            let lent = probes::lent_sets(self.rng, 2);
+            let lent = probes::lent_sets(self.rng, 3);
             let mut values = lent.clone();
             let number = product::access_derivation(
                 &self.words,

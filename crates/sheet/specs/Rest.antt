@@ -6,8 +6,8 @@ use lib.ListN.{drop}
 use Rattle.sheet_format.specs.declared.Reading.{Reading}
 use Rattle.sheet_format.specs.Text.{linesOf}
 use Rattle.sheet_format.specs.Read.{AmongItems, noRows, readLines}
-use Rattle.sheet_lines.specs.declared.Items.{Items}
-use Rattle.sheet_lines.specs.Loops.{ItemsTaken}
+use Rattle.sheet_items.specs.declared.Items.{Items}
+use Rattle.sheet_items.specs.Items.{ItemsTaken}
 
 -- From wherever the item rows were read, r is what the lines from there on come to.
 pub record ReadsRest (s : List ℕ) (items : Items) (r : Reading) : Type 0 where

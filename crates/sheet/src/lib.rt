@@ -3,12 +3,12 @@ use setup::Graph;
 use setup::Rows;
 use setup::Setup;
 use sheet_format::Reading;
-use sheet_lines::Items;
+use sheet_items::Items;
 ghost use mathlib.Core.Path.{_≡_};
 ghost use Prim.Native.Nat.{_+_};
 ghost use Rattle.sheet_format.specs.Read.{refused, readSheet};
 ghost use Rattle.sheet_format.specs.Names.{nameOf, nameStart};
-ghost use Rattle.sheet_lines.specs.Loops.{InBounds};
+ghost use Rattle.sheet_items.specs.Items.{InBounds};
 ghost use Rattle.sheet.specs.Rest.{ReadsRest};
 
 const MAX_BYTES: usize = 16384;
@@ -48,7 +48,7 @@ fn read_rest(s: &[u8], items: Items) -> Reading
     }
     let low = items.low;
     let high = items.high;
-    let edges = sheet_lines::read_edges(s, end + 1, line + 1, &low, &high, items.count);
+    let edges = sheet_edges::read_edges(s, end + 1, line + 1, &low, &high, items.count);
     let number = edges.number;
     if number != 0 {
         return refuse(number, edges.line);
@@ -83,7 +83,7 @@ pub fn read_sheet(sheet: &[u8]) -> Reading
     if !sheet_lines::is_first_header(&sheet[..end]) {
         return refuse(3, 1);
     }
-    let items = sheet_lines::read_items(sheet, end + 1);
+    let items = sheet_items::read_items(sheet, end + 1);
     let number = items.number;
     if number != 0 {
         return refuse(number, items.line);

@@ -1,4 +1,2 @@
 pub mod Texts
 pub mod Reading
-pub mod ItemRows
-pub mod EdgeRows

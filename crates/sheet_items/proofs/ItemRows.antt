@@ -25,10 +25,10 @@ use Rattle.sheet_rows.specs.Table.{lowOf, highOf, WellNamed, Table}
 use Rattle.sheet_rows.specs.Lines.{TakesItem}
 use Rattle.sheet_rows.proofs.Asks.{all-yes}
 use Rattle.sheet_rows.proofs.Taking.{item-name}
-use Rattle.sheet_lines.specs.declared.Items.{Items}
-use Rattle.sheet_lines.specs.Loops.{ReadsItems}
+use Rattle.sheet_items.specs.declared.Items.{Items}
+use Rattle.sheet_items.specs.Items.{ReadsItems}
 use Rattle.sheet_fields.proofs.Lines.{line-at, lines-over}
 use Rattle.sheet_lines.proofs.Reading.{empty-no, empty-yes, item-no, item-yes, over-no}
 
 -- ---- one row more
 

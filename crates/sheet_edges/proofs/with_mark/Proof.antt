@@ -1,6 +1,6 @@
 use borrow.Author.Needs.{needs}
-use Rattle.sheet_lines.proofs.with_mark.Statement.{statement}
-use Rattle.sheet_lines.proofs.with_mark.Tie as tie
+use Rattle.sheet_edges.proofs.with_mark.Statement.{statement}
+use Rattle.sheet_edges.proofs.with_mark.Tie as tie
 
 with-need-requires : tie.Need-with-need-requires
 with-need-requires c κs = search needs

@@ -28,10 +28,10 @@ use Rattle.sheet_rows.specs.declared.TakenEdge.{TakenEdge}
 use Rattle.sheet_rows.specs.Table.{Table}
 use Rattle.sheet_rows.specs.Lines.{TakesEdge}
 use Rattle.sheet_rows.proofs.Asks.{answer-yes, answer-no, all-yes, one-yes, no-first, yes-first}
-use Rattle.sheet_lines.specs.declared.Edges.{Edges}
-use Rattle.sheet_lines.specs.Loops.{withNeed, ReadsEdges}
+use Rattle.sheet_edges.specs.declared.Edges.{Edges}
+use Rattle.sheet_edges.specs.Edges.{withNeed, ReadsEdges}
 use Rattle.sheet_fields.proofs.Lines.{line-at, lines-over}
 use Rattle.sheet_lines.proofs.Reading.{edge-no, edge-yes, over-yes}
 
 -- ---- one row more
 

@@ -1,7 +1,7 @@
 use Rattle.vertex_set.proofs.Sets.{shifted-one}
 use borrow.Author.Needs.{needs}
-use Rattle.sheet_lines.proofs.with_need.Statement.{statement}
-use Rattle.sheet_lines.proofs.with_need.Tie as tie
+use Rattle.sheet_edges.proofs.with_need.Statement.{statement}
+use Rattle.sheet_edges.proofs.with_need.Tie as tie
 
 mul-next : tie.Need-mul-next
 mul-next c = search needs

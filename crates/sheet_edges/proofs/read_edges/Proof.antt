@@ -5,9 +5,9 @@ use native.Mathlib.Omega.{arith}
 use lib.ListN.{length, drop, length-drop}
 use Rattle.sheet_fields.proofs.Cutting.{until-le}
 use Rattle.sheet_format.specs.Rows.{emptyGraph}
-use Rattle.sheet_lines.proofs.EdgeRows.{Loop, no-edges, so-far-none, over, refused-row, repeated-row, full-row, taken-row}
-use Rattle.sheet_lines.proofs.read_edges.Statement.{statement}
-use Rattle.sheet_lines.proofs.read_edges.Tie as tie
+use Rattle.sheet_edges.proofs.EdgeRows.{Loop, no-edges, so-far-none, over, refused-row, repeated-row, full-row, taken-row}
+use Rattle.sheet_edges.proofs.read_edges.Statement.{statement}
+use Rattle.sheet_edges.proofs.read_edges.Tie as tie
 
 abbrev Inv-loop : tie.InvT-loop
 Inv-loop s start first low high count graph₀ recovery₀ edges₀ at₀ graph recovery edges at = Loop s start first low high count graph recovery edges at

@@ -1,15 +1,15 @@
 -- `sheet_lines::read_items` meets its contract: each turn takes in the row of one line, and each way out says why the reading of item rows stops.
 -- Assumes nothing.
-use Rattle.sheet_lines.specs.Loops.{ReadsItems}
+use Rattle.sheet_items.specs.Items.{ReadsItems}
 use borrow.Author.Needs.{needs}
 use mathlib.Core.Path.{refl, sym, subst}
 use Prim.Native.Nat.{_-_, _≤_, _<_}
 use native.Mathlib.Omega.{arith}
 use lib.ListN.{length, drop, length-drop}
 use Rattle.sheet_fields.proofs.Cutting.{until-le}
-use Rattle.sheet_lines.proofs.ItemRows.{SoFar, so-far-none, over, none, some, refused-row, taken-row}
-use Rattle.sheet_lines.proofs.read_items.Statement.{statement}
-use Rattle.sheet_lines.proofs.read_items.Tie as tie
+use Rattle.sheet_items.proofs.ItemRows.{SoFar, so-far-none, over, none, some, refused-row, taken-row}
+use Rattle.sheet_items.proofs.read_items.Statement.{statement}
+use Rattle.sheet_items.proofs.read_items.Tie as tie
 
 abbrev Inv-loop : tie.InvT-loop
 Inv-loop s start vertices₀ low₀ high₀ count₀ starts₀ losses₀ at₀ vertices low high count starts losses at =

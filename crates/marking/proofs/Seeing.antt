@@ -25,9 +25,10 @@ use Rattle.families.proofs.Masks.{spread, gather, set-of, set-unique, mask-uniq
 use Rattle.family_lists.specs.Tables.{rising}
 use Rattle.family_lists.proofs.Order.{Words, listed-members, sorted-rising, length-rising}
 use Rattle.bases.specs.Marks.{Once}
-use Rattle.marking.specs.Counting.{HasSize, Put, Earlier, MaskIn, Seen, meet}
-use Rattle.marking.proofs.Sizes.{size-same, size-map, size-of-list}
-use Rattle.marking.proofs.Values.{listed-next}
+use Rattle.strays.specs.Strays.{HasSize}
+use Rattle.marking.specs.Counting.{Put, Earlier, MaskIn, Seen, meet}
+use Rattle.strays.proofs.Sizes.{size-same, size-map, size-of-list}
+use Rattle.strays.proofs.Values.{listed-next}
 
 -- ---- a mask put in
 

@@ -25,11 +25,12 @@ use Rattle.bases.specs.Marks.{Mark, Repeated, Shut, Loose, Right, SmallerDerive
 use Rattle.bases.proofs.Bridge.{by-set, set-for, minimal-set, minimal-mask, MaskFor}
 use Rattle.bases.proofs.FullMarks.{listed-or}
 use Rattle.bases.proofs.Scores.{minimal-within}
-use Rattle.marking.specs.Counting.{HasSize, Seen, meet, CanMark, StrayOf}
+use Rattle.strays.specs.Strays.{HasSize, StrayOf}
+use Rattle.marking.specs.Counting.{Seen, meet, CanMark}
 use Rattle.marking.specs.Marking.{Markable, MarkedAll}
 use Rattle.marking.proofs.Seeing.{family-size, meet-size, size-of-sets}
-use Rattle.marking.proofs.Sizes.{size-none, size-same, size-more, size-join, size-le, size-unique, size-listed}
-use Rattle.marking.proofs.Values.{place-of}
+use Rattle.strays.proofs.Sizes.{size-none, size-same, size-more, size-join, size-le, size-unique, size-listed}
+use Rattle.strays.proofs.Values.{place-of}
 
 -- ---- how often marks are given
 

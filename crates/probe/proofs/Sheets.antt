@@ -17,8 +17,9 @@ use Rattle.sheet.proofs.Names.{start-none, RowThere, span-start}
 use Rattle.probe_setup.specs.Words.{wordsOf}
 use Rattle.probe_setup.specs.Inner.{WroteAll}
 use Rattle.probe_setup.proofs.Writing.{all-one, all-then}
-use Rattle.probe.specs.Told.{Front, Told, ReadingCall, NameCall}
-use Rattle.probe.proofs.Telling.{front-short, front-room}
+use Rattle.probe_tells.specs.Tells.{Front}
+use Rattle.probe_tells.proofs.Telling.{front-short, front-room}
+use Rattle.probe.specs.Told.{Told, ReadingCall, NameCall}
 
 -- ---- a reading
 

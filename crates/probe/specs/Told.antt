@@ -1,20 +1,15 @@
 -- What the harness is told: an answer's number is returned, and its values stand at the front of a lent list.
 use mathlib.Core.Path.{_≡_}
 use mathlib.Core.List.{List, _∷_}
-use Prim.Native.Nat.{ℕ, _≤_, _<_}
-use lib.ListN.{length}
+use Prim.Native.Nat.{ℕ}
 use Rattle.setup.specs.declared.Setup.{Setup}
 use Rattle.setup.specs.WellFormed.{WellFormed}
 use Rattle.sheet_format.specs.Read.{readSheet}
 use Rattle.sheet_format.specs.Names.{nameOf, nameStart}
-use Rattle.access.specs.Answers.{written, WayCall}
+use Rattle.access.specs.Answers.{WayCall}
 use Rattle.answers.specs.Answers.{BasesCall}
 use Rattle.probe_setup.specs.Words.{wordsOf}
-
--- xs stand at the front of the lent list where it has room for all of them; else no place is changed.
-pub record Front (xs entry exit : List ℕ) : Type 0 where
-  pub room : length xs ≤ length entry → exit ≡ written xs entry
-  pub short : length entry < length xs → exit ≡ entry
+use Rattle.probe_tells.specs.Tells.{Front}
 
 -- The call's number is r, and its values stand at the front of the lent list. The calls' contracts leave no two answers open.
 pub record Told (Call : ℕ → List ℕ → Type 0) (entry exit : List ℕ) (r : ℕ) : Type 0 where

@@ -2,134 +2,18 @@
 // handed over; an answer's number is returned, and its values go to a lent list.
 ghost use mathlib.Core.Path.{_≡_};
 ghost use mathlib.Core.Bool.{true, false};
-ghost use Prim.Native.Nat.{_+_, _≤_};
-ghost use lib.ListN.{length};
-ghost use Rattle.family_lists.specs.Tables.{Wrote};
 ghost use Rattle.derivations.specs.Access.{AccessFrom};
 ghost use Rattle.derivations.specs.Lockout.{LockoutFrom};
 ghost use Rattle.sheet_format.specs.Names.{nameStart};
-ghost use Rattle.access.specs.Answers.{numberOf, valuesOf, SetCall, wayNumber, wayValues};
-ghost use Rattle.answers.specs.Answers.{basesNumber, basesValues, scoreNumber, scoreValues, riskNumber, riskValues, ScoreCall, marksNumber, marksValues, MarksCall};
-ghost use Rattle.findings.specs.Answers.{findingNumber, findingValues, BackdoorCall, IneffectiveCall, InconsistentCall};
+ghost use Rattle.access.specs.Answers.{SetCall};
+ghost use Rattle.answers.specs.Answers.{ScoreCall, MarksCall};
+ghost use Rattle.findings.specs.Answers.{BackdoorCall, IneffectiveCall, InconsistentCall};
 ghost use Rattle.probe_setup.specs.Words.{setupIn};
-ghost use Rattle.probe.specs.Told.{Front, Told, Question12Call, WayTo, BasesOf, ReadingCall, NameCall};
-ghost use Rattle.probe.specs.Inner.{Tells};
-use access::SetAnswer;
-use access::WayAnswer;
-use answers::BasesAnswer;
-use answers::MarksAnswer;
-use answers::RiskAnswer;
-use answers::ScoreAnswer;
-use findings::FindingAnswer;
+ghost use Rattle.probe.specs.Told.{Told, Question12Call, WayTo, BasesOf, ReadingCall, NameCall};
 use vertex_set::VertexSet;
 
 // The words of a reading: the line and the setup's 1281 words.
 const READING_WORDS: usize = 1282;
-
-// Writes the words to the front of the lent list, where they fit.
-fn tell(words: &[u64], values: &mut [u64])
-    ensures { λ _. ⌜ Front (now (words .entry)) (now (values .entry)) (now (values .exit)) ⌝ }
-{
-    if values.len() < words.len() {
-        return;
-    }
-    probe_setup::put_words(words, values, 0);
-}
-
-fn tell_set(answer: SetAnswer, values: &mut [u64]) -> u64
-    ensures { λ r. ⌜ Tells (numberOf answer) (valuesOf answer) (now (values .entry)) (now (values .exit)) r ⌝ }
-{
-    match answer {
-        SetAnswer::Set(set) => {
-            tell(&[set.0], values);
-            0
-        }
-        SetAnswer::Refused(q) => q,
-    }
-}
-
-fn tell_way(answer: WayAnswer, values: &mut [u64]) -> u64
-    ensures { λ r. ⌜ Tells (wayNumber answer) (wayValues answer) (now (values .entry)) (now (values .exit)) r ⌝ }
-{
-    match answer {
-        WayAnswer::Steps(count) => {
-            tell(&[1, count as u64], values);
-            0
-        }
-        WayAnswer::Shut => {
-            tell(&[0], values);
-            0
-        }
-        WayAnswer::Refused(q) => q,
-    }
-}
-
-fn tell_bases(answer: BasesAnswer, values: &mut [u64]) -> u64
-    ensures { λ r. ⌜ Tells (basesNumber answer) (basesValues answer) (now (values .entry)) (now (values .exit)) r ⌝ }
-{
-    match answer {
-        BasesAnswer::Counts(opening, lockout) => {
-            tell(&[opening as u64, lockout as u64], values);
-            0
-        }
-        BasesAnswer::Refused(q) => q,
-    }
-}
-
-fn tell_score(answer: ScoreAnswer, values: &mut [u64]) -> u64
-    ensures { λ r. ⌜ Tells (scoreNumber answer) (scoreValues answer) (now (values .entry)) (now (values .exit)) r ⌝ }
-{
-    match answer {
-        ScoreAnswer::Score(score) => {
-            tell(&[score.0], values);
-            0
-        }
-        ScoreAnswer::Refused(q) => q,
-    }
-}
-
-fn tell_risk(answer: RiskAnswer, values: &mut [u64]) -> u64
-    ensures { λ r. ⌜ Tells (riskNumber answer) (riskValues answer) (now (values .entry)) (now (values .exit)) r ⌝ }
-{
-    match answer {
-        RiskAnswer::Risk(risk) => {
-            tell(&[risk.0], values);
-            0
-        }
-        RiskAnswer::Refused(q) => q,
-    }
-}
-
-fn tell_marks(answer: MarksAnswer, values: &mut [u64]) -> u64
-    ensures { λ r. ⌜ Tells (marksNumber answer) (marksValues answer) (now (values .entry)) (now (values .exit)) r ⌝ }
-{
-    match answer {
-        MarksAnswer::Marked(m) => {
-            let marks = [
-                m.right as u64,
-                m.repeated as u64,
-                m.shut as u64,
-                m.loose as u64,
-                m.missing as u64,
-            ];
-            tell(&marks, values);
-            0
-        }
-        MarksAnswer::Refused(q) => q,
-    }
-}
-
-fn tell_finding(answer: FindingAnswer, values: &mut [u64]) -> u64
-    ensures { λ r. ⌜ Tells (findingNumber answer) (findingValues answer) (now (values .entry)) (now (values .exit)) r ⌝ }
-{
-    match answer {
-        FindingAnswer::Is(yes) => {
-            tell(&[yes as u64], values);
-            0
-        }
-        FindingAnswer::Refused(q) => q,
-    }
-}
 
 // Question 12: 0 for yes, and 12 for no.
 #[no_mangle]
@@ -150,7 +34,7 @@ pub extern "C" fn probe_access_from(words: &[u64], set: u64, values: &mut [u64])
 {
     let s = probe_setup::setup_in(words);
     let answer = access::access_from(s, VertexSet(set));
-    tell_set(answer, values)
+    probe_tells::tell_set(answer, values)
 }
 
 // What the loss of the set takes away: one value.
@@ -160,10 +44,10 @@ pub extern "C" fn probe_lockout_from(words: &[u64], set: u64, values: &mut [u64]
 {
     let s = probe_setup::setup_in(words);
     let answer = access::lockout_from(s, VertexSet(set));
-    tell_set(answer, values)
+    probe_tells::tell_set(answer, values)
 }
 
-// The way in: the count of its steps, and no value where the target is shut.
+// The way in: 0 where the target is shut, else 1 and the count of its steps.
 #[no_mangle]
 pub extern "C" fn probe_access_derivation(
     words: &[u64],
@@ -177,7 +61,7 @@ pub extern "C" fn probe_access_derivation(
 {
     let s = probe_setup::setup_in(words);
     let answer = access::access_derivation(s, target as usize, VertexSet(set), vertices, colours);
-    tell_way(answer, values)
+    probe_tells::tell_way(answer, values)
 }
 
 // Both lists, and both their lengths as values.
@@ -192,7 +76,7 @@ pub extern "C" fn probe_both_bases(
 {
     let s = probe_setup::setup_in(words);
     let answer = answers::both_bases(s, target as usize, out);
-    tell_bases(answer, values)
+    probe_tells::tell_bases(answer, values)
 }
 
 // The score, 2^62 for "never".
@@ -202,7 +86,7 @@ pub extern "C" fn probe_security_score(words: &[u64], target: u64, values: &mut 
 {
     let s = probe_setup::setup_in(words);
     let answer = answers::security_score(s, target as usize);
-    tell_score(answer, values)
+    probe_tells::tell_score(answer, values)
 }
 
 // The risk, 2^62 for "never".
@@ -212,7 +96,7 @@ pub extern "C" fn probe_recoverability_score(words: &[u64], target: u64, values:
 {
     let s = probe_setup::setup_in(words);
     let answer = answers::recoverability_score(s, target as usize);
-    tell_risk(answer, values)
+    probe_tells::tell_risk(answer, values)
 }
 
 // Marks of opening sets: right, repeated, shut, loose, missing.
@@ -227,7 +111,7 @@ pub extern "C" fn probe_mark_access(
 {
     let s = probe_setup::setup_in(words);
     let answer = answers::mark_access(s, target as usize, handed);
-    tell_marks(answer, values)
+    probe_tells::tell_marks(answer, values)
 }
 
 // Marks of lockout sets.
@@ -242,7 +126,7 @@ pub extern "C" fn probe_mark_lockout(
 {
     let s = probe_setup::setup_in(words);
     let answer = answers::mark_lockout(s, target as usize, handed);
-    tell_marks(answer, values)
+    probe_tells::tell_marks(answer, values)
 }
 
 // Findings: 1 for yes, 0 for no.
@@ -252,7 +136,7 @@ pub extern "C" fn probe_has_backdoor(words: &[u64], item: u64, values: &mut [u64
 {
     let s = probe_setup::setup_in(words);
     let answer = findings::has_backdoor(s, item as usize);
-    tell_finding(answer, values)
+    probe_tells::tell_finding(answer, values)
 }
 
 #[no_mangle]
@@ -261,7 +145,7 @@ pub extern "C" fn probe_ineffective_recovery(words: &[u64], item: u64, values: &
 {
     let s = probe_setup::setup_in(words);
     let answer = findings::ineffective_recovery(s, item as usize);
-    tell_finding(answer, values)
+    probe_tells::tell_finding(answer, values)
 }
 
 #[no_mangle]
@@ -275,8 +159,9 @@ pub extern "C" fn probe_inconsistent(
 {
     let s = probe_setup::setup_in(words);
     let answer = findings::inconsistent(s, above as usize, below as usize);
-    tell_finding(answer, values)
+    probe_tells::tell_finding(answer, values)
 }
+
 // A sheet's reading: its number; the line and the words of the setup as values.
 #[no_mangle]
 pub extern "C" fn probe_read_sheet(sheet: &[u8], values: &mut [u64]) -> u64
@@ -287,7 +172,7 @@ pub extern "C" fn probe_read_sheet(sheet: &[u8], values: &mut [u64]) -> u64
     let mut words = [0u64; READING_WORDS];
     words[0] = reading.line;
     probe_setup::put_setup(s, &mut words, 1);
-    tell(&words, values);
+    probe_tells::tell(&words, values);
     reading.number
 }
 

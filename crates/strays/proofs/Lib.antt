@@ -1,0 +1,3 @@
+pub mod Sizes
+pub mod Strays
+pub mod Values

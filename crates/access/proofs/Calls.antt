@@ -1,11 +1,10 @@
 -- The questions 12 to 14 in their order.
 -- Assumes nothing.
-use mathlib.Core.Path.{_≡_, refl, sym, subst}
-use mathlib.Core.Bool.{Bool, true, false}
+use mathlib.Core.Path.{refl}
 use mathlib.Core.List.{List, [], _∷_}
 use Prim.Native.Nat.{ℕ, _≤_, _<_, _^_}
 use native.Mathlib.Omega.{arith}
-use Rattle.vertex_set.specs.Set.{Member, Within, Iff, Below}
+use Rattle.vertex_set.specs.Set.{Within, Iff, Below}
 use Rattle.vertex_set.proofs.Sets.{member-below}
 use Rattle.setup.specs.declared.Graph.{Graph}
 use Rattle.setup.specs.declared.Setup.{Setup}

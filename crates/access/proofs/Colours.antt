@@ -1,18 +1,16 @@
 -- The loops over the eight colours of a vertex.
 -- Assumes nothing.
-use mathlib.Core.Path.{_≡_, refl, sym, ap, subst}
+use mathlib.Core.Path.{_≡_, sym}
 use mathlib.Core.Bool.{Bool, true, false}
-use mathlib.Core.Logic.{_⊎_, inl, inr, ⊎-elim}
+use mathlib.Core.Logic.{_⊎_, ⊎-elim}
 use Prim.Native.Nat.{ℕ, _+_, _≤_, _<_}
 use native.Mathlib.Omega.{arith}
-use native.Mathlib.Nat.{not-le-of-lt}
 use borrow.Author.Count.{below-none, below-more}
 use lib.Dec.{ltb}
 use borrow.Author.Tests.{ltb-true, ltb-false}
 use lib.ListN.{length, List·getD-eq-default}
-use Rattle.vertex_set.specs.Set.{Member, Within, Meets, Decides, Iff}
-use Rattle.vertex_set.proofs.Cases.{same-or, less-or, false-true}
-use Rattle.vertex_set.proofs.Decisions.{decide-yes, decide-no, decide-iff}
+use Rattle.vertex_set.specs.Set.{Member, Within, Meets, Decides}
+use Rattle.vertex_set.proofs.Cases.{less-or, false-true}
 use Rattle.setup.specs.declared.Rows.{Rows}
 use Rattle.setup.specs.Setup.{rowOf}
 use Rattle.derivations.specs.Derivation.{Vertices}

@@ -1,6 +1,6 @@
 -- Passes over the vertices: each is sound, and where one adds nothing the set is closed.
 -- Assumes nothing.
-use mathlib.Core.Path.{_≡_, refl, sym, ap, subst}
+use mathlib.Core.Path.{_≡_, refl, sym, subst}
 use mathlib.Core.Bool.{Bool, true, false}
 use mathlib.Core.List.{[]}
 use mathlib.Core.Logic.{_⊎_, inl, inr, ⊎-elim}
@@ -9,21 +9,19 @@ use native.Mathlib.Omega.{arith}
 use lib.Arith.{lt-of-le-ne}
 use lib.ListN.{length, List·getD-eq-default}
 use borrow.Author.Count.{below-none, below-more}
-use Rattle.vertex_set.specs.Set.{Member, Within, Iff, Decides, Inserted}
-use Rattle.vertex_set.proofs.Cases.{same-or, less-or}
+use Rattle.vertex_set.specs.Set.{Member, Within, Inserted}
+use Rattle.vertex_set.proofs.Cases.{less-or}
 use Rattle.vertex_set.proofs.Sets.{within-refl, within-trans, within-le}
-use Rattle.vertex_set.proofs.Decisions.{decide-yes, decide-no}
 use Rattle.setup.specs.declared.Rows.{Rows}
 use Rattle.setup.specs.declared.Graph.{Graph}
 use Rattle.setup.specs.Setup.{rowsAt, rowOf}
-use Rattle.derivations.specs.Derivation.{Vertices, Rule, Derivation, Closure}
-use Rattle.derivations.specs.Access.{Step, Opens}
-use Rattle.derivations.specs.Lockout.{SomeLost, Shuts}
+use Rattle.derivations.specs.Derivation.{Vertices, Derivation, Closure}
+use Rattle.derivations.specs.Access.{Step}
 use Rattle.derivations.specs.Both.{ruleOf}
 use Rattle.derivations.proofs.Rules.{Sub, held, monotone, closed, least, twice}
 use Rattle.derivations.proofs.Graphs.{some-lost-mono}
 use Rattle.derivations.proofs.Both.{lawful}
-use Rattle.access.specs.Inner.{Complete, SomeComplete, AllBroken, RowsAdmit, Passed}
+use Rattle.access.specs.Inner.{RowsAdmit, Passed}
 
 -- ---- a vertex admitted by its rows is one that a step adds
 

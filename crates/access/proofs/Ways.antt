@@ -11,7 +11,7 @@ use lib.Arith.{lt-of-le-ne}
 use lib.ListN.{length, getD, drop, set, length-append, length-drop, length-map}
 use lib.Seq.{drop-cons, set-append-seam, append-snoc}
 use Rattle.vertex_set.specs.Set.{Member, Within, Inserted, Iff}
-use Rattle.vertex_set.proofs.Cases.{same-or, less-or, byTest, false-true}
+use Rattle.vertex_set.proofs.Cases.{same-or, less-or, false-true}
 use Rattle.vertex_set.proofs.Sets.{within-refl, within-trans, within-le}
 use Rattle.setup.specs.declared.Graph.{Graph}
 use Rattle.setup.specs.Setup.{rowsAt}
@@ -22,7 +22,7 @@ use Rattle.derivations.proofs.Rules.{least}
 use Rattle.derivations.proofs.Graphs.{access-lawful}
 use Rattle.derivations.proofs.Way.{way-same, way-unique, lowest-unique, way-derives}
 use Rattle.access.specs.Inner.{Complete, LowestColour, StepFound, WayFound, Room, Written, WayTaken}
-use Rattle.access.specs.Answers.{written, Untouched, WayWritten}
+use Rattle.access.specs.Answers.{written}
 use Rattle.access.proofs.Calls.{refuses}
 
 -- ---- the lowest step

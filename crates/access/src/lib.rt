@@ -1,6 +1,5 @@
 // What a set of vertices opens, what a loss takes away, and the way in.
-ghost use mathlib.Core.Path.{_≡_};
-ghost use Prim.Native.Nat.{ℕ, _≤_, _<_};
+ghost use Prim.Native.Nat.{_<_};
 ghost use Rattle.vertex_set.specs.Set.{Member, Decides};
 ghost use Rattle.derivations.specs.Derivation.{Closure};
 ghost use Rattle.derivations.specs.Access.{AccessFrom};

@@ -1,7 +1,7 @@
 -- The questions 12, 13 and 15 in their order.
 -- Assumes nothing.
-use mathlib.Core.Path.{_≡_, refl, sym, ap, subst, _∙_}
-use mathlib.Core.Bool.{Bool, true, false}
+use mathlib.Core.Path.{_≡_, refl, ap, _∙_}
+use mathlib.Core.Bool.{Bool}
 use mathlib.Core.List.{List, [], _∷_, _++_, append-nil}
 use Prim.Native.Nat.{ℕ, _+_, _-_, _≤_, _<_}
 use native.Mathlib.Omega.{arith}
@@ -12,10 +12,9 @@ use Rattle.setup.specs.declared.Setup.{Setup}
 use Rattle.setup.specs.WellFormed.{WellFormed}
 use Rattle.setup.specs.Calls.{Refuses}
 use Rattle.families.specs.Family.{size}
-use Rattle.bases.specs.Base.{Base}
-use Rattle.bases.specs.Score.{Score, ScoreOver, ScoreBoth}
+use Rattle.bases.specs.Score.{ScoreBoth}
 use Rattle.answers.specs.Answers.{BasesWritten, BasesCall, ScoreCall, MarksCall}
-use Rattle.answers.specs.Inner.{Asked, BasesTaken, MarksTaken}
+use Rattle.answers.specs.Inner.{BasesTaken, MarksTaken}
 use Rattle.answers.specs.declared.Marks.{Marks}
 use Rattle.bases.proofs.FullMarks.{full-marks}
 

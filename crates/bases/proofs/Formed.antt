@@ -1,9 +1,9 @@
 -- What the bounds of a well-formed setup give: few chosen vertices, and values small enough for every sum.
 -- Assumes nothing.
-use mathlib.Core.Path.{_≡_, refl, sym, ap, _∙_}
+use mathlib.Core.Path.{_≡_, refl, ap, _∙_}
 use mathlib.Core.Bool.{Bool, true, false}
-use mathlib.Core.Logic.{_⊎_, inl, inr, ⊎-elim}
-use Prim.Native.Nat.{ℕ, _≤_, _<_}
+use mathlib.Core.Logic.{_⊎_, ⊎-elim}
+use Prim.Native.Nat.{ℕ, _≤_}
 use native.Mathlib.Omega.{arith}
 use lib.Count.{ones}
 use lib.ListN.{List·getD-eq-default}
@@ -12,7 +12,7 @@ use Rattle.setup.specs.declared.Value.{Value}
 use Rattle.setup.specs.declared.Value.the-variants.{Blank, Of}
 use Rattle.setup.specs.declared.Vertex.{Vertex}
 use Rattle.setup.specs.declared.Setup.{Setup}
-use Rattle.setup.specs.Setup.{valueOf, vertexAt, unusedVertex, chosenCount, ChosenSet}
+use Rattle.setup.specs.Setup.{valueOf, vertexAt, unusedVertex, ChosenSet}
 use Rattle.setup.specs.WellFormed.{InRange, ValidVertex, WellFormed}
 use Rattle.bases.specs.Score.{points, pointsAt}
 

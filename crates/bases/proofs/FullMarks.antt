@@ -2,18 +2,18 @@
 -- Assumes nothing.
 use mathlib.Core.Path.{_≡_, refl, sym, ap, subst, _∙_}
 use mathlib.Core.Bool.{Bool}
-use mathlib.Core.List.{List, [], _∷_, _++_}
+use mathlib.Core.List.{List, [], _∷_}
 use mathlib.Core.Logic.{_⊎_, inl, inr, ⊎-elim}
-use Prim.Native.Nat.{ℕ, suc, _+_, _-_, _≤_, _<_}
+use Prim.Native.Nat.{ℕ, suc, _≤_}
 use native.Mathlib.Omega.{arith}
-use lib.ListN.{length, length-append}
-use Rattle.vertex_set.specs.Set.{ProperlyWithin, Iff}
+use lib.ListN.{length}
+use Rattle.vertex_set.specs.Set.{Iff}
 use Rattle.vertex_set.specs.Order.{Listed, Before, Ordered}
-use Rattle.vertex_set.proofs.Cases.{same-or, less-or}
+use Rattle.vertex_set.proofs.Cases.{same-or}
 use Rattle.setup.specs.declared.Graph.{Graph}
 use Rattle.setup.specs.declared.Setup.{Setup}
-use Rattle.bases.specs.Base.{Derives, TargetSet, MinimalSet, Base}
-use Rattle.bases.specs.Marks.{Mark, Repeated, Shut, Loose, Right, SmallerDerives, CountsAs, MarkedAs, tally, Counts, Once, IsBaseOnce, Full}
+use Rattle.bases.specs.Base.{MinimalSet}
+use Rattle.bases.specs.Marks.{Mark, Repeated, Shut, Loose, Right, MarkedAs, tally, Counts, Once, IsBaseOnce, Full}
 
 -- ---- lists without repetition
 

@@ -1,14 +1,13 @@
 -- The score over all sets is the score over the base: each set with a derivation has a minimal one within it, with no larger sum.
 -- Assumes nothing.
-use mathlib.Core.Path.{_≡_, refl, sym, subst, _∙_}
+use mathlib.Core.Path.{_≡_}
 use mathlib.Core.Bool.{Bool}
 use mathlib.Core.List.{List}
 use mathlib.Core.Logic.{_⊎_, inl, inr, ⊎-elim}
 use Prim.Native.Nat.{ℕ, _^_, _≤_, _<_}
 use native.Mathlib.Omega.{arith}
 use lib.Count.{ones}
-use Rattle.vertex_set.specs.Set.{Member, Within, ProperlyWithin}
-use Rattle.vertex_set.specs.Order.{Listed}
+use Rattle.vertex_set.specs.Set.{Within}
 use Rattle.vertex_set.proofs.Cases.{less-or, lowest, byTest}
 use Rattle.vertex_set.proofs.Sets.{within-refl, within-trans, within-decided}
 use Rattle.vertex_set.proofs.Subsets.{proper-less}
@@ -21,7 +20,7 @@ use Rattle.families.specs.Family.{In, Minimal}
 use Rattle.families.proofs.Masks.{spread, set-of, submask-subset}
 use Rattle.tables.specs.Table.{FamilyOf}
 use Rattle.bases.specs.Base.{TargetSet, MinimalSet, Base}
-use Rattle.bases.specs.Score.{pointsAt, sumOf, never, Score, ScoreOver}
+use Rattle.bases.specs.Score.{pointsAt, sumOf, Score, ScoreOver}
 use Rattle.bases.proofs.Bridge.{in-or, mask-for, minimal-set}
 
 -- k is a member of the family within m

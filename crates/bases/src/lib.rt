@@ -1,6 +1,6 @@
 // Bases and scores, read from a table of all subsets.
 ghost use mathlib.Core.Path.{_≡_};
-ghost use Prim.Native.Nat.{ℕ, _*_, _<_};
+ghost use Prim.Native.Nat.{_*_, _<_};
 ghost use lib.ListN.{length, take, drop};
 ghost use Rattle.setup.specs.WellFormed.{WellFormed};
 ghost use Rattle.derivations.specs.Both.{ruleOf};

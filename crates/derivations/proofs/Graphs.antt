@@ -1,18 +1,18 @@
 -- Access and lockout are lawful rules.
 -- Assumes nothing.
-use mathlib.Core.Path.{_≡_, refl, sym, subst}
-use mathlib.Core.List.{List, [], _∷_}
+use mathlib.Core.Path.{_≡_, refl, subst}
+use mathlib.Core.List.{List}
 use mathlib.Core.Logic.{_⊎_, inl, inr, ⊎-elim}
-use Prim.Native.Nat.{ℕ, zero, suc, _+_, _^_, _≤_, _<_}
+use Prim.Native.Nat.{ℕ, zero, suc, _^_, _<_}
 use native.Mathlib.Nat.{pow-suc}
 use native.Mathlib.Omega.{arith}
 use lib.ListN.{length, List·getD-eq-default}
-use Rattle.vertex_set.specs.Set.{Member, Iff}
+use Rattle.vertex_set.specs.Set.{Member}
 use Rattle.vertex_set.proofs.Cases.{same-or, less-or}
 use Rattle.vertex_set.proofs.Sets.{member-or, member-below}
 use Rattle.setup.specs.declared.Graph.{Graph}
 use Rattle.setup.specs.Setup.{row, rowsAt}
-use Rattle.derivations.specs.Derivation.{Vertices, Rule, Run, Derivation}
+use Rattle.derivations.specs.Derivation.{Vertices, Run, Derivation}
 use Rattle.derivations.specs.Access.{Step, Opens, access}
 use Rattle.derivations.specs.Lockout.{SomeLost, Shuts, lockout}
 use Rattle.derivations.proofs.Rules.{Sub, After, Lawful, gather}

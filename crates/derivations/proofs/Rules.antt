@@ -1,10 +1,10 @@
 -- The theory of monotone rules: what is derivable grows with what is held, deriving from what is derivable adds nothing, and
 -- the derivable vertices are the least that have what is held and all that they allow. Access and lockout are two instances.
 -- Assumes nothing.
-use mathlib.Core.Path.{_≡_, refl, sym, subst}
+use mathlib.Core.Path.{refl, sym, subst}
 use mathlib.Core.List.{List, [], _∷_, _++_}
 use mathlib.Core.Logic.{_⊎_, inl, inr, ⊎-elim}
-use Prim.Native.Nat.{ℕ, zero, suc, _+_, _≤_, _<_}
+use Prim.Native.Nat.{ℕ, zero, suc, _+_, _<_}
 use native.Mathlib.Nat.{not-suc-le-zero}
 use native.Mathlib.Omega.{arith}
 use Rattle.vertex_set.specs.Set.{Iff}

@@ -1,15 +1,15 @@
 -- The way in is a derivation of its target, and there is at most one.
 -- Assumes nothing.
-use mathlib.Core.Path.{_≡_, refl, sym, ap, subst}
-use mathlib.Core.List.{List, [], _∷_, _++_}
+use mathlib.Core.Path.{_≡_, refl, sym, subst}
+use mathlib.Core.List.{List, [], _∷_}
 use mathlib.Core.Logic.{_⊎_, inl, inr, ⊎-elim}
 use Prim.Native.Nat.{ℕ, _≤_, _<_}
 use native.Mathlib.Omega.{arith}
 use Rattle.setup.specs.declared.Graph.{Graph}
-use Rattle.derivations.specs.Derivation.{Vertices, With, Run, Adds, Derivation}
-use Rattle.derivations.specs.Access.{Step, Opens, access, HasAccess}
+use Rattle.derivations.specs.Derivation.{Vertices, With, Run}
+use Rattle.derivations.specs.Access.{Step, access, HasAccess}
 use Rattle.derivations.specs.Way.{LowestStep, Way}
-use Rattle.derivations.proofs.Rules.{Sub, After, Lawful}
+use Rattle.derivations.proofs.Rules.{Sub, After}
 use Rattle.derivations.proofs.Graphs.{access-lawful}
 
 -- ---- the same for collections with the same members

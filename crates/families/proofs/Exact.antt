@@ -14,7 +14,7 @@ use Rattle.vertex_set.proofs.Sets.{member-or, member-below, within-le, within-t
 use Rattle.vertex_set.proofs.Places.{removed-within, member-le}
 use Rattle.vertex_set.proofs.Shifts.{in-low}
 use Rattle.vertex_set.proofs.Subsets.{proper-less}
-use Rattle.families.specs.Family.{In, Monotone, Minimal, MinimalMembers}
+use Rattle.families.specs.Family.{In, Monotone, MinimalMembers}
 use Rattle.families.specs.Masks.{rank, Picked, SetOfMask}
 use Rattle.families.specs.Exact.{OnChosen, FamilyOf, MinimalSet}
 use Rattle.families.proofs.Families.{in-or}

@@ -339,19 +339,6 @@ set-before c a b x y h la lb p q w =
     let t = set-size c b y h lb q in
     ⊎-elim (λ less. inl (omega arith)) (λ r. let e = r .0 in inr (omega arith, set-less c a b x y h lb p q (r .1))) w
 
-pub mask-before : (c a b x y : ℕ) → c < 2 ^ 64 → a < 2 ^ ones c → b < 2 ^ ones c → SetOfMask c a x → SetOfMask c b y → Before x y → Before a b
-unfolding Before
-mask-before c a b x y h la lb p q w =
-    let s = set-size c a x h la p in
-    let t = set-size c b y h lb q in
-    ⊎-elim (λ less. inl (omega arith))
-    (λ r.
-    let e = r .0 in
-    let l = r .1 in
-    ⊎-elim (λ k. inr (omega arith, k))
-    (λ k. ⊎-elim (λ same. absurd (let z = set-unique c a x y p (rw (← same) at q) in omega arith))
-    (λ n. absurd (let z = set-less c b a y x h la q p (omega arith) in omega arith)) (same-or a b)) (less-or a b)) w
-
 -- ---- the loop that gathers a mask
 
 -- With mask gathered of n chosen vertices, and those of rest still to come.

@@ -1,14 +1,14 @@
 -- Graphs that are alike on the way to a vertex: it has the same derivations in both, and so the same scores.
 -- Assumes nothing.
-use mathlib.Core.Path.{_≡_, refl, sym, subst, _∙_}
+use mathlib.Core.Path.{_≡_, sym, subst, _∙_}
 use mathlib.Core.Bool.{Bool, true, false}
 use Prim.Native.Nat.{ℕ}
-use Rattle.vertex_set.specs.Set.{Member, Iff}
+use Rattle.vertex_set.specs.Set.{Member}
 use Rattle.vertex_set.proofs.Sets.{same-set}
 use Rattle.setup.specs.declared.Graph.{Graph}
 use Rattle.setup.specs.declared.Setup.{Setup}
 use Rattle.setup.specs.Setup.{row, Edge, WithoutRecovery}
-use Rattle.derivations.specs.Derivation.{Vertices, Rule, Derivation}
+use Rattle.derivations.specs.Derivation.{Vertices, Derivation}
 use Rattle.derivations.specs.Both.{ruleOf}
 use Rattle.derivations.proofs.Rules.{held, closed, least}
 use Rattle.derivations.proofs.Both.{lawful}

@@ -1,7 +1,7 @@
 -- What follows for the answers. Equal scores are no backdoor, and idle: so never against never, and so an account to which no recovery edge
 -- leads. Never is above every number: what only recovery opens has a backdoor, and recovery that takes every lockout away is not idle.
 -- Assumes nothing.
-use mathlib.Core.Path.{_≡_, sym, ap, _∙_}
+use mathlib.Core.Path.{_≡_, ap, _∙_}
 use mathlib.Core.Bool.{Bool, true, false}
 use mathlib.Core.List.{List, [], _∷_}
 use Prim.Native.Nat.{ℕ, _<_}

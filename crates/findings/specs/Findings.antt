@@ -1,6 +1,5 @@
 -- Findings (document 003, definitions 26 to 28; document 01, "Scores and findings"). Scores are compared as numbers: "never" is 2^62, above
 -- every sum of values and equal to itself, so never against never is at most, and not below.
-use mathlib.Core.Path.{_≡_}
 use mathlib.Core.Bool.{Bool, true, false}
 use Prim.Native.Nat.{ℕ, _≤_, _<_}
 use Rattle.vertex_set.specs.Set.{Decides}

@@ -1,8 +1,6 @@
 // Findings on an account's recovery edges, and on ranks (document 003, definitions 26 to 28).
-ghost use mathlib.Core.Path.{_≡_};
 ghost use mathlib.Core.Bool.{true, false};
-ghost use Prim.Native.Nat.{ℕ, _<_};
-ghost use Rattle.setup.specs.Setup.{WithoutRecovery};
+ghost use Prim.Native.Nat.{_<_};
 ghost use Rattle.bases.specs.Score.{Score};
 ghost use Rattle.answers.specs.Inner.{Asked};
 ghost use Rattle.findings.specs.Findings.{FindsBackdoor, FindsIneffective, FindsInconsistent};

@@ -1,8 +1,7 @@
 -- What the inner functions ask and answer. Nothing of this has to be believed.
 use mathlib.Core.Path.{_≡_}
 use mathlib.Core.List.{List, [], _∷_}
-use mathlib.Core.Logic.{_⊎_}
-use Prim.Native.Nat.{ℕ, _+_, _≤_, _<_}
+use Prim.Native.Nat.{ℕ, _+_, _≤_}
 use Rattle.bases.specs.Score.{never}
 
 -- A refusal's number is small.

@@ -4,7 +4,6 @@ use mathlib.Core.Bool.{Bool}
 use mathlib.Core.List.{List}
 use mathlib.Core.Logic.{_⊎_}
 use Prim.Native.Nat.{ℕ, _+_, _≤_, _<_}
-use Rattle.sheet_format.specs.declared.Reading.{Reading}
 use Rattle.sheet_format.specs.Read.{readSheet}
 use Rattle.bases.specs.Score.{never, Score}
 

@@ -2,13 +2,12 @@
 -- Assumes nothing.
 use mathlib.Core.Path.{_≡_, refl}
 use mathlib.Core.Bool.{Bool}
-use mathlib.Core.List.{List, []}
+use mathlib.Core.List.{[]}
 use Prim.Native.Nat.{ℕ, _-_}
 use lib.ListN.{length}
 use Rattle.setup.specs.declared.Graph.{Graph}
 use Rattle.setup.specs.declared.Setup.{Setup}
 use Rattle.setup.specs.WellFormed.{WellFormed}
-use Rattle.bases.specs.Base.{Base}
 use Rattle.bases.specs.Score.{Score}
 use Rattle.bases.specs.Marks.{Repeated, Shut, Loose, Right, tally}
 use Rattle.reference.specs.Bases.{targetSetsOf, baseOf, scoreOf, marksFrom, countsOf, marksOf}
@@ -19,7 +18,7 @@ use Rattle.reference.proofs.Ways.{way-of, no-way}
 use Rattle.reference.proofs.Bases.{base-of}
 use Rattle.reference.proofs.Scores.{score-of}
 use Rattle.reference.proofs.Marks.{counts-of}
-use Rattle.reference.proofs.Unique.{base-unique, score-unique}
+use Rattle.reference.proofs.Unique.{score-unique}
 
 pub meaning : (s : Setup) (g : Graph) → WellFormed s → GraphOf s g → Meaning s g
 unfolding marksOf countsOf
@@ -44,10 +43,7 @@ meaning s g wf h =
           );
     }
 
--- the base and the score are the computed ones
+-- the score is the computed one
 module _ (loss : Bool) (s : Setup) (g : Graph) (target : ℕ) (wf : WellFormed s) (h : GraphOf s g) where
-  pub base-is : (l : List ℕ) → Base loss s g target l → l ≡ baseOf loss s g target
-  base-is l b = base-unique loss s g target l (baseOf loss s g target) b (base-of loss s g target wf h)
-
   pub score-is : (r : ℕ) → Score loss s g target r → r ≡ scoreOf loss s g target
   score-is r q = score-unique loss s g target r (scoreOf loss s g target) q (score-of loss s wf g target h)

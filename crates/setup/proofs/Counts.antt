@@ -5,17 +5,16 @@ use mathlib.Core.Bool.{Bool, true, false}
 use mathlib.Core.List.{List, [], _∷_, _++_}
 use mathlib.Core.Logic.{_⊎_, inl, inr, ⊎-elim}
 use Prim.Native.Nat.{ℕ, _+_, _*_, _^_, _≤_, _<_}
-use native.Mathlib.Nat.{add-zero, zero-add, add-assoc, pow-zero}
+use native.Mathlib.Nat.{add-zero, zero-add, add-assoc}
 use native.Mathlib.Numerals.{add-one}
 use native.Mathlib.Omega.{arith}
 use lib.ListN.{length, getD, take, List·getD-eq-default}
 use lib.Seq.{take-suc, take-all}
 use lib.Count.{ones, ones-cat}
 use lib.Bits.{bitOr, or-shifted-r}
-use lib.Pow.{pow-mono, pow-pos, pow-lt}
-use Rattle.vertex_set.specs.Set.{Member, Within, Iff, Inserted, Decides}
+use Rattle.vertex_set.specs.Set.{Member, Iff, Inserted}
 use Rattle.vertex_set.proofs.Cases.{same-or, less-or}
-use Rattle.vertex_set.proofs.Sets.{same-set, in-or, in-one, member-below, none-in-zero, bounded-by-members}
+use Rattle.vertex_set.proofs.Sets.{same-set, in-or, in-one, none-in-zero, bounded-by-members}
 use Rattle.setup.specs.declared.Value.{Value}
 use Rattle.setup.specs.declared.Value.the-variants.{Blank, Of}
 use Rattle.setup.specs.declared.Vertex.{Vertex}

@@ -1,8 +1,8 @@
 -- The questions about the rows of one place, and about all places.
 -- Assumes nothing.
-use mathlib.Core.Path.{_≡_, refl, sym, ap, subst, _∙_}
-use mathlib.Core.Bool.{Bool, true, false}
-use mathlib.Core.Logic.{_⊎_, inl, inr, ⊎-elim}
+use mathlib.Core.Path.{_≡_, sym, subst, _∙_}
+use mathlib.Core.Bool.{Bool}
+use mathlib.Core.Logic.{_⊎_, ⊎-elim}
 use Prim.Native.Nat.{ℕ, _+_, _-_, _^_, _≤_, _<_}
 use native.Mathlib.Omega.{arith}
 use borrow.Author.Count.{below-none, below-more}
@@ -13,7 +13,7 @@ use lib.Bits.{bitAnd}
 use Rattle.vertex_set.specs.Set.{Member, Within, Decides, Iff, Below}
 use Rattle.vertex_set.proofs.Cases.{same-or, less-or}
 use Rattle.vertex_set.proofs.Sets.{member-below, none-in-zero, in-and, in-not}
-use Rattle.vertex_set.proofs.Decisions.{decide-yes, decide-no, decide-iff}
+use Rattle.vertex_set.proofs.Decisions.{decide-iff}
 use Rattle.setup.specs.declared.Rows.{Rows}
 use Rattle.setup.specs.Setup.{rowOf}
 use Rattle.setup.specs.Parts.{RowsFit, EdgesFit, RowsLess}

@@ -1,13 +1,13 @@
 -- The questions about one vertex's fields.
 -- Assumes nothing.
-use mathlib.Core.Path.{_≡_, refl, sym, ap, subst}
-use mathlib.Core.Bool.{Bool, true, false}
+use mathlib.Core.Path.{_≡_, sym, ap, subst}
+use mathlib.Core.Bool.{Bool, true}
 use Prim.Native.Nat.{ℕ, _≤_, _<_}
 use native.Mathlib.Omega.{arith}
 use native.Mathlib.Nat.{not-le-of-lt}
 use lib.Dec.{leb, eqb}
-use Rattle.vertex_set.specs.Set.{Decides, Iff}
-use Rattle.vertex_set.proofs.Decisions.{decide-yes, decide-no, decide-iff, decide-leb, decide-eqb}
+use Rattle.vertex_set.specs.Set.{Decides}
+use Rattle.vertex_set.proofs.Decisions.{decide-yes, decide-iff, decide-leb, decide-eqb}
 use Rattle.setup.specs.declared.Kind.{Kind}
 use Rattle.setup.specs.declared.Kind.the-variants.{Credential, Account}
 use Rattle.setup.specs.declared.Value.{Value}

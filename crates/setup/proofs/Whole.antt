@@ -1,15 +1,15 @@
 -- A setup is well formed exactly where its parts fit.
 -- Assumes nothing.
-use mathlib.Core.Path.{_≡_, refl, sym, ap, subst, _∙_}
-use mathlib.Core.Bool.{Bool, true, false}
-use mathlib.Core.List.{List, [], _∷_}
-use mathlib.Core.Logic.{_⊎_, inl, inr, ⊎-elim}
+use mathlib.Core.Path.{_≡_, sym, ap, subst, _∙_}
+use mathlib.Core.Bool.{Bool}
+use mathlib.Core.List.{[]}
+use mathlib.Core.Logic.{_⊎_, ⊎-elim}
 use Prim.Native.Nat.{ℕ, _+_, _≤_, _<_}
 use native.Mathlib.Omega.{arith}
 use native.Mathlib.Nat.{lt-of-lt-of-le}
 use lib.ListN.{length, getD, set, length-set, List·getD-eq-default}
 use lib.Seq.{getD-set-same, getD-set-other}
-use Rattle.vertex_set.specs.Set.{Member, Decides, Iff}
+use Rattle.vertex_set.specs.Set.{Member, Decides}
 use Rattle.vertex_set.proofs.Cases.{less-or, same-or}
 use Rattle.vertex_set.proofs.Sets.{none-in-zero}
 use Rattle.vertex_set.proofs.Decisions.{decide-iff}

@@ -1,7 +1,7 @@
 // A lab's account setup (document 003: the graph with V_init, Init and E_rec), and question 12:
 // is it one that some accepted sheet yields?
 ghost use mathlib.Core.Path.{_≡_};
-ghost use Prim.Native.Nat.{ℕ, _≤_, _<_};
+ghost use Prim.Native.Nat.{_≤_, _<_};
 ghost use lib.Count.{ones};
 ghost use Rattle.vertex_set.specs.Set.{Decides};
 ghost use Rattle.setup.specs.Setup.{edgeCount, unusedVertex, given, valueOf, total, ChosenSet, WithoutRecovery};

@@ -177,6 +177,13 @@ fn least(a: usize, b: usize) -> usize
     if a < b { a } else { b }
 }
 
+// Cases stand one to a line, so a `;` in their rows stands for LF.
+fn byte_of(b: u8) -> u8
+    ensures { λ _. ⊤ₛ }
+{
+    if b == b';' { sheet_fields::LF } else { b }
+}
+
 // Puts a part into the text from `at` on, as far as there is room, and hands back the place behind it.
 fn put(text: &mut [u8], at: usize, part: &[u8]) -> usize
     ensures { λ r. ⌜ Counts r (now (text .exit)) ⌝ }
@@ -187,7 +194,7 @@ fn put(text: &mut [u8], at: usize, part: &[u8]) -> usize
         if text.len() <= next {
             return next;
         }
-        text[next] = part[i];
+        text[next] = byte_of(part[i]);
         next += 1;
         i += 1;
     }
@@ -221,43 +228,55 @@ fn tell_items(label: &[u8], items: &[u8]) {
     tell_sheet(label, items, b"");
 }
 
-// Edge rows from line 6 on, below the items p and q.
-fn tell_edges(label: &[u8], edges: &[u8]) {
-    tell_sheet(label, b"p c - - 0\nq a - - 0\n", edges);
-}
-
-fn tell_row(above: &[u8], row: &[u8], below: &[u8]) {
+fn tell_between(label: &[u8], above: &[u8], rows: &[u8], below: &[u8]) {
     let mut text = [0u8; ROOM];
     let at = put(&mut text, 0, above);
-    let at = put(&mut text, at, row);
+    let at = put(&mut text, at, rows);
     let end = put(&mut text, at, below);
-    tell(row, &text[..end]);
+    tell(label, &text[..end]);
 }
 
-// Each of the rows stands alone between these parts of a sheet, and is its own label.
-fn tell_each(above: &[u8], rows: &[u8], below: &[u8]) {
+// A case is a label, `|` and rows, or rows that are their own label.
+fn tell_case(above: &[u8], case: &[u8], below: &[u8]) {
+    let bar = sheet_fields::find(case, 0, b'|');
+    if bar < case.len() {
+        tell_between(&case[..bar], above, &case[bar + 1..], below);
+    } else {
+        tell_between(case, above, case, below);
+    }
+}
+
+// Each of the cases stands alone between these parts of a sheet.
+fn tell_each(above: &[u8], cases: &[u8], below: &[u8]) {
     let mut at = 0;
-    while at < rows.len() {
-        let end = sheet_fields::find(rows, at, sheet_fields::LF);
-        tell_row(above, &rows[at..end], below);
+    while at < cases.len() {
+        let end = sheet_fields::find(cases, at, sheet_fields::LF);
+        tell_case(above, &cases[at..end], below);
         at = end + 1;
     }
 }
 
-fn tell_each_item(rows: &[u8]) {
+// Item rows from line 2 on, and no edges.
+fn tell_each_item(cases: &[u8]) {
     tell_each(
         b"name kind start loss rank\n",
-        rows,
+        cases,
         b"\n\nfrom to colour rec\n",
     );
 }
 
-fn tell_each_edge(rows: &[u8]) {
+// Edge rows from line 6 on, below the items p and q.
+fn tell_each_edge(cases: &[u8]) {
     tell_each(
         b"name kind start loss rank\np c - - 0\nq a - - 0\n\nfrom to colour rec\n",
-        rows,
+        cases,
         b"\n",
     );
+}
+
+// The lines from line 4 on, below one item.
+fn tell_each_behind(cases: &[u8]) {
+    tell_each(b"name kind start loss rank\np c - - 0\n\n", cases, b"\n");
 }
 
 // A name of 16 bytes; its last two are the item's number.
@@ -403,16 +422,19 @@ fn whole_text() {
         b"CR before LF",
         b"name kind start loss rank\r\np c - - 0\r\n\r\nfrom to colour rec\r\n",
     );
-    tell_edges(b"CR in the last line", b"p q 0 0\nq p 0 0\r\n");
+    tell_each_edge(b"CR in the last line|p q 0 0;q p 0 0\r\n");
     tell(b"CR in a wrong header, 2 before 3", b"x\r\n");
-    tell_items(b"byte 0", b"p\x00 c - - 0\n");
-    tell_items(b"byte 9", b"p\tc - - 0\n");
-    tell_items(b"byte 31", b"p\x1f c - - 0\n");
-    tell_items(b"byte 33", b"p! c - - 0\n");
-    tell_items(b"byte 126", b"p~ c - - 0\n");
-    tell_items(b"byte 127", b"p\x7f c - - 0\n");
-    tell_items(b"byte 128", b"p\x80 c - - 0\n");
-    tell_items(b"byte 255", b"p\xff c - - 0\n");
+    tell_each_item(
+        b"byte 0|p\x00 c - - 0
+byte 9|p\tc - - 0
+byte 31|p\x1f c - - 0
+byte 33|p! c - - 0
+byte 126|p~ c - - 0
+byte 127|p\x7f c - - 0
+byte 128|p\x80 c - - 0
+byte 255|p\xff c - - 0
+",
+    );
 }
 
 fn first_header() {
@@ -438,45 +460,22 @@ fn first_header() {
     );
 }
 
-// The lines from line 4 on, below one item.
-fn tell_behind(label: &[u8], rest: &[u8]) {
-    let mut text = [0u8; ROOM];
-    let at = put(&mut text, 0, b"name kind start loss rank\np c - - 0\n\n");
-    let end = put(&mut text, at, rest);
-    tell(label, &text[..end]);
-}
-
 fn second_header() {
-    tell_behind(b"second header missing", b"p p 0 0\n");
-    tell_behind(
-        b"second header with a space before it",
-        b" from to colour rec\n",
+    tell_each_behind(
+        b"second header missing|p p 0 0
+second header with a space before it| from to colour rec
+second header with a space behind it|from to colour rec\x20
+second header with two spaces together|from to colour  rec
+first header in the place of the second|name kind start loss rank
+two empty lines|;from to colour rec
+",
     );
-    tell_behind(
-        b"second header with a space behind it",
-        b"from to colour rec \n",
+    tell_each_item(
+        b"no empty line, so the second header is an item row|p c - - 0;from to colour rec
+first header among items, a row|p c - - 0;name kind start loss rank
+",
     );
-    tell_behind(
-        b"second header with two spaces together",
-        b"from to colour  rec\n",
-    );
-    tell_behind(
-        b"first header in the place of the second",
-        b"name kind start loss rank\n",
-    );
-    tell_behind(b"two empty lines", b"\nfrom to colour rec\n");
-    tell_items(
-        b"no empty line, so the second header is an item row",
-        b"p c - - 0\nfrom to colour rec\n",
-    );
-    tell_items(
-        b"first header among items, a row",
-        b"p c - - 0\nname kind start loss rank\n",
-    );
-    tell_edges(
-        b"second header among edges, a row",
-        b"p q 0 0\nfrom to colour rec\n",
-    );
+    tell_each_edge(b"second header among edges, a row|p q 0 0;from to colour rec\n");
 }
 
 fn missing() {
@@ -491,33 +490,36 @@ fn missing() {
         b"over behind an item row",
         b"name kind start loss rank\np c - - 0\n",
     );
-    tell_behind(b"over behind the empty line", b"");
+    tell(
+        b"over behind the empty line",
+        b"name kind start loss rank\np c - - 0\n\n",
+    );
 }
 
 fn item_fields() {
     print(b"\n4, item rows\n");
-    tell_items(b"one field", b"p\n");
-    tell_items(b"four fields", b"p c - -\n");
-    tell_items(b"six fields", b"p c - - 0 0\n");
-    tell_items(b"five, the first empty", b" c - - 0\n");
-    tell_items(b"five, the second empty", b"p  - - 0\n");
-    tell_items(b"five, the last empty", b"p c - - \n");
-    tell_items(b"six, the last empty", b"p c - - 0 \n");
-    tell_items(b"four spaces", b"    \n");
-    tell_items(
-        b"one space in the place of the empty line",
-        b"p c - - 0\n \n",
+    tell_each_item(
+        b"one field|p
+four fields|p c - -
+six fields|p c - - 0 0
+five, the first empty| c - - 0
+five, the second empty|p  - - 0
+five, the last empty|p c - -\x20
+six, the last empty|p c - - 0\x20
+four spaces|\x20\x20\x20\x20
+one space in the place of the empty line|p c - - 0;\x20
+4 before 5|P c - -
+4 before 6|p c - - 0;p c - -
+",
     );
-    tell_items(b"4 before 5", b"P c - -\n");
-    tell_items(b"4 before 6", b"p c - - 0\np c - -\n");
 }
 
 fn names_and_kinds() {
     print(b"\n5, names and kinds\n");
-    tell_items(b"a name of 16 bytes", b"abcdefghij_45678 c - - 0\n");
-    tell_items(b"a name of 17 bytes", b"abcdefghij_456789 c - - 0\n");
     tell_each_item(
-        b"0 c - - 0
+        b"a name of 16 bytes|abcdefghij_45678 c - - 0
+a name of 17 bytes|abcdefghij_456789 c - - 0
+0 c - - 0
 az09_ c - - 0
 p-q c - - 0
 p/q c - - 0
@@ -527,6 +529,7 @@ pZq c - - 0
 p^q c - - 0
 p`q c - - 0
 p{q c - - 0
+p}q c - - 0
 p a - - 0
 p b - - 0
 p C - - 0
@@ -567,28 +570,16 @@ p c - - 18446744073709551616
 
 fn names_again() {
     print(b"\n6, names used above\n");
-    tell_items(b"a name again", b"p c - - 0\np a 1 1 1\n");
-    tell_items(
-        b"a name of 16 bytes again",
-        b"abcdefghijklmnop c - - 0\nabcdefghijklmnop c - - 0\n",
-    );
-    tell_items(b"5 before 6", b"p c - - 0\np b - - 0\n");
-    tell_items(
-        b"the first line with a no",
-        b"p c - - 0\np c - - 0\nP c - -\n",
-    );
-    tell_items(b"p and pp", b"p c - - 0\npp c - - 0\n");
-    tell_items(
-        b"names that differ in their last byte",
-        b"abcdefghijklmnop c - - 0\nabcdefghijklmnoq c - - 0\n",
-    );
-    tell_items(
-        b"names that differ in their first byte",
-        b"abcdefghijklmnop c - - 0\nbbcdefghijklmnop c - - 0\n",
-    );
-    tell_items(
-        b"names that are the same up to byte 8",
-        b"abcdefgh c - - 0\nabcdefgh0 c - - 0\n",
+    tell_each_item(
+        b"a name again|p c - - 0;p a 1 1 1
+a name of 16 bytes again|abcdefghijklmnop c - - 0;abcdefghijklmnop c - - 0
+5 before 6|p c - - 0;p b - - 0
+the first line with a no|p c - - 0;p c - - 0;P c - -
+p and pp|p c - - 0;pp c - - 0
+names that differ in their last byte|abcdefghijklmnop c - - 0;abcdefghijklmnoq c - - 0
+names that differ in their first byte|abcdefghijklmnop c - - 0;bbcdefghijklmnop c - - 0
+names that are the same up to byte 8|abcdefgh c - - 0;abcdefgh0 c - - 0
+",
     );
 }
 
@@ -617,6 +608,9 @@ fn item_bounds() {
         0,
         b"",
     );
+}
+
+fn chosen_bounds() {
     tell_many(b"a 14th starting item", 13, b"one_more c 0 - 0\n", 0, b"");
     tell_many(b"a 15th starting item", 14, b"one_more c 0 - 0\n", 0, b"");
     tell_many(b"a 14th losable item", 13, b"one_more c - 0 0\n", 0, b"");
@@ -660,16 +654,19 @@ fn edge_bounds() {
 
 fn edge_fields() {
     print(b"\n4, edge rows\n");
-    tell_edges(b"three fields", b"p q 0\n");
-    tell_edges(b"five fields", b"p q 0 0 0\n");
-    tell_edges(b"four, the first empty", b" q 0 0\n");
-    tell_edges(b"four, the second empty", b"p  0 0\n");
-    tell_edges(b"four, the last empty", b"p q 0 \n");
-    tell_edges(b"three spaces", b"   \n");
-    tell_edges(b"4 before 5", b"P q 0\n");
-    tell_edges(b"an empty line at the end", b"\n");
-    tell_edges(b"an empty line at the end, behind a row", b"p q 0 0\n\n");
-    tell_edges(b"an empty line between rows", b"p q 0 0\n\nq p 0 0\n");
+    tell_each_edge(
+        b"three fields|p q 0
+five fields|p q 0 0 0
+four, the first empty| q 0 0
+four, the second empty|p  0 0
+four, the last empty|p q 0\x20
+three spaces|\x20\x20\x20
+4 before 5|P q 0
+an empty line at the end|
+an empty line at the end, behind a row|p q 0 0;
+an empty line between rows|p q 0 0;;q p 0 0
+",
+    );
 }
 
 fn edge_forms() {
@@ -707,13 +704,16 @@ p r 0 2
 
 fn edges_again() {
     print(b"\n9, edges that are there\n");
-    tell_edges(b"an edge again", b"p q 0 0\np q 0 0\n");
-    tell_edges(b"an edge again, for recovery", b"p q 0 0\np q 0 1\n");
-    tell_edges(b"a recovery edge again, rec 0", b"p q 0 1\np q 0 0\n");
-    tell_edges(b"an edge again, rec 2, 5 before 9", b"p q 0 0\np q 0 2\n");
-    tell_edges(b"an edge in another colour", b"p q 0 0\np q 1 0\n");
-    tell_edges(b"an edge turned round", b"p q 0 0\nq p 0 0\n");
-    tell_edges(b"two edges of one colour", b"p q 0 0\nq q 0 0\n");
+    tell_each_edge(
+        b"an edge again|p q 0 0;p q 0 0
+an edge again, for recovery|p q 0 0;p q 0 1
+a recovery edge again, rec 0|p q 0 1;p q 0 0
+an edge again, rec 2, 5 before 9|p q 0 0;p q 0 2
+an edge in another colour|p q 0 0;p q 1 0
+an edge turned round|p q 0 0;q p 0 0
+two edges of one colour|p q 0 0;q q 0 0
+",
+    );
 }
 
 fn main() {
@@ -729,6 +729,7 @@ fn main() {
     values();
     names_again();
     item_bounds();
+    chosen_bounds();
     edge_bounds();
     edge_fields();
     edge_forms();

@@ -2,7 +2,7 @@
 use setup::Kind;
 use setup::Value;
 ghost use mathlib.Core.Path.{_≡_};
-ghost use Prim.Native.Nat.{ℕ, _+_, _≤_};
+ghost use Prim.Native.Nat.{_+_, _≤_};
 ghost use lib.ListN.{length, drop};
 ghost use Rattle.sheet_format.specs.Fields.{isNameByte, isName};
 ghost use Rattle.sheet_fields.specs.Parts.{until, endAt, CutsFour};

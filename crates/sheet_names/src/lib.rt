@@ -1,7 +1,7 @@
 // Where the names of a sheet's items stand. For a sheet that is known to be accepted: a name is
 // found with no second reading.
 ghost use mathlib.Core.Path.{_≡_};
-ghost use Prim.Native.Nat.{ℕ, _≤_, _<_};
+ghost use Prim.Native.Nat.{_≤_, _<_};
 ghost use Rattle.sheet_format.specs.Text.{linesOf};
 ghost use Rattle.sheet_format.specs.Names.{lineStart};
 ghost use Rattle.sheet_names.specs.Span.{spanOf};

@@ -7,7 +7,7 @@ use sheet_fields::KindField;
 use sheet_fields::NameField;
 use sheet_fields::ValueField;
 ghost use mathlib.Core.Path.{_≡_};
-ghost use Prim.Native.Nat.{ℕ, suc, _≤_};
+ghost use Prim.Native.Nat.{suc, _≤_};
 ghost use mathlib.Core.Bool.{_&&_};
 ghost use lib.ListN.{length, take};
 ghost use lib.Dec.{eqb, leb};

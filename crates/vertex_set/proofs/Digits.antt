@@ -2,14 +2,13 @@
 -- Assumes nothing.
 use mathlib.Core.Path.{_≡_, refl, sym, ap, _∙_, subst}
 use mathlib.Core.Logic.{_⊎_, inl, inr, ⊎-elim}
-use Prim.Native.Nat.{ℕ, zero, suc, _+_, _-_, _*_, _/_, _%_, _^_, min, max, _≤_, _<_}
-use native.Mathlib.Nat.{pow-suc, zero-div, zero-mod, div-one, div-eq-of-lt, div-div-eq-div-mul, div-add-mod', mod-lt, div-lt-self, mul-comm, mod-eq-of-lt, add-zero, zero-add, pow-zero}
-use native.Mathlib.Numerals.{add-one}
+use Prim.Native.Nat.{ℕ, zero, suc, _+_, _-_, _*_, _/_, _%_, _^_, min, max, _<_}
+use native.Mathlib.Nat.{pow-suc, zero-div, div-one, div-eq-of-lt, div-div-eq-div-mul, mod-lt, mul-comm}
 use native.Mathlib.Omega.{arith}
-use lib.Bits.{bitAnd, bitOr, bitXor, differ, and-shr, or-shr, xor-shr, and-step, or-step, xor-step}
+use lib.Bits.{bitAnd, bitOr, and-shr, or-shr, and-step, or-step}
 use lib.Arith.{bin-ind, lt-of-le-ne}
 use Rattle.vertex_set.proofs.Cases.{less-or}
-use lib.Pow.{pow-pos, pow-lt, pow-mono, pow-add, shl-shr, shr-shr, split, shr-lt}
+use lib.Pow.{pow-pos, pow-lt, pow-add, shl-shr}
 
 -- The digit of s at place i.
 abbrev pub digit : ℕ → ℕ → ℕ

@@ -1,7 +1,4 @@
 // Sets of vertices as 64-bit numbers: a set is the sum of 2^v over its vertices v.
-ghost use mathlib.Core.Path.{_≡_};
-ghost use mathlib.Core.Logic.{_⊎_};
-ghost use Prim.Native.Nat.{ℕ};
 ghost use Rattle.vertex_set.specs.Set.{Member, Within, Decides, Inserted, Meets, Below};
 
 pub const VERTICES: usize = 64;

@@ -91,10 +91,10 @@ pub no-set-back : SetCall AccessFrom (bench .setup) (setOf (mailpw ∷ [])) 0 (s
 no-set-back c = apart 2 26 [] [] (omega arith) (set-settled (bench .setup) well false 2 26 0 _ (inside 2 (omega arith)) b2 c)
 
 -- "Shut" before looking (B6): there is a way in of two steps, whatever room the lists have.
-pub no-early-shut : (entry exit entry′ exit′ : List ℕ) → WayCall (bench .setup) order (setOf (mailpw ∷ [])) 0 [] entry exit entry′ exit′ → ⊥
+pub no-early-shut : (entry exit entry′ exit′ : List ℕ) → WayCall (bench .setup) order (setOf (mailpw ∷ [])) 0 (0 ∷ []) entry exit entry′ exit′ → ⊥
 no-early-shut entry exit entry′ exit′ c =
-    let e = way-counted (bench .setup) well order (omega arith) 2 [] entry exit entry′ exit′ steps (inside 2 (omega arith)) b6 c in
-    let z : _≡_ {A = ℕ} 0 1 = ap length e in
+    let e = way-counted (bench .setup) well order (omega arith) 2 (0 ∷ []) entry exit entry′ exit′ steps (inside 2 (omega arith)) b6 c in
+    let z : _≡_ {A = ℕ} 1 2 = ap length e in
     omega arith
 
 -- ---- lists

@@ -39,12 +39,12 @@ module _ (s : Setup) (wf : WellFormed s) where
         let a = c .found wf l i (way-derives (s .graph) target (Member set) d h) in
         subst (λ (e : List Step). WayWritten e number values entry exit entry′ exit′) (way-unique (s .graph) target (Member set) (a .0) d (a .1) h) (a .2)
 
-    -- with number 0, the value is the length of the way
+    -- with number 0, the values are 1 and the length of the way
     pub way-counted : (set : ℕ) (values entry exit entry′ exit′ : List ℕ) (d : List Step) → Inside s set → Way (s .graph) target (Member set) d
-        → WayCall s target set 0 values entry exit entry′ exit′ → values ≡ length d ∷ []
+        → WayCall s target set 0 values entry exit entry′ exit′ → values ≡ 1 ∷ length d ∷ []
     way-counted set values entry exit entry′ exit′ d i h c =
         let w = way-settled set 0 values entry exit entry′ exit′ d i h c in
-        let no-room : (length entry < length d) ⊎ (length entry′ < length d) → values ≡ length d ∷ [] = λ k. absurd (let z = w .short k .0 .numbered in omega arith) in
+        let no-room : (length entry < length d) ⊎ (length entry′ < length d) → values ≡ 1 ∷ length d ∷ [] = λ k. absurd (let z = w .short k .0 .numbered in omega arith) in
         ⊎-elim (λ k. no-room (inl k)) (λ k. ⊎-elim (λ j. no-room (inr j)) (λ j. w .room k j .1) (less-or (length entry′) (length d))) (less-or (length entry) (length d))
 
     pub bases-settled : (opening lockout : List ℕ) (number : ℕ) (values entry exit : List ℕ) → Base false s (s .graph) target opening → Base true s (s .graph) target lockout

@@ -1,6 +1,5 @@
 use borrow.Author.Needs.{needs}
-use Prim.Native.Nat.{_^_, _+_, _≤_, _<_, _-_}
-use mathlib.Core.Path.{_≡_}
+use Prim.Native.Nat.{_^_, _<_, _-_}
 use native.Mathlib.Omega.{arith}
 use Rattle.access.proofs.Ways.{Taken, taken-none, taken-more, taken-all, taken-stuck, inserted-more}
 use Rattle.access.proofs.count_way.Statement.{statement}

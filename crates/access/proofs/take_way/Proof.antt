@@ -1,9 +1,5 @@
-use mathlib.Core.Path.{_≡_, sym, subst}
-use mathlib.Core.List.{[], _∷_}
 use mathlib.Core.Logic.{inl, inr}
-use Prim.Native.Nat.{ℕ}
 use native.Mathlib.Omega.{arith}
-use Rattle.access.specs.Inner.{WayTaken}
 use Rattle.access.proofs.Ways.{taken-short, taken-room, way-taken-shut}
 use borrow.Author.Needs.{needs}
 use Rattle.access.proofs.take_way.Statement.{statement}

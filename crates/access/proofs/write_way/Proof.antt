@@ -1,8 +1,6 @@
 use borrow.Author.Needs.{needs}
-use Prim.Native.Nat.{_^_, _+_, _≤_, _<_, _-_}
-use mathlib.Core.Path.{_≡_, ap}
+use Prim.Native.Nat.{_^_, _<_, _-_}
 use native.Mathlib.Omega.{arith}
-use lib.ListN.{length, length-set}
 use Rattle.access.proofs.Ways.{Writing, writing-none, writing-fits, writing-more, writing-all, writing-long, writing-new, inserted-more}
 use Rattle.access.proofs.write_way.Statement.{statement}
 use Rattle.access.proofs.write_way.Tie as tie

@@ -1,8 +1,8 @@
 use borrow.Author.Needs.{needs}
-use Prim.Native.Nat.{_+_, _*_, _≤_, _<_, _-_}
+use Prim.Native.Nat.{_+_, _≤_, _-_}
 use mathlib.Core.Path.{_≡_, refl, sym, _∙_}
 use native.Mathlib.Omega.{arith}
-use lib.ListN.{length, getD, length-set}
+use lib.ListN.{getD}
 use Rattle.bases.proofs.Readers.{FilledBelow, filled-none, filled-more, copied}
 use Rattle.bases.proofs.copy_family.Statement.{statement}
 use Rattle.bases.proofs.copy_family.Tie as tie

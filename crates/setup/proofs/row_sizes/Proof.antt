@@ -2,7 +2,7 @@ use mir.Val.{Fits}
 use mir.Syntax.{w64}
 use lib.Seq.{take-all}
 use borrow.Author.Needs.{needs}
-use Prim.Native.Nat.{_≤_, _<_, _-_, _*_}
+use Prim.Native.Nat.{_≤_, _-_, _*_}
 use mathlib.Core.Path.{_≡_, refl}
 use lib.Count.{ones, ones-le}
 use lib.ListN.{take, length, getD}

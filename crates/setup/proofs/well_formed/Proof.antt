@@ -1,7 +1,7 @@
 use lib.ListN.{length-map}
 use Rattle.setup.proofs.Whole.{whole-yes, places-of}
 use native.Mathlib.Omega.{arith}
-use Rattle.vertex_set.proofs.Decisions.{decide-no, decide-iff}
+use Rattle.vertex_set.proofs.Decisions.{decide-no}
 use borrow.Author.Needs.{needs}
 use Rattle.setup.proofs.well_formed.Statement.{statement}
 use Rattle.setup.proofs.well_formed.Tie as tie

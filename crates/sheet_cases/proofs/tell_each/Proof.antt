@@ -7,16 +7,16 @@ use Rattle.sheet_cases.proofs.tell_each.Statement.{statement}
 use Rattle.sheet_cases.proofs.tell_each.Tie as tie
 
 abbrev Inv-loop : tie.InvT-loop
-Inv-loop above rows below at₀ at = Unit {0}
+Inv-loop above cases below at₀ at = Unit {0}
 
 abbrev μ-loop : tie.MeasureT-loop
-μ-loop above rows below at₀ at = length rows - at
+μ-loop above cases below at₀ at = length cases - at
 
--- the row ends within the rows
-row-end : (c : tie.After-find Inv-loop μ-loop) → c .find .result ≤ length (c .before .before .before .before .before .before .args .rows .now)
-row-end c =
+-- the case ends within the cases
+case-end : (c : tie.After-find Inv-loop μ-loop) → c .find .result ≤ length (c .before .before .before .before .before .before .args .cases .now)
+case-end c =
     let p = c .before .before in
-    let s = p .before .before .before .before .args .rows .now in
+    let s = p .before .before .before .before .args .cases .now in
     let d = length-drop (p .loop .at) s in
     let u = until-le 10 (drop (p .loop .at) s) in
     let t = c .before .loop-test .taken in
@@ -29,21 +29,21 @@ loop-holds c = tt
 find-requires : tie.Need-find-requires Inv-loop μ-loop
 find-requires c κs = search needs
 
-sub-tell-row : tie.Need-sub-tell-row Inv-loop μ-loop
-sub-tell-row c = search needs
+sub-tell-case : tie.Need-sub-tell-case Inv-loop μ-loop
+sub-tell-case c = search needs
 
-part-tell-row-start : tie.Need-part-tell-row-start Inv-loop μ-loop
-part-tell-row-start c = search needs
+part-tell-case-start : tie.Need-part-tell-case-start Inv-loop μ-loop
+part-tell-case-start c = search needs
 
-part-tell-row-end : tie.Need-part-tell-row-end Inv-loop μ-loop
-part-tell-row-end c = row-end c
+part-tell-case-end : tie.Need-part-tell-case-end Inv-loop μ-loop
+part-tell-case-end c = case-end c
 
-tell-row-requires : tie.Need-tell-row-requires Inv-loop μ-loop
-tell-row-requires c κs = search needs
+tell-case-requires : tie.Need-tell-case-requires Inv-loop μ-loop
+tell-case-requires c κs = search needs
 
 add-at : tie.Need-add-at Inv-loop μ-loop
 add-at c =
-    let e = row-end (c .before .before) in
+    let e = case-end (c .before .before) in
     omega arith
 
 loop-less : tie.Need-loop-less Inv-loop μ-loop
@@ -63,10 +63,10 @@ tell-each-spec =
     μ-loop
     loop-holds
     find-requires
-    sub-tell-row
-    part-tell-row-start
-    part-tell-row-end
-    tell-row-requires
+    sub-tell-case
+    part-tell-case-start
+    part-tell-case-end
+    tell-case-requires
     add-at
     loop-less
     loop-again

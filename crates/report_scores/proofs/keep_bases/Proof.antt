@@ -35,8 +35,7 @@ loop-less c = search needs
 loop-again : tie.Need-loop-again Inv-loop μ-loop
 loop-again c =
     let k = c .before .before in
-    let b = k .before .before .before in
-    (
+    let b = k .before .before .before in (
       omega arith,
       kept-more _ _ _ (b .loop .w) (b .loop .out) _ (b .loop .v) (k .keep-base .result) (omega arith) (b .loop .inv .1) (k .keep-base .ensures),
     )

@@ -1,6 +1,6 @@
 -- Laws of families: their words, and the number of their members.
 -- Assumes nothing.
-use mathlib.Core.Path.{_≡_, sym, subst}
+use mathlib.Core.Path.{_≡_, refl, sym, subst, _∙_}
 use mathlib.Core.Bool.{false}
 use mathlib.Core.Logic.{_⊎_, ⊎-elim}
 use mathlib.Core.List.{List}
@@ -19,7 +19,7 @@ use Rattle.vertex_set.proofs.Places.{member-le}
 use Rattle.vertex_set.proofs.Shifts.{in-low, in-high}
 use Rattle.vertex_set.proofs.Subsets.{proper-lacks, within-removed, removed-proper, proper-less}
 use Rattle.families.specs.Family.{In, size, Monotone, Minimal, Least, MinimalMembers}
-use Rattle.families.specs.Steps.{LeastLane, LeastWord}
+use Rattle.families.specs.Steps.{StepInWord, LeastLane, LeastWord}
 
 -- ---- one mask
 
@@ -127,3 +127,43 @@ pub word-more : (f out : List ℕ) (b r : ℕ) → b < length out → ((k : ℕ)
 word-more f out b r h p l k lt =
     ⊎-elim (λ e. subst (λ (j : ℕ). LeastWord f j (getD (set out b r) j 0)) (sym e) (rw (getD-set-same out b r 0 h) l))
     (λ n. rw (getD-set-other out b k r 0 n) (p k (omega arith))) (same-or k b)
+
+-- ---- minimal members in place, from the last word down
+
+-- Word b is judged by words of numbers up to b alone.
+least-lane-same : (f g : List ℕ) (b i : ℕ) → ((k : ℕ) → k ≤ b → getD g k 0 ≡ getD f k 0) → LeastLane g b i → LeastLane f b i
+least-lane-same f g b i e l =
+    let own = e b (omega arith) in
+    record {
+      is = subst (λ (x : ℕ). Member x i) own (l .is);
+      low = λ s. l .low (subst (λ (x : ℕ). StepInWord x i) (sym own) s);
+      high = λ s. l .high (s .0, s .1, s .2, subst (λ (x : ℕ). Member x i) (sym (e (b - 2 ^ s .0) (omega arith))) (s .3));
+    }
+
+least-word-same : (f g : List ℕ) (b r : ℕ) → ((k : ℕ) → k ≤ b → getD g k 0 ≡ getD f k 0) → LeastWord g b r → LeastWord f b r
+least-word-same f g b r e l =
+    record {
+      each = λ i h. record {
+        to = λ m. least-lane-same f g b i e (l .each i h .to m);
+        from = λ m. l .each i h .from (least-lane-same g f b i (λ k j. sym (e k j)) m);
+      };
+    }
+
+-- The words from b on have their least lanes, and those before are still the family's.
+pub record KeptFrom (f : List ℕ) (b : ℕ) (g : List ℕ) : Type 0 where
+  pub done : (k : ℕ) → b ≤ k → k < 256 → LeastWord f k (getD g k 0)
+  pub left : (k : ℕ) → k < b → getD g k 0 ≡ getD f k 0
+
+pub kept-none : (f : List ℕ) → KeptFrom f 256 f
+kept-none f = record { done = λ k h l. absurd (omega arith); left = λ k l. refl }
+
+-- the word below b is written
+pub kept-more : (f g : List ℕ) (b r : ℕ) → (b ≡ 0 → ⊥) → b ≤ length g → KeptFrom f b g → LeastWord g (b - 1) r → KeptFrom f (b - 1) (set g (b - 1) r)
+kept-more f g b r ne h p l =
+    record {
+      done = λ k at lt. ⊎-elim
+          (λ e. subst (λ (j : ℕ). LeastWord f j (getD (set g (b - 1) r) j 0)) (sym e) (rw (getD-set-same g (b - 1) r 0 (omega (arith, ne)))
+          (least-word-same f g (b - 1) r (λ j q. p .left j (omega (arith, ne))) l)))
+          (λ n. rw (getD-set-other g (b - 1) k r 0 n) (p .done k (omega (arith, n)) lt)) (same-or k (b - 1));
+      left = λ k lt. getD-set-other g (b - 1) k r 0 (omega arith) ∙ p .left k (omega arith);
+    }

@@ -89,6 +89,19 @@ pub fn minimal_members(f: &[u64], out: &mut [u64])
     }
 }
 
+// Keeps the family's minimal members alone. Each word is judged by itself and words of smaller numbers,
+// so the last one goes first and no copy is needed.
+pub fn keep_minimal(f: &mut [u64])
+    requires { ⌜ length (now f) ≡ 256 ⌝ }
+    ensures { λ _. ⌜ MinimalMembers (now (f .entry)) (now (f .exit)) ⌝ }
+{
+    let mut b = WORDS;
+    while b != 0 {
+        b = b - 1;
+        f[b] = least_word(f, b);
+    }
+}
+
 // The mask of a set x of chosen vertices. It goes from one chosen vertex to the next, lowest first.
 pub fn mask_of(chosen: VertexSet, x: u64) -> usize
     requires { ⌜ ones (chosen .0) ≤ 14 ⌝ }

@@ -10,11 +10,11 @@ use Rattle.setup.specs.Setup.{ChosenSet}
 use Rattle.setup.specs.WellFormed.{WellFormed}
 use Rattle.sheet_format.specs.Text.{linesOf}
 use Rattle.derivations.specs.Both.{ruleOf}
-use Rattle.tables.specs.Table.{Table}
 use Rattle.bases.specs.Score.{Values}
 use Rattle.reference.specs.Bases.{scoreOf}
 use Rattle.report_text.specs.Report.{nameIn, isAccount, isBackdoor, isIdle, isOutOfRank}
 use Rattle.report_fields.specs.Writing.{NamePlace}
+use Rattle.report_scores.specs.Scores.{BaseTable}
 use Rattle.report_facts.specs.declared.Facts.{Facts}
 
 -- The sheet has a line with a short name for each vertex of the setup.
@@ -40,9 +40,7 @@ pub record FactsOf (sheet : List ℕ) (s : Setup) (f : Facts) : Type 0 where
   pub names : (v : ℕ) → v < s .count → NamePlace sheet (f .from) (f .to) v
   pub short : (v : ℕ) → v < s .count → length (nameIn sheet v) ≤ 16
 
--- The tables of closures with recovery.
+-- The tables of bases with recovery.
 pub record TablesOf (s : Setup) (f : Facts) (opening lockout : List ℕ) : Type 0 where
-  pub longOpening : length opening ≡ 16384
-  pub longLockout : length lockout ≡ 16384
-  pub opens : Table (ruleOf false (s .graph)) (f .initial .0) opening
-  pub locks : Table (ruleOf true (s .graph)) (f .losable .0) lockout
+  pub opens : BaseTable (ruleOf false (s .graph)) (f .initial .0) opening
+  pub locks : BaseTable (ruleOf true (s .graph)) (f .losable .0) lockout

@@ -59,8 +59,6 @@ module _ (s : Setup) (w : WellFormed s) where
   unfolding isBackdoor isIdle
   findings-are less opening′ lockout′ opening lockout without own back idle r a b low most =
       record {
-        longOpening = b .security .words;
-        longLockout = b .recoverability .words;
         opens = b .security .table;
         locks = b .recoverability .table;
         scores = own-is false opening (own .scores) (b .security);
@@ -129,7 +127,7 @@ module _ (s : Setup) (w : WellFormed s) where
       names = p .each;
       short = n .short;
     },
-    record { longOpening = f .longOpening; longLockout = f .longLockout; opens = f .opens (initial .0) ci; locks = f .locks (losable .0) cl },
+    record { opens = f .opens (initial .0) ci; locks = f .locks (losable .0) cl },
   )
     where
       in64 : (v : ℕ) → v < s .count → v < 64

@@ -9,9 +9,8 @@ use Rattle.setup.specs.declared.Graph.{Graph}
 use Rattle.setup.specs.declared.Setup.{Setup}
 use Rattle.setup.specs.Setup.{ChosenSet}
 use Rattle.setup.specs.WellFormed.{WellFormed}
-use Rattle.report_scores.specs.Scores.{Scored}
+use Rattle.report_scores.specs.Scores.{BaseTable, Scored}
 use Rattle.derivations.specs.Both.{ruleOf}
-use Rattle.tables.specs.Table.{Table}
 use Rattle.reference.specs.Bases.{scoreOf}
 use Rattle.report_text.specs.Report.{isBackdoor, isIdle}
 use Rattle.report_figures.specs.declared.Scores.{Scores}
@@ -30,10 +29,8 @@ pub record BothScored (s : Setup) (g : Graph) (opening lockout : List ℕ) (r : 
 
 -- The tables are those with recovery, and r has the scores, risks and findings of all vertices.
 pub record FindingsOf (s : Setup) (opening lockout : List ℕ) (r : Findings) : Type 0 where
-  pub longOpening : length opening ≡ 16384
-  pub longLockout : length lockout ≡ 16384
-  pub opens : (chosen : ℕ) → ChosenSet false s chosen → Table (ruleOf false (s .graph)) chosen opening
-  pub locks : (chosen : ℕ) → ChosenSet true s chosen → Table (ruleOf true (s .graph)) chosen lockout
+  pub opens : (chosen : ℕ) → ChosenSet false s chosen → BaseTable (ruleOf false (s .graph)) chosen opening
+  pub locks : (chosen : ℕ) → ChosenSet true s chosen → BaseTable (ruleOf true (s .graph)) chosen lockout
   pub scores : (v : ℕ) → v < 64 → getD (r .scores) v 0 ≡ scoreOf false s (s .graph) v
   pub risks : (v : ℕ) → v < 64 → getD (r .risks) v 0 ≡ scoreOf true s (s .graph) v
   pub back : (v : ℕ) → v < 64 → Iff (Member (r .back .0) v) (isBackdoor s v ≡ true)

@@ -58,8 +58,8 @@ fn findings_of(s: Setup, opening: &mut [u64], lockout: &mut [u64]) -> Findings
     }
 }
 
-// The facts of a sheet's setup. Each of the four tables of closures is filled once; those with
-// recovery are left in `opening` and `lockout`.
+// The facts of a sheet's setup. Each of the four tables of closures is filled once and cut down to the
+// bases; those with recovery are left in `opening` and `lockout`.
 pub fn facts_of(sheet: &[u8], s: Setup, opening: &mut [u64], lockout: &mut [u64]) -> Facts
     requires { ⌜ WellFormed s × HasNames (now sheet) s ⌝ }
     requires { ⌜ (length (now opening) ≡ 16384) × (length (now lockout) ≡ 16384) ⌝ }

@@ -12,10 +12,10 @@ use Rattle.setup.specs.declared.Setup.{Setup}
 use Rattle.setup.specs.Setup.{ChosenSet}
 use Rattle.setup.specs.WellFormed.{WellFormed}
 use Rattle.derivations.specs.Both.{ruleOf}
-use Rattle.tables.specs.Table.{Table}
 use Rattle.report_text.specs.Rows.{textsOf, setRow}
 use Rattle.report_text.specs.Report.{nameIn, isAccount}
 use Rattle.report_fields.specs.Writing.{NamePlace, NamePlaces}
+use Rattle.report_scores.specs.Scores.{BaseTable}
 use Rattle.report_facts.specs.Texts.{slotList}
 use Rattle.report_facts.specs.Parts.{Part}
 
@@ -49,21 +49,19 @@ pub record RowsWent (name : ℕ → List ℕ) (loss : Bool) (target : ℕ) (valu
   pub most : row ≤ n
   pub more : i < n → at + 272 ≤ length entry → i < row
 
--- The tables of some graph, and room for every list.
+-- The tables of bases of some graph, and room for every list.
 pub record CanLoad (k initial losable : ℕ) (opening lockout list : List ℕ) : Type 0 where
   pub vertex : k / 2 < 64
   pub few : ones initial ≤ 14
   pub fewLosable : ones losable ≤ 14
-  pub longOpening : length opening ≡ 16384
-  pub longLockout : length lockout ≡ 16384
   pub room : length list ≡ 16384
   pub graph : Graph
-  pub opens : Table (ruleOf false graph) initial opening
-  pub locks : Table (ruleOf true graph) losable lockout
+  pub opens : BaseTable (ruleOf false graph) initial opening
+  pub locks : BaseTable (ruleOf true graph) losable lockout
 
 -- The list with number k of whatever setup the tables and accounts are of.
 pub record Loaded (k accounts initial losable : ℕ) (opening lockout : List ℕ) (r : ℕ) (list : List ℕ) : Type 0 where
-  pub each : (s : Setup) → WellFormed s → ChosenSet false s initial → ChosenSet true s losable → Table (ruleOf false (s .graph)) initial opening
-      → Table (ruleOf true (s .graph)) losable lockout → Iff (Member accounts (k / 2)) (isAccount s (k / 2) ≡ true) → take r list ≡ slotList s k
+  pub each : (s : Setup) → WellFormed s → ChosenSet false s initial → ChosenSet true s losable → BaseTable (ruleOf false (s .graph)) initial opening
+      → BaseTable (ruleOf true (s .graph)) losable lockout → Iff (Member accounts (k / 2)) (isAccount s (k / 2) ≡ true) → take r list ≡ slotList s k
   pub most : r ≤ 16384
   pub room : length list ≡ 16384

@@ -1,14 +1,15 @@
--- What is read from a table: a target's minimal sets, their list, and the scores of all vertices.
+-- A table of closures becomes one of bases, and what is read from it: lists, and the scores of all vertices.
 -- Assumes nothing.
 use mathlib.Core.Path.{_≡_, refl, sym, ap, subst, _∙_}
 use mathlib.Core.Bool.{Bool}
-use mathlib.Core.List.{List}
+use mathlib.Core.List.{List, _++_}
 use mathlib.Core.Logic.{⊎-elim}
-use Prim.Native.Nat.{ℕ, _+_, _*_, _^_, _<_}
+use Prim.Native.Nat.{ℕ, _+_, _*_, _^_, _≤_, _<_}
 use native.Mathlib.Omega.{arith}
-use lib.ListN.{length, getD, take, drop, set, length-append, length-set}
-use lib.Seq.{take-append-seam, getD-set-same, getD-set-other}
-use Rattle.vertex_set.proofs.Cases.{same-or}
+use lib.ListN.{length, getD, take, drop, set, length-append, length-drop, length-set, List·getD-eq-default}
+use lib.Seq.{length-take-le, take-append-seam, take-at, drop-at, getD-take, getD-drop, getD-set-same, getD-set-other, ext-getD}
+use borrow.Rule.Slice.PartMut.{putMid}
+use Rattle.vertex_set.proofs.Cases.{same-or, less-or}
 use Rattle.vertex_set.proofs.Sets.{same-set}
 use Rattle.vertex_set.proofs.Sums.{sum-over-same}
 use Rattle.setup.specs.declared.Graph.{Graph}
@@ -16,88 +17,122 @@ use Rattle.setup.specs.declared.Setup.{Setup}
 use Rattle.setup.specs.Setup.{ChosenSet}
 use Rattle.setup.specs.WellFormed.{WellFormed}
 use Rattle.derivations.specs.Both.{ruleOf}
-use Rattle.families.specs.Family.{MinimalMembers}
-use Rattle.family_lists.specs.Lists.{Writable, WroteSets, Summable, SumTables, LeastBy}
+use Rattle.families.specs.Family.{size, MinimalMembers}
+use Rattle.family_lists.specs.Lists.{ListOf, Writable, WroteSets, Summable, SumTables, LeastBy}
 use Rattle.family_lists.proofs.Order.{Words, size-bound}
 use Rattle.family_lists.proofs.MinimalSets.{least-of-minimal}
 use Rattle.tables.specs.Table.{Table, FamilyOf}
+use Rattle.tables.proofs.Parts.{put-length, put-other}
 use Rattle.tables.proofs.Tables.{family-of}
 use Rattle.bases.specs.Base.{Base}
 use Rattle.bases.specs.Score.{pointsAt, Values}
 use Rattle.bases.proofs.Formed.{few, points-small}
 use Rattle.bases.proofs.Bridge.{on-chosen, base-of, score-of}
-use Rattle.report_scores.specs.Scores.{Scored, CanList, Listing, MinimalAt, ScoreFrom, ScoresFrom}
+use Rattle.report_scores.specs.Scores.{wordsAt, BaseTable, Scored, CanRead, Listing, Kept, KeptAt, KeptAll}
 
--- the minimal members of a part of the table that has 256 words
-pub minimal-part : (w : List ℕ) (target k : ℕ) (m : List ℕ) → k ≡ 256 → length m ≡ 256 → Words m → MinimalMembers (take k (drop (target * 256) w)) m
-    → MinimalAt w target m
-minimal-part w target k m e long words min =
+-- ---- the words of a vertex
+
+words-long : (w : List ℕ) (v : ℕ) → length w ≡ 16384 → v < 64 → length (wordsAt w v) ≡ 256
+words-long w v e h = length-take-le 256 (drop (v * 256) w) (let d = length-drop (v * 256) w in omega arith)
+
+word-at : (w : List ℕ) (v b : ℕ) → b < 256 → getD (wordsAt w v) b 0 ≡ getD w (v * 256 + b) 0
+word-at w v b h = getD-take 256 (drop (v * 256) w) b 0 h ∙ getD-drop (v * 256) w b 0
+
+-- there are no more members than masks
+members-most : (w : List ℕ) (v : ℕ) → length w ≡ 16384 → v < 64 → Words w → size (wordsAt w v) ≤ 16384
+members-most w v e h words =
+    let long = words-long w v e h in
+    let b = size-bound (wordsAt w v) (λ i. ⊎-elim
+    (λ l. rw (word-at w v i l) (words (v * 256 + i)))
+    (λ l. rw (List·getD-eq-default (wordsAt w v) 0 {n = i} (omega arith)) (omega arith)) (less-or i 256)) in
+    omega arith
+
+-- the words that are put at a vertex are its words then, and those of other vertices are kept
+module _ (w d : List ℕ) (v k : ℕ) (hw : length w ≡ 16384) (hv : v < 64) (hk : k ≡ 256) (hd : length d ≡ 256) where
+  words-put : wordsAt (putMid (v * 256) k w d) v ≡ d
+  words-put =
+      ap (take 256) (drop-at (take (v * 256) w) (d ++ drop k (drop (v * 256) w)) (v * 256) (length-take-le (v * 256) w (omega arith)))
+      ∙ take-at d (drop k (drop (v * 256) w)) 256 hd
+
+  words-kept : (u : ℕ) → u < 64 → (u ≡ v → ⊥) → wordsAt (putMid (v * 256) k w d) u ≡ wordsAt w u
+  words-kept u hu n =
+      let long = words-long (putMid (v * 256) k w d) u (put-length w d v k hw hv hk hd) hu in
+      ext-getD 0 (wordsAt (putMid (v * 256) k w d) u) (wordsAt w u) (long ∙ sym (words-long w u hw hu))
+      (λ i l. let h : i < 256 = omega arith in
+      word-at (putMid (v * 256) k w d) u i h ∙ put-other w d v k hw hv hk hd u i h n ∙ sym (word-at w u i h))
+
+  -- the minimal members are put in the family's place, and their least sum is r
+  pub kept-at : (low high : List ℕ) (r : ℕ) → MinimalMembers (take k (drop (v * 256) w)) d
+      → LeastBy (take k (drop (v * 256) (putMid (v * 256) k w d))) low high r → KeptAt w low high v r (putMid (v * 256) k w d)
+  kept-at low high r min least =
+      record {
+        words = put-length w d v k hw hv hk hd;
+        own = record {
+          minimal = subst (MinimalMembers (wordsAt w v)) (sym words-put) (subst (λ (n : ℕ). MinimalMembers (take n (drop (v * 256) w)) d) hk min);
+          least = subst (λ (n : ℕ). LeastBy (take n (drop (v * 256) (putMid (v * 256) k w d))) low high r) hk least;
+        };
+        other = words-kept;
+      }
+
+-- ---- all vertices
+
+-- So it is at the vertices below n, and the words of the others are as before.
+pub record KeptBelow (entry low high : List ℕ) (n : ℕ) (exit out : List ℕ) : Type 0 where
+  pub words : length exit ≡ 16384
+  pub long : length out ≡ 64
+  pub done : (v : ℕ) → v < n → Kept (wordsAt entry v) low high (wordsAt exit v) (getD out v 0)
+  pub left : (v : ℕ) → v < 64 → n ≤ v → wordsAt exit v ≡ wordsAt entry v
+
+pub kept-none : (entry low high out : List ℕ) → length entry ≡ 16384 → length out ≡ 64 → KeptBelow entry low high 0 entry out
+kept-none entry low high out e l = record { words = e; long = l; done = λ v h. absurd (omega arith); left = λ v h n. refl }
+
+pub kept-more : (entry low high w out next : List ℕ) (n r : ℕ) → n < 64 → KeptBelow entry low high n w out → KeptAt w low high n r next
+    → KeptBelow entry low high (n + 1) next (set out n r)
+kept-more entry low high w out next n r l p k =
     record {
-      words = long;
-      is = subst (λ (n : ℕ). MinimalMembers (take n (drop (target * 256) w)) m) e min;
-      most = let b = size-bound m words in omega arith;
+      words = k .words;
+      long = length-set out n r ∙ p .long;
+      done = λ v h. ⊎-elim
+          (λ e. subst (λ (u : ℕ). Kept (wordsAt entry u) low high (wordsAt next u) (getD (set out n r) u 0)) (sym e)
+          (rw (getD-set-same out n r 0 (let o = p .long in omega arith))
+          (subst (λ (f : List ℕ). Kept f low high (wordsAt next n) r) (p .left n l (omega arith)) (k .own))))
+          (λ o. rw (getD-set-other out n v r 0 o, k .other v (omega arith) o) (p .done v (omega (arith, o)))) (same-or v n);
+      left = λ v h o. k .other v h (omega arith) ∙ p .left v h (omega arith);
     }
 
-module _ (w : List ℕ) (target : ℕ) (m : List ℕ) (min : MinimalAt w target m) where
-  -- the part is the target's family
-  family-at : (loss : Bool) (g : Graph) (chosen : ℕ) → target < 64 → Table (ruleOf loss g) chosen w
-      → FamilyOf (ruleOf loss g) chosen target (take 256 (drop (target * 256) w))
-  family-at loss g chosen h t = family-of (ruleOf loss g) chosen target 256 w h refl t
+-- ---- what is read from a table of bases
 
-  -- the minimal sets can be written,
-  pub writable : (chosen : ℕ) (out : List ℕ) → CanList w chosen target out → Writable chosen m (length out)
-  writable chosen out c =
-      record {
-        words = min .words;
-        few = c .few;
-        exact = on-chosen (c .loss) (c .graph) target chosen _ m (family-at (c .loss) (c .graph) chosen (c .vertex) (c .table)) (min .is);
-        room = let b = min .most in let l = c .room in omega arith;
-      }
+-- a target's words can be written as a list,
+pub writable : (w : List ℕ) (chosen target k : ℕ) (out : List ℕ) → k ≡ 256 → Words w → CanRead w chosen target out
+    → Writable chosen (take k (drop (target * 256) w)) (length out)
+writable w chosen target k out e words c =
+    let b = c .table .each target (c .vertex) in
+    subst (λ (n : ℕ). Writable chosen (take n (drop (target * 256) w)) (length out)) (sym e)
+    (record {
+      words = words-long w target (c .table .words) (c .vertex);
+      few = c .few;
+      exact = on-chosen (c .loss) (c .graph) target chosen (b .family) (wordsAt w target) (b .isFamily) (b .isMinimal);
+      room = let m = members-most w target (c .table .words) (c .vertex) words in let l = c .room in omega arith;
+    })
 
-  -- what is written is the base,
-  pub listing : (chosen : ℕ) (entry exit : List ℕ) (r : ℕ) → chosen < 2 ^ 64 → CanList w chosen target entry → length exit ≡ length entry
-      → WroteSets chosen m entry r exit → Listing w chosen target r exit
-  listing chosen entry exit r fits c kept h =
-      record {
-        room = kept ∙ c .room;
-        count = let l = ap length (h .wrote) ∙ length-append (h .list) (drop (length (h .list)) entry) in omega (arith, h .count, kept, c .room);
-        each = λ loss s g formed ch t.
-            subst (Base loss s g target) (sym front)
-            (base-of loss s g target chosen _ fits (c .few) ch (family-at loss g chosen (c .vertex) t) m (min .is) (h .list) (h .is));
-      }
-    where
-      front : take r exit ≡ h .list
-      front = ap (λ (n : ℕ). take n exit) (h .count) ∙ ap (take (length (h .list))) (h .wrote) ∙ take-append-seam (h .list) (drop (length (h .list)) entry)
-
-  -- and the least sum over them is the score
-  pub score-from : (low high : List ℕ) (r : ℕ) → target < 64 → LeastBy m low high r → ScoreFrom w low high target r
-  score-from low high r h b =
-      record {
-        each = λ loss s g chosen formed ch t sums.
-            score-of loss s g target chosen _ (sums .word) (few loss s chosen formed ch) ch (family-at loss g chosen h t) r (pointsAt loss s) (λ x. refl)
-            (least-of-minimal chosen _ m (pointsAt loss s) r (sums .word) (min .is) (b .each chosen (pointsAt loss s) sums));
-      }
+-- and what is written is the base
+pub listing : (w : List ℕ) (chosen target k : ℕ) (entry exit : List ℕ) (r : ℕ) → k ≡ 256 → chosen < 2 ^ 64 → CanRead w chosen target entry
+    → length exit ≡ length entry → WroteSets chosen (take k (drop (target * 256) w)) entry r exit → Listing w chosen target r exit
+listing w chosen target k entry exit r e fits c kept h =
+    record {
+      room = kept ∙ c .room;
+      count = let l = ap length (h .wrote) ∙ length-append (h .list) (drop (length (h .list)) entry) in omega (arith, h .count, kept, c .room);
+      each = λ loss s g formed ch t.
+          let b = t .each target (c .vertex) in
+          subst (Base loss s g target) (sym front)
+          (base-of loss s g target chosen (b .family) fits (c .few) ch (b .isFamily) (wordsAt w target) (b .isMinimal) (h .list)
+          (subst (λ (n : ℕ). ListOf chosen (take n (drop (target * 256) w)) (h .list)) e (h .is)));
+    }
+  where
+    front : take r exit ≡ h .list
+    front = ap (λ (n : ℕ). take n exit) (h .count) ∙ ap (take (length (h .list))) (h .wrote) ∙ take-append-seam (h .list) (drop (length (h .list)) entry)
 
 -- ---- all scores
-
--- The scores of the vertices below n are there.
-pub record ScoresBelow (w low high : List ℕ) (n : ℕ) (out : List ℕ) : Type 0 where
-  pub long : length out ≡ 64
-  pub each : (v : ℕ) → v < n → ScoreFrom w low high v (getD out v 0)
-
-pub scores-none : (w low high out : List ℕ) → length out ≡ 64 → ScoresBelow w low high 0 out
-scores-none w low high out e = record { long = e; each = λ v l. absurd (omega arith) }
-
-pub scores-more : (w low high : List ℕ) (n x : ℕ) (out : List ℕ) → n < 64 → ScoreFrom w low high n x → ScoresBelow w low high n out
-    → ScoresBelow w low high (n + 1) (set out n x)
-scores-more w low high n x out l s b =
-    record {
-      long = length-set out n x ∙ b .long;
-      each = λ v k. ⊎-elim
-          (λ e. subst (λ (u : ℕ). ScoreFrom w low high u (getD (set out n x) u 0)) (sym e)
-          (subst (ScoreFrom w low high n) (sym (getD-set-same out n x 0 (let o = b .long in omega arith))) s))
-          (λ o. subst (ScoreFrom w low high v) (sym (getD-set-other out n v x 0 o)) (b .each v (omega (arith, o)))) (same-or v n);
-    }
 
 -- tables of sums of equal values
 sums-same : (chosen : ℕ) (value other : ℕ → ℕ) (low high : List ℕ) → ((v : ℕ) → value v ≡ other v) → SumTables chosen value low high → SumTables chosen other low high
@@ -108,16 +143,29 @@ chosen-unique : (loss : Bool) (s : Setup) (a b : ℕ) → ChosenSet loss s a →
 chosen-unique loss s a b p q =
     same-set a b (record { each = λ v m. q .each v .from (p .each v .to m) }) (record { each = λ v m. p .each v .from (q .each v .to m) })
 
-pub scored : (loss : Bool) (s : Setup) (g : Graph) (chosen : ℕ) (values low high w out : List ℕ) → WellFormed s → ChosenSet loss s chosen → Values loss s values
-    → SumTables chosen (λ (v : ℕ). getD values v 0) low high → length w ≡ 16384 → Table (ruleOf loss g) chosen w → ScoresFrom w low high out → Scored loss s g w out
-scored loss s g chosen values low high w out formed ch values-are sums words t scores =
+pub scored : (loss : Bool) (s : Setup) (g : Graph) (chosen : ℕ) (values low high w exit out : List ℕ) → WellFormed s → ChosenSet loss s chosen
+    → Values loss s values → SumTables chosen (λ (v : ℕ). getD values v 0) low high → Table (ruleOf loss g) chosen w
+    → KeptAll w low high exit out → Scored loss s g exit out
+scored loss s g chosen values low high w exit out formed ch values-are sums t kept =
     record {
-      words = words;
-      long = scores .long;
-      table = λ c h. subst (λ (k : ℕ). Table (ruleOf loss g) k w) (chosen-unique loss s chosen c ch h) t;
-      each = λ v l. scores .each v l .each loss s g chosen formed ch t
-          (sums-same chosen (λ (u : ℕ). getD values u 0) (pointsAt loss s) low high (values-are .each) sums);
+      long = kept .long;
+      table = λ c h. subst (λ (k : ℕ). BaseTable (ruleOf loss g) k exit) (chosen-unique loss s chosen c ch h)
+          (record {
+            words = kept .words;
+            each = λ v l. record { family = wordsAt w v; isFamily = family v l; isMinimal = kept .each v l .minimal };
+          });
+      each = λ v l.
+          score-of loss s g v chosen (wordsAt w v) (sums .word) (few loss s chosen formed ch) ch (family v l) (getD out v 0) (pointsAt loss s)
+          (λ x. refl)
+          (least-of-minimal chosen (wordsAt w v) (wordsAt exit v) (pointsAt loss s) (getD out v 0) (sums .word) (kept .each v l .minimal)
+          (kept .each v l .least .each chosen (pointsAt loss s) points));
     }
+  where
+    family : (v : ℕ) → v < 64 → FamilyOf (ruleOf loss g) chosen v (wordsAt w v)
+    family v l = family-of (ruleOf loss g) chosen v 256 w l refl t
+
+    points : SumTables chosen (pointsAt loss s) low high
+    points = sums-same chosen (λ (u : ℕ). getD values u 0) (pointsAt loss s) low high (values-are .each) sums
 
 pub summable : (loss : Bool) (s : Setup) (chosen : ℕ) (values : List ℕ) → WellFormed s → ChosenSet loss s chosen → Values loss s values
     → Summable chosen (λ (v : ℕ). getD values v 0)

@@ -1,35 +1,24 @@
-// What the report needs of a table of closures: it is filled once, and then every vertex's score and
-// list are read from it. Only minimal sets are looked at.
+// What the report needs of a table of closures: it is filled once and cut down to the minimal sets, and
+// then every vertex's score and list are read from it.
 ghost use mathlib.Core.Path.{_≡_};
 ghost use Prim.Native.Nat.{ℕ, _<_};
 ghost use lib.ListN.{length, getD};
 ghost use Rattle.vertex_set.specs.Order.{sumOver};
 ghost use Rattle.family_lists.specs.Tables.{TablesFit};
-ghost use Rattle.bases.specs.Readers.{CanCopy};
-ghost use Rattle.report_scores.specs.Scores.{CanScore, Scored, CanList, Listing, Summands, MinimalAt, ScoreFrom, ScoresFrom};
+ghost use Rattle.report_scores.specs.Scores.{CanScore, Scored, CanRead, Listing, Summands, KeptAt, KeptAll};
 use families::WORDS;
 use setup::Graph;
 use setup::Setup;
 use vertex_set::VertexSet;
 
-// The family of the target's minimal sets, read from the table.
-fn minimal_at(w: &[u64], target: usize, minimal: &mut [u64])
-    requires { ⌜ CanCopy (now w) target (now minimal) ⌝ }
-    ensures { λ _. ⌜ MinimalAt (now (w .entry)) target (now (minimal .exit)) ⌝ }
-{
-    let from = target * WORDS;
-    families::minimal_members(&w[from..from + WORDS], minimal);
-}
-
 // The target's base, read from the table: its sets stand at the front of out, and their number is the
 // answer.
 pub fn list_from(w: &[u64], chosen: VertexSet, target: usize, out: &mut [u64]) -> usize
-    requires { ⌜ CanList (now w) (chosen .0) target (now out) ⌝ }
+    requires { ⌜ CanRead (now w) (chosen .0) target (now out) ⌝ }
     ensures { λ r. ⌜ Listing (now (w .entry)) (chosen .0) target r (now (out .exit)) ⌝ }
 {
-    let mut base = [0u64; 256];
-    minimal_at(w, target, &mut base);
-    family_lists::write_sets(&base, chosen, out)
+    let from = target * WORDS;
+    family_lists::write_sets(&w[from..from + WORDS], chosen, out)
 }
 
 // The sum of the values of the vertices of x.
@@ -48,32 +37,33 @@ pub fn set_sum(x: u64, values: &[u64]) -> u64
     sum
 }
 
-// The score of the target, read from the table: the least sum over its minimal sets.
-fn score_at(w: &[u64], target: usize, low: &[u64], high: &[u64]) -> u64
+// Keeps the minimal members of the target's family in the table, and gives the least sum over them.
+fn keep_base(w: &mut [u64], target: usize, low: &[u64], high: &[u64]) -> u64
     requires { ⌜ length (now w) ≡ 16384 ⌝ }
     requires { ⌜ target < 64 ⌝ }
     requires { ⌜ TablesFit (now low) (now high) ⌝ }
-    ensures { λ r. ⌜ ScoreFrom (now (w .entry)) (now (low .entry)) (now (high .entry)) target r ⌝ }
+    ensures { λ r. ⌜ KeptAt (now (w .entry)) (now (low .entry)) (now (high .entry)) target r (now (w .exit)) ⌝ }
 {
-    let mut minimal = [0u64; 256];
-    minimal_at(w, target, &mut minimal);
-    family_lists::least_by(&minimal, low, high)
+    let from = target * WORDS;
+    families::keep_minimal(&mut w[from..from + WORDS]);
+    family_lists::least_by(&w[from..from + WORDS], low, high)
 }
 
-// The scores of all vertices.
-fn read_scores(w: &[u64], low: &[u64], high: &[u64], out: &mut [u64])
+// Does so for all vertices. The least sums are their scores.
+fn keep_bases(w: &mut [u64], low: &[u64], high: &[u64], out: &mut [u64])
     requires { ⌜ length (now w) ≡ 16384 ⌝ }
     requires { ⌜ TablesFit (now low) (now high) ⌝ }
     requires { ⌜ length (now out) ≡ 64 ⌝ }
-    ensures { λ _. ⌜ ScoresFrom (now (w .entry)) (now (low .entry)) (now (high .entry)) (now (out .exit)) ⌝ }
+    ensures { λ _. ⌜ KeptAll (now (w .entry)) (now (low .entry)) (now (high .entry)) (now (w .exit)) (now (out .exit)) ⌝ }
 {
     for v in 0..64usize {
-        out[v] = score_at(w, v, low, high);
+        out[v] = keep_base(w, v, low, high);
     }
 }
 
-// Fills the table of the graph and the initial vertices or, with loss, the losable ones, and reads the
-// scores of all vertices from it. The graph is the setup's, or that without recovery.
+// Fills the table of the graph and the initial vertices or, with loss, the losable ones, and makes it
+// the table of their bases; out gets the scores of all vertices. The graph is the setup's, or that
+// without recovery.
 pub fn scores_in(s: Setup, graph: Graph, loss: bool, w: &mut [u64], out: &mut [u64])
     requires { ⌜ CanScore s (now w) (now out) ⌝ }
     ensures { λ _. ⌜ Scored loss s graph (now (w .exit)) (now (out .exit)) ⌝ }
@@ -84,5 +74,5 @@ pub fn scores_in(s: Setup, graph: Graph, loss: bool, w: &mut [u64], out: &mut [u
     let mut high = [0u64; 128];
     family_lists::sum_tables(chosen, values, &mut low, &mut high);
     tables::fill(graph, chosen, loss, w);
-    read_scores(w, &low, &high, out);
+    keep_bases(w, &low, &high, out);
 }

@@ -51,7 +51,7 @@ module _ (w d : List ℕ) (v k : ℕ) (hw : length w ≡ 16384) (hv : v < 64) (h
       (getD-append-add d (drop k (drop (v * 256) w)) j 0 ∙ getD-drop k (drop (v * 256) w) j 0 ∙ getD-drop (v * 256) w (k + j) 0
       ∙ ap (λ (n : ℕ). getD w (v * 256 + (n + j)) 0) hk))
 
-  put-other : (u b : ℕ) → b < 256 → (u ≡ v → ⊥) → getD (putMid (v * 256) k w d) (u * 256 + b) 0 ≡ getD w (u * 256 + b) 0
+  pub put-other : (u b : ℕ) → b < 256 → (u ≡ v → ⊥) → getD (putMid (v * 256) k w d) (u * 256 + b) 0 ≡ getD w (u * 256 + b) 0
   put-other u b hb n =
       ⊎-elim (λ l. put-before (u * 256 + b) (omega arith))
       (λ l. let e : v * 256 + (256 + (u * 256 + b - (v * 256 + 256))) ≡ u * 256 + b = omega (arith, n) in

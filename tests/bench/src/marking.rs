@@ -25,10 +25,10 @@ struct Asked<'a> {
 
 impl Asked<'_> {
     fn new(kind: &Kind) -> Asked<'_> {
-        let mut tables = tables();
-        twin::scores(&kind.setup, &kind.setup.graph, &mut tables);
-        let opening = tables[0][kind.target];
         let chosen = kind.setup.chosen(false);
+        let mut tables = tables();
+        twin::fill::<false>(&kind.setup.graph, chosen, false, &mut tables[0]);
+        let opening = tables[0][kind.target];
         let minimal = twin::minimal_members(&opening);
         let mut right = vec![0; 3432];
         let n = twin::write_sets(&minimal, chosen, &mut right);

@@ -193,19 +193,30 @@ pub fn fill<const LEAN: bool>(graph: &Graph, chosen: u64, loss: bool, table: &mu
     looks
 }
 
-/// The members of a monotone family of which none has a member one bit smaller.
+/// The members in word b of which none has a member one bit smaller.
+fn least_word(family: &Family, b: usize) -> u64 {
+    let x = family[b];
+    let within = (x << 1 & 0xAAAA_AAAA_AAAA_AAAA)
+        | (x << 2 & 0xCCCC_CCCC_CCCC_CCCC)
+        | (x << 4 & 0xF0F0_F0F0_F0F0_F0F0)
+        | (x << 8 & 0xFF00_FF00_FF00_FF00)
+        | (x << 16 & 0xFFFF_0000_FFFF_0000)
+        | (x << 32 & 0xFFFF_FFFF_0000_0000);
+    let smaller = (0..8).filter(|j| b >> j & 1 == 1).map(|j| family[b - (1 << j)]);
+    x & !smaller.fold(within, |all, word| all | word)
+}
+
+/// The minimal members of a monotone family.
 pub fn minimal_members(family: &Family) -> Family {
-    std::array::from_fn(|b| {
-        let x = family[b];
-        let within = (x << 1 & 0xAAAA_AAAA_AAAA_AAAA)
-            | (x << 2 & 0xCCCC_CCCC_CCCC_CCCC)
-            | (x << 4 & 0xF0F0_F0F0_F0F0_F0F0)
-            | (x << 8 & 0xFF00_FF00_FF00_FF00)
-            | (x << 16 & 0xFFFF_0000_FFFF_0000)
-            | (x << 32 & 0xFFFF_FFFF_0000_0000);
-        let smaller = (0..8).filter(|j| b >> j & 1 == 1).map(|j| family[b - (1 << j)]);
-        x & !smaller.fold(within, |all, word| all | word)
-    })
+    std::array::from_fn(|b| least_word(family, b))
+}
+
+/// Keeps a monotone family's minimal members alone. A word is judged by words of smaller numbers, so
+/// the last one goes first.
+fn keep_minimal(family: &mut Family) {
+    for b in (0..WORDS).rev() {
+        family[b] = least_word(family, b);
+    }
 }
 
 /// The sums of weights over masks, by two tables of 2^7.
@@ -302,18 +313,22 @@ pub fn both_bases<const LEAN: bool>(
 /// The opening and the lockout table of one graph.
 pub type Tables = [Table; 2];
 
-/// Fills both tables of the graph and reads the scores and risks of all vertices.
+/// Fills both tables of the graph, keeps the minimal members of each vertex's family in them, and
+/// reads the scores and risks of all vertices.
 pub fn scores(setup: &Setup, graph: &Graph, tables: &mut Tables) -> [[u64; VERTICES]; 2] {
     [false, true].map(|loss| {
         let chosen = setup.chosen(loss);
         let sums = Sums::new(chosen, |v| setup.value(loss, v));
         let table = &mut tables[usize::from(loss)];
         fill::<false>(graph, chosen, loss, table);
-        std::array::from_fn(|v| sums.least(&minimal_members(&table[v])))
+        std::array::from_fn(|v| {
+            keep_minimal(&mut table[v]);
+            sums.least(&table[v])
+        })
     })
 }
 
-/// Reads both lists of every vertex from filled tables; each is handed to `take`.
+/// Reads both lists of every vertex from tables of minimal members; each is handed to `take`.
 pub fn lists(
     setup: &Setup,
     tables: &Tables,
@@ -321,10 +336,9 @@ pub fn lists(
     mut take: impl FnMut(usize, bool, &[u64]),
 ) {
     let [opening, lockout] = tables;
-    for (target, families) in opening.iter().zip(lockout).enumerate().take(setup.count) {
-        for (loss, family) in [(false, families.0), (true, families.1)] {
-            let base = minimal_members(family);
-            let n = write_sets(&base, setup.chosen(loss), out);
+    for (target, bases) in opening.iter().zip(lockout).enumerate().take(setup.count) {
+        for (loss, base) in [(false, bases.0), (true, bases.1)] {
+            let n = write_sets(base, setup.chosen(loss), out);
             take(target, loss, &out[..n]);
         }
     }

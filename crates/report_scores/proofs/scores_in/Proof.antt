@@ -27,14 +27,14 @@ sum-tables-requires c κs =
 fill-requires : tie.Need-fill-requires
 fill-requires c κs = search needs
 
-slice-aggregate-read-scores : tie.Need-slice-aggregate-read-scores
-slice-aggregate-read-scores c = search needs
+slice-aggregate-keep-bases : tie.Need-slice-aggregate-keep-bases
+slice-aggregate-keep-bases c = search needs
 
-slice-aggregate-read-scores-2 : tie.Need-slice-aggregate-read-scores-2
-slice-aggregate-read-scores-2 c = search needs
+slice-aggregate-keep-bases-2 : tie.Need-slice-aggregate-keep-bases-2
+slice-aggregate-keep-bases-2 c = search needs
 
-read-scores-requires : tie.Need-read-scores-requires
-read-scores-requires c κs = search needs
+keep-bases-requires : tie.Need-keep-bases-requires
+keep-bases-requires c κs = search needs
 
 same-length : tie.Need-same-length
 same-length c = search needs
@@ -44,14 +44,14 @@ same-length-2 c = search needs
 
 returns : tie.Need-returns
 returns c =
-    let r = c .before .before in
+    let r = c .before .before .before .before in
     let f = r .before .before .before .before .before .before .before in
     let t = f .before .before .before .before in
     let v = t .before .before .before in
     let h = v .before in
     let s = h .before .before .before in
-    scored (s .args .loss) (s .args .s) (s .args .graph) (h .chosen .result .0) _ _ _ _ _ (s .pre .formed) (h .chosen .ensures) (v .values-of .ensures)
-    (t .sum-tables .ensures) (f .fill .ensures .0) (f .fill .ensures .1) (r .read-scores .ensures)
+    scored (s .args .loss) (s .args .s) (s .args .graph) (h .chosen .result .0) _ _ _ _ _ _ (s .pre .formed) (h .chosen .ensures) (v .values-of .ensures)
+    (t .sum-tables .ensures) (f .fill .ensures .1) (r .keep-bases .ensures)
 
 pub scores-in-spec : {M : Type 1} → statement M
 scores-in-spec =
@@ -63,9 +63,9 @@ scores-in-spec =
     slice-aggregate-sum-tables-2
     sum-tables-requires
     fill-requires
-    slice-aggregate-read-scores
-    slice-aggregate-read-scores-2
-    read-scores-requires
+    slice-aggregate-keep-bases
+    slice-aggregate-keep-bases-2
+    keep-bases-requires
     same-length
     same-length-2
     returns)

@@ -1,8 +1,8 @@
 -- The list of a family's sets: it is right, it is the only one, and it has as many sets as the family has members.
 -- Assumes nothing.
-use mathlib.Core.Path.{_≡_, refl, sym, ap, _∙_, subst}
+use mathlib.Core.Path.{_≡_, sym, ap, _∙_, subst}
 use mathlib.Core.Logic.{⊎-elim}
-use mathlib.Core.List.{List, [], _∷_, _++_, map, map-append}
+use mathlib.Core.List.{List, _++_, map, map-append}
 use Prim.Native.Nat.{ℕ, suc, _+_, _-_, _*_, _/_, _%_, _^_, _≤_, _<_}
 use native.Mathlib.Nat.{lt-of-le-of-lt, zero-add}
 use native.Mathlib.Numerals.{add-one}
@@ -78,10 +78,6 @@ list-unique c f l k p q = ordered-same l k (p .ordered) (q .ordered) (λ x. reco
 abbrev pub AllWriting : (ℕ → ℕ) → List ℕ → List ℕ → List ℕ → ℕ → ℕ → Type 0
 AllWriting N f entry out next s = Writing entry 0 (map N (masksOf f)) (map N (bySize (rising 0 f) s (15 - s))) out next
 
-nothing : (l : List ℕ) → length l ≡ 0 → l ≡ []
-nothing [] e = refl
-nothing (x ∷ l) e = absurd (omega arith)
-
 module _ (N : ℕ → ℕ) (f entry out : List ℕ) (next s : ℕ) (w : AllWriting N f entry out next s) where
   sizes-front : s < 15 → Writing entry 0 (map N (masksOf f)) (map N (ofSize s (rising 0 f)) ++ map N (bySize (rising 0 f) (s + 1) (15 - (s + 1)))) out next
   sizes-front h =
@@ -103,13 +99,6 @@ module _ (N : ℕ → ℕ) (f entry out : List ℕ) (next s : ℕ) (w : AllWriti
   all-next h after r p =
       let rest : List ℕ = map N (bySize (rising 0 f) (s + 1) (15 - (s + 1))) in
       writing-part entry 0 _ (map N (ofSize s (rising 0 f))) rest out next after r (sizes-front h) p
-
-  -- where as many are written as there are, nothing is left
-  pub all-stop : length f ≡ 256 → Words f → next ≡ size f → Wrote entry 0 (map N (masksOf f)) out next
-  all-stop e ws z =
-      let l = length-map (masksOf f) N ∙ length-masks-of f e ws in
-      let n = nothing (map N (bySize (rising 0 f) s (15 - s))) (omega (arith, w .count)) in
-      writing-end entry 0 _ _ out next n w
 
   pub all-end : s ≡ 15 → Wrote entry 0 (map N (masksOf f)) out next
   all-end e =

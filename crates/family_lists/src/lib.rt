@@ -7,7 +7,7 @@ ghost use lib.ListN.{length, getD};
 ghost use lib.Count.{ones};
 ghost use Rattle.families.specs.Family.{size};
 ghost use Rattle.family_lists.specs.Lists.{Writable, WroteSets, Summable, SumTables, LeastSum, LeastBy};
-ghost use Rattle.family_lists.specs.Tables.{Singles, WeightsOf, SumsFit, SumTable, LanesOfSize, TablesFit, Wrote, masksIn, rising, Occupied, ofSize, bySize, sumBy, leastOf};
+ghost use Rattle.family_lists.specs.Tables.{Singles, WeightsOf, SumsFit, SumTable, Layer, LanesOfSize, TablesFit, Wrote, masksIn, rising, Occupied, Joined, SomeOfSize, ofSize, bySize, sumBy, leastOf};
 use families::WORDS;
 use vertex_set::VertexSet;
 
@@ -70,16 +70,23 @@ fn fill_sums(weights: [u64; 14], from: usize, table: &mut [u64])
     }
 }
 
-// The lanes of word b whose masks have s bits.
-fn lanes_of_size(b: usize, s: usize) -> u64
-    ensures { λ r. ⌜ LanesOfSize b s r ⌝ }
+// The lanes whose numbers have k bits fewer than s.
+fn layer(k: usize, s: usize) -> u64
+    ensures { λ r. ⌜ Layer k s r ⌝ }
 {
-    let k = usize::count_ones(b) as usize;
     if s < k {
         return 0;
     }
     let d = s - k;
     if d < 7 { LAYERS[d] } else { 0 }
+}
+
+// The lanes of word b whose masks have s bits.
+fn lanes_of_size(b: usize, s: usize) -> u64
+    ensures { λ r. ⌜ LanesOfSize b s r ⌝ }
+{
+    let k = usize::count_ones(b) as usize;
+    layer(k, s)
 }
 
 // Writes the sums of the masks of word b in the lanes of y, from `at` on, and gives the next place.
@@ -164,22 +171,51 @@ fn put_size(
     next
 }
 
-// Does so for all of the family's members, fewer bits first, and stops where all are written.
+// At k the lanes that are in some word of the family whose number has k bits.
+// All members are in the first n words of index.
+fn joined_words(f: &[u64], index: &[usize], n: usize) -> [u64; 9]
+    requires { ⌜ length (now f) ≡ 256 ⌝ }
+    requires { ⌜ Occupied (now f) (now index) n ⌝ }
+    ensures { λ r. ⌜ Joined (now (f .entry)) r ⌝ }
+{
+    let mut joined = [0u64; 9];
+    for i in 0..n {
+        let b = index[i];
+        let k = usize::count_ones(b) as usize;
+        joined[k] = joined[k] | f[b];
+    }
+    joined
+}
+
+// Does the family whose words are joined so have a member of s bits?
+fn some_of_size(joined: [u64; 9], s: usize) -> bool
+    ensures { λ r. ⌜ SomeOfSize joined s r ⌝ }
+{
+    for k in 0..9usize {
+        let lanes = layer(k, s);
+        if joined[k] & lanes != 0 {
+            return true;
+        }
+    }
+    false
+}
+
+// Does so for all of the family's members, fewer bits first. Sizes that no member has are passed over.
 fn put_all(f: &[u64], low: &[u64], high: &[u64], out: &mut [u64]) -> usize
     requires { ⌜ length (now f) ≡ 256 ⌝ }
     requires { ⌜ TablesFit (now low) (now high) ⌝ }
     requires { ⌜ size (now f) ≤ length (now out) ⌝ }
     ensures { λ r. ⌜ Wrote (now (out .entry)) 0 (map (sumBy (now (low .entry)) (now (high .entry))) (bySize (rising 0 (now (f .entry))) 0 15)) (now (out .exit)) r ⌝ }
 {
-    let total = families::count_members(f);
     let mut index = [0usize; 256];
     let n = occupied_words(f, &mut index);
+    let joined = joined_words(f, &index, n);
     let mut next: usize = 0;
     for s in 0..15usize {
-        if next == total {
-            return next;
+        let some = some_of_size(joined, s);
+        if some {
+            next = put_size(f, &index, n, s, low, high, out, next);
         }
-        next = put_size(f, &index, n, s, low, high, out, next);
     }
     next
 }

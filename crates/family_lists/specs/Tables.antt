@@ -1,40 +1,16 @@
--- Inner: sums over a mask's bits, and the lists that the functions below write_sets write.
+-- Inner: the lists that the functions below write_sets write.
 use mathlib.Core.Path.{_≡_}
 use mathlib.Core.Bool.{Bool}
 use mathlib.Core.List.{List, [], _∷_, _++_, map}
-use Prim.Native.Nat.{ℕ, zero, suc, _+_, _*_, _/_, _%_, _^_, min, _≤_, _<_}
+use Prim.Native.Nat.{ℕ, zero, suc, _+_, _*_, _/_, _%_, _^_, _≤_, _<_}
 use lib.Count.{ones}
 use lib.Dec.{eqb}
-use lib.ListN.{length, getD, take, drop}
+use lib.ListN.{length, getD, take}
 use lib.Seq.{sets}
 use Rattle.vertex_set.specs.Set.{Member, Iff, Decides}
-use Rattle.vertex_set.specs.Order.{sumOver}
 use Rattle.vertex_set.proofs.Places.{places}
 use Rattle.vertex_set.proofs.Sorted.{only}
 use Rattle.families.specs.Family.{In}
-use Rattle.families.specs.Masks.{SetOfMask}
-
--- At v stands the number of the set that has v alone.
-pub record Singles (values : List ℕ) : Type 0 where
-  pub each : (v : ℕ) → v < 64 → getD values v 0 ≡ 2 ^ v
-
--- The sum of the weights at the bits of the mask m.
-abbrev pub sumAt : List ℕ → ℕ → ℕ
-sumAt [] m = 0
-sumAt (w ∷ ws) m = m % 2 * w + sumAt ws (m / 2)
-
--- The weights at a mask's bits sum up to the values of its set.
-pub record WeightsOf (chosen : ℕ) (value : ℕ → ℕ) (ws : List ℕ) : Type 0 where
-  pub long : length ws ≡ 14
-  pub sum : (m x : ℕ) → SetOfMask chosen m x → sumAt ws m ≡ sumOver value x
-
--- No sum of weights is too large for a word.
-pub record SumsFit (ws : List ℕ) : Type 0 where
-  pub fits : (m : ℕ) → sumAt ws m < 2 ^ 64
-
--- The table t has the sums of seven weights, the first of them at n.
-pub record SumTable (ws : List ℕ) (n : ℕ) (t : List ℕ) : Type 0 where
-  pub each : (k : ℕ) → k < 128 → getD t k 0 ≡ sumAt (drop n ws) k
 
 -- The lanes whose numbers have k bits fewer than s.
 pub record Layer (k s r : ℕ) : Type 0 where
@@ -102,8 +78,3 @@ pub record TablesFit (low high : List ℕ) : Type 0 where
 pub record Wrote (entry : List ℕ) (at : ℕ) (xs after : List ℕ) (r : ℕ) : Type 0 where
   pub exit : after ≡ sets entry at xs
   pub next : r ≡ at + length xs
-
--- The least of the numbers of l and d.
-abbrev pub leastOf : ℕ → List ℕ → ℕ
-leastOf d [] = d
-leastOf d (x ∷ l) = leastOf (min d x) l

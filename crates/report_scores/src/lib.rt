@@ -57,7 +57,7 @@ fn score_at(w: &[u64], target: usize, low: &[u64], high: &[u64]) -> u64
 {
     let mut minimal = [0u64; 256];
     minimal_at(w, target, &mut minimal);
-    family_lists::least_by(&minimal, low, high)
+    least_sums::least_by(&minimal, low, high)
 }
 
 // The scores of all vertices.
@@ -82,7 +82,7 @@ pub fn scores_in(s: Setup, graph: Graph, loss: bool, w: &mut [u64], out: &mut [u
     let values = bases::values_of(s, loss);
     let mut low = [0u64; 128];
     let mut high = [0u64; 128];
-    family_lists::sum_tables(chosen, values, &mut low, &mut high);
+    least_sums::sum_tables(chosen, values, &mut low, &mut high);
     tables::fill(graph, chosen, loss, w);
     read_scores(w, &low, &high, out);
 }

@@ -1,7 +1,7 @@
 //! The twin: the algorithm of the proved code in plain Rust. All subsets of the chosen vertices are
 //! taken at once: bit i of word b of a vertex's family tells whether the subset with the mask
-//! b * 64 + i has it. The parts are those of the crates tables, lanes, words, families and
-//! family_lists; no question is asked of the setup.
+//! b * 64 + i has it. The parts are those of the crates tables, lanes, words, families, sums,
+//! family_lists and least_sums; no question is asked of the setup.
 //!
 //! The twin takes the steps of the proved code one by one. The lean twin (`LEAN`) takes two
 //! shortcuts besides: the vertices that need another are found once and not at each growth, and

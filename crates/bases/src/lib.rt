@@ -73,7 +73,7 @@ pub fn score_of(s: Setup, graph: Graph, loss: bool, target: usize) -> u64
     family_of(graph, chosen, loss, target, &mut family);
     let mut minimal = [0u64; WORDS];
     families::minimal_members(&family, &mut minimal);
-    family_lists::least_sum(&minimal, chosen, values)
+    least_sums::least_sum(&minimal, chosen, values)
 }
 
 // The target's family, the family of its minimal members, whose sets are the target's base, and

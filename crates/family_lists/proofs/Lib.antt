@@ -1,6 +1,5 @@
-pub mod Least
 pub mod Lists
 pub mod Order
 pub mod SetLists
-pub mod Weights
+pub mod Sizes
 pub mod MinimalSets

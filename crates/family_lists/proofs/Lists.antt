@@ -20,7 +20,7 @@ use Rattle.vertex_set.proofs.Sets.{none-in-zero}
 use Rattle.vertex_set.proofs.Places.{places, places-none, places-and, listed-places, length-places, isIn, lowest}
 use Rattle.vertex_set.proofs.Shifts.{all, all-at}
 use Rattle.vertex_set.proofs.Sorted.{map-same, only-append, only-map, only-same}
-use Rattle.family_lists.specs.Tables.{LanesOfSize, masksIn, rising, ofWords, Occupied, ofSize, sumBy, TablesFit, Wrote}
+use Rattle.family_lists.specs.Tables.{Layer, LanesOfSize, masksIn, rising, ofWords, Occupied, ofSize, sumBy, TablesFit, Wrote}
 
 -- ---- the lanes of a size
 
@@ -52,34 +52,31 @@ in-layer k i hk hi =
     (λ t. let f = e ∙ ap flag t in record { to = λ m. eqb-true _ _ t; from = λ q. f })
     (λ t. let f = e ∙ ap flag t in record { to = λ m. absurd (omega arith); from = λ q. absurd (eqb-false _ _ t q) })
 
-mask-ones : (b i : ℕ) → i < 64 → ones (b * 64 + i) ≡ ones b + ones i
+pub mask-ones : (b i : ℕ) → i < 64 → ones (b * 64 + i) ≡ ones b + ones i
 mask-ones b i h = ones-cat 6 b i h
 
-pub lanes-below : (b s : ℕ) → s < ones b → LanesOfSize b s 0
-lanes-below b s h =
-    record {
-      each = λ i l. record {
-        to = λ m. absurd (none-in-zero i m);
-        from = λ e. let f = mask-ones b i l in absurd (omega arith);
-      };
-    }
+pub layer-below : (k s : ℕ) → s < k → Layer k s 0
+layer-below k s h = record { each = λ i l. record { to = λ m. absurd (none-in-zero i m); from = λ e. absurd (omega arith) } }
 
-pub lanes-beyond : (b s : ℕ) → ones b ≤ s → 7 ≤ s - ones b → LanesOfSize b s 0
-lanes-beyond b s h g =
-    record {
-      each = λ i l. record {
-        to = λ m. absurd (none-in-zero i m);
-        from = λ e. let f = mask-ones b i l in let o = ones-le 6 i l in absurd (omega arith);
-      };
-    }
+pub layer-beyond : (k s : ℕ) → k ≤ s → 7 ≤ s - k → Layer k s 0
+layer-beyond k s h g =
+    record { each = λ i l. record { to = λ m. absurd (none-in-zero i m); from = λ e. let o = ones-le 6 i l in absurd (omega arith) } }
 
-pub lanes-layer : (b s : ℕ) → ones b ≤ s → s - ones b < 7 → LanesOfSize b s (getD layers (s - ones b) 0)
-lanes-layer b s h g =
+pub layer-of : (k s : ℕ) → k ≤ s → s - k < 7 → Layer k s (getD layers (s - k) 0)
+layer-of k s h g =
     record {
       each = λ i l.
-          let f = mask-ones b i l in
-          let c = in-layer (s - ones b) i g l in
+          let c = in-layer (s - k) i g l in
           record { to = λ m. let o = c .to m in omega arith; from = λ e. c .from (omega arith) };
+    }
+
+pub lanes-of-layer : (b s r : ℕ) → Layer (ones b) s r → LanesOfSize b s r
+lanes-of-layer b s r h =
+    record {
+      each = λ i l.
+          let c = h .each i l in
+          let f = mask-ones b i l in
+          record { to = λ m. f ∙ c .to m; from = λ e. c .from (sym f ∙ e) };
     }
 
 -- ---- writing a list part by part

@@ -22,7 +22,7 @@ use Rattle.family_lists.proofs.Lists.{length-masks}
 
 -- ---- in rising order
 
-listed-masks : (b w m : ℕ) → Iff (Listed (masksIn b w) m) ((m / 64 ≡ b) × Member w (m % 64))
+pub listed-masks : (b w m : ℕ) → Iff (Listed (masksIn b w) m) ((m / 64 ≡ b) × Member w (m % 64))
 listed-masks b w m =
     record {
       to = λ h.

@@ -1,27 +1,26 @@
 -- The list of a family's sets: it is right, it is the only one, and it has as many sets as the family has members.
 -- Assumes nothing.
-use mathlib.Core.Path.{_≡_, refl, sym, ap, _∙_, subst}
-use mathlib.Core.Logic.{⊎-elim}
-use mathlib.Core.List.{List, [], _∷_, _++_, map, map-append}
-use Prim.Native.Nat.{ℕ, suc, _+_, _-_, _*_, _/_, _%_, _^_, _≤_, _<_}
+use mathlib.Core.Path.{_≡_, sym, ap, _∙_, subst}
+use mathlib.Core.List.{List, _++_, map, map-append}
+use Prim.Native.Nat.{ℕ, suc, _+_, _-_, _/_, _%_, _^_, _≤_, _<_}
 use native.Mathlib.Nat.{lt-of-le-of-lt, zero-add}
 use native.Mathlib.Numerals.{add-one}
 use native.Mathlib.Omega.{arith}
 use lib.Count.{ones, ones-le}
-use lib.ListN.{length, getD, drop, set, length-map}
-use lib.Seq.{sets, sets-eq, getD-set-same, getD-set-other}
+use lib.ListN.{length, drop, length-map}
+use lib.Seq.{sets, sets-eq}
 use Rattle.vertex_set.specs.Order.{Listed, Before, sumOver}
-use Rattle.vertex_set.proofs.Cases.{same-or}
-use Rattle.vertex_set.proofs.Sets.{shifted-one, member-below, within-le}
+use Rattle.vertex_set.proofs.Sets.{member-below, within-le}
 use Rattle.vertex_set.proofs.Sorted.{listed-map, listed-of-map, map-same, sorted-map, sorted-ordered, ordered-same}
 use Rattle.vertex_set.proofs.Sums.{sum-same, sum-over-powers}
 use Rattle.families.specs.Family.{In, size}
 use Rattle.families.specs.Masks.{SetOfMask}
 use Rattle.families.specs.Exact.{OnChosen}
 use Rattle.families.proofs.Masks.{spread, set-of, set-unique, set-before, set-within}
+use Rattle.sums.specs.Sums.{sumAt, WeightsOf, SumsFit, SumTable}
+use Rattle.sums.proofs.Weights.{at-split}
 use Rattle.family_lists.specs.Lists.{ListOf, WroteSets}
-use Rattle.family_lists.specs.Tables.{sumAt, WeightsOf, SumsFit, SumTable, TablesFit, Wrote, sumBy, rising, ofSize, bySize}
-use Rattle.family_lists.proofs.Weights.{at-split}
+use Rattle.family_lists.specs.Tables.{TablesFit, Wrote, sumBy, rising, ofSize, bySize}
 use Rattle.family_lists.proofs.Lists.{Writing, writing-room, writing-part, writing-end}
 use Rattle.family_lists.proofs.Order.{listed-members, sorted-rising, Words, length-rising, member-small, listed-by-size, sorted-by-size, length-by-size}
 
@@ -78,10 +77,6 @@ list-unique c f l k p q = ordered-same l k (p .ordered) (q .ordered) (λ x. reco
 abbrev pub AllWriting : (ℕ → ℕ) → List ℕ → List ℕ → List ℕ → ℕ → ℕ → Type 0
 AllWriting N f entry out next s = Writing entry 0 (map N (masksOf f)) (map N (bySize (rising 0 f) s (15 - s))) out next
 
-nothing : (l : List ℕ) → length l ≡ 0 → l ≡ []
-nothing [] e = refl
-nothing (x ∷ l) e = absurd (omega arith)
-
 module _ (N : ℕ → ℕ) (f entry out : List ℕ) (next s : ℕ) (w : AllWriting N f entry out next s) where
   sizes-front : s < 15 → Writing entry 0 (map N (masksOf f)) (map N (ofSize s (rising 0 f)) ++ map N (bySize (rising 0 f) (s + 1) (15 - (s + 1)))) out next
   sizes-front h =
@@ -104,13 +99,6 @@ module _ (N : ℕ → ℕ) (f entry out : List ℕ) (next s : ℕ) (w : AllWriti
       let rest : List ℕ = map N (bySize (rising 0 f) (s + 1) (15 - (s + 1))) in
       writing-part entry 0 _ (map N (ofSize s (rising 0 f))) rest out next after r (sizes-front h) p
 
-  -- where as many are written as there are, nothing is left
-  pub all-stop : length f ≡ 256 → Words f → next ≡ size f → Wrote entry 0 (map N (masksOf f)) out next
-  all-stop e ws z =
-      let l = length-map (masksOf f) N ∙ length-masks-of f e ws in
-      let n = nothing (map N (bySize (rising 0 f) s (15 - s))) (omega (arith, w .count)) in
-      writing-end entry 0 _ _ out next n w
-
   pub all-end : s ≡ 15 → Wrote entry 0 (map N (masksOf f)) out next
   all-end e =
       let z : 15 - s ≡ 0 = omega arith in
@@ -130,14 +118,6 @@ tables-fit ws low high p q f a b =
     record { long-low = a; long-high = b; fits = λ m h. let e = tables-sum ws low high p q m h in let g = f .fits m in omega arith }
 
 -- ---- set numbers as sums
-
--- the next of them is stored
-pub singles-more : (values : List ℕ) (n : ℕ) → n < 64 → n < length values → ((v : ℕ) → v < n → getD values v 0 ≡ 2 ^ v)
-    → (v : ℕ) → v < n + 1 → getD (set values n ((1 * 2 ^ n) % 2 ^ 64)) v 0 ≡ 2 ^ v
-singles-more values n h l p v lt =
-    rw (shifted-one n h)
-    (⊎-elim (λ e. subst (λ (k : ℕ). getD (set values n (2 ^ n)) k 0 ≡ 2 ^ k) (sym e) (getD-set-same values n (2 ^ n) 0 l))
-    (λ o. getD-set-other values n v (2 ^ n) 0 o ∙ p v (omega arith)) (same-or v n))
 
 spread-small : (c m : ℕ) → c < 2 ^ 64 → spread 64 c m < 2 ^ 64
 spread-small c m h = lt-of-le-of-lt (within-le (spread 64 c m) c (set-within c m (spread 64 c m) (set-of c m h))) h

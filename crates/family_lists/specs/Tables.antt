@@ -1,38 +1,20 @@
--- Inner: sums over a mask's bits, and the lists that the functions below write_sets write.
+-- Inner: the lists that the functions below write_sets write.
 use mathlib.Core.Path.{_≡_}
+use mathlib.Core.Bool.{Bool}
 use mathlib.Core.List.{List, [], _∷_, _++_, map}
-use Prim.Native.Nat.{ℕ, zero, suc, _+_, _*_, _/_, _%_, _^_, min, _≤_, _<_}
+use Prim.Native.Nat.{ℕ, zero, suc, _+_, _*_, _/_, _%_, _^_, _≤_, _<_}
 use lib.Count.{ones}
 use lib.Dec.{eqb}
-use lib.ListN.{length, getD, take, drop}
+use lib.ListN.{length, getD, take}
 use lib.Seq.{sets}
-use Rattle.vertex_set.specs.Set.{Member, Iff}
-use Rattle.vertex_set.specs.Order.{sumOver}
+use Rattle.vertex_set.specs.Set.{Member, Iff, Decides}
 use Rattle.vertex_set.proofs.Places.{places}
 use Rattle.vertex_set.proofs.Sorted.{only}
-use Rattle.families.specs.Masks.{SetOfMask}
+use Rattle.families.specs.Family.{In}
 
--- At v stands the number of the set that has v alone.
-pub record Singles (values : List ℕ) : Type 0 where
-  pub each : (v : ℕ) → v < 64 → getD values v 0 ≡ 2 ^ v
-
--- The sum of the weights at the bits of the mask m.
-abbrev pub sumAt : List ℕ → ℕ → ℕ
-sumAt [] m = 0
-sumAt (w ∷ ws) m = m % 2 * w + sumAt ws (m / 2)
-
--- The weights at a mask's bits sum up to the values of its set.
-pub record WeightsOf (chosen : ℕ) (value : ℕ → ℕ) (ws : List ℕ) : Type 0 where
-  pub long : length ws ≡ 14
-  pub sum : (m x : ℕ) → SetOfMask chosen m x → sumAt ws m ≡ sumOver value x
-
--- No sum of weights is too large for a word.
-pub record SumsFit (ws : List ℕ) : Type 0 where
-  pub fits : (m : ℕ) → sumAt ws m < 2 ^ 64
-
--- The table t has the sums of seven weights, the first of them at n.
-pub record SumTable (ws : List ℕ) (n : ℕ) (t : List ℕ) : Type 0 where
-  pub each : (k : ℕ) → k < 128 → getD t k 0 ≡ sumAt (drop n ws) k
+-- The lanes whose numbers have k bits fewer than s.
+pub record Layer (k s r : ℕ) : Type 0 where
+  pub each : (i : ℕ) → i < 64 → Iff (Member r i) (k + ones i ≡ s)
 
 -- The lanes of word b whose masks have s bits.
 pub record LanesOfSize (b s r : ℕ) : Type 0 where
@@ -59,6 +41,20 @@ pub record Occupied (f index : List ℕ) (n : ℕ) : Type 0 where
   pub below : (i : ℕ) → i < n → getD index i 0 < 256
   pub all : ofWords f (take n index) ≡ rising 0 f
 
+-- At k stand the lanes that are in some word of the family whose number has k bits.
+pub record Joined (f joined : List ℕ) : Type 0 where
+  pub each : (k i : ℕ) → i < 64 → Iff (Member (getD joined k 0) i) ((b : ℕ) × (ones b ≡ k) × Member (getD f b 0) i)
+
+-- Some member of f has s bits.
+pub record HasSize (f : List ℕ) (s : ℕ) : Type 0 where
+  pub mask : ℕ
+  pub is : In f mask
+  pub bits : ones mask ≡ s
+
+-- r says whether the family of 256 words that is joined so, whichever it is, has a member of s bits.
+pub record SomeOfSize (joined : List ℕ) (s : ℕ) (r : Bool) : Type 0 where
+  pub each : (f : List ℕ) → length f ≡ 256 → Joined f joined → Decides (HasSize f s) r
+
 -- Those of the masks that have s bits.
 abbrev pub ofSize : ℕ → List ℕ → List ℕ
 ofSize s l = only (λ (m : ℕ). eqb (ones m) s) l
@@ -82,8 +78,3 @@ pub record TablesFit (low high : List ℕ) : Type 0 where
 pub record Wrote (entry : List ℕ) (at : ℕ) (xs after : List ℕ) (r : ℕ) : Type 0 where
   pub exit : after ≡ sets entry at xs
   pub next : r ≡ at + length xs
-
--- The least of the numbers of l and d.
-abbrev pub leastOf : ℕ → List ℕ → ℕ
-leastOf d [] = d
-leastOf d (x ∷ l) = leastOf (min d x) l

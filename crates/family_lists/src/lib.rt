@@ -1,18 +1,15 @@
-// The sets of a family's members: their list in order, and the least sum of values over them. A mask's
-// set number is a sum too, of its vertices' powers of 2, so both go by the same two tables of sums.
+// The sets of a family's members: their list in order. A mask's set number is a sum, of its vertices'
+// powers of 2, and goes by two tables of sums.
 ghost use mathlib.Core.Path.{_≡_};
 ghost use mathlib.Core.List.{map};
-ghost use Prim.Native.Nat.{ℕ, _+_, _≤_, _<_};
-ghost use lib.ListN.{length, getD};
+ghost use Prim.Native.Nat.{_+_, _≤_, _<_};
+ghost use lib.ListN.{length};
 ghost use lib.Count.{ones};
 ghost use Rattle.families.specs.Family.{size};
-ghost use Rattle.family_lists.specs.Lists.{Writable, WroteSets, Summable, SumTables, LeastSum, LeastBy};
-ghost use Rattle.family_lists.specs.Tables.{Singles, WeightsOf, SumsFit, SumTable, LanesOfSize, TablesFit, Wrote, masksIn, rising, Occupied, ofSize, bySize, sumBy, leastOf};
+ghost use Rattle.family_lists.specs.Lists.{Writable, WroteSets};
+ghost use Rattle.family_lists.specs.Tables.{Layer, LanesOfSize, TablesFit, Wrote, masksIn, rising, Occupied, Joined, SomeOfSize, ofSize, bySize, sumBy};
 use families::WORDS;
 use vertex_set::VertexSet;
-
-// The least sum where there is no member: 2^62, above every sum.
-pub const NEVER: u64 = 0x4000_0000_0000_0000;
 
 // At k the lanes of a word whose number has k bits.
 const LAYERS: [u64; 7] = [
@@ -25,49 +22,15 @@ const LAYERS: [u64; 7] = [
     0x8000_0000_0000_0000,
 ];
 
-// At v the number of the set that has v alone.
-fn singles() -> [u64; 64]
-    ensures { λ r. ⌜ Singles r ⌝ }
+// The lanes whose numbers have k bits fewer than s.
+fn layer(k: usize, s: usize) -> u64
+    ensures { λ r. ⌜ Layer k s r ⌝ }
 {
-    let one: u64 = 1;
-    let mut values = [0u64; 64];
-    for v in 0..64usize {
-        values[v] = one << v;
+    if s < k {
+        return 0;
     }
-    values
-}
-
-// The values of the chosen vertices, by their numbers among them; 0 beyond.
-fn weights_of(chosen: VertexSet, values: [u64; 64]) -> [u64; 14]
-    requires { ⌜ ones (chosen .0) ≤ 14 ⌝ }
-    ensures { λ r. ⌜ WeightsOf (chosen .0) (λ (v : ℕ). getD values v 0) r ⌝ }
-{
-    let one: u64 = 1;
-    let mut weights = [0u64; 14];
-    let mut rest = chosen.0;
-    let mut n: usize = 0;
-    while rest != 0 {
-        let v = u64::trailing_zeros(rest);
-        weights[n] = values[v as usize];
-        n = n + 1;
-        rest = rest - (one << v);
-    }
-    weights
-}
-
-// The sums of seven weights, the first of them at `from`: at k the sum of those at the bits of k.
-fn fill_sums(weights: [u64; 14], from: usize, table: &mut [u64])
-    requires { ⌜ from ≤ 7 ⌝ }
-    requires { ⌜ SumsFit weights ⌝ }
-    requires { ⌜ length (now table) ≡ 128 ⌝ }
-    ensures { λ _. ⌜ SumTable weights from (now (table .exit)) ⌝ }
-{
-    let one: usize = 1;
-    table[0] = 0;
-    for k in 1..128usize {
-        let v = usize::trailing_zeros(k) as usize;
-        table[k] = table[k - (one << v)] + weights[from + v];
-    }
+    let d = s - k;
+    if d < 7 { LAYERS[d] } else { 0 }
 }
 
 // The lanes of word b whose masks have s bits.
@@ -75,11 +38,7 @@ fn lanes_of_size(b: usize, s: usize) -> u64
     ensures { λ r. ⌜ LanesOfSize b s r ⌝ }
 {
     let k = usize::count_ones(b) as usize;
-    if s < k {
-        return 0;
-    }
-    let d = s - k;
-    if d < 7 { LAYERS[d] } else { 0 }
+    layer(k, s)
 }
 
 // Writes the sums of the masks of word b in the lanes of y, from `at` on, and gives the next place.
@@ -164,22 +123,51 @@ fn put_size(
     next
 }
 
-// Does so for all of the family's members, fewer bits first, and stops where all are written.
+// At k the lanes that are in some word of the family whose number has k bits.
+// All members are in the first n words of index.
+fn joined_words(f: &[u64], index: &[usize], n: usize) -> [u64; 9]
+    requires { ⌜ length (now f) ≡ 256 ⌝ }
+    requires { ⌜ Occupied (now f) (now index) n ⌝ }
+    ensures { λ r. ⌜ Joined (now (f .entry)) r ⌝ }
+{
+    let mut joined = [0u64; 9];
+    for i in 0..n {
+        let b = index[i];
+        let k = usize::count_ones(b) as usize;
+        joined[k] = joined[k] | f[b];
+    }
+    joined
+}
+
+// Does the family whose words are joined so have a member of s bits?
+fn some_of_size(joined: [u64; 9], s: usize) -> bool
+    ensures { λ r. ⌜ SomeOfSize joined s r ⌝ }
+{
+    for k in 0..9usize {
+        let lanes = layer(k, s);
+        if joined[k] & lanes != 0 {
+            return true;
+        }
+    }
+    false
+}
+
+// Does so for all of the family's members, fewer bits first. Sizes that no member has are passed over.
 fn put_all(f: &[u64], low: &[u64], high: &[u64], out: &mut [u64]) -> usize
     requires { ⌜ length (now f) ≡ 256 ⌝ }
     requires { ⌜ TablesFit (now low) (now high) ⌝ }
     requires { ⌜ size (now f) ≤ length (now out) ⌝ }
     ensures { λ r. ⌜ Wrote (now (out .entry)) 0 (map (sumBy (now (low .entry)) (now (high .entry))) (bySize (rising 0 (now (f .entry))) 0 15)) (now (out .exit)) r ⌝ }
 {
-    let total = families::count_members(f);
     let mut index = [0usize; 256];
     let n = occupied_words(f, &mut index);
+    let joined = joined_words(f, &index, n);
     let mut next: usize = 0;
     for s in 0..15usize {
-        if next == total {
-            return next;
+        let some = some_of_size(joined, s);
+        if some {
+            next = put_size(f, &index, n, s, low, high, out, next);
         }
-        next = put_size(f, &index, n, s, low, high, out, next);
     }
     next
 }
@@ -190,73 +178,11 @@ pub fn write_sets(f: &[u64], chosen: VertexSet, out: &mut [u64]) -> usize
     requires { ⌜ Writable (chosen .0) (now f) (length (now out)) ⌝ }
     ensures { λ r. ⌜ WroteSets (chosen .0) (now (f .entry)) (now (out .entry)) r (now (out .exit)) ⌝ }
 {
-    let values = singles();
-    let weights = weights_of(chosen, values);
+    let values = sums::singles();
+    let weights = sums::weights_of(chosen, values);
     let mut low = [0u64; 128];
     let mut high = [0u64; 128];
-    fill_sums(weights, 0, &mut low);
-    fill_sums(weights, 7, &mut high);
+    sums::fill_sums(weights, 0, &mut low);
+    sums::fill_sums(weights, 7, &mut high);
     put_all(f, &low, &high, out)
-}
-
-// The least of `best` and the sums of the masks of word b in the lanes of y.
-fn least_in_word(y: u64, b: usize, low: &[u64], high: &[u64], best: u64) -> u64
-    requires { ⌜ b < 256 ⌝ }
-    requires { ⌜ TablesFit (now low) (now high) ⌝ }
-    ensures { λ r. ⌜ r ≡ leastOf best (map (sumBy (now (low .entry)) (now (high .entry))) (masksIn b y)) ⌝ }
-{
-    let one: u64 = 1;
-    let base = high[b / 2];
-    let from = b % 2 * 64;
-    let mut rest = y;
-    let mut least = best;
-    while rest != 0 {
-        let i = u64::trailing_zeros(rest);
-        let sum = base + low[from + i as usize];
-        if sum < least {
-            least = sum;
-        }
-        rest = rest - (one << i);
-    }
-    least
-}
-
-// The least sum over the family's members by two tables of sums, and NEVER where there is none.
-pub fn least_by(f: &[u64], low: &[u64], high: &[u64]) -> u64
-    requires { ⌜ length (now f) ≡ 256 ⌝ }
-    requires { ⌜ TablesFit (now low) (now high) ⌝ }
-    ensures { λ r. ⌜ LeastBy (now (f .entry)) (now (low .entry)) (now (high .entry)) r ⌝ }
-{
-    let mut least = NEVER;
-    for b in 0..WORDS {
-        let x = f[b];
-        if x != 0 {
-            least = least_in_word(x, b, low, high, least);
-        }
-    }
-    least
-}
-
-// The two tables of sums of values, which serve all families on the chosen vertices.
-pub fn sum_tables(chosen: VertexSet, values: [u64; 64], low: &mut [u64], high: &mut [u64])
-    requires { ⌜ Summable (chosen .0) (λ (v : ℕ). getD values v 0) ⌝ }
-    requires { ⌜ length (now low) ≡ 128 ⌝ }
-    requires { ⌜ length (now high) ≡ 128 ⌝ }
-    ensures { λ _. ⌜ SumTables (chosen .0) (λ (v : ℕ). getD values v 0) (now (low .exit)) (now (high .exit)) ⌝ }
-{
-    let weights = weights_of(chosen, values);
-    fill_sums(weights, 0, low);
-    fill_sums(weights, 7, high);
-}
-
-// The least sum of values over the sets of the family's members, and NEVER where there is none.
-pub fn least_sum(f: &[u64], chosen: VertexSet, values: [u64; 64]) -> u64
-    requires { ⌜ length (now f) ≡ 256 ⌝ }
-    requires { ⌜ Summable (chosen .0) (λ (v : ℕ). getD values v 0) ⌝ }
-    ensures { λ r. ⌜ LeastSum (chosen .0) (now (f .entry)) (λ (v : ℕ). getD values v 0) r ⌝ }
-{
-    let mut low = [0u64; 128];
-    let mut high = [0u64; 128];
-    sum_tables(chosen, values, &mut low, &mut high);
-    least_by(f, &low, &high)
 }

@@ -46,7 +46,7 @@ fn keep_base(w: &mut [u64], target: usize, low: &[u64], high: &[u64]) -> u64
 {
     let from = target * WORDS;
     families::keep_minimal(&mut w[from..from + WORDS]);
-    family_lists::least_by(&w[from..from + WORDS], low, high)
+    least_sums::least_by(&w[from..from + WORDS], low, high)
 }
 
 // Does so for all vertices. The least sums are their scores.
@@ -72,7 +72,7 @@ pub fn scores_in(s: Setup, graph: Graph, loss: bool, w: &mut [u64], out: &mut [u
     let values = bases::values_of(s, loss);
     let mut low = [0u64; 128];
     let mut high = [0u64; 128];
-    family_lists::sum_tables(chosen, values, &mut low, &mut high);
+    least_sums::sum_tables(chosen, values, &mut low, &mut high);
     tables::fill(graph, chosen, loss, w);
     keep_bases(w, &low, &high, out);
 }

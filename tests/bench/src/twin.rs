@@ -1,7 +1,7 @@
 //! The twin: the algorithm of the proved code in plain Rust. All subsets of the chosen vertices are
 //! taken at once: bit i of word b of a vertex's family tells whether the subset with the mask
-//! b * 64 + i has it. The parts are those of the crates tables, lanes, words, families and
-//! family_lists; no question is asked of the setup.
+//! b * 64 + i has it. The parts are those of the crates tables, lanes, words, families, sums,
+//! family_lists and least_sums; no question is asked of the setup.
 //!
 //! The twin takes the steps of the proved code one by one. The lean twin (`LEAN`) takes two
 //! shortcuts besides: the vertices that need another are found once and not at each growth, and
@@ -266,25 +266,32 @@ const LAYERS: [u64; 7] = [
     0x8000_0000_0000_0000,
 ];
 
+/// The places of a word whose number has `k` bits fewer than `size`.
+fn layer(k: usize, size: usize) -> u64 {
+    size.checked_sub(k).and_then(|d| LAYERS.get(d)).copied().unwrap_or(0)
+}
+
 /// Writes the sets of a family's masks to the front of `out`, fewer vertices first, then the
-/// smaller set number, and gives their number.
+/// smaller set number, and gives their number. Sizes that no mask has are passed over.
 pub fn write_sets(family: &Family, chosen: u64, out: &mut [u64]) -> usize {
     let numbers = Sums::new(chosen, |v| 1 << v);
-    let total: usize = family.iter().map(|word| word.count_ones() as usize).sum();
     let mut occupied = [0; WORDS];
     let mut words = 0;
     for b in (0..WORDS).filter(|&b| family[b] != 0) {
         occupied[words] = b;
         words += 1;
     }
+    let mut joined = [0; 9];
+    for &b in &occupied[..words] {
+        joined[b.count_ones() as usize] |= family[b];
+    }
     let mut next = 0;
     for size in 0..15usize {
-        if next == total {
-            break;
+        if joined.iter().enumerate().all(|(k, word)| word & layer(k, size) == 0) {
+            continue;
         }
         for &b in &occupied[..words] {
-            let layer = size.checked_sub(b.count_ones() as usize).and_then(|k| LAYERS.get(k));
-            for i in members(family[b] & layer.copied().unwrap_or(0)) {
+            for i in members(family[b] & layer(b.count_ones() as usize, size)) {
                 out[next] = numbers.at(b, i);
                 next += 1;
             }

@@ -1,12 +1,12 @@
--- `family_lists::sum_tables` meets its contract. The two tables give the sums of the weights at a mask's bits, and so of its set's values.
+-- `least_sums::sum_tables` meets its contract. The two tables give the sums of the weights at a mask's bits, and so of its set's values.
 -- Assumes nothing.
 use mathlib.Core.Path.{_∙_}
 use Prim.Native.Nat.{_^_, _<_}
 use borrow.Author.Needs.{needs}
-use Rattle.family_lists.specs.Tables.{SumsFit}
-use Rattle.family_lists.proofs.Least.{value-fits, value-tables}
-use Rattle.family_lists.proofs.sum_tables.Statement.{statement}
-use Rattle.family_lists.proofs.sum_tables.Tie as tie
+use Rattle.sums.specs.Sums.{SumsFit}
+use Rattle.least_sums.proofs.Least.{value-fits, value-tables}
+use Rattle.least_sums.proofs.sum_tables.Statement.{statement}
+use Rattle.least_sums.proofs.sum_tables.Tie as tie
 
 weights-of-requires : tie.Need-weights-of-requires
 weights-of-requires c κs = search needs

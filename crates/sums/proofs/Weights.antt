@@ -13,12 +13,12 @@ use lib.Pow.{shl-shr}
 use Rattle.vertex_set.specs.Set.{Member}
 use Rattle.vertex_set.specs.Order.{sumBelow, sumOver}
 use Rattle.vertex_set.proofs.Cases.{same-or}
-use Rattle.vertex_set.proofs.Sets.{member-below}
+use Rattle.vertex_set.proofs.Sets.{member-below, shifted-one}
 use Rattle.vertex_set.proofs.Places.{in-first, in-later, member-le, places, places-odd, places-even, places-none, Lowest, lowest}
 use Rattle.vertex_set.proofs.Shifts.{low-first, low-half}
 use Rattle.vertex_set.proofs.Sums.{sum-first}
 use Rattle.families.proofs.Masks.{spread, spread-even, spread-odd, by-parity, set-is}
-use Rattle.family_lists.specs.Tables.{sumAt, WeightsOf, SumsFit}
+use Rattle.sums.specs.Sums.{sumAt, WeightsOf, SumsFit}
 
 -- ---- sums at a mask's bits
 
@@ -170,3 +170,13 @@ module _ (ws : List ℕ) (n k : ℕ) (t : List ℕ) (h : k < 128) (ne : k ≡ 0 
 -- no sum that the table holds is too large
 pub sum-fits : (ws : List ℕ) (n k : ℕ) → SumsFit ws → sumAt (drop n ws) k < 2 ^ 64
 sum-fits ws n k f = subst (λ (x : ℕ). x < 2 ^ 64) (at-high n ws k) (f .fits (k * 2 ^ n))
+
+-- ---- set numbers one by one
+
+-- the next of them is stored
+pub singles-more : (values : List ℕ) (n : ℕ) → n < 64 → n < length values → ((v : ℕ) → v < n → getD values v 0 ≡ 2 ^ v)
+    → (v : ℕ) → v < n + 1 → getD (set values n ((1 * 2 ^ n) % 2 ^ 64)) v 0 ≡ 2 ^ v
+singles-more values n h l p v lt =
+    rw (shifted-one n h)
+    (⊎-elim (λ e. subst (λ (k : ℕ). getD (set values n (2 ^ n)) k 0 ≡ 2 ^ k) (sym e) (getD-set-same values n (2 ^ n) 0 l))
+    (λ o. getD-set-other values n v (2 ^ n) 0 o ∙ p v (omega arith)) (same-or v n))

@@ -1,4 +1,4 @@
--- `family_lists::fill_sums` meets its contract. The loop's invariant: the first k sums are there; the next is an earlier one and the weight at k's lowest bit.
+-- `sums::fill_sums` meets its contract. The loop's invariant: the first k sums are there; the next is an earlier one and the weight at k's lowest bit.
 -- Assumes nothing.
 use mathlib.Core.Path.{_≡_}
 use Prim.Native.Nat.{_-_, _≤_, _<_}
@@ -7,9 +7,9 @@ use lib.Count.{trailingZeros}
 use lib.ListN.{length}
 use borrow.Author.Needs.{needs}
 use Rattle.vertex_set.proofs.Places.{Lowest}
-use Rattle.family_lists.proofs.Weights.{Filling, filling-first, filling-more, lowest-place, next-sum, sum-fits}
-use Rattle.family_lists.proofs.fill_sums.Statement.{statement}
-use Rattle.family_lists.proofs.fill_sums.Tie as tie
+use Rattle.sums.proofs.Weights.{Filling, filling-first, filling-more, lowest-place, next-sum, sum-fits}
+use Rattle.sums.proofs.fill_sums.Statement.{statement}
+use Rattle.sums.proofs.fill_sums.Tie as tie
 
 abbrev Inv-loop : tie.InvT-loop
 Inv-loop from table₀ weights one k₀ table k = (0 < k) × (k ≤ 128) × (length table ≡ 128) × Filling weights from k table

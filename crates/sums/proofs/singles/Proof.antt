@@ -1,13 +1,13 @@
--- `family_lists::singles` meets its contract. The loop's invariant: each number below v stands there.
+-- `sums::singles` meets its contract. The loop's invariant: each number below v stands there.
 -- Assumes nothing.
 use borrow.Author.Needs.{needs}
 use mathlib.Core.Path.{_≡_}
 use Prim.Native.Nat.{ℕ, _-_, _^_, _≤_, _<_}
 use native.Mathlib.Omega.{arith}
 use lib.ListN.{length, getD}
-use Rattle.family_lists.proofs.SetLists.{singles-more}
-use Rattle.family_lists.proofs.singles.Statement.{statement}
-use Rattle.family_lists.proofs.singles.Tie as tie
+use Rattle.sums.proofs.Weights.{singles-more}
+use Rattle.sums.proofs.singles.Statement.{statement}
+use Rattle.sums.proofs.singles.Tie as tie
 
 abbrev Inv-loop : tie.InvT-loop
 Inv-loop one values₀ v₀ values v = (v ≤ 64) × (length values ≡ 64) × ((k : ℕ) → k < v → getD values k 0 ≡ 2 ^ k)

@@ -1,4 +1,4 @@
--- `family_lists::least_in_word` meets its contract. The loop's invariant: the least so far, with the lanes still to come, is the least of all.
+-- `least_sums::least_in_word` meets its contract. The loop's invariant: the least so far, with the lanes still to come, is the least of all.
 -- Assumes nothing.
 use mathlib.Core.Path.{_∙_, ap}
 use mathlib.Core.Logic.{⊎-elim}
@@ -7,11 +7,11 @@ use native.Mathlib.Omega.{arith}
 use lib.ListN.{getD}
 use borrow.Author.Needs.{needs}
 use Rattle.vertex_set.proofs.Places.{Lowest, lowest}
-use Rattle.family_lists.specs.Tables.{leastOf}
 use Rattle.family_lists.proofs.Lists.{lane-sums, lane-fits}
-use Rattle.family_lists.proofs.Least.{Seeking, seeking-more, seeking-end}
-use Rattle.family_lists.proofs.least_in_word.Statement.{statement}
-use Rattle.family_lists.proofs.least_in_word.Tie as tie
+use Rattle.least_sums.specs.Least.{leastOf}
+use Rattle.least_sums.proofs.Least.{Seeking, seeking-more, seeking-end}
+use Rattle.least_sums.proofs.least_in_word.Statement.{statement}
+use Rattle.least_sums.proofs.least_in_word.Tie as tie
 
 abbrev Inv-loop : tie.InvT-loop
 Inv-loop y b low high best one base from rest₀ least₀ rest least = Seeking (λ (i : ℕ). base + getD low (from + i) 0) y best rest least

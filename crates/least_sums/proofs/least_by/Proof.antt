@@ -1,4 +1,4 @@
--- `family_lists::least_by` meets its contract. The loop's invariant: the least so far, with the words still to come, is the least of all.
+-- `least_sums::least_by` meets its contract. The loop's invariant: the least so far, with the words still to come, is the least of all.
 -- Assumes nothing.
 use mathlib.Core.Path.{_≡_, _∙_}
 use mathlib.Core.Logic.{⊎-elim}
@@ -7,10 +7,11 @@ use Prim.Native.Nat.{ℕ, _-_, _≤_}
 use native.Mathlib.Omega.{arith}
 use lib.ListN.{getD}
 use borrow.Author.Needs.{needs}
-use Rattle.family_lists.specs.Tables.{sumBy, masksIn, leastOf}
-use Rattle.family_lists.proofs.Least.{Remaining, remaining-more, remaining-same, remaining-end, least-sum}
-use Rattle.family_lists.proofs.least_by.Statement.{statement}
-use Rattle.family_lists.proofs.least_by.Tie as tie
+use Rattle.family_lists.specs.Tables.{sumBy, masksIn}
+use Rattle.least_sums.specs.Least.{leastOf}
+use Rattle.least_sums.proofs.Least.{Remaining, remaining-more, remaining-same, remaining-end, least-sum}
+use Rattle.least_sums.proofs.least_by.Statement.{statement}
+use Rattle.least_sums.proofs.least_by.Tie as tie
 
 abbrev Inv-loop : tie.InvT-loop
 Inv-loop f low high least₀ b₀ least b = (b ≤ 256) × Remaining (sumBy low high) f least b

@@ -1,13 +1,13 @@
--- `family_lists::weights_of` meets its contract. The loop's invariant: the values of the chosen vertices passed, then zeros.
+-- `sums::weights_of` meets its contract. The loop's invariant: the values of the chosen vertices passed, then zeros.
 -- Assumes nothing.
 use Prim.Native.Nat.{ℕ, _≤_}
 use native.Mathlib.Omega.{arith}
 use lib.ListN.{getD}
 use borrow.Author.Needs.{needs}
 use Rattle.vertex_set.proofs.Places.{Lowest, lowest}
-use Rattle.family_lists.proofs.Weights.{Weighing, weighing-none, weighing-more, weighing-end}
-use Rattle.family_lists.proofs.weights_of.Statement.{statement}
-use Rattle.family_lists.proofs.weights_of.Tie as tie
+use Rattle.sums.proofs.Weights.{Weighing, weighing-none, weighing-more, weighing-end}
+use Rattle.sums.proofs.weights_of.Statement.{statement}
+use Rattle.sums.proofs.weights_of.Tie as tie
 
 abbrev Inv-loop : tie.InvT-loop
 Inv-loop values one weights₀ rest₀ n₀ weights rest n = (n ≤ 14) × Weighing rest₀ (λ (v : ℕ). getD values v 0) rest n weights

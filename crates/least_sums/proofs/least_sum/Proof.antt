@@ -1,8 +1,8 @@
--- `family_lists::least_sum` meets its contract. The two tables give the sums, and the least of them is that of the family's sets.
+-- `least_sums::least_sum` meets its contract. The two tables give the sums, and the least of them is that of the family's sets.
 -- Assumes nothing.
 use borrow.Author.Needs.{needs}
-use Rattle.family_lists.proofs.least_sum.Statement.{statement}
-use Rattle.family_lists.proofs.least_sum.Tie as tie
+use Rattle.least_sums.proofs.least_sum.Statement.{statement}
+use Rattle.least_sums.proofs.least_sum.Tie as tie
 
 slice-aggregate-sum-tables : tie.Need-slice-aggregate-sum-tables
 slice-aggregate-sum-tables c = search needs

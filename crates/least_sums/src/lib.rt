@@ -1,0 +1,75 @@
+// The least sum of values over the sets of a family's members, by two tables of sums.
+ghost use mathlib.Core.Path.{_≡_};
+ghost use mathlib.Core.List.{map};
+ghost use Prim.Native.Nat.{ℕ, _<_};
+ghost use lib.ListN.{length, getD};
+ghost use Rattle.family_lists.specs.Lists.{Summable, SumTables, LeastSum, LeastBy};
+ghost use Rattle.family_lists.specs.Tables.{TablesFit, masksIn, sumBy};
+ghost use Rattle.least_sums.specs.Least.{leastOf};
+use families::WORDS;
+use vertex_set::VertexSet;
+
+// The least sum where there is no member: 2^62, above every sum.
+pub const NEVER: u64 = 0x4000_0000_0000_0000;
+
+// The least of `best` and the sums of the masks of word b in the lanes of y.
+fn least_in_word(y: u64, b: usize, low: &[u64], high: &[u64], best: u64) -> u64
+    requires { ⌜ b < 256 ⌝ }
+    requires { ⌜ TablesFit (now low) (now high) ⌝ }
+    ensures { λ r. ⌜ r ≡ leastOf best (map (sumBy (now (low .entry)) (now (high .entry))) (masksIn b y)) ⌝ }
+{
+    let one: u64 = 1;
+    let base = high[b / 2];
+    let from = b % 2 * 64;
+    let mut rest = y;
+    let mut least = best;
+    while rest != 0 {
+        let i = u64::trailing_zeros(rest);
+        let sum = base + low[from + i as usize];
+        if sum < least {
+            least = sum;
+        }
+        rest = rest - (one << i);
+    }
+    least
+}
+
+// The least sum over the family's members by two tables of sums, and NEVER where there is none.
+pub fn least_by(f: &[u64], low: &[u64], high: &[u64]) -> u64
+    requires { ⌜ length (now f) ≡ 256 ⌝ }
+    requires { ⌜ TablesFit (now low) (now high) ⌝ }
+    ensures { λ r. ⌜ LeastBy (now (f .entry)) (now (low .entry)) (now (high .entry)) r ⌝ }
+{
+    let mut least = NEVER;
+    for b in 0..WORDS {
+        let x = f[b];
+        if x != 0 {
+            least = least_in_word(x, b, low, high, least);
+        }
+    }
+    least
+}
+
+// The two tables of sums of values, which serve all families on the chosen vertices.
+pub fn sum_tables(chosen: VertexSet, values: [u64; 64], low: &mut [u64], high: &mut [u64])
+    requires { ⌜ Summable (chosen .0) (λ (v : ℕ). getD values v 0) ⌝ }
+    requires { ⌜ length (now low) ≡ 128 ⌝ }
+    requires { ⌜ length (now high) ≡ 128 ⌝ }
+    ensures { λ _. ⌜ SumTables (chosen .0) (λ (v : ℕ). getD values v 0) (now (low .exit)) (now (high .exit)) ⌝ }
+{
+    let weights = sums::weights_of(chosen, values);
+    sums::fill_sums(weights, 0, low);
+    sums::fill_sums(weights, 7, high);
+}
+
+// The least sum of values over the sets of the family's members, and NEVER where there is none.
+pub fn least_sum(f: &[u64], chosen: VertexSet, values: [u64; 64]) -> u64
+    requires { ⌜ length (now f) ≡ 256 ⌝ }
+    requires { ⌜ Summable (chosen .0) (λ (v : ℕ). getD values v 0) ⌝ }
+    ensures { λ r. ⌜ LeastSum (chosen .0) (now (f .entry)) (λ (v : ℕ). getD values v 0) r ⌝ }
+{
+    let mut low = [0u64; 128];
+    let mut high = [0u64; 128];
+    sum_tables(chosen, values, &mut low, &mut high);
+    least_by(f, &low, &high)
+}

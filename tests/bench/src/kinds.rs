@@ -56,6 +56,13 @@ impl Kind {
         words
     }
 
+    /// The setup's words with no vertex losable.
+    pub fn words_without_losable(&self) -> Vec<u64> {
+        let mut words = self.words.clone();
+        words[1..=4 * VERTICES].chunks_exact_mut(4).for_each(|vertex| vertex[2] = u64::MAX);
+        words
+    }
+
     /// How many edges the sheet has.
     pub fn edges(&self) -> u32 {
         self.setup.graph.iter().flatten().map(|row| row.count_ones()).sum()

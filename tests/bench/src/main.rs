@@ -5,6 +5,7 @@
 mod calls;
 mod chart;
 mod check;
+mod clingo;
 mod document;
 mod grid;
 mod kinds;
@@ -22,7 +23,6 @@ use programs::Programs;
 use std::path::Path;
 use std::process::ExitCode;
 use std::time::Instant;
-use targets::Target;
 
 /// How often each kind of work is timed.
 struct Rounds {
@@ -31,13 +31,21 @@ struct Rounds {
     whole: usize,
     programs: usize,
     long_programs: usize,
+    clingo: usize,
     marking: usize,
 }
 
-const FULL: Rounds =
-    Rounds { calls: 301, points: 101, whole: 201, programs: 101, long_programs: 21, marking: 7 };
+const FULL: Rounds = Rounds {
+    calls: 301,
+    points: 101,
+    whole: 201,
+    programs: 101,
+    long_programs: 21,
+    clingo: 21,
+    marking: 7,
+};
 const QUICK: Rounds =
-    Rounds { calls: 5, points: 3, whole: 3, programs: 5, long_programs: 1, marking: 1 };
+    Rounds { calls: 5, points: 3, whole: 3, programs: 5, long_programs: 1, clingo: 3, marking: 1 };
 
 fn main() -> ExitCode {
     let arguments: Vec<String> = std::env::args().skip(1).collect();
@@ -71,6 +79,7 @@ fn run(rounds: &Rounds, folder: &str) {
     show(grid);
     show(programs::tables_and_scores(&timed, &mut targets));
     show(whole::all_lists(&kinds, &timed, rounds, &mut targets));
+    clingo::opening_lists(&kinds, &programs, &timed, rounds, &mut targets).map(&mut show);
     show(calls::reading(rounds, &mut targets));
     let antichain = kinds.iter().find(|kind| kind.name == "antichain of 3,432");
     show(marking::marking(antichain.expect("a kind has that name"), rounds, &mut targets));
@@ -78,7 +87,6 @@ fn run(rounds: &Rounds, folder: &str) {
     let series = [calls::by_starts(rounds), calls::by_edges(rounds)];
     show(calls::series_grid("Against initial vertices", "initial and losable", &series[0]));
     show(calls::series_grid("Against edges", "edges", &series[1]));
-    targets.push(clingo());
     let verdicts = targets::grid(&targets);
     let reasons = targets::reasons(&targets);
     println!("{}\n{reasons}", verdicts.text());
@@ -86,16 +94,4 @@ fn run(rounds: &Rounds, folder: &str) {
     println!("bench: {} seconds", start.elapsed().as_secs());
     let verdicts = format!("{}\n{reasons}", verdicts.text());
     document::write(&root.join(folder), &verdicts, &grids, &series);
-}
-
-/// Clingo is not driven here, so its target is not measured.
-fn clingo() -> Target {
-    let installed = std::process::Command::new("clingo").arg("--version").output().is_ok();
-    let why = if installed {
-        "clingo is installed, but this benchmark has no encoding for it yet"
-    } else {
-        "clingo is not installed"
-    };
-    println!("bench: skipped: {why}\n");
-    Target::not_measured("one target's opening list, against clingo", "at least 10 times", why)
 }

@@ -28,7 +28,7 @@ impl Programs {
     }
 
     /// Writes an input to a file that is named after its kind.
-    fn input(&self, kind: &str, ending: &str, bytes: &[u8]) -> PathBuf {
+    pub fn input(&self, kind: &str, ending: &str, bytes: &[u8]) -> PathBuf {
         let name = kind.replace(", ", "-").replace([' ', ','], "-");
         let path = self.inputs.join(name).with_extension(ending);
         std::fs::write(&path, bytes).expect("an input is written to build/bench");
@@ -37,7 +37,7 @@ impl Programs {
 }
 
 /// What a program prints.
-fn printed(program: &Path, arguments: &[&str], input: &Path) -> Vec<u8> {
+pub fn printed(program: &Path, arguments: &[&str], input: &Path) -> Vec<u8> {
     let input = std::fs::File::open(input).expect("the input of a program is there");
     let mut command = Command::new(program);
     command.args(arguments).stdin(Stdio::from(input));
@@ -87,6 +87,11 @@ impl Timed {
         self.rows >= LONG
     }
 
+    /// The report's time.
+    pub fn whole(&self) -> f64 {
+        self.report
+    }
+
     /// The report's time without that of a program that starts and reads the sheet.
     pub fn computing(&self) -> f64 {
         self.report - self.read
@@ -121,12 +126,12 @@ fn time_programs(kind: &Kind, programs: &Programs, rounds: &Rounds) -> Timed {
     let words = programs.input(&kind.name, "words", &words);
     let mut times: [Vec<f64>; 6] = Default::default();
     for _ in 0..many {
-        times[0].push(processor_time(&programs.report, &[], &sheet));
-        times[1].push(processor_time(&programs.stand_in, &["read"], &sheet));
-        times[2].push(processor_time(&programs.stand_in, &["rows"], &ready));
-        times[3].push(processor_time(&programs.stand_in, &["bytes"], &ready));
-        times[4].push(processor_time(&programs.report, &[], &bare));
-        times[5].push(processor_time(&programs.stand_in, &["scores"], &words));
+        times[0].push(processor_time(&programs.report, &[], &sheet, 0));
+        times[1].push(processor_time(&programs.stand_in, &["read"], &sheet, 0));
+        times[2].push(processor_time(&programs.stand_in, &["rows"], &ready, 0));
+        times[3].push(processor_time(&programs.stand_in, &["bytes"], &ready, 0));
+        times[4].push(processor_time(&programs.report, &[], &bare, 0));
+        times[5].push(processor_time(&programs.stand_in, &["scores"], &words, 0));
     }
     let [report, read, by_write, by_bytes, bare, scores] = times.map(median);
     let twin = twin_time(kind, Lists::WithRecovery, rounds.whole);
@@ -248,7 +253,7 @@ pub fn case_study(root: &Path, programs: &Programs, rounds: &Rounds) -> Grid {
     );
     for name in ["case-study-weights", "case-study-location"] {
         let sheet = root.join("examples").join(name).with_extension("sheet");
-        let runs = (0..rounds.programs).map(|_| processor_time(&programs.report, &[], &sheet));
+        let runs = (0..rounds.programs).map(|_| processor_time(&programs.report, &[], &sheet, 0));
         grid.row(vec![format!("examples/{name}.sheet"), millis(median(runs.collect()))]);
     }
     grid

@@ -1,0 +1,200 @@
+//! One target's opening list by clingo: Debian's gringo (grounding) and clasp (solving), and the
+//! program clingo of the same package, which does both. `apt-get install gringo clasp` installs them;
+//! without them this part is left out.
+
+use crate::grid::{micros, millis, ratio, with_commas, Grid};
+use crate::kinds::{Kind, ROOM};
+use crate::product;
+use crate::programs::{printed, Programs, Timed};
+use crate::targets::{smallest, Target};
+use crate::timing::{in_turn, median, processor_time};
+use crate::twin::members;
+use crate::Rounds;
+use std::hint::black_box;
+use std::path::{Path, PathBuf};
+use std::process::Command;
+
+const ENCODING: &str = include_str!("opening.lp");
+
+/// Enumerates the answer sets whose shown atoms are minimal: these are taken as false first, and what
+/// was found rules out all that has more.
+const MINIMAL: [&str; 5] =
+    ["--heuristic=Domain", "--dom-mod=5,16", "--enum-mode=domRec", "--models=0", "--verbose=0"];
+/// The same, and nothing is printed.
+const QUIET: [&str; 6] = [MINIMAL[0], MINIMAL[1], MINIMAL[2], MINIMAL[3], MINIMAL[4], "--quiet=2"];
+
+/// How clasp ends where it has found something and has searched all.
+const EXHAUSTED: i32 = 30;
+/// A ground program that says nothing.
+const NOTHING: &[u8] = b"asp 1 0 0\n0\n";
+
+/// The target that clingo is held to.
+const WHAT: &str = "one target's opening list, against clingo";
+const BOUND: &str = "at least 10 times";
+
+/// Whether all three programs can be started.
+fn installed() -> bool {
+    let starts = |name: &&str| Command::new(name).arg("--version").output().is_ok();
+    ["gringo", "clasp", "clingo"].iter().all(starts)
+}
+
+/// The encoding with a sheet's facts.
+fn logic_program(kind: &Kind) -> String {
+    let mut text = ENCODING.to_string();
+    members(kind.setup.chosen(false)).for_each(|v| text += &format!("initial({v}).\n"));
+    for (v, rows) in kind.setup.graph.iter().enumerate() {
+        for (colour, &row) in rows.iter().enumerate() {
+            members(row).for_each(|u| text += &format!("needs({v},{colour},{u}).\n"));
+        }
+    }
+    text + &format!("target({}).\n", kind.target)
+}
+
+/// The sets that clasp prints, in a list's order.
+fn sets(printed: &[u8]) -> Vec<u64> {
+    let text = String::from_utf8_lossy(printed);
+    let vertex = |atom: &str| -> usize {
+        let number = atom.trim_start_matches("chosen(").trim_end_matches(')');
+        number.parse().expect("an atom of clasp's is a chosen vertex")
+    };
+    let set = |line: &str| line.split(' ').fold(0, |set, atom| set | 1 << vertex(atom));
+    let answers = text.lines().filter(|line| line.starts_with("chosen("));
+    let mut sets: Vec<u64> = answers.map(set).collect();
+    sets.sort_unstable_by_key(|set: &u64| (set.count_ones(), *set));
+    sets
+}
+
+/// What the programs need for a sheet's target.
+struct Asked {
+    /// The text for gringo and clingo, and the ground program for clasp.
+    text: PathBuf,
+    ground: PathBuf,
+    /// The setup without losable vertices, so that the lockout list is empty.
+    opening: Kind,
+}
+
+impl Asked {
+    fn new(kind: &Kind, programs: &Programs) -> Asked {
+        let text = programs.input(&kind.name, "lp", logic_program(kind).as_bytes());
+        let ground = printed(Path::new("gringo"), &[], &text);
+        let ground = programs.input(&kind.name, "aspif", &ground);
+        let opening = Kind::of_words(&kind.name, kind.words_without_losable());
+        Asked { text, ground, opening: Kind { target: kind.target, ..opening } }
+    }
+
+    /// Fails where clasp or clingo lists otherwise than the proved call. Gives the list's length.
+    fn same_lists(&self) -> usize {
+        let mut list = vec![0; ROOM];
+        let kind = &self.opening;
+        let (count, none) = product::both_bases(&kind.words, kind.target, &mut list);
+        assert_eq!(none, 0, "{}: nothing is losable", kind.name);
+        for (program, input) in [("clasp", &self.ground), ("clingo", &self.text)] {
+            let found = sets(&printed(Path::new(program), &MINIMAL, input));
+            assert!(found == list[..count], "{}: {program} lists otherwise", kind.name);
+        }
+        count
+    }
+
+    /// The proved call's time.
+    fn proved(&self, rounds: usize) -> f64 {
+        let mut list = vec![0; ROOM];
+        let Kind { words, target, .. } = &self.opening;
+        let mut work = || {
+            black_box(product::both_bases(black_box(words), *target, &mut list));
+        };
+        let [time] = in_turn(rounds, [&mut work]);
+        time
+    }
+
+    /// The processor times of gringo, clasp, clingo, and clasp where there is nothing to do.
+    fn clingo(&self, nothing: &Path, rounds: usize) -> [f64; 4] {
+        let mut times: [Vec<f64>; 4] = Default::default();
+        for _ in 0..rounds {
+            times[0].push(processor_time(Path::new("gringo"), &[], &self.text, 0));
+            times[1].push(processor_time(Path::new("clasp"), &QUIET, &self.ground, EXHAUSTED));
+            times[2].push(processor_time(Path::new("clingo"), &QUIET, &self.text, EXHAUSTED));
+            times[3].push(processor_time(Path::new("clasp"), &QUIET, nothing, EXHAUSTED));
+        }
+        times.map(median)
+    }
+}
+
+/// One target's opening list on each kind of sheet, where clingo is installed.
+pub fn opening_lists(
+    kinds: &[Kind],
+    programs: &Programs,
+    timed: &[Timed],
+    rounds: &Rounds,
+    targets: &mut Vec<Target>,
+) -> Option<Grid> {
+    if !installed() {
+        targets.push(Target::not_measured(WHAT, BOUND, "gringo and clasp are not installed"));
+        return None;
+    }
+    let mut grid = new_grid();
+    let nothing = programs.input("nothing", "aspif", NOTHING);
+    let mut ratios = Vec::new();
+    for (kind, program) in kinds.iter().zip(timed) {
+        let asked = Asked::new(kind, programs);
+        let count = asked.same_lists();
+        let proved = asked.proved(rounds.calls);
+        let [gringo, clasp, clingo, start] = asked.clingo(&nothing, rounds.clingo);
+        let faster = clingo.min(gringo + clasp);
+        let solving = clasp - start;
+        grid.row(vec![
+            kind.name.clone(),
+            with_commas(count as u64),
+            micros(proved),
+            millis(gringo),
+            millis(clasp),
+            millis(clingo),
+            ratio(faster, proved),
+            millis(solving),
+            ratio(solving, proved),
+            millis(program.whole()),
+            ratio(faster, program.whole()),
+        ]);
+        ratios.push((kind.name.clone(), faster / proved));
+    }
+    targets.push(judged(&ratios));
+    Some(grid)
+}
+
+fn new_grid() -> Grid {
+    let mut grid = Grid::new(
+        "One target's opening list, against clingo",
+        &[
+            "sheet",
+            "sets",
+            "proved, µs",
+            "gringo, ms",
+            "clasp, ms",
+            "clingo, ms",
+            "faster / proved",
+            "clasp less start, ms",
+            "clasp less start / proved",
+            "report, ms",
+            "faster / report",
+        ],
+    );
+    grid.note(
+        "For the target with the longest lists. Clingo: processor time of Debian's gringo, of clasp on \
+         what gringo has grounded, and of the program clingo, which does both; each prints no set. \
+         \"Faster\" is clingo, or gringo and clasp together where these take less. The encoding is \
+         `tests/bench/src/opening.lp`; clasp's own enumeration of minimal sets gave the proved call's \
+         list on every sheet. Proved: `both_bases` on the setup without its loss values, so that \
+         the lockout list is empty. Programs have to start, which is all of gringo's time and most of \
+         clasp's; clasp less its time for an empty program tells what solving takes. The program \
+         `report`, a process too, makes the lists of all vertices.",
+    );
+    grid
+}
+
+fn judged(ratios: &[(String, f64)]) -> Target {
+    let (name, least) = smallest(ratios);
+    let seen = format!("at least {least:.2} ({name})");
+    Target::measured(WHAT, BOUND, seen, least >= 10.0).because(
+        "The proved call looks at all subsets, and the worst sheet is the one found where their tables \
+         settle last; its list is short, and clasp looks at few subsets.",
+    )
+}

@@ -14,7 +14,7 @@ pub const NOT_MEASURED: &str = "\
 - All lists of a sheet by the proved code within one process: no exported call gives them. The
   program `report` stands in for it, with its start, reading and printing.
 - The lists without recovery by the proved code: the report needs only the scores of that graph.
-- Stack use, and the gate's time by crate, which the gate itself prints.
+- Stack use.
 ";
 
 const CHARTS: &str = "

@@ -7,6 +7,7 @@ mod chart;
 mod check;
 mod clingo;
 mod document;
+mod gate;
 mod grid;
 mod kinds;
 mod marking;
@@ -79,7 +80,8 @@ fn run(rounds: &Rounds, folder: &str) {
     show(grid);
     show(programs::tables_and_scores(&timed, &mut targets));
     show(whole::all_lists(&kinds, &timed, rounds, &mut targets));
-    clingo::opening_lists(&kinds, &programs, &timed, rounds, &mut targets).map(&mut show);
+    let clingo = clingo::opening_lists(&kinds, &programs, &timed, rounds, &mut targets);
+    clingo.into_iter().for_each(&mut show);
     show(calls::reading(rounds, &mut targets));
     let antichain = kinds.iter().find(|kind| kind.name == "antichain of 3,432");
     show(marking::marking(antichain.expect("a kind has that name"), rounds, &mut targets));
@@ -87,6 +89,7 @@ fn run(rounds: &Rounds, folder: &str) {
     let series = [calls::by_starts(rounds), calls::by_edges(rounds)];
     show(calls::series_grid("Against initial vertices", "initial and losable", &series[0]));
     show(calls::series_grid("Against edges", "edges", &series[1]));
+    gate::times(&root).into_iter().for_each(&mut show);
     let verdicts = targets::grid(&targets);
     let reasons = targets::reasons(&targets);
     println!("{}\n{reasons}", verdicts.text());

@@ -2,11 +2,11 @@
 
 use crate::grid::{micros, millis, ratio, with_commas, Grid};
 use crate::kinds::{longest_sheet, random, Kind, CHOSEN, EDGES, ROOM};
-use crate::product::{self, READING};
 use crate::targets::{against_twin, Target};
 use crate::timing::{in_turn, median, once};
 use crate::twin::{self, Setup};
-use crate::{plain, Rounds};
+use crate::{plain, proved, Rounds};
+use product::READING;
 use std::hint::black_box;
 
 /// The times of both lists of a target: by the proved call, the twin and the lean twin.
@@ -17,7 +17,7 @@ fn both_lists(kind: &Kind, rounds: usize) -> [f64; 3] {
         rounds,
         [
             &mut || {
-                black_box(product::both_bases(black_box(&kind.words), kind.target, proved));
+                black_box(proved::both_bases(black_box(&kind.words), kind.target, proved));
             },
             &mut || {
                 let setup = Setup::from_words(black_box(&kind.words));
@@ -119,10 +119,10 @@ pub fn reading(rounds: &Rounds, targets: &mut Vec<Target>) -> Grid {
                 black_box(product::read_sheet(black_box(&kind.sheet), &mut values));
             },
             &mut || {
-                black_box(product::both_bases(black_box(&kind.words), kind.target, &mut out));
+                black_box(proved::both_bases(black_box(&kind.words), kind.target, &mut out));
             },
             &mut || {
-                black_box(product::portal_score(black_box(&kind.sheet), kind.target));
+                black_box(product::portal_score(black_box(&kind.sheet), kind.target as u64));
             },
         ],
     );

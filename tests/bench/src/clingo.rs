@@ -4,8 +4,8 @@
 
 use crate::grid::{micros, millis, ratio, with_commas, Grid};
 use crate::kinds::{Kind, ROOM};
-use crate::product;
 use crate::programs::{printed, Programs, Timed};
+use crate::proved;
 use crate::targets::{smallest, Target};
 use crate::timing::{in_turn, median, processor_time};
 use crate::twin::members;
@@ -86,7 +86,7 @@ impl Asked {
     fn same_lists(&self) -> usize {
         let mut list = vec![0; ROOM];
         let kind = &self.opening;
-        let (count, none) = product::both_bases(&kind.words, kind.target, &mut list);
+        let (count, none) = proved::both_bases(&kind.words, kind.target, &mut list);
         assert_eq!(none, 0, "{}: nothing is losable", kind.name);
         for (program, input) in [("clasp", &self.ground), ("clingo", &self.text)] {
             let found = sets(&printed(Path::new(program), &MINIMAL, input));
@@ -100,7 +100,7 @@ impl Asked {
         let mut list = vec![0; ROOM];
         let Kind { words, target, .. } = &self.opening;
         let mut work = || {
-            black_box(product::both_bases(black_box(words), *target, &mut list));
+            black_box(proved::both_bases(black_box(words), *target, &mut list));
         };
         let [time] = in_turn(rounds, [&mut work]);
         time

@@ -5,7 +5,7 @@ use crate::kinds::{tables, Kind};
 use crate::targets::{largest, Target};
 use crate::timing::in_turn;
 use crate::twin::{self, members, Family};
-use crate::{product, Rounds};
+use crate::{proved, Rounds};
 use brute::cases::Rng;
 use std::collections::HashSet;
 use std::hint::black_box;
@@ -92,7 +92,7 @@ impl Asked<'_> {
             [
                 &mut || {
                     let words = black_box(&self.kind.words);
-                    black_box(product::mark_access(words, self.kind.target, handed));
+                    black_box(proved::mark_access(words, self.kind.target, handed));
                 },
                 &mut || {
                     let mut sorted = black_box(handed).to_vec();
@@ -128,7 +128,7 @@ pub fn marking(kind: &Kind, rounds: &Rounds, targets: &mut Vec<Target>) -> Grid 
     let mut ratios = Vec::new();
     for n in COUNTS {
         for (name, handed) in asked.lists(n) {
-            let marks = product::mark_access(&kind.words, kind.target, &handed);
+            let marks = proved::mark_access(&kind.words, kind.target, &handed);
             assert_eq!(marks, asked.marks(&handed), "marks of {n} sets: {name}");
             let [marked, sorted] = asked.times(&handed, rounds.marking);
             grid.row(vec![

@@ -44,13 +44,6 @@ pub fn printed(program: &Path, arguments: &[&str], input: &Path) -> Vec<u8> {
     command.output().expect("a program runs to its end").stdout
 }
 
-/// The names of a sheet's items.
-fn names(sheet: &[u8]) -> Vec<String> {
-    let text = String::from_utf8_lossy(sheet);
-    let items = text.lines().skip(1).take_while(|line| !line.is_empty());
-    items.map(|line| line.split(' ').next().unwrap_or_default().to_string()).collect()
-}
-
 /// All lists of a sheet, made by the twin, as the rows' program takes them.
 fn ready_lists(kind: &Kind) -> Ready {
     let mut tables = tables();
@@ -60,7 +53,8 @@ fn ready_lists(kind: &Kind) -> Ready {
         lists.push(List { target, loss, sets: list.to_vec() });
     });
     let values = |loss: bool| (0..64).map(|v| kind.setup.value(loss, v)).collect();
-    Ready { names: names(&kind.sheet), values: [values(false), values(true)], lists }
+    let read = brute::sheet::read(&kind.sheet).expect("a sheet of the benchmark is accepted");
+    Ready { names: read.names_in(&kind.sheet), values: [values(false), values(true)], lists }
 }
 
 /// Rows of so many bytes are many.

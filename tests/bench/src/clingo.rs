@@ -4,7 +4,7 @@
 
 use crate::grid::{micros, millis, ratio, with_commas, Grid};
 use crate::kinds::{Kind, ROOM};
-use crate::programs::{printed, Programs, Timed};
+use crate::programs::{printed, Programs};
 use crate::proved;
 use crate::targets::{smallest, Target};
 use crate::timing::{in_turn, median, processor_time};
@@ -29,7 +29,7 @@ const EXHAUSTED: i32 = 30;
 const NOTHING: &[u8] = b"asp 1 0 0\n0\n";
 
 /// The target that clingo is held to.
-const WHAT: &str = "one target's opening list, against clingo";
+const WHAT: &str = "one target's opening list, clingo / proved";
 const BOUND: &str = "at least 10 times";
 
 /// Whether all three programs can be started.
@@ -66,9 +66,10 @@ fn sets(printed: &[u8]) -> Vec<u64> {
 
 /// What the programs need for a sheet's target.
 struct Asked {
-    /// The text for gringo and clingo, and the ground program for clasp.
+    /// The text for gringo and clingo, the ground program for clasp, and the sheet.
     text: PathBuf,
     ground: PathBuf,
+    sheet: PathBuf,
     /// The setup without losable vertices, so that the lockout list is empty.
     opening: Kind,
 }
@@ -78,8 +79,9 @@ impl Asked {
         let text = programs.input(&kind.name, "lp", logic_program(kind).as_bytes());
         let ground = printed(Path::new("gringo"), &[], &text);
         let ground = programs.input(&kind.name, "aspif", &ground);
+        let sheet = programs.input(&kind.name, "sheet", &kind.sheet);
         let opening = Kind::of_words(&kind.name, kind.words_without_losable());
-        Asked { text, ground, opening: Kind { target: kind.target, ..opening } }
+        Asked { text, ground, sheet, opening: Kind { target: kind.target, ..opening } }
     }
 
     /// Fails where clasp or clingo lists otherwise than the proved call. Gives the list's length.
@@ -106,14 +108,15 @@ impl Asked {
         time
     }
 
-    /// The processor times of gringo, clasp, clingo, and clasp where there is nothing to do.
-    fn clingo(&self, nothing: &Path, rounds: usize) -> [f64; 4] {
-        let mut times: [Vec<f64>; 4] = Default::default();
+    /// The processor times of gringo, clasp, clingo, clasp where there is nothing to do, and `report`.
+    fn processes(&self, report: &Path, nothing: &Path, rounds: usize) -> [f64; 5] {
+        let mut times: [Vec<f64>; 5] = Default::default();
         for _ in 0..rounds {
             times[0].push(processor_time(Path::new("gringo"), &[], &self.text, 0));
             times[1].push(processor_time(Path::new("clasp"), &QUIET, &self.ground, EXHAUSTED));
             times[2].push(processor_time(Path::new("clingo"), &QUIET, &self.text, EXHAUSTED));
             times[3].push(processor_time(Path::new("clasp"), &QUIET, nothing, EXHAUSTED));
+            times[4].push(processor_time(report, &[], &self.sheet, 0));
         }
         times.map(median)
     }
@@ -123,7 +126,6 @@ impl Asked {
 pub fn opening_lists(
     kinds: &[Kind],
     programs: &Programs,
-    timed: &[Timed],
     rounds: &Rounds,
     targets: &mut Vec<Target>,
 ) -> Option<Grid> {
@@ -134,11 +136,12 @@ pub fn opening_lists(
     let mut grid = new_grid();
     let nothing = programs.input("nothing", "aspif", NOTHING);
     let mut ratios = Vec::new();
-    for (kind, program) in kinds.iter().zip(timed) {
+    for kind in kinds {
         let asked = Asked::new(kind, programs);
         let count = asked.same_lists();
         let proved = asked.proved(rounds.calls);
-        let [gringo, clasp, clingo, start] = asked.clingo(&nothing, rounds.clingo);
+        let [gringo, clasp, clingo, start, report] =
+            asked.processes(programs.report(), &nothing, rounds.clingo);
         let faster = clingo.min(gringo + clasp);
         let solving = clasp - start;
         grid.row(vec![
@@ -151,8 +154,8 @@ pub fn opening_lists(
             ratio(faster, proved),
             millis(solving),
             ratio(solving, proved),
-            millis(program.whole()),
-            ratio(faster, program.whole()),
+            millis(report),
+            ratio(faster, report),
         ]);
         ratios.push((kind.name.clone(), faster / proved));
     }
@@ -170,22 +173,21 @@ fn new_grid() -> Grid {
             "gringo, ms",
             "clasp, ms",
             "clingo, ms",
-            "faster / proved",
-            "clasp less start, ms",
-            "clasp less start / proved",
+            "clingo / proved",
+            "clasp's solving, ms",
+            "solving / proved",
             "report, ms",
-            "faster / report",
+            "clingo / report",
         ],
     );
     grid.note(
-        "For the target with the longest lists. Clingo: processor time of Debian's gringo, of clasp on \
-         what gringo has grounded, and of the program clingo, which does both; each prints no set. \
-         \"Faster\" is clingo, or gringo and clasp together where these take less. The encoding is \
-         `tests/bench/src/opening.lp`; clasp's own enumeration of minimal sets gave the proved call's \
-         list on every sheet. Proved: `both_bases` on the setup without its loss values, so that \
-         the lockout list is empty. Programs have to start, which is all of gringo's time and most of \
-         clasp's; clasp less its time for an empty program tells what solving takes. The program \
-         `report`, a process too, makes the lists of all vertices.",
+        "The target with the longest lists. Gringo grounds `tests/bench/src/opening.lp` with the sheet's \
+         facts, clasp enumerates the minimal sets of the ground program, and the program clingo does \
+         both; none prints the sets, which were compared with the proved call's list. Clingo / proved \
+         takes the faster of the two ways. Proved: `both_bases` on the setup without loss values, so \
+         that there is no lockout list. Gringo and clasp have to start as programs, which is most of \
+         their time where lists are short: clasp's solving is its time less that for an empty ground \
+         program. The program `report`, which has to start as well, makes the lists of all vertices.",
     );
     grid
 }

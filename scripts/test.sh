@@ -3,6 +3,7 @@
 # if and only if all else has passed too.
 set -euo pipefail
 cd "$(dirname "$0")/.."
+began=$(date +%s)
 
 for tool in rt python3 cargo gcc; do
     command -v "$tool" > /dev/null || { echo "test: $tool is missing" >&2; exit 1; }
@@ -40,4 +41,6 @@ echo "test: the proved code and the brute force, side by side"
 rt staticlib probe > "$log" 2>&1 || { cat "$log"; exit 1; }
 (cd tests && cargo run --release --quiet -p harness -- gate)
 
+# scripts/gate_times.py reads this line, and those of `rt ci`.
+echo "test: took $((($(date +%s) - began + 30) / 60)) minutes on $(nproc) cores, $(date +%F)"
 echo "$verdict"

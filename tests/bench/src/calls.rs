@@ -2,11 +2,11 @@
 
 use crate::grid::{micros, millis, ratio, with_commas, Grid};
 use crate::kinds::{longest_sheet, random, Kind, CHOSEN, EDGES, ROOM};
-use crate::product::{self, READING};
 use crate::targets::{against_twin, Target};
 use crate::timing::{in_turn, median, once};
 use crate::twin::{self, Setup};
-use crate::{plain, Rounds};
+use crate::{plain, proved, Rounds};
+use product::READING;
 use std::hint::black_box;
 
 /// The times of both lists of a target: by the proved call, the twin and the lean twin.
@@ -17,7 +17,7 @@ fn both_lists(kind: &Kind, rounds: usize) -> [f64; 3] {
         rounds,
         [
             &mut || {
-                black_box(product::both_bases(black_box(&kind.words), kind.target, proved));
+                black_box(proved::both_bases(black_box(&kind.words), kind.target, proved));
             },
             &mut || {
                 let setup = Setup::from_words(black_box(&kind.words));
@@ -57,7 +57,6 @@ pub fn one_target(kinds: &[Kind], rounds: &Rounds, targets: &mut Vec<Target>) ->
             "edges",
             "sets",
             "proved, µs",
-            "of it question 12",
             "twin, µs",
             "proved / twin",
             "lean twin, µs",
@@ -66,13 +65,12 @@ pub fn one_target(kinds: &[Kind], rounds: &Rounds, targets: &mut Vec<Target>) ->
             "brute / proved",
         ],
     );
-    grid.note(
-        "`both_bases` by the harness's library, for the target with the longest lists. Proved, twin \
-         and lean twin take the setup from the same words and are called in turn; all clear their \
-         tables of 128 KB in each call, and the lent list is not cleared between calls. Only the \
-         proved call asks question 12. The brute force (a closure for each subset) is the median of \
-         3 runs.",
-    );
+    grid.note(&format!(
+        "`both_bases` for the target with the longest lists. Proved, twin and lean twin take the setup \
+         from the same words, clear their tables of 128 KB in each call, and are called in turn. Only \
+         the proved call asks question 12, {} µs of its time. Brute force: the median of 3 runs.",
+        micros(question(&kinds[0], rounds.calls)),
+    ));
     let mut ratios = [Vec::new(), Vec::new()];
     for kind in kinds {
         let [proved, same, lean] = both_lists(kind, rounds.calls);
@@ -83,7 +81,6 @@ pub fn one_target(kinds: &[Kind], rounds: &Rounds, targets: &mut Vec<Target>) ->
             kind.edges().to_string(),
             with_commas((opening + lockout) as u64),
             micros(proved),
-            micros(question(kind, rounds.calls)),
             micros(same),
             ratio(proved, same),
             micros(lean),
@@ -94,15 +91,14 @@ pub fn one_target(kinds: &[Kind], rounds: &Rounds, targets: &mut Vec<Target>) ->
         ratios[0].push((kind.name.clone(), proved / same));
         ratios[1].push((kind.name.clone(), proved / lean));
     }
-    targets.push(against_twin("one target's lists, against the twin", &ratios[0]).because(
+    targets.push(against_twin("both lists of one target, proved / twin", &ratios[0]).because(
         "The steps are the same, so it is what the compilers make of them, question 12, and the \
          copying of the setup.",
     ));
-    let lean = against_twin("the same, against the lean twin (not asked for)", &ratios[1]);
+    let lean = against_twin("the same, proved / lean twin (not asked for)", &ratios[1]);
     targets.push(lean.because(
-        "The two shortcuts make the difference: the proved code goes through all 64 vertices at each \
-         growth to find those that need the grown one, and looks once at each vertex that needs \
-         nothing. The column of the twin, which does so too, tells how much that is.",
+        "The lean twin's two shortcuts make the difference: compare the twin, which takes the proved \
+         code's steps.",
     ));
     grid
 }
@@ -119,10 +115,10 @@ pub fn reading(rounds: &Rounds, targets: &mut Vec<Target>) -> Grid {
                 black_box(product::read_sheet(black_box(&kind.sheet), &mut values));
             },
             &mut || {
-                black_box(product::both_bases(black_box(&kind.words), kind.target, &mut out));
+                black_box(proved::both_bases(black_box(&kind.words), kind.target, &mut out));
             },
             &mut || {
-                black_box(product::portal_score(black_box(&kind.sheet), kind.target));
+                black_box(product::portal_score(black_box(&kind.sheet), kind.target as u64));
             },
         ],
     );
@@ -131,9 +127,8 @@ pub fn reading(rounds: &Rounds, targets: &mut Vec<Target>) -> Grid {
         &["sheet", "bytes", "reading, µs", "both lists, µs", "reading / lists", "portal_score, µs"],
     );
     grid.note(
-        "Reading by the harness's library, which also writes the setup's words; both lists of the \
-         target with the longest ones; and the portal's call, which reads the sheet and works out \
-         one score.",
+        "Reading also writes the setup's words. Both lists are those of the target with the longest \
+         ones. `portal_score` reads the sheet and works out one score.",
     );
     let bytes = with_commas(kind.sheet.len() as u64);
     let times = ratio(read, listed);
@@ -145,10 +140,9 @@ pub fn reading(rounds: &Rounds, targets: &mut Vec<Target>) -> Grid {
 }
 
 /// The numbers of initial vertices that a chart shows.
-pub const STARTS: [usize; 13] = [2, 3, 4, 5, 6, 7, 8, 9, 10, 11, 12, 13, 14];
+pub const STARTS: [usize; 7] = [2, 4, 6, 8, 10, 12, 14];
 /// The numbers of edges that a chart shows.
-pub const EDGE_STEPS: [usize; 16] =
-    [16, 32, 48, 64, 80, 96, 112, 128, 144, 160, 176, 192, 208, 224, 240, 256];
+pub const EDGE_STEPS: [usize; 8] = [32, 64, 96, 128, 160, 192, 224, 256];
 /// How many sheets make one point.
 const SHEETS: u64 = 5;
 

@@ -2,7 +2,7 @@
 
 use crate::kinds::{tables, Kind, ROOM};
 use crate::twin::{self, NEVER};
-use crate::{plain, product};
+use crate::{plain, proved};
 
 /// Holds the twin's and the brute force's answers for some targets against the proved calls, with
 /// and without recovery.
@@ -18,7 +18,7 @@ pub fn same_answers(kind: &Kind) {
                 let way = usize::from(loss);
                 let list = plain::list(&closed[way], target);
                 assert_eq!(list, lists[way], "{}: the brute force lists otherwise", part.name);
-                let score = product::score(&part.words, target, loss);
+                let score = proved::score(&part.words, target, loss);
                 assert_eq!(scores[way][target], score, "{}: the twin scores otherwise", part.name);
                 let least = plain::score(&part.setup, loss, &list).unwrap_or(NEVER);
                 assert_eq!(least, score, "{}: the brute force scores otherwise", part.name);
@@ -37,7 +37,7 @@ pub fn some_targets(kind: &Kind) -> [usize; 3] {
 fn same_lists(kind: &Kind, target: usize) -> [Vec<u64>; 2] {
     let mut proved = vec![0; ROOM];
     let mut same = vec![0; ROOM];
-    let counts = product::both_bases(&kind.words, target, &mut proved);
+    let counts = proved::both_bases(&kind.words, target, &mut proved);
     for twin in [twin::both_bases::<false>, twin::both_bases::<true>] {
         let others = twin(&kind.setup, target, &mut same);
         assert_eq!(counts, others, "{}: the twin has lists of other lengths", kind.name);

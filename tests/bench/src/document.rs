@@ -11,18 +11,30 @@ use std::time::{SystemTime, UNIX_EPOCH};
 pub const NOT_MEASURED: &str = "\
 ## Not measured
 
-- All lists of a sheet by the proved code within one process: no exported call gives them. The
-  program `report` stands in for it, with its start, reading and printing.
-- The lists without recovery by the proved code: the report needs only the scores of that graph.
-- Clingo (Debian's gringo and clasp).
-- Stack use, and the gate's time by crate, which the gate itself prints.
+- All lists of a sheet by the proved code within one process: no call gives them.
+- Stack use.
 ";
 
-const CHARTS: &str = "
+/// The kinds of sheets, for the document.
+const SHEETS: &str = "
+## Sheets
+
+All have 64 vertices (63 in the first antichain), all of them accounts, 14 initial and 14 losable
+ones, and 256 edges where the kind allows it.
+
+- random: edges with any ends in three colours, a sixth of them recovery.
+- rings: each vertex needs two others by either of two colours, in rings through all vertices.
+- chain with vertex order, against it: links behind the initial vertices, each needing earlier ones.
+- self-loops: each vertex needs itself in one colour, and there are random edges.
+- all recovery: a random sheet on which every edge is for recovery.
+- worst found: of 2,000 sheets tried, the one on which the tables settle last.
+- antichain of 3,432: a target that any 7 of the 14 initial vertices open, the longest list there is;
+  and 28 such targets, with rows of 28 MB.
+
 ## Charts
 
-Both lists of one target, each point the mean over five random sheets of 64 vertices. A table always
-has all 2^14 masks; with fewer initial vertices less can be opened, and the tables settle sooner.
+Both lists of one target, each point the mean over five random sheets. A table always has all 2^14
+masks; with fewer initial vertices less can be opened, and the tables settle sooner.
 
 ![Time against initial vertices](performance-starts.svg)
 
@@ -39,7 +51,7 @@ pub fn write(folder: &Path, verdicts: &str, grids: &[Grid], series: &[Series; 2]
     put("performance-edges.svg", edges_chart(&series[1]));
     let mut text = opening();
     text += verdicts;
-    text += CHARTS;
+    text += SHEETS;
     for grid in grids {
         text += &grid.text();
         text += "\n";
@@ -54,19 +66,19 @@ fn opening() -> String {
     let date = today();
     format!(
         "# Performance\n\n\
-         Written by `make bench`. Everything is measured side by side in one run, with release builds,\n\
-         and each time is a median unless its table says otherwise. Calls are timed by the clock, programs by\n\
-         their processor time.\n\n\
+         Written by `make bench`. Everything is measured side by side in one run, with release builds.\n\
+         Calls are timed by the clock, programs by their processor time (user and system); each time is\n\
+         a median, unless it is said otherwise. a / b tells how many times b's time a takes.\n\n\
+         - Proved: the Rattle code, by the harness's library or as the program `report`.\n\
+         - Twin: the same algorithm in plain Rust, step by step (`tests/bench/src/twin.rs`).\n\
+         - Lean twin: with two shortcuts besides. The vertices that need another are found once and\n  \
+           not at each growth, and vertices that need nothing are never looked at.\n\
+         - Brute force: a closure for each subset, by passes over all vertices\n  \
+           (`tests/bench/src/plain.rs`).\n\
+         - All were compared with the proved calls' answers before anything was timed.\n\
          - Machine: {machine}.\n\
          - Rust: {compiler}, -O3, no overflow checks, for the baseline of the machine's family.\n\
-         - Date: {date}.\n\n\
-         \"Proved\" is the Rattle code, called through the harness's library. The \"twin\" is the same\n\
-         algorithm in plain Rust, step by step (`tests/bench/src/twin.rs`). The \"lean twin\" takes two\n\
-         shortcuts besides: the vertices that need another are found once and not at each growth, and\n\
-         vertices that need nothing are never looked at. The brute force makes a closure for each\n\
-         subset (`tests/bench/src/plain.rs`). Their answers were compared with the proved calls before\n\
-         anything was timed. Sheets have 64 vertices (63 in the first antichain), all accounts, 14\n\
-         initial and 14 losable ones, and 256 edges where the kind allows it.\n\n"
+         - Date: {date}.\n\n"
     )
 }
 

@@ -1,17 +1,16 @@
 //! The kinds of sheets at document 01's bounds on which everything is timed: 64 vertices, all of
 //! them accounts, 256 edges, 14 initial and 14 losable vertices.
 
-use crate::product::{self, READING};
 use crate::twin::{self, Setup, VERTICES, WORDS};
 use brute::cases::bounds::{bounds, longest_reports};
 use brute::cases::draft::Draft;
 use brute::cases::random::at_least;
 use brute::cases::Rng;
+use product::{BLANK, READING};
 
-/// The most edges of a sheet.
-pub const EDGES: usize = 256;
-/// The most initial and the most losable vertices.
-pub const CHOSEN: usize = 14;
+/// The most edges of a sheet, and the most initial and the most losable vertices.
+pub use brute::setup::{MAX_EDGES as EDGES, MAX_STARTING as CHOSEN};
+
 /// Room for both lists of any target.
 pub const ROOM: usize = 2 * 3432;
 
@@ -53,6 +52,13 @@ impl Kind {
             *row &= !*less;
             *less = 0;
         });
+        words
+    }
+
+    /// The setup's words with no vertex losable.
+    pub fn words_without_losable(&self) -> Vec<u64> {
+        let mut words = self.words.clone();
+        words[1..=4 * VERTICES].chunks_exact_mut(4).for_each(|vertex| vertex[2] = BLANK);
         words
     }
 

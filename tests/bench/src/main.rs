@@ -5,13 +5,15 @@
 mod calls;
 mod chart;
 mod check;
+mod clingo;
 mod document;
+mod gate;
 mod grid;
 mod kinds;
 mod marking;
 mod plain;
-mod product;
 mod programs;
+mod proved;
 mod ready;
 mod targets;
 mod timing;
@@ -22,22 +24,39 @@ use programs::Programs;
 use std::path::Path;
 use std::process::ExitCode;
 use std::time::Instant;
-use targets::Target;
 
 /// How often each kind of work is timed.
 struct Rounds {
     calls: usize,
     points: usize,
     whole: usize,
+    brute: usize,
     programs: usize,
     long_programs: usize,
+    clingo: usize,
     marking: usize,
 }
 
-const FULL: Rounds =
-    Rounds { calls: 301, points: 101, whole: 201, programs: 101, long_programs: 21, marking: 7 };
-const QUICK: Rounds =
-    Rounds { calls: 5, points: 3, whole: 3, programs: 5, long_programs: 1, marking: 1 };
+const FULL: Rounds = Rounds {
+    calls: 301,
+    points: 101,
+    whole: 201,
+    brute: 25,
+    programs: 151,
+    long_programs: 31,
+    clingo: 51,
+    marking: 7,
+};
+const QUICK: Rounds = Rounds {
+    calls: 5,
+    points: 3,
+    whole: 3,
+    brute: 1,
+    programs: 5,
+    long_programs: 1,
+    clingo: 3,
+    marking: 1,
+};
 
 fn main() -> ExitCode {
     let arguments: Vec<String> = std::env::args().skip(1).collect();
@@ -66,19 +85,21 @@ fn run(rounds: &Rounds, folder: &str) {
         println!("{}", grid.text());
         grids.push(grid);
     };
-    show(calls::one_target(&kinds, rounds, &mut targets));
-    let (grid, timed) = programs::programs(&kinds, &programs, rounds, &mut targets);
-    show(grid);
-    show(programs::tables_and_scores(&timed, &mut targets));
+    let timed = programs::time_all(&kinds, &programs, rounds);
     show(whole::all_lists(&kinds, &timed, rounds, &mut targets));
+    show(calls::one_target(&kinds, rounds, &mut targets));
+    show(programs::tables_and_scores(&timed, &mut targets));
+    show(programs::reports(&timed, &mut targets));
     show(calls::reading(rounds, &mut targets));
     let antichain = kinds.iter().find(|kind| kind.name == "antichain of 3,432");
     show(marking::marking(antichain.expect("a kind has that name"), rounds, &mut targets));
+    let clingo = clingo::opening_lists(&kinds, &programs, rounds, &mut targets);
+    clingo.into_iter().for_each(&mut show);
     show(programs::case_study(&root, &programs, rounds));
     let series = [calls::by_starts(rounds), calls::by_edges(rounds)];
-    show(calls::series_grid("Against initial vertices", "initial and losable", &series[0]));
-    show(calls::series_grid("Against edges", "edges", &series[1]));
-    targets.push(clingo());
+    show(calls::series_grid("The first chart's numbers", "initial and losable", &series[0]));
+    show(calls::series_grid("The second chart's numbers", "edges", &series[1]));
+    gate::times(&root).into_iter().for_each(&mut show);
     let verdicts = targets::grid(&targets);
     let reasons = targets::reasons(&targets);
     println!("{}\n{reasons}", verdicts.text());
@@ -86,16 +107,4 @@ fn run(rounds: &Rounds, folder: &str) {
     println!("bench: {} seconds", start.elapsed().as_secs());
     let verdicts = format!("{}\n{reasons}", verdicts.text());
     document::write(&root.join(folder), &verdicts, &grids, &series);
-}
-
-/// Clingo is not driven here, so its target is not measured.
-fn clingo() -> Target {
-    let installed = std::process::Command::new("clingo").arg("--version").output().is_ok();
-    let why = if installed {
-        "clingo is installed, but this benchmark has no encoding for it yet"
-    } else {
-        "clingo is not installed"
-    };
-    println!("bench: skipped: {why}\n");
-    Target::not_measured("one target's opening list, against clingo", "at least 10 times", why)
 }

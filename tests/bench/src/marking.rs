@@ -5,7 +5,7 @@ use crate::kinds::{tables, Kind};
 use crate::targets::{largest, Target};
 use crate::timing::in_turn;
 use crate::twin::{self, members, Family};
-use crate::{product, Rounds};
+use crate::{proved, Rounds};
 use brute::cases::Rng;
 use std::collections::HashSet;
 use std::hint::black_box;
@@ -92,7 +92,7 @@ impl Asked<'_> {
             [
                 &mut || {
                     let words = black_box(&self.kind.words);
-                    black_box(product::mark_access(words, self.kind.target, handed));
+                    black_box(proved::mark_access(words, self.kind.target, handed));
                 },
                 &mut || {
                     let mut sorted = black_box(handed).to_vec();
@@ -106,47 +106,26 @@ impl Asked<'_> {
 
 /// Marks against sorting, from a thousand sets to a million.
 pub fn marking(kind: &Kind, rounds: &Rounds, targets: &mut Vec<Target>) -> Grid {
-    let mut grid = Grid::new(
-        "Marking handed-in sets",
-        &[
-            "list",
-            "sets",
-            "marking, µs",
-            "to_vec and sort_unstable, µs",
-            "marking / sorting",
-            "marking, ns a set",
-        ],
-    );
-    grid.note(&format!(
-        "`mark_access` on the sheet \"{}\", whose target has a list of 3,432 sets. The call fills \
-         its table first, which is most of the time of short lists. Marks were compared with a \
-         plain count by a HashSet before they were timed; both are called in turn, medians. Sorting \
-         sees that a list rises, falls or has one value, and is then a mere pass over it.",
-        kind.name
-    ));
+    let mut grid = new_grid(&kind.name);
     let asked = Asked::new(kind);
+    let names = asked.lists(1).into_iter().map(|(name, _)| name);
+    let mut rows: Vec<Vec<String>> = names.map(|name| vec![name.to_string()]).collect();
     let mut ratios = Vec::new();
     for n in COUNTS {
-        for (name, handed) in asked.lists(n) {
-            let marks = product::mark_access(&kind.words, kind.target, &handed);
+        ratios.clear();
+        for ((name, handed), row) in asked.lists(n).into_iter().zip(&mut rows) {
+            let marks = proved::mark_access(&kind.words, kind.target, &handed);
             assert_eq!(marks, asked.marks(&handed), "marks of {n} sets: {name}");
             let [marked, sorted] = asked.times(&handed, rounds.marking);
-            grid.row(vec![
-                name.to_string(),
-                with_commas(n as u64),
-                micros(marked),
-                micros(sorted),
-                ratio(marked, sorted),
-                format!("{:.1}", marked * 1e9 / n as f64),
-            ]);
-            if n == COUNTS[3] {
-                ratios.push((name.to_string(), marked / sorted));
-            }
+            row.extend([micros(marked), ratio(marked, sorted)]);
+            ratios.push((name.to_string(), marked / sorted));
         }
     }
+    rows.into_iter().for_each(|row| grid.row(row));
+    // What is left are those of a million.
     let (falling, asked_for): (Vec<_>, Vec<_>) =
         ratios.into_iter().partition(|(name, _)| name == FALLING);
-    targets.push(judged("marking a million sets", &asked_for));
+    targets.push(judged("marking a million sets / sorting them", &asked_for));
     targets.push(judged("the same, falling ones (not asked for)", &falling).because(
         "Sorting sees that the list falls, and turns it round in one pass; marking takes falling \
          strays as any others, and about as long as for random ones.",
@@ -154,8 +133,24 @@ pub fn marking(kind: &Kind, rounds: &Rounds, targets: &mut Vec<Target>) -> Grid 
     grid
 }
 
+fn new_grid(sheet: &str) -> Grid {
+    let columns =
+        COUNTS.map(|n| [format!("{}, µs", with_commas(n as u64)), "/ sorting".to_string()]);
+    let columns = columns.iter().flatten().map(String::as_str);
+    let header: Vec<&str> = std::iter::once("list of sets").chain(columns).collect();
+    let mut grid = Grid::new("Marking handed-in sets", &header);
+    grid.note(&format!(
+        "`mark_access` on the sheet \"{sheet}\", whose target has a list of 3,432 sets, for lists of a \
+         thousand sets to a million; and its time by that of `to_vec` and `sort_unstable`. Marks were \
+         compared with a count by a HashSet. The call fills its table first, which is most of the time \
+         of short lists. Sorting sees that a list rises, falls or has one value, and is then a mere \
+         pass over it. Subsets: any of the initial vertices. Strays: any numbers.",
+    ));
+    grid
+}
+
 fn judged(what: &'static str, ratios: &[(String, f64)]) -> Target {
     let (name, most) = largest(ratios);
     let seen = format!("at most {most:.2} ({name})");
-    Target::measured(what, "at most 10 times sorting them", seen, most <= 10.0)
+    Target::measured(what, "at most 10 times", seen, most <= 10.0)
 }

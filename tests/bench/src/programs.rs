@@ -27,8 +27,13 @@ impl Programs {
         Programs { report, stand_in: own.with_file_name("stand_in"), inputs }
     }
 
+    /// The program `report`.
+    pub fn report(&self) -> &Path {
+        &self.report
+    }
+
     /// Writes an input to a file that is named after its kind.
-    fn input(&self, kind: &str, ending: &str, bytes: &[u8]) -> PathBuf {
+    pub fn input(&self, kind: &str, ending: &str, bytes: &[u8]) -> PathBuf {
         let name = kind.replace(", ", "-").replace([' ', ','], "-");
         let path = self.inputs.join(name).with_extension(ending);
         std::fs::write(&path, bytes).expect("an input is written to build/bench");
@@ -37,18 +42,11 @@ impl Programs {
 }
 
 /// What a program prints.
-fn printed(program: &Path, arguments: &[&str], input: &Path) -> Vec<u8> {
+pub fn printed(program: &Path, arguments: &[&str], input: &Path) -> Vec<u8> {
     let input = std::fs::File::open(input).expect("the input of a program is there");
     let mut command = Command::new(program);
     command.args(arguments).stdin(Stdio::from(input));
     command.output().expect("a program runs to its end").stdout
-}
-
-/// The names of a sheet's items.
-fn names(sheet: &[u8]) -> Vec<String> {
-    let text = String::from_utf8_lossy(sheet);
-    let items = text.lines().skip(1).take_while(|line| !line.is_empty());
-    items.map(|line| line.split(' ').next().unwrap_or_default().to_string()).collect()
 }
 
 /// All lists of a sheet, made by the twin, as the rows' program takes them.
@@ -60,7 +58,8 @@ fn ready_lists(kind: &Kind) -> Ready {
         lists.push(List { target, loss, sets: list.to_vec() });
     });
     let values = |loss: bool| (0..64).map(|v| kind.setup.value(loss, v)).collect();
-    Ready { names: names(&kind.sheet), values: [values(false), values(true)], lists }
+    let read = brute::sheet::read(&kind.sheet).expect("a sheet of the benchmark is accepted");
+    Ready { names: read.names_in(&kind.sheet), values: [values(false), values(true)], lists }
 }
 
 /// Rows of so many bytes are many.
@@ -77,6 +76,8 @@ pub struct Timed {
     by_bytes: f64,
     /// The report where all items are credentials.
     bare: f64,
+    /// The report's further time for rows, on the sheet without its recovery edges.
+    other_rows: f64,
     /// A program with the twin's tables and scores.
     scores: f64,
 }
@@ -88,9 +89,22 @@ impl Timed {
     }
 
     /// The report's time without that of a program that starts and reads the sheet.
-    pub fn computing(&self) -> f64 {
+    fn computing(&self) -> f64 {
         self.report - self.read
     }
+
+    /// The same, and the time for the lists without recovery with their rows.
+    pub fn both_graphs(&self) -> f64 {
+        self.computing() + self.other_rows
+    }
+}
+
+/// The sheet without its recovery edges.
+fn without_recovery(sheet: &[u8]) -> Vec<u8> {
+    let text = String::from_utf8_lossy(sheet);
+    let (items, edges) = text.split_once("\n\n").expect("a sheet has two parts");
+    let kept = edges.split_inclusive('\n').filter(|edge| !edge.ends_with(" 1\n"));
+    format!("{items}\n\n{}", kept.collect::<String>()).into_bytes()
 }
 
 /// The sheet with credentials in the place of accounts: its report has no rows.
@@ -116,35 +130,39 @@ fn time_programs(kind: &Kind, programs: &Programs, rounds: &Rounds) -> Timed {
     let ready = programs.input(&kind.name, "ready", &ready_lists(kind).bytes());
     let rows = same_rows(kind, programs, &sheet, &ready);
     let bare = programs.input(&kind.name, "bare", &credentials_only(&kind.sheet));
+    let other = without_recovery(&kind.sheet);
+    let other_bare = programs.input(&kind.name, "other-bare", &credentials_only(&other));
+    let other = programs.input(&kind.name, "other", &other);
     let many = if rows >= LONG { rounds.long_programs } else { rounds.programs };
     let words: Vec<u8> = kind.words.iter().flat_map(|word| word.to_le_bytes()).collect();
     let words = programs.input(&kind.name, "words", &words);
-    let mut times: [Vec<f64>; 6] = Default::default();
+    let mut times: [Vec<f64>; 8] = Default::default();
     for _ in 0..many {
-        times[0].push(processor_time(&programs.report, &[], &sheet));
-        times[1].push(processor_time(&programs.stand_in, &["read"], &sheet));
-        times[2].push(processor_time(&programs.stand_in, &["rows"], &ready));
-        times[3].push(processor_time(&programs.stand_in, &["bytes"], &ready));
-        times[4].push(processor_time(&programs.report, &[], &bare));
-        times[5].push(processor_time(&programs.stand_in, &["scores"], &words));
+        times[0].push(processor_time(&programs.report, &[], &sheet, 0));
+        times[1].push(processor_time(&programs.stand_in, &["read"], &sheet, 0));
+        times[2].push(processor_time(&programs.stand_in, &["rows"], &ready, 0));
+        times[3].push(processor_time(&programs.stand_in, &["bytes"], &ready, 0));
+        times[4].push(processor_time(&programs.report, &[], &bare, 0));
+        times[5].push(processor_time(&programs.stand_in, &["scores"], &words, 0));
+        times[6].push(processor_time(&programs.report, &[], &other, 0));
+        times[7].push(processor_time(&programs.report, &[], &other_bare, 0));
     }
-    let [report, read, by_write, by_bytes, bare, scores] = times.map(median);
+    let [report, read, by_write, by_bytes, bare, scores, other, other_bare] = times.map(median);
+    let other_rows = other - other_bare;
     let twin = twin_time(kind, Lists::WithRecovery, rounds.whole);
     let name = kind.name.clone();
-    Timed { name, rows, report, read, twin, by_write, by_bytes, bare, scores }
+    Timed { name, rows, report, read, twin, by_write, by_bytes, bare, other_rows, scores }
 }
 
-/// The program `report` on each kind of sheet, and its times.
-pub fn programs(
-    kinds: &[Kind],
-    programs: &Programs,
-    rounds: &Rounds,
-    targets: &mut Vec<Target>,
-) -> (Grid, Vec<Timed>) {
+/// The times of all programs on each kind of sheet.
+pub fn time_all(kinds: &[Kind], programs: &Programs, rounds: &Rounds) -> Vec<Timed> {
+    kinds.iter().map(|kind| time_programs(kind, programs, rounds)).collect()
+}
+
+/// The program `report` on each kind of sheet.
+pub fn reports(timed: &[Timed], targets: &mut Vec<Target>) -> Grid {
     let mut grid = new_grid();
-    let timed: Vec<Timed> =
-        kinds.iter().map(|kind| time_programs(kind, programs, rounds)).collect();
-    for t in &timed {
+    for t in timed {
         grid.row(vec![
             t.name.clone(),
             with_commas(t.rows as u64),
@@ -159,8 +177,8 @@ pub fn programs(
             ratio(t.report, t.by_bytes),
         ]);
     }
-    judge(&timed, targets);
-    (grid, timed)
+    judge(timed, targets);
+    grid
 }
 
 fn new_grid() -> Grid {
@@ -181,12 +199,11 @@ fn new_grid() -> Grid {
         ],
     );
     grid.note(
-        "Processor time (user and system) of whole processes run in turn, medians; input from a \
-         file, output to /dev/null. Start: a Rust program that reads the sheet and ends. Twin: its \
-         time for the four tables, all scores, and the lists with recovery, within the benchmark. \
-         Rows: a Rust program that reads ready lists and writes the same rows, once by `write!` \
-         into a buffered writer, once by appending bytes by hand; the rows were compared with the \
-         report's first. A fresh process's memory is cleared by the system as it is touched.",
+        "Whole processes, run in turn; input from a file, output to /dev/null. Start: a Rust program \
+         that reads the sheet and ends. Twin: the four tables, all scores, and the lists with \
+         recovery, within the benchmark, where memory is at hand; to a process it is given cleared, \
+         as it is touched. Rows: a Rust program that reads ready lists and writes the same rows (they \
+         were compared), by `write!` into a buffered writer or by appending bytes by hand.",
     );
     grid
 }
@@ -197,19 +214,19 @@ fn judge(timed: &[Timed], targets: &mut Vec<Target>) {
         short.map(|t| (t.name.clone(), t.report / (t.read + t.twin))).collect();
     let (name, most) = largest(&ratios);
     targets.push(Target::measured(
-        "the program `report`, rows below 1 MB",
-        "at most 3 times start, read and twin",
+        "`report` / (start, read and twin), rows below 1 MB",
+        "at most 3 times",
         format!("at most {most:.2} ({name})"),
         most <= 3.0,
     ));
     let longest = timed.iter().max_by_key(|t| t.rows).expect("some kind was measured");
     for (what, other) in [
-        ("the same, most rows, against `write!`", longest.by_write),
-        ("the same, most rows, against bytes by hand", longest.by_bytes),
+        ("`report` / rows by `write!`, most rows", longest.by_write),
+        ("`report` / rows by bytes (the faster way), most rows", longest.by_bytes),
     ] {
         let times = longest.report / other;
         let seen = format!("{times:.2} ({} bytes)", with_commas(longest.rows as u64));
-        let bound = "at most 2.5 times writing the rows";
+        let bound = "at most 2.5 times, rows of 16 MB";
         targets.push(Target::measured(what, bound, seen, times <= 2.5));
     }
 }
@@ -221,10 +238,10 @@ pub fn tables_and_scores(timed: &[Timed], targets: &mut Vec<Target>) -> Grid {
         &["sheet", "report without rows, ms", "program with the twin, ms", "ratio"],
     );
     grid.note(
-        "The same sheets with credentials in the place of accounts: the program `report` fills its \
-         four tables and works out the scores of all 64 vertices with and without recovery, but makes \
-         no list and prints three headers. Beside it a Rust program that reads the setup's words and \
-         does the same by the twin. Processor time from start to end, run in turn, medians.",
+        "The same sheets with credentials in the place of accounts: the program `report` then fills \
+         its four tables and works out all scores with and without recovery, but makes no list and \
+         prints headers alone. Beside it a Rust program that reads the setup's words and does the same \
+         by the twin. Whole processes, run in turn.",
     );
     let mut ratios = Vec::new();
     for t in timed {
@@ -232,7 +249,7 @@ pub fn tables_and_scores(timed: &[Timed], targets: &mut Vec<Target>) -> Grid {
         grid.row([vec![t.name.clone()], cells.to_vec()].concat());
         ratios.push((t.name.clone(), t.bare / t.scores));
     }
-    let what = "tables and scores of whole sheets, program against one with the twin";
+    let what = "all tables and scores of a sheet, `report` / program with the twin";
     targets
         .push(against_twin(what, &ratios).because("The program reads the sheet's fields besides."));
     grid
@@ -244,11 +261,11 @@ pub fn case_study(root: &Path, programs: &Programs, rounds: &Rounds) -> Grid {
     grid.note(
         "Document 003 reports 60 seconds for its case study, with two other scoring schemes and on \
          a laptop of its time (2019). The graph here is read off its text and the scores are \
-         others, so this is no comparison of like with like. Processor time of our whole report:",
+         others, so this is no comparison of like with like.",
     );
     for name in ["case-study-weights", "case-study-location"] {
         let sheet = root.join("examples").join(name).with_extension("sheet");
-        let runs = (0..rounds.programs).map(|_| processor_time(&programs.report, &[], &sheet));
+        let runs = (0..rounds.programs).map(|_| processor_time(&programs.report, &[], &sheet, 0));
         grid.row(vec![format!("examples/{name}.sheet"), millis(median(runs.collect()))]);
     }
     grid

@@ -55,9 +55,10 @@ extern "C" {
     fn wait4(process: i32, status: *mut i32, options: i32, usage: *mut Usage) -> i32;
 }
 
-/// The processor time of a program from start to end, its output thrown away.
+/// The processor time of a program from start to end, its output thrown away. It is to end with the
+/// exit status `exit`.
 #[allow(clippy::zombie_processes)] // It is waited for by `wait4`, which tells the time.
-pub fn processor_time(program: &Path, arguments: &[&str], input: &Path) -> f64 {
+pub fn processor_time(program: &Path, arguments: &[&str], input: &Path, exit: i32) -> f64 {
     let sheet = std::fs::File::open(input).expect("the input of a timed program is there");
     let mut command = Command::new(program);
     command.args(arguments).stdin(Stdio::from(sheet)).stdout(Stdio::null());
@@ -65,6 +66,7 @@ pub fn processor_time(program: &Path, arguments: &[&str], input: &Path) -> f64 {
     let (mut status, mut usage) = (0, Usage::default());
     let ended = unsafe { wait4(child.id() as i32, &mut status, 0, &mut usage) };
     assert_eq!(ended, child.id() as i32, "a timed program is waited for");
-    assert_eq!(status, 0, "{} failed", program.display());
+    // An exit status stands in the second byte; the first is 0 where no signal ended the program.
+    assert_eq!(status, exit << 8, "{} failed", program.display());
     usage.user.total() + usage.system.total()
 }

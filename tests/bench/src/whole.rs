@@ -65,12 +65,20 @@ fn brute_times(kind: &Kind) -> [f64; 2] {
     [closing * count + listing, closing + listing]
 }
 
-/// The middle one of nine such times, by the first of them.
-fn median_brute_times(kind: &Kind) -> [f64; 2] {
-    let mut times: Vec<[f64; 2]> = (0..9).map(|_| brute_times(kind)).collect();
-    times.sort_by(|one, other| one[0].total_cmp(&other[0]));
-    times[4]
+/// The times of the twin with all lists and with none, and both of the brute force, taken in turn.
+fn times_in_turn(kind: &Kind, rounds: &Rounds) -> [f64; 4] {
+    let mut times: [Vec<f64>; 4] = Default::default();
+    for _ in 0..rounds.brute {
+        let [brute, shared] = brute_times(kind);
+        let [all, none] =
+            [Lists::All, Lists::None].map(|lists| twin_time(kind, lists, TWINS_A_ROUND));
+        times.iter_mut().zip([all, none, brute, shared]).for_each(|(list, time)| list.push(time));
+    }
+    times.map(median)
 }
+
+/// How often the twin is timed while the brute force is timed once.
+const TWINS_A_ROUND: usize = 9;
 
 /// All lists and scores of all vertices, with and without recovery.
 pub fn all_lists(
@@ -83,35 +91,34 @@ pub fn all_lists(
     let mut twins = Vec::new();
     let mut proved = Vec::new();
     for (kind, program) in kinds.iter().zip(programs) {
-        let same = twin_time(kind, Lists::All, rounds.whole);
-        let scores = twin_time(kind, Lists::None, rounds.whole);
-        let [brute, shared] = median_brute_times(kind);
+        let [same, scores, brute, shared] = times_in_turn(kind, rounds);
         grid.row(vec![
             kind.name.clone(),
             millis(same),
             millis(scores),
             millis(brute),
             ratio(brute, same),
-            millis(program.computing()),
-            ratio(brute, program.computing()),
+            millis(program.both_graphs()),
+            ratio(brute, program.both_graphs()),
             millis(shared),
             ratio(shared, same),
         ]);
         twins.push((kind.name.clone(), brute / same));
         if !program.is_long() {
-            proved.push((kind.name.clone(), brute / program.computing()));
+            proved.push((kind.name.clone(), brute / program.both_graphs()));
         }
     }
-    targets.push(judged("all lists and scores, twin against brute force", &twins).because(
-        "Where many vertices have long lists, making these is most of the twin's time (see the \
+    targets.push(judged("all lists and scores of a sheet, brute force / twin", &twins).because(
+        "Where many vertices have long lists, making these is most of the twin's time (compare the \
          column without lists): 360,360 sets where 28 vertices have the longest ones. Where a chain \
          goes with vertex order, each closure of the brute force takes two passes, as few as can be, \
-         and the minimal members of 64 vertices are most of the twin's time.",
+         and the minimal members of 64 vertices are most of the twin's time. The worst sheet was \
+         searched for where the twin has most to do.",
     ));
-    let what = "the same, program less start against brute force, rows below 1 MB";
+    let what = "the same, brute force / proved program, rows below 1 MB";
     targets.push(judged(what, &proved).because(
-        "The program's time has the reading of fields and the printing in it; where the lists are \
-         longest, printing is most of it (compare the time of writing the rows from ready lists).",
+        "The program's time has also the reading of fields and the printing of rows, with recovery and \
+         without, which is most of it where lists are long.",
     ));
     grid
 }
@@ -125,21 +132,20 @@ fn new_grid() -> Grid {
             "without lists, ms",
             "brute force, ms",
             "brute / twin",
-            "report less start, ms",
-            "brute / (report less start)",
+            "proved, ms",
+            "brute / proved",
             "shared closures, ms",
             "shared / twin",
         ],
     );
     grid.note(
-        "Twin: all scores and lists; without lists: the tables and scores alone. Brute force: a \
-         closure for each subset and target. The closures of the four tables are \
-         timed for one target, and lists and scores for 3 targets, and both are extrapolated to all; \
-         median of 9. Shared closures: one closure for each subset serves all targets. The twin's \
-         tables are not cleared between runs (filling them writes every word). No call of the \
-         proved code gives all lists at once. Its program does all of this but the lists without \
-         recovery; its time less that of a program that starts and reads has also the reading of \
-         fields and the printing in it, which is most of it where rows are many.",
+        "Twin: all scores and lists; without lists: the four tables and the scores. Brute force: a \
+         closure for each subset and target, extrapolated: closures are timed for one target, lists and \
+         scores for 3. Twin and brute force are timed in turn. Shared closures: one closure for each subset serves all \
+         targets. Proved: no call gives all lists at once, so this is what the program `report` takes, \
+         less a program that starts and reads the sheet; and, as it has no lists without recovery, its \
+         time on the sheet without recovery edges, less that with credentials only, is added. So there \
+         is more in it than in the others: reading fields, and printing all these lists.",
     );
     grid
 }

@@ -28,10 +28,14 @@ pub fn portal_risk(text: &[u8], item: u64) -> u64 {
 }
 
 fn portal_number(text: &[u8], call: impl Fn(&Calls) -> Result<Least, u8>) -> u64 {
-    let answer = match read(text) {
+    portal_code(match read(text) {
         Ok(sheet) => call(&Calls::new(&sheet.setup)),
         Err(refusal) => Err(refusal.number),
-    };
+    })
+}
+
+/// The portal's number for a score or risk, or for a refusal.
+pub fn portal_code(answer: Result<Least, u8>) -> u64 {
     match answer {
         Ok(Least::Sum(sum)) => sum,
         Ok(Least::Never) => PORTAL_NEVER,
@@ -47,13 +51,10 @@ struct Report {
 
 impl Report {
     fn new(text: &[u8], sheet: &Sheet) -> Report {
-        let name = |part: &std::ops::Range<usize>| {
-            String::from_utf8_lossy(&text[part.clone()]).into_owned()
-        };
         let items = 0..sheet.names.len();
         let is_account = |item: &usize| sheet.setup.places[*item].kind == ACCOUNT;
         Report {
-            names: sheet.names.iter().map(name).collect(),
+            names: sheet.names_in(text),
             accounts: items.filter(is_account).collect(),
             calls: Calls::new(&sheet.setup),
         }

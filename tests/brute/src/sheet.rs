@@ -33,6 +33,14 @@ pub struct Sheet {
     pub names: Vec<Range<usize>>,
 }
 
+impl Sheet {
+    /// The items' names, where `text` is the sheet's bytes.
+    pub fn names_in(&self, text: &[u8]) -> Vec<String> {
+        let name = |part: &Range<usize>| String::from_utf8_lossy(&text[part.clone()]).into_owned();
+        self.names.iter().map(name).collect()
+    }
+}
+
 /// Reads a sheet.
 pub fn read(text: &[u8]) -> Result<Sheet, Refusal> {
     if text.len() > MAX_BYTES {

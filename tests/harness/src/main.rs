@@ -4,7 +4,6 @@
 //! told. The first difference is printed with its input, and the exit status is 1.
 
 mod compare;
-mod product;
 mod program;
 mod runs;
 mod setups;

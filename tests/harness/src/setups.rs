@@ -1,13 +1,13 @@
 //! All calls on a setup that is given as plain numbers.
 
 use crate::compare::{told, Difference, Subject};
-use crate::product::{self, MarkCall, NumberCall};
 use crate::words::words_of;
 use brute::calls::{Calls, Way};
 use brute::cases::{probes, Rng};
 use brute::lists::{Least, Marks};
 use brute::report::PORTAL_NEVER;
 use brute::setup::{Setup, PLACES};
+use product::{MarkCall, NumberCall};
 
 /// How much is asked of a setup.
 #[derive(Clone, Copy)]

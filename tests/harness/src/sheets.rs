@@ -2,16 +2,15 @@
 //! yields, and the whole report.
 
 use crate::compare::{told, Difference, Subject};
-use crate::product;
 use crate::program::Program;
 use crate::setups::{compare_setup, Depth};
-use crate::words::{words_of, WORDS};
+use crate::words::words_of;
 use brute::cases::{probes, Rng, SheetCase, Told};
-use brute::lists::Least;
-use brute::report::PORTAL_NEVER;
+use brute::report::portal_code;
 use brute::setup::Setup;
 use brute::sheet::{self, Refusal, Sheet};
 use brute::Calls;
+use product::WORDS;
 
 type Outcome = Result<(), Box<Difference>>;
 
@@ -113,17 +112,9 @@ fn portal(
             Err(refusal) => (Err(refusal.number), Err(refusal.number)),
         };
         let call = || format!("portal_score({item})");
-        subject.same(call, product::portal_score(sheet, item), coded(score))?;
+        subject.same(call, product::portal_score(sheet, item), portal_code(score))?;
         let call = || format!("portal_risk({item})");
-        subject.same(call, product::portal_risk(sheet, item), coded(risk))?;
+        subject.same(call, product::portal_risk(sheet, item), portal_code(risk))?;
     }
     Ok(())
-}
-
-fn coded(answer: Result<Least, u8>) -> u64 {
-    match answer {
-        Ok(Least::Sum(sum)) => sum,
-        Ok(Least::Never) => PORTAL_NEVER,
-        Err(number) => PORTAL_NEVER + u64::from(number),
-    }
 }

@@ -1,13 +1,7 @@
-//! A setup as plain numbers, as the second library takes and gives it: the count; then of each of
-//! 64 places kind (0 for a credential), start, loss and rank; then of each place eight rows; then
-//! the same rows of recovery edges.
+//! A setup as the plain numbers that the proved calls take and give.
 
-use brute::setup::{Setup, ACCOUNT, COLOURS, CREDENTIAL, PLACES};
-
-/// How many words a setup has.
-pub const WORDS: usize = 1 + 4 * PLACES + 2 * COLOURS * PLACES;
-/// The number that stands for a blank, and so for no value.
-pub const BLANK: u64 = u64::MAX;
+use brute::setup::{Setup, ACCOUNT, CREDENTIAL};
+use product::BLANK;
 
 /// The words of a setup; `None` for one that they can't say: another kind than the two, or the
 /// value that stands for a blank.

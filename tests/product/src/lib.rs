@@ -1,7 +1,9 @@
-//! The proved code's calls, from `libportal.a` and `libprobe.a`, as safe functions. A setup is
-//! given as words (see [`crate::words`]). A call returns its number, and writes its values to the
-//! front of `values` where they fit. Only this file has unsafe code: a slice is a pointer and a
-//! length there, and the calls are proved to stay within it.
+//! The proved code's calls, from `libportal.a` and `libprobe.a`, as safe functions. A setup is given
+//! as [`WORDS`] plain numbers: the count; then of each of 64 places kind (0 for a credential, 1 for an
+//! account), start, loss and rank; then of each place eight rows; then the same rows of recovery
+//! edges. A call returns its number, and writes its values to the front of `values` where they fit.
+//! Only this crate has unsafe code for them: a slice is a pointer and a length there, and the calls
+//! are proved to stay within it.
 
 mod linked {
     extern "C" {
@@ -17,20 +19,6 @@ mod linked {
             n: usize,
         ) -> u64;
         pub fn probe_well_formed(words: *const u64, length: usize) -> u64;
-        pub fn probe_access_from(
-            words: *const u64,
-            length: usize,
-            set: u64,
-            values: *mut u64,
-            n: usize,
-        ) -> u64;
-        pub fn probe_lockout_from(
-            words: *const u64,
-            length: usize,
-            set: u64,
-            values: *mut u64,
-            n: usize,
-        ) -> u64;
         pub fn probe_access_derivation(
             words: *const u64,
             length: usize,
@@ -52,52 +40,6 @@ mod linked {
             values: *mut u64,
             n: usize,
         ) -> u64;
-        pub fn probe_security_score(
-            words: *const u64,
-            length: usize,
-            target: u64,
-            values: *mut u64,
-            n: usize,
-        ) -> u64;
-        pub fn probe_recoverability_score(
-            words: *const u64,
-            length: usize,
-            target: u64,
-            values: *mut u64,
-            n: usize,
-        ) -> u64;
-        pub fn probe_mark_access(
-            words: *const u64,
-            length: usize,
-            target: u64,
-            handed: *const u64,
-            handed_length: usize,
-            values: *mut u64,
-            n: usize,
-        ) -> u64;
-        pub fn probe_mark_lockout(
-            words: *const u64,
-            length: usize,
-            target: u64,
-            handed: *const u64,
-            handed_length: usize,
-            values: *mut u64,
-            n: usize,
-        ) -> u64;
-        pub fn probe_has_backdoor(
-            words: *const u64,
-            length: usize,
-            item: u64,
-            values: *mut u64,
-            n: usize,
-        ) -> u64;
-        pub fn probe_ineffective_recovery(
-            words: *const u64,
-            length: usize,
-            item: u64,
-            values: *mut u64,
-            n: usize,
-        ) -> u64;
         pub fn probe_inconsistent(
             words: *const u64,
             length: usize,
@@ -109,15 +51,24 @@ mod linked {
     }
 }
 
+/// How many words a setup has.
+pub const WORDS: usize = 1 + 4 * 64 + 2 * 8 * 64;
+/// How many values a reading has: the line, then the setup's words.
+pub const READING: usize = 1 + WORDS;
+/// The number that stands for a blank, and so for no value.
+pub const BLANK: u64 = u64::MAX;
+
 /// A call on a setup and one number.
 pub type NumberCall = fn(&[u64], u64, &mut [u64]) -> u64;
 /// A call on a setup, a target and a handed-in list.
 pub type MarkCall = fn(&[u64], u64, &[u64], &mut [u64]) -> u64;
 
+/// The portal's score of an item: 2^62 for "never", 2^62 plus the number for a refusal.
 pub fn portal_score(sheet: &[u8], item: u64) -> u64 {
     unsafe { linked::portal_score(sheet.as_ptr(), sheet.len(), item) }
 }
 
+/// The portal's risk of an item, coded likewise.
 pub fn portal_risk(sheet: &[u8], item: u64) -> u64 {
     unsafe { linked::portal_risk(sheet.as_ptr(), sheet.len(), item) }
 }
@@ -141,10 +92,20 @@ pub fn well_formed(words: &[u64]) -> u64 {
 
 macro_rules! number_calls {
     ($($name:ident = $linked:ident, $what:literal;)*) => {
+        extern "C" {
+            $(fn $linked(
+                words: *const u64,
+                length: usize,
+                number: u64,
+                values: *mut u64,
+                n: usize,
+            ) -> u64;)*
+        }
+
         $(#[doc = $what]
         pub fn $name(words: &[u64], number: u64, values: &mut [u64]) -> u64 {
             let (setup, length) = (words.as_ptr(), words.len());
-            unsafe { linked::$linked(setup, length, number, values.as_mut_ptr(), values.len()) }
+            unsafe { $linked(setup, length, number, values.as_mut_ptr(), values.len()) }
         })*
     };
 }
@@ -198,18 +159,31 @@ pub fn both_bases(words: &[u64], target: u64, out: &mut [u64], values: &mut [u64
     unsafe { linked::probe_both_bases(setup, length, target, list, places, front, n) }
 }
 
-/// Marks of opening sets: right, repeated, shut, loose, missing.
-pub fn mark_access(words: &[u64], target: u64, handed: &[u64], values: &mut [u64]) -> u64 {
-    let (setup, length) = (words.as_ptr(), words.len());
-    let (list, places) = (handed.as_ptr(), handed.len());
-    let (front, n) = (values.as_mut_ptr(), values.len());
-    unsafe { linked::probe_mark_access(setup, length, target, list, places, front, n) }
+macro_rules! mark_calls {
+    ($($name:ident = $linked:ident, $what:literal;)*) => {
+        extern "C" {
+            $(fn $linked(
+                words: *const u64,
+                length: usize,
+                target: u64,
+                handed: *const u64,
+                handed_length: usize,
+                values: *mut u64,
+                n: usize,
+            ) -> u64;)*
+        }
+
+        $(#[doc = $what]
+        pub fn $name(words: &[u64], target: u64, handed: &[u64], values: &mut [u64]) -> u64 {
+            let (setup, length) = (words.as_ptr(), words.len());
+            let (list, places) = (handed.as_ptr(), handed.len());
+            let (front, n) = (values.as_mut_ptr(), values.len());
+            unsafe { $linked(setup, length, target, list, places, front, n) }
+        })*
+    };
 }
 
-/// Marks of lockout sets.
-pub fn mark_lockout(words: &[u64], target: u64, handed: &[u64], values: &mut [u64]) -> u64 {
-    let (setup, length) = (words.as_ptr(), words.len());
-    let (list, places) = (handed.as_ptr(), handed.len());
-    let (front, n) = (values.as_mut_ptr(), values.len());
-    unsafe { linked::probe_mark_lockout(setup, length, target, list, places, front, n) }
+mark_calls! {
+    mark_access = probe_mark_access, "Marks of opening sets: right, repeated, shut, loose, missing.";
+    mark_lockout = probe_mark_lockout, "Marks of lockout sets.";
 }

@@ -139,6 +139,7 @@ def lay_edits(crate, edits):
 def start_crate(crate, table):
     """Checks the crate as it is, and keeps what was checked."""
     lay_out(crate, table)
+    shutil.rmtree(SCRATCH / "said" / crate, ignore_errors=True)
     shutil.rmtree(SCRATCH / "target" / "inc" / crate, ignore_errors=True)
     said = run_dev(crate)
     if not re.search(r"^logic=proved", said, re.M):
@@ -163,9 +164,14 @@ def calls_of(items):
     return reached
 
 
-def proof_of(function):
-    """The file with the function's proof; there is none where the prover finds the proof by itself."""
-    return ROOT / "crates" / function.crate / "proofs" / function.name.replace("::", "/") / "Proof.antt"
+def proof_homes(function):
+    """Where the proof of a function stands, or of one that calls itself; nowhere where the prover finds it by itself."""
+    return [f"proofs/{function.name.replace('::', '/')}/", f"proofs/+{function.name}/"]
+
+
+def has_proof(function):
+    """Is there a file with the function's proof?"""
+    return any((ROOT / "crates" / function.crate / home / "Proof.antt").is_file() for home in proof_homes(function))
 
 
 def pick_batch(trials, reached):
@@ -181,7 +187,7 @@ def pick_batch(trials, reached):
             for t in batch
             if t.function.name in reached[own.name] or own.name in reached[t.function.name]
         ]
-        if not own.constant and all(proof_of(function).is_file() for function in mixed):
+        if not own.constant and all(has_proof(function) for function in mixed):
             batch.append(trial)
         if len(batch) == TOGETHER:
             break
@@ -210,8 +216,7 @@ def own_verdict(said, trial):
 
 def own_errors(said, function):
     """The errors in the function's proof file that are not about another part that was not admitted."""
-    home = f"proofs/{function.name.replace('::', '/')}/"
-    found = [error for error in ERROR.finditer(said) if error.group(3).startswith(home)]
+    found = [error for error in ERROR.finditer(said) if error.group(3).startswith(tuple(proof_homes(function)))]
     return [error for error in found if "was not admitted" not in error.group(6)]
 
 
@@ -243,8 +248,14 @@ def settle(said, trial, alone):
 def drop_rejected(said, batch):
     """The trials whose edit the front end rejects, by the lines of its errors."""
     lines = {int(found.group(4)) for found in ERROR.finditer(said) if found.group(3).startswith("src/")}
-    rejected = [t for t in batch if any(t.function.first <= line <= t.function.last for line in lines)]
-    return rejected
+    return [t for t in batch if any(t.function.first <= line <= t.function.last for line in lines)]
+
+
+def keep_said(crate, said):
+    """Keeps what the prover said in the scratch folder, for whoever wants to know why it refused."""
+    folder = SCRATCH / "said" / crate
+    folder.mkdir(parents=True, exist_ok=True)
+    (folder / f"{len(list(folder.iterdir())):03}.txt").write_text(said, encoding="utf-8")
 
 
 def run_batch(crate, batch):
@@ -253,8 +264,7 @@ def run_batch(crate, batch):
         lay_edits(crate, [t.edit for t in batch])
         began = time.time()
         said = run_dev(crate)
-        (SCRATCH / "said").mkdir(exist_ok=True)
-        (SCRATCH / "said" / f"{crate}-{len(list((SCRATCH / 'said').glob(crate + '-*'))):03}.txt").write_text(said, encoding="utf-8")
+        keep_said(crate, said)
         if re.search(r"^logic=", said, re.M):
             again = [t for t in batch if not settle(said, t, len(batch) == 1)]
             print(f"mutate: {crate}: {len(batch)} edits, {time.time() - began:.1f} s, {len(again)} to be tried alone", flush=True)
@@ -332,7 +342,7 @@ def read_notes():
     """What is said of survivors: lines `CRATE FUNCTION: WHY`, or `CRATE FUNCTION: AFTER => WHY` of one edit."""
     notes = {}
     for line in NOTES.read_text(encoding="utf-8").splitlines() if NOTES.is_file() else []:
-        found = re.fullmatch(r"(\w+) ([\w: ]*\w): (?:`(.*)` => )?(.*)", line)
+        found = re.fullmatch(r"(\w+) ((?:const )?\w+(?:::\w+)?): (?:`(.*)` => )?(.*)", line)
         if found and not line.startswith("#"):
             notes[(found.group(1), found.group(2), found.group(3))] = found.group(4)
     return notes
@@ -401,7 +411,8 @@ def write_record(sections, order, notes):
     lines += ["", "## Functions with fewer than three edits", "", "They have no other operand that can be changed and stays well typed.", ""]
     lines += few_of(sections) + ["", "## All edits", ""]
     for crate, (total, date, rows) in sections.items():
-        lines += [f"### {crate}", "", f"Sources {total}, {date}.", "", "| function | line | before | after | result | where |", "|---|---|---|---|---|---|"]
+        lines += [f"### {crate}", "", f"Sources {total}, {date}.", ""]
+        lines += ["| function | line | before | after | result | where |", "|---|---|---|---|---|---|"]
         lines += ["| " + " | ".join(row) + " |" for row in rows] + [""]
     RECORD.write_text("\n".join(lines).rstrip() + "\n", encoding="utf-8")
     return sum(not note for _, _, note in survivors)

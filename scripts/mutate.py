@@ -1,0 +1,448 @@
+#!/usr/bin/env python3
+"""Mutation testing of the proved code: edits one operand at a time, and sees that the prover refuses each edit.
+
+    python3 scripts/mutate.py            all crates whose sources, or those of crates below them, have changed since they were tried
+    python3 scripts/mutate.py bases      this crate
+
+The crates are copied to build/mutate, so that nothing of the project is changed. docs/MUTATION.md is both the record that is
+read and the one that is written. The exit status is 1 where an edit was not refused and scripts/survivors.txt does not say why.
+"""
+import datetime
+import hashlib
+import os
+import re
+import shutil
+import signal
+import subprocess
+import sys
+import time
+from dataclasses import dataclass, field
+
+from edits import ROOT, all_edits, functions_of, next_edit, shapes_of
+
+# Counts as a part of every crate's sources: a new number has all crates tried again.
+RULES = "1"
+WANTED = 3
+MOST_TRIES = 14
+TOGETHER = 16
+SECONDS = 240
+SCRATCH = ROOT / "build" / "mutate"
+RECORD = ROOT / "docs" / "MUTATION.md"
+NOTES = ROOT / "scripts" / "survivors.txt"
+# A program of test cases, and what serves the tests alone.
+LEFT_OUT = {"sheet_cases"}
+# The first error of a proof that only does not fit the code's shape any more; no fact is said not to hold.
+SHAPE = re.compile(r"can be named from here|is not in scope|expected .*Need-|takes \d+ argument|unknown name|has no (?:field )?`")
+ERROR = re.compile(r"^(\S*?)crates/(\w+)/(\S+?):(\d+):(\d+): error(.*)$", re.M)
+
+
+@dataclass
+class Trial:
+    """A function under test: what is left to try, and what came of what was tried."""
+
+    function: object
+    left: list
+    results: list = field(default_factory=list)
+    shaped: list = field(default_factory=list)
+    tries: int = 0
+    edit: object = None
+
+    def wants(self):
+        """Is another edit to be tried?"""
+        wanted = 1 if self.function.constant else WANTED
+        return len(self.results) < wanted and bool(self.left) and self.tries < MOST_TRIES
+
+    def choose(self):
+        """Takes the next edit to try."""
+        self.edit = next_edit(self.function, self.left, [edit for edit, _, _ in self.results + self.shaped])
+        self.left.remove(self.edit)
+        self.tries += 1
+
+
+def dependencies():
+    """The crates of crates.txt with the crates that each depends on."""
+    table = {}
+    for line in (ROOT / "crates.txt").read_text(encoding="utf-8").splitlines():
+        code = line.partition("#")[0]
+        if ":" in code:
+            name, _, names = code.partition(":")
+            table[name.strip()] = names.split()
+    return table
+
+
+def below(crate, table):
+    """The crates of the project that a crate reaches."""
+    reached, todo = set(), list(table[crate])
+    while todo:
+        name = todo.pop()
+        if name in table and name not in reached:
+            reached.add(name)
+            todo += table[name]
+    return sorted(reached)
+
+
+def sum_of(crate, table):
+    """A sum of a crate's files, and of the code and definitions of the crates below it."""
+    digest = hashlib.sha256(RULES.encode())
+    for name, parts in [(crate, ("src", "specs", "proofs"))] + [(name, ("src", "specs")) for name in below(crate, table)]:
+        for part in parts:
+            for path in sorted((ROOT / "crates" / name / part).rglob("*")):
+                if path.suffix in (".rt", ".antt"):
+                    digest.update(f"{path.relative_to(ROOT)}\n".encode() + path.read_bytes())
+    return digest.hexdigest()[:12]
+
+
+def lay_out(crate, table):
+    """Copies the crate and those below it to the scratch folder, with what is proved of them."""
+    SCRATCH.mkdir(parents=True, exist_ok=True)
+    shutil.copy(ROOT / "crates.txt", SCRATCH / "crates.txt")
+    for name in [*below(crate, table), crate]:
+        home = SCRATCH / "crates" / name
+        shutil.rmtree(home, ignore_errors=True)
+        shutil.copytree(ROOT / "crates" / name, home, ignore=shutil.ignore_patterns("must-fail"))
+        stamp, own_stamp = ROOT / "target" / "stamp" / name, SCRATCH / "target" / "stamp" / name
+        if stamp.is_file() and name != crate and not (own_stamp.is_file() and own_stamp.read_bytes() == stamp.read_bytes()):
+            rlib, own_rlib = ROOT / "target" / "rlib" / f"{name}.rlib", SCRATCH / "target" / "rlib" / f"{name}.rlib"
+            shutil.rmtree(own_rlib, ignore_errors=True)
+            shutil.copytree(rlib, own_rlib)
+            own_stamp.parent.mkdir(parents=True, exist_ok=True)
+            shutil.copy(stamp, own_stamp)
+
+
+def run_dev(crate):
+    """What `rt dev` says of the crate in the scratch folder; nothing where it takes too long."""
+    environment = {**os.environ, "RT_CUT": "0"}
+    with subprocess.Popen(
+        ["rt", "dev", crate], cwd=SCRATCH, env=environment, stdout=subprocess.PIPE, stderr=subprocess.STDOUT, text=True, start_new_session=True
+    ) as process:
+        try:
+            return process.communicate(timeout=SECONDS)[0]
+        except subprocess.TimeoutExpired:
+            os.killpg(process.pid, signal.SIGKILL)
+            process.communicate()
+            return ""
+
+
+def lay_edits(crate, edits):
+    """Puts the crate's code in the scratch folder with these edits, and what was checked of it without any."""
+    for path in sorted((ROOT / "crates" / crate / "src").rglob("*.rt")):
+        text = path.read_text(encoding="utf-8")
+        for edit in sorted(edits, key=lambda e: -e.start):
+            if edit.path == path:
+                text = text[: edit.start] + edit.new + text[edit.end :]
+        (SCRATCH / path.relative_to(ROOT)).write_text(text, encoding="utf-8")
+    checked = SCRATCH / "target" / "inc" / crate
+    shutil.rmtree(checked, ignore_errors=True)
+    shutil.copytree(SCRATCH / "pristine" / crate, checked)
+
+
+def start_crate(crate, table):
+    """Checks the crate as it is, and keeps what was checked."""
+    lay_out(crate, table)
+    shutil.rmtree(SCRATCH / "said" / crate, ignore_errors=True)
+    shutil.rmtree(SCRATCH / "target" / "inc" / crate, ignore_errors=True)
+    said = run_dev(crate)
+    if not re.search(r"^logic=proved", said, re.M):
+        sys.exit(f"mutate: {crate} is not proved as it is\n{said[-2000:]}")
+    pristine = SCRATCH / "pristine" / crate
+    shutil.rmtree(pristine, ignore_errors=True)
+    shutil.copytree(SCRATCH / "target" / "inc" / crate, pristine)
+
+
+def calls_of(items):
+    """For each function the functions of the crate that it reaches, itself among them."""
+    names = {item.name.split("::")[-1]: [] for item in items}
+    for item in items:
+        names[item.name.split("::")[-1]].append(item.name)
+    direct = {}
+    for item in items:
+        words = set(re.findall(r"\w+", item.path.read_text(encoding="utf-8")[item.start : item.end]))
+        direct[item.name] = {full for word in words & set(names) for full in names[word]} | {item.name}
+    reached = dict(direct)
+    for _ in items:
+        reached = {name: set().union(*(reached[other] for other in others)) for name, others in reached.items()}
+    return reached
+
+
+def proof_homes(function):
+    """Where the proof of a function stands, or of one that calls itself; nowhere where the prover finds it by itself."""
+    return [f"proofs/{function.name.replace('::', '/')}/", f"proofs/+{function.name}/"]
+
+
+def has_proof(function):
+    """Is there a file with the function's proof?"""
+    return any((ROOT / "crates" / function.crate / home / "Proof.antt").is_file() for home in proof_homes(function))
+
+
+def pick_batch(trials, reached):
+    """Trials that can run at once. A constant is tried alone, and so that each function's own errors can be told from those of
+    the functions that it reaches, a function without a proof file runs with none of them."""
+    if trials[0].function.constant:
+        return trials[:1]
+    batch = []
+    for trial in trials:
+        own = trial.function
+        mixed = [
+            (own if t.function.name in reached[own.name] else t.function)
+            for t in batch
+            if t.function.name in reached[own.name] or own.name in reached[t.function.name]
+        ]
+        if not own.constant and all(has_proof(function) for function in mixed):
+            batch.append(trial)
+        if len(batch) == TOGETHER:
+            break
+    return batch
+
+
+def own_verdict(said, trial):
+    """proved, refused, or called: not proved, where that may be only since a function that it calls is not.
+
+    Where a callee is not proved, the proof as a whole is not admitted, and says so. Its parts are checked all the same, against the
+    callee's contract: an error in one of them is the function's own."""
+    crate, name = trial.function.crate, trial.function.name
+    if trial.function.constant:
+        return "refused" if re.search(r"^logic=not-proved", said, re.M) else "proved"
+    found = re.search(rf"^fn {crate}::{re.escape(name)}: (.*)$", said, re.M)
+    if not found:
+        return "unknown"
+    if found.group(1).startswith("proved"):
+        return "proved"
+    if found.group(1).startswith("could not tell"):
+        return "unknown"
+    if "; it calls " not in found.group(1):
+        return "refused"
+    return "refused" if own_errors(said, trial.function) else "called"
+
+
+def own_errors(said, function):
+    """The errors in the function's proof file that are not about another part that was not admitted."""
+    found = [error for error in ERROR.finditer(said) if error.group(3).startswith(tuple(proof_homes(function)))]
+    return [error for error in found if "was not admitted" not in error.group(6)]
+
+
+def first_error(said, trial):
+    """The place of the first error about the function, and whether it is only about the proof's shape."""
+    function = trial.function
+    errors = list(ERROR.finditer(said))
+    own = own_errors(said, function)
+    in_code = [e for e in errors if e.group(3).startswith("src/") and function.first - 30 <= int(e.group(4)) <= function.last]
+    for error in own or in_code[-1:] or errors:
+        return f"{error.group(3)}:{error.group(4)}", bool(SHAPE.search(error.group(6)))
+    noted = re.search(rf"^note: \S*?crates/{function.crate}/(\S+?:\d+):\d+", said, re.M)
+    return (noted.group(1) if noted else "no place"), False
+
+
+def settle(said, trial, alone):
+    """Records what the run says of a trial's edit; False where it is to be tried again alone."""
+    verdict = own_verdict(said, trial)
+    if verdict in ("proved", "called") and not alone:
+        return False
+    if verdict in ("refused", "called"):
+        place, shaped = first_error(said, trial)
+        (trial.shaped if shaped else trial.results).append((trial.edit, "refused", place))
+    elif verdict == "proved":
+        trial.results.append((trial.edit, "survived", ""))
+    return True
+
+
+def drop_rejected(said, batch):
+    """The trials whose edit the front end rejects, by the lines of its errors."""
+    lines = {int(found.group(4)) for found in ERROR.finditer(said) if found.group(3).startswith("src/")}
+    return [t for t in batch if any(t.function.first <= line <= t.function.last for line in lines)]
+
+
+def keep_said(crate, said):
+    """Keeps what the prover said in the scratch folder, for whoever wants to know why it refused."""
+    folder = SCRATCH / "said" / crate
+    folder.mkdir(parents=True, exist_ok=True)
+    (folder / f"{len(list(folder.iterdir())):03}.txt").write_text(said, encoding="utf-8")
+
+
+def run_batch(crate, batch):
+    """Tries the chosen edit of each trial, and chooses another where the front end rejects one."""
+    while batch:
+        lay_edits(crate, [t.edit for t in batch])
+        began = time.time()
+        said = run_dev(crate)
+        keep_said(crate, said)
+        if re.search(r"^logic=", said, re.M):
+            again = [t for t in batch if not settle(said, t, len(batch) == 1)]
+            print(f"mutate: {crate}: {len(batch)} edits, {time.time() - began:.1f} s, {len(again)} to be tried alone", flush=True)
+            for trial in again:
+                run_batch(crate, [trial])
+            return
+        rejected = drop_rejected(said, batch)
+        if not rejected and len(batch) > 1:
+            for trial in batch:
+                run_batch(crate, [trial])
+            return
+        for trial in rejected or batch:
+            if trial.wants():
+                trial.choose()
+            else:
+                batch = [t for t in batch if t is not trial]
+
+
+def try_crate(crate, table, shapes):
+    """Tries the edits of a crate's functions and constants."""
+    items = [item for path in sorted((ROOT / "crates" / crate / "src").rglob("*.rt")) for item in functions_of(crate, path)]
+    if not any(not item.constant for item in items):
+        return []
+    start_crate(crate, table)
+    reached = calls_of(items)
+    trials = [Trial(item, all_edits(item, shapes)) for item in items]
+    waiting = [t for t in trials if t.wants()]
+    while waiting:
+        batch = pick_batch(waiting, reached)
+        for trial in batch:
+            trial.choose()
+        run_batch(crate, batch)
+        waiting = [t for t in trials if t.wants()]
+    for trial in trials:
+        spare = WANTED - len(trial.results)
+        trial.results += [(edit, "refused by shape", place) for edit, _, place in trial.shaped[: max(spare, 0)]]
+    return trials
+
+
+def code(text):
+    """A text as code in a table's cell."""
+    return "`" + text.replace("|", "\\|") + "`"
+
+
+def rows_of(trials):
+    """The rows of a crate's table."""
+    rows = []
+    for trial in trials:
+        name = ("const " if trial.function.constant else "") + trial.function.name
+        for edit, result, place in sorted(trial.results, key=lambda r: r[0].start):
+            rows.append([name, str(edit.line), code(edit.before), code(edit.after), result, place])
+        if not trial.results:
+            rows.append([name, "-", "-", "-", "no edit", "-"])
+    return rows
+
+
+def read_record():
+    """The sections of the record: by crate its sum, its date and its rows."""
+    sections, crate = {}, None
+    for line in RECORD.read_text(encoding="utf-8").splitlines() if RECORD.is_file() else []:
+        found = re.fullmatch(r"### (\w+)", line)
+        if found:
+            crate = found.group(1)
+        elif line.startswith("## "):
+            crate = None
+        stated = re.fullmatch(r"Sources (\w+), (\S+)\.", line)
+        if crate and stated:
+            sections[crate] = (stated.group(1), stated.group(2), [])
+        if crate in sections and line.startswith("| ") and not line.startswith("| function |"):
+            sections[crate][2].append([cell.strip() for cell in re.split(r"(?<!\\)\|", line)[1:-1]])
+    return sections
+
+
+def read_notes():
+    """What is said of survivors: lines `CRATE FUNCTION: WHY`, or `CRATE FUNCTION: AFTER => WHY` of one edit."""
+    notes = {}
+    for line in NOTES.read_text(encoding="utf-8").splitlines() if NOTES.is_file() else []:
+        found = re.fullmatch(r"(\w+) ((?:const )?\w+(?:::\w+)?): (?:`(.*)` => )?(.*)", line)
+        if found and not line.startswith("#"):
+            notes[(found.group(1), found.group(2), found.group(3))] = found.group(4)
+    return notes
+
+
+def note_of(notes, crate, row):
+    """What is said of a survivor, or nothing."""
+    after = row[3].strip("`").replace("\\|", "|")
+    return notes.get((crate, row[0], after)) or notes.get((crate, row[0], None)) or ""
+
+
+def few_of(sections):
+    """The functions with fewer edits than wanted, by crate."""
+    few = []
+    for crate, (_, _, rows) in sections.items():
+        names = list(dict.fromkeys(row[0] for row in rows if not row[0].startswith("const ")))
+        short = [(name, sum(row[0] == name and row[4] != "no edit" for row in rows)) for name in names]
+        short = [f"`{name}` {count}" for name, count in short if count < WANTED]
+        if short:
+            few.append(f"- `{crate}`: {', '.join(short)}")
+    return few
+
+
+HEAD = """# Mutation testing
+
+Written by `scripts/mutate.py` (`make mutate`). {date}: {functions} functions and {constants} constants of {crates} crates, {edits} edits,
+{refused} refused, {survived} not refused.
+
+An edit changes one operand of a function's code: an operator by its sibling, a number by the next one, a variable, a field or a case by
+another of the same type, a truth value by the other. Contracts, definitions and proofs stay as they are. Each function gets three edits
+where it has as many, on different lines where it can, and each constant one. `scripts/edits.py` finds them, the same ones in every run.
+An edit that the front end rejects, as a type error, does not count, and another one takes its place.
+
+The crate with the edit is checked by `rt dev` over what was checked of it without the edit. An edit is refused where the edited function
+itself is not proved; "where" is the place of the first error about it. Several functions are edited in one run, each at one place:
+a proof rests on the contracts of the functions that it calls, and on no other body. What seems to survive such a run is tried again alone.
+"Refused by shape" ({shape} edits): the first error is not about a fact, but that the proof names a step of the code that is no longer there;
+such an edit counts only where no better one is left.
+
+What a refusal does not show: proofs are written for the code as it is, so a refused edit may be one that a new proof would accept.
+What a survivor shows: the contract leaves the difference open.
+
+A crate is tried again when its own files, or the code or definitions of a crate below it, have changed: the sum beside its name tells.
+"""
+
+
+def write_record(sections, order, notes):
+    """Writes the record; gives the number of survivors of which nothing is said."""
+    sections = {crate: sections[crate] for crate in order if crate in sections}
+    everything = [(crate, row) for crate, (_, _, rows) in sections.items() for row in rows]
+    tried = [(crate, row) for crate, row in everything if row[4] != "no edit"]
+    survivors = [(crate, row, note_of(notes, crate, row)) for crate, row in tried if row[4] == "survived"]
+    items = {(crate, row[0]) for crate, row in everything}
+    counts = {
+        "date": max((date for _, date, _ in sections.values()), default="-"),
+        "functions": sum(not name.startswith("const ") for _, name in items),
+        "constants": sum(name.startswith("const ") for _, name in items),
+        "crates": len(sections),
+        "edits": len(tried),
+        "refused": sum(row[4].startswith("refused") for _, row in tried),
+        "survived": len(survivors),
+        "shape": sum(row[4] == "refused by shape" for _, row in tried),
+    }
+    lines = [HEAD.format(**counts), "## Not refused", "", "| crate | function | before | after | why |", "|---|---|---|---|---|"]
+    lines += [f"| {crate} | {row[0]} | {row[2]} | {row[3]} | {note or '**open**'} |" for crate, row, note in survivors]
+    lines += ["", "## Functions with fewer than three edits", "", "They have no other operand that can be changed and stays well typed.", ""]
+    lines += few_of(sections) + ["", "## All edits", ""]
+    for crate, (total, date, rows) in sections.items():
+        lines += [f"### {crate}", "", f"Sources {total}, {date}.", ""]
+        lines += ["| function | line | before | after | result | where |", "|---|---|---|---|---|---|"]
+        lines += ["| " + " | ".join(row) + " |" for row in rows] + [""]
+    RECORD.write_text("\n".join(lines).rstrip() + "\n", encoding="utf-8")
+    return sum(not note for _, _, note in survivors)
+
+
+def main():
+    table = dependencies()
+    order = [name for name in table if name not in LEFT_OUT]
+    asked = [name for name in sys.argv[1:] if name]
+    unknown = [name for name in asked if name not in order]
+    if unknown:
+        sys.exit(f"mutate: no such crate: {' '.join(unknown)}")
+    shapes = shapes_of(order)
+    for crate in asked or order:
+        total = sum_of(crate, table)
+        sections = read_record()
+        if not asked and crate in sections and sections[crate][0] == total:
+            continue
+        began = time.time()
+        trials = try_crate(crate, table, shapes)
+        if trials:
+            sections[crate] = (total, datetime.date.today().isoformat(), rows_of(trials))
+            write_record(sections, order, read_notes())
+            survived = sum(result == "survived" for trial in trials for _, result, _ in trial.results)
+            count = sum(len(trial.results) for trial in trials)
+            print(f"mutate: {crate}: {count} edits, {survived} not refused, {time.time() - began:.0f} s", flush=True)
+    open_ones = write_record(read_record(), order, read_notes())
+    print(f"mutate: {open_ones} survivors of which nothing is said")
+    return 1 if open_ones else 0
+
+
+if __name__ == "__main__":
+    sys.exit(main())

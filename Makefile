@@ -1,5 +1,5 @@
 # `make test` proves and tests everything; its last line is the verdict.
-.PHONY: test report prove lib fuzz bench check-contracts
+.PHONY: test report prove lib fuzz bench alter check-contracts
 
 test:
 	@bash scripts/test.sh
@@ -29,6 +29,10 @@ fuzz:
 # The proved code beside the same algorithm in Rust; writes docs/PERFORMANCE.md. On a machine with nothing else to do.
 bench:
 	@bash scripts/bench.sh
+
+# Each definition altered, and an example that notices it: docs/DEFINITIONS.md.
+alter:
+	@python3 tests/definitions/alter.py
 
 check-contracts:
 	@python3 scripts/contracts.py

@@ -316,6 +316,8 @@ pub refuses-4-many : readSheet (linesText (h1 ∷ "a c - - 0 0" ∷ [])) ≡ ref
 
 pub refuses-4-empty : readSheet (linesText (h1 ∷ "a c  - 0" ∷ [])) ≡ refused 4 2
 
+pub refuses-4-trailing : readSheet (linesText (h1 ∷ "a c - - 0 " ∷ [])) ≡ refused 4 2
+
 pub refuses-4-line : readSheet (linesText (h1 ∷ "a c - - 0" ∷ "" ∷ h2 ∷ "" ∷ [])) ≡ refused 4 5
 
 pub refuses-4-edge : readSheet (linesText (h1 ∷ "a c - - 0" ∷ "" ∷ h2 ∷ "B a 0" ∷ [])) ≡ refused 4 5

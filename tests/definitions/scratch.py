@@ -1,13 +1,14 @@
 """The definitions alone, in one scratch crate: copies of the specs, the types of the sources, and examples that are computed by `refl`.
 
 No law stands between a definition and an example here, so an altered definition is refused by the prover exactly where an example no longer
-computes. The crate is written to build/definitions/defs, which git ignores.
+computes. The crate is written under build/definitions, which git ignores.
 """
 import pathlib
 import re
 
 ROOT = pathlib.Path(__file__).resolve().parents[2]
-CRATE = ROOT / "build" / "definitions" / "defs"
+FOLDER = ROOT / "build" / "definitions"
+NO_EXAMPLES = "use mathlib.Core.Path.{_≡_, refl}\n\n-- none\n"
 
 # The files with executable definitions, and what they stand on, in order.
 FILES = """
@@ -69,23 +70,20 @@ def examples_file(text):
     return "\n".join(out) + "\n"
 
 
-def write(altered=None, examples=None):
-    """Writes the crate; `altered` maps a file (crate/Name) to its text in place of the project's."""
+def write(folder, altered=None, examples=None, more=()):
+    """Writes the crate; `altered` maps a file (crate/Name) to its text in place of the project's; `more` are files behind the others."""
     altered = altered or {}
-    specs = CRATE / "specs"
-    proofs = CRATE / "proofs"
-    for d in (specs, proofs, CRATE / "src"):
+    crate_folder = FOLDER / folder / "defs"
+    specs = crate_folder / "specs"
+    proofs = crate_folder / "proofs"
+    for d in (specs, proofs, crate_folder / "src"):
         d.mkdir(parents=True, exist_ok=True)
-    (CRATE / "src" / "lib.rt").write_text("// The types that the definitions use.\n\n" + "\n\n".join(t for c in TYPES for t in types_of(c)) + "\n")
-    for f in FILES:
+    (crate_folder / "src" / "lib.rt").write_text("// The types that the definitions use.\n\n" + "\n\n".join(t for c in TYPES for t in types_of(c)) + "\n")
+    for f in [*FILES, *more]:
         crate, name = f.split("/")
         text = altered.get(f) or (ROOT / "crates" / crate / "specs" / f"{name}.antt").read_text()
         (specs / f"{crate}_{name}.antt").write_text(renamed(text))
-    (specs / "Lib.antt").write_text("".join(f"pub mod {f.replace('/', '_')}\n" for f in FILES))
+    (specs / "Lib.antt").write_text("".join(f"pub mod {f.replace('/', '_')}\n" for f in [*FILES, *more]))
     (proofs / "Examples.antt").write_text(renamed(examples_file(examples or (pathlib.Path(__file__).parent / "Examples.antt").read_text())))
     (proofs / "Lib.antt").write_text("pub mod Examples\n")
-    return CRATE
-
-
-if __name__ == "__main__":
-    print(write())
+    return crate_folder

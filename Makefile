@@ -1,5 +1,5 @@
 # `make test` proves and tests everything; its last line is the verdict.
-.PHONY: test report prove lib fuzz bench mutate check-contracts
+.PHONY: test report prove lib fuzz bench mutate alter check-contracts
 
 test:
 	@bash scripts/test.sh
@@ -33,6 +33,10 @@ bench:
 # Small edits of every function, each of which the prover must refuse; writes docs/MUTATION.md. make mutate CRATE=bases tries one crate.
 mutate:
 	@python3 scripts/mutate.py $(CRATE)
+
+# Each definition altered, and an example that notices it: docs/DEFINITIONS.md.
+alter:
+	@python3 tests/definitions/alter.py
 
 check-contracts:
 	@python3 scripts/contracts.py

@@ -4,7 +4,7 @@ use mathlib.Core.Path.{_≡_, refl, ap, subst}
 use mathlib.Core.Bool.{true, false}
 use mathlib.Core.List.{List, [], _∷_}
 use mathlib.Core.Logic.{inl, inr, ⊎-elim}
-use Prim.Native.Nat.{ℕ, _≤_, _<_}
+use Prim.Native.Nat.{ℕ, _+_, _≤_, _<_}
 use native.Mathlib.Omega.{arith}
 use lib.ListN.{length, getD}
 use Rattle.vertex_set.specs.Set.{Member}
@@ -151,6 +151,10 @@ no-early-never c = apart never 1 [] [] (omega arith) (score-settled (bench .setu
 -- Score 0 where the list is empty (B10): it is never.
 pub no-free-score : ScoreCall false (closed .setup) only 0 (0 ∷ []) → ⊥
 no-free-score c = apart 0 never [] [] (omega arith) (score-settled (closed .setup) well-closed only (omega arith) false never 0 _ b10 c)
+
+-- A number above "never" (B10), which the portal would take for a refusal.
+pub no-score-above-never : ScoreCall false (closed .setup) only 0 ((never + 1) ∷ []) → ⊥
+no-score-above-never c = apart (never + 1) never [] [] (omega arith) (score-settled (closed .setup) well-closed only (omega arith) false never 0 _ b10 c)
 
 -- ---- marks
 

@@ -7,6 +7,7 @@ use Rattle.vertex_set.specs.Set.{Member}
 use Rattle.vertex_set.specs.Order.{sumOver}
 use Rattle.setup.specs.WellFormed.{WellFormed}
 use Rattle.derivations.specs.Access.{AccessFrom}
+use Rattle.derivations.specs.Lockout.{LockoutFrom}
 use Rattle.derivations.specs.Way.{Way}
 use Rattle.bases.specs.Base.{Base}
 use Rattle.bases.specs.Score.{Score}
@@ -19,22 +20,25 @@ use Rattle.reference.proofs.Graphs.{own-graph}
 use Rattle.reference.proofs.Marks.{counts-of}
 use Rattle.reference.proofs.Meaning.{meaning}
 use Rattle.worked_examples.specs.Sheets.{Sheet, Reads}
-use Rattle.worked_examples.specs.Table.{Example, closure, opening, lockout, score, risk, way, marks, Holds, table, AllHold}
+use Rattle.worked_examples.specs.Table.{Example, closure, loss, opening, lockout, score, risk, way, marks, lockMarks, Holds, table, further, AllHold}
 use Rattle.worked_examples.proofs.Reading.{_&_, all-read, reads-well}
 
 -- The sheet of an example.
 abbrev pub sheetOf : Example → Sheet
 sheetOf (closure x set result) = x
+sheetOf (loss x set result) = x
 sheetOf (opening x target l) = x
 sheetOf (lockout x target l) = x
 sheetOf (score x target result) = x
 sheetOf (risk x target result) = x
 sheetOf (way x target set steps) = x
 sheetOf (marks x target handed right repeated shut loose missing) = x
+sheetOf (lockMarks x target handed right repeated shut loose missing) = x
 
 -- What the executable definitions give for an example.
 abbrev pub Computed : Example → Type 0
 Computed (closure x set result) = closureOf false (x .setup .count) (x .setup .graph) set ≡ result
+Computed (loss x set result) = closureOf true (x .setup .count) (x .setup .graph) set ≡ result
 Computed (opening x target l) = baseOf false (x .setup) (x .setup .graph) target ≡ l
 Computed (lockout x target l) = baseOf true (x .setup) (x .setup .graph) target ≡ l
 Computed (score x target result) = scoreOf false (x .setup) (x .setup .graph) target ≡ result
@@ -43,6 +47,8 @@ Computed (way x target set steps) =
     (derivesOf false (x .setup .count) (x .setup .graph) target set ≡ true) × (wayOf (x .setup .count) (x .setup .graph) target set ≡ steps)
 Computed (marks x target handed right repeated shut loose missing) =
     marksOf false (x .setup) (x .setup .graph) target handed ≡ right ∷ repeated ∷ shut ∷ loose ∷ missing ∷ []
+Computed (lockMarks x target handed right repeated shut loose missing) =
+    marksOf true (x .setup) (x .setup .graph) target handed ≡ right ∷ repeated ∷ shut ∷ loose ∷ missing ∷ []
 
 means : (x : Sheet) → WellFormed (x .setup) → Meaning (x .setup) (x .setup .graph)
 means x w = meaning (x .setup) (x .setup .graph) w (own-graph (x .setup) w)
@@ -50,6 +56,7 @@ means x w = meaning (x .setup) (x .setup .graph) w (own-graph (x .setup) w)
 -- what is computed holds
 holds : (e : Example) → WellFormed (sheetOf e .setup) → Computed e → Holds e
 holds (closure x set result) w c = subst (AccessFrom (x .setup .graph) set) c (means x w .closure false set)
+holds (loss x set result) w c = subst (LockoutFrom (x .setup .graph) set) c (means x w .closure true set)
 holds (opening x target l) w c = subst (Base false (x .setup) (x .setup .graph) target) c (means x w .base false target)
 holds (lockout x target l) w c = subst (Base true (x .setup) (x .setup .graph) target) c (means x w .base true target)
 holds (score x target result) w c = subst (Score false (x .setup) (x .setup .graph) target) c (means x w .score false target)
@@ -57,6 +64,8 @@ holds (risk x target result) w c = subst (Score true (x .setup) (x .setup .graph
 holds (way x target set steps) w c = subst (Way (x .setup .graph) target (Member set)) (c .1) (means x w .way target set (c .0))
 holds (marks x target handed right repeated shut loose missing) w c =
     counts-of false (x .setup) (x .setup .graph) target w (own-graph (x .setup) w) handed right repeated shut loose missing c
+holds (lockMarks x target handed right repeated shut loose missing) w c =
+    counts-of true (x .setup) (x .setup .graph) target w (own-graph (x .setup) w) handed right repeated shut loose missing c
 
 -- An entry of the table is computed, and its sheet read.
 abbrev pub Shown : Example → Type 0
@@ -81,3 +90,17 @@ table-shown =
 -- B1 to B12
 pub table-holds : AllHold table
 table-holds = all-hold table table-shown
+
+further-shown : Each Shown further
+unfolding lowest some every those isListed isMember isWithin isMeeting withVertex isComplete isBroken colourOf isAdded passOf passesOf closureOf derivesOf vertexOf stepsOf wayOf isChosen setsOfSize setsUpTo setsOf targetSetsOf isMinimal baseOf leastSum scoreOf markOf marksFrom countsOf marksOf sumOver
+further-shown =
+    let bench = all-read .0 in
+    let closed = all-read .1 .1 .1 .0 in
+    let spare = all-read .1 .1 .1 .1 .1 .1 .0 in
+    let full = all-read .1 .1 .1 .1 .1 .1 .1 .0 in
+    (bench, refl) & (bench, refl) & (bench, (refl, refl)) & (bench, (refl, refl)) & (closed, refl) & (bench, refl) & (bench, refl)
+    & (spare, refl) & (spare, refl) & (spare, refl) & (spare, refl) & (spare, (refl, refl)) & (full, refl) & (full, refl) & tt
+
+-- and what B1 to B12 leave open
+pub further-holds : AllHold further
+further-holds = all-hold further further-shown

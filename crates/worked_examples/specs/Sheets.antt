@@ -14,7 +14,7 @@ use Rattle.setup.specs.declared.Graph.{Graph}
 use Rattle.setup.specs.declared.Setup.{Setup}
 use Rattle.setup.specs.Setup.{unusedVertex}
 use Rattle.sheet_format.specs.Rows.{Each}
-use Rattle.sheet_format.specs.Read.{readSheet, accepted}
+use Rattle.sheet_format.specs.Read.{readSheet, accepted, refused}
 
 -- ---- how they are written here
 
@@ -210,11 +210,140 @@ p = 0
 abbrev pub q : ℕ
 q = 1
 
+-- ---- a zero value, and two colours, of which the last, 7, is recovery
+
+abbrev pub spare : Sheet
+spare =
+    record {
+      lines = "name kind start loss rank" ∷ "pw c 0 0 0" ∷ "key c 2 1 0" ∷ "acc a - - 1" ∷ "" ∷ "from to colour rec" ∷ "pw acc 0 0" ∷ "key acc 7 1" ∷ [];
+      setup = record {
+        count = 3;
+        vertices = places
+            (record { kind = Credential; start = Of 0; loss = Of 0; rank = 0 }
+            ∷ record { kind = Credential; start = Of 2; loss = Of 1; rank = 0 }
+            ∷ record { kind = Account; start = Blank; loss = Blank; rank = 1 }
+            ∷ []);
+        graph = graph ([] ∷ [] ∷ (1 ∷ 0 ∷ 0 ∷ 0 ∷ 0 ∷ 0 ∷ 0 ∷ 2 ∷ []) ∷ []);
+        recovery = graph ([] ∷ [] ∷ (0 ∷ 0 ∷ 0 ∷ 0 ∷ 0 ∷ 0 ∷ 0 ∷ 2 ∷ []) ∷ []);
+      };
+    }
+
+abbrev pub pw : ℕ
+pw = 0
+
+abbrev pub key : ℕ
+key = 1
+
+abbrev pub acc : ℕ
+acc = 2
+
+-- ---- 64 items, with an edge from the last to the first
+
+abbrev pub full : Sheet
+full =
+    record {
+      lines =
+          "name kind start loss rank"
+          ∷ "i0 c - - 0" ∷ "i1 c - - 0" ∷ "i2 c - - 0" ∷ "i3 c - - 0" ∷ "i4 c - - 0" ∷ "i5 c - - 0" ∷ "i6 c - - 0"
+          ∷ "i7 c - - 0" ∷ "i8 c - - 0" ∷ "i9 c - - 0" ∷ "i10 c - - 0" ∷ "i11 c - - 0" ∷ "i12 c - - 0" ∷ "i13 c - - 0"
+          ∷ "i14 c - - 0" ∷ "i15 c - - 0" ∷ "i16 c - - 0" ∷ "i17 c - - 0" ∷ "i18 c - - 0" ∷ "i19 c - - 0" ∷ "i20 c - - 0"
+          ∷ "i21 c - - 0" ∷ "i22 c - - 0" ∷ "i23 c - - 0" ∷ "i24 c - - 0" ∷ "i25 c - - 0" ∷ "i26 c - - 0" ∷ "i27 c - - 0"
+          ∷ "i28 c - - 0" ∷ "i29 c - - 0" ∷ "i30 c - - 0" ∷ "i31 c - - 0" ∷ "i32 c - - 0" ∷ "i33 c - - 0" ∷ "i34 c - - 0"
+          ∷ "i35 c - - 0" ∷ "i36 c - - 0" ∷ "i37 c - - 0" ∷ "i38 c - - 0" ∷ "i39 c - - 0" ∷ "i40 c - - 0" ∷ "i41 c - - 0"
+          ∷ "i42 c - - 0" ∷ "i43 c - - 0" ∷ "i44 c - - 0" ∷ "i45 c - - 0" ∷ "i46 c - - 0" ∷ "i47 c - - 0" ∷ "i48 c - - 0"
+          ∷ "i49 c - - 0" ∷ "i50 c - - 0" ∷ "i51 c - - 0" ∷ "i52 c - - 0" ∷ "i53 c - - 0" ∷ "i54 c - - 0" ∷ "i55 c - - 0"
+          ∷ "i56 c - - 0" ∷ "i57 c - - 0" ∷ "i58 c - - 0" ∷ "i59 c - - 0" ∷ "i60 c - - 0" ∷ "i61 c - - 0" ∷ "i62 c - - 0"
+          ∷ "i63 c 5 6 0"
+          ∷ ""
+          ∷ "from to colour rec"
+          ∷ "i63 i0 7 0"
+          ∷ [];
+      setup = record {
+        count = 64;
+        vertices = replicate 63 unusedVertex ++ (record { kind = Credential; start = Of 5; loss = Of 6; rank = 0 } ∷ []);
+        graph = graph ((0 ∷ 0 ∷ 0 ∷ 0 ∷ 0 ∷ 0 ∷ 0 ∷ 9223372036854775808 ∷ []) ∷ []);
+        recovery = graph [];
+      };
+    }
+
+abbrev pub first : ℕ
+first = 0
+
+abbrev pub last : ℕ
+last = 63
+
 -- ---- all of them
 
 abbrev pub sheets : List Sheet
-sheets = bench ∷ ring ∷ alone ∷ closed ∷ loop ∷ pair ∷ []
+sheets = bench ∷ ring ∷ alone ∷ closed ∷ loop ∷ pair ∷ spare ∷ full ∷ []
 
 -- Each text is accepted, and yields the setup that stands beside it.
 abbrev pub AllRead : Type 0
 AllRead = Each Reads sheets
+
+-- ---- refused sheets
+
+-- The lines of a sheet, and the number and the line of its first no.
+pub record RefusedSheet : Type 0 where
+  pub lines : List String
+  pub number : ℕ
+  pub line : ℕ
+
+abbrev pub Refuses : RefusedSheet → Type 0
+Refuses x = readSheet (linesText (x .lines)) ≡ refused (x .number) (x .line)
+
+abbrev pub h1 : String
+h1 = "name kind start loss rank"
+
+abbrev pub h2 : String
+h2 = "from to colour rec"
+
+abbrev pub items : List String → List String
+items l = h1 ∷ l
+
+-- One item a, and these edge rows.
+abbrev pub edges : List String → List String
+edges l = h1 ∷ "a c - - 0" ∷ "" ∷ h2 ∷ l
+
+abbrev pub no : ℕ → ℕ → List String → RefusedSheet
+no number line lines = record { lines = lines; number = number; line = line }
+
+abbrev pub refusedSheets : List RefusedSheet
+refusedSheets =
+    no 2 0 []
+    ∷ no 3 1 ("name kind start loss" ∷ [])
+    ∷ no 3 4 (items ("a c - - 0" ∷ "" ∷ "from to colour" ∷ []))
+    ∷ no 10 2 (items ("" ∷ []))
+    -- 4: too few fields, which is asked before the name's form; too many; an empty one; a space at the end; an empty line among edges
+    ∷ no 4 2 (items ("A c - -" ∷ []))
+    ∷ no 4 2 (items ("a c - - 0 0" ∷ []))
+    ∷ no 4 2 (items ("a c  - 0" ∷ []))
+    ∷ no 4 2 (items ("a c - - 0 " ∷ []))
+    ∷ no 4 5 (edges ("B a 0" ∷ []))
+    ∷ no 4 5 (edges ("" ∷ []))
+    -- 5: each field
+    ∷ no 5 2 (items ("aA c - - 0" ∷ []))
+    ∷ no 5 2 (items ("aaaaaaaaaaaaaaaaa c - - 0" ∷ []))
+    ∷ no 5 2 (items ("a b - - 0" ∷ []))
+    ∷ no 5 2 (items ("a c 1000001 - 0" ∷ []))
+    ∷ no 5 2 (items ("a c 00 - 0" ∷ []))
+    ∷ no 5 2 (items ("a c - 1x 0" ∷ []))
+    ∷ no 5 2 (items ("a c - - 10" ∷ []))
+    ∷ no 5 2 (items ("a c - - -" ∷ []))
+    ∷ no 5 5 (edges ("A a 0 0" ∷ []))
+    ∷ no 5 5 (edges ("a A 0 0" ∷ []))
+    ∷ no 5 5 (edges ("a a 8 0" ∷ []))
+    ∷ no 5 5 (edges ("a a 0 2" ∷ []))
+    -- 6, and no line below it is asked; 8, of either name; 9, whether recovery or not
+    ∷ no 6 3 (items ("a c - - 0" ∷ "a a 1 1 1" ∷ "b" ∷ []))
+    ∷ no 8 5 (edges ("b a 0 0" ∷ []))
+    ∷ no 8 5 (edges ("a b 0 0" ∷ []))
+    ∷ no 9 7 (edges ("a a 0 0" ∷ "a a 1 0" ∷ "a a 0 1" ∷ []))
+    -- 11, where the text is over too early
+    ∷ no 11 2 (items [])
+    ∷ no 11 3 (items ("a c - - 0" ∷ []))
+    ∷ no 11 4 (items ("a c - - 0" ∷ "" ∷ []))
+    ∷ []
+
+abbrev pub AllRefused : Type 0
+AllRefused = Each Refuses refusedSheets

@@ -5,12 +5,13 @@ use Prim.Native.Nat.{ℕ, _^_}
 use Rattle.vertex_set.specs.Set.{Member}
 use Rattle.setup.specs.Setup.{total}
 use Rattle.derivations.specs.Access.{Step, AccessFrom}
+use Rattle.derivations.specs.Lockout.{LockoutFrom}
 use Rattle.derivations.specs.Way.{Way}
 use Rattle.bases.specs.Base.{Base}
 use Rattle.bases.specs.Score.{Score, never}
 use Rattle.bases.specs.Marks.{Counts}
 use Rattle.sheet_format.specs.Rows.{Each}
-use Rattle.worked_examples.specs.Sheets.{Sheet, bench, ordpw, mailpw, token, mail, order, ring, pwdBackup, pwdManager, device, seed, accBackup, alone, closed, loop, only, pair, p, q}
+use Rattle.worked_examples.specs.Sheets.{Sheet, bench, ordpw, mailpw, token, mail, order, ring, pwdBackup, pwdManager, device, seed, accBackup, alone, closed, loop, only, pair, p, q, spare, pw, key, acc, full, first, last}
 
 -- The set of the vertices of the list.
 abbrev pub setOf : List ℕ → ℕ
@@ -21,6 +22,8 @@ setOf l = total (λ v. 2 ^ v) l
 pub data Example : Type 0 where
   -- the closure of a set
   closure : Sheet → (set result : ℕ) → Example
+  -- the lost set of a set
+  loss : Sheet → (set result : ℕ) → Example
   -- the opening list and the lockout list of a target
   opening : Sheet → (target : ℕ) → List ℕ → Example
   lockout : Sheet → (target : ℕ) → List ℕ → Example
@@ -31,9 +34,12 @@ pub data Example : Type 0 where
   way : Sheet → (target set : ℕ) → List Step → Example
   -- the marks for sets handed in as the opening list: right, repeated, shut, loose, missing
   marks : Sheet → (target : ℕ) → List ℕ → (right repeated shut loose missing : ℕ) → Example
+  -- and as the lockout list
+  lockMarks : Sheet → (target : ℕ) → List ℕ → (right repeated shut loose missing : ℕ) → Example
 
 abbrev pub Holds : Example → Type 0
 Holds (closure x set result) = AccessFrom (x .setup .graph) set result
+Holds (loss x set result) = LockoutFrom (x .setup .graph) set result
 Holds (opening x target l) = Base false (x .setup) (x .setup .graph) target l
 Holds (lockout x target l) = Base true (x .setup) (x .setup .graph) target l
 Holds (score x target result) = Score false (x .setup) (x .setup .graph) target result
@@ -41,6 +47,8 @@ Holds (risk x target result) = Score true (x .setup) (x .setup .graph) target re
 Holds (way x target set steps) = Way (x .setup .graph) target (Member set) steps
 Holds (marks x target handed right repeated shut loose missing) =
     Counts false (x .setup) (x .setup .graph) target handed right repeated shut loose missing
+Holds (lockMarks x target handed right repeated shut loose missing) =
+    Counts true (x .setup) (x .setup .graph) target handed right repeated shut loose missing
 
 -- ---- the examples
 
@@ -72,6 +80,31 @@ table =
     ∷ lockout loop only (setOf (only ∷ []) ∷ [])
     -- B12: p and q open each other: lockout sets of p are {p} and {q}
     ∷ lockout pair p (setOf (p ∷ []) ∷ setOf (q ∷ []) ∷ [])
+    ∷ []
+
+-- Further examples, for what B1 to B12 leave open: a definition could be altered there, and none of them would tell (docs/DEFINITIONS.md).
+abbrev pub further : List Example
+further =
+    -- losses: by all colours of order, and by one of two
+    loss bench (setOf (ordpw ∷ mailpw ∷ [])) (setOf (ordpw ∷ mailpw ∷ mail ∷ order ∷ []))
+    ∷ loss bench (setOf (ordpw ∷ [])) (setOf (ordpw ∷ []))
+    -- the lower of two complete colours, and a target that is held
+    ∷ way bench order (setOf (ordpw ∷ mailpw ∷ token ∷ [])) (record { vertex = mail; colour = 0 } ∷ record { vertex = order; colour = 0 } ∷ [])
+    ∷ way bench order (setOf (order ∷ [])) []
+    -- "never" is 2^62
+    ∷ score closed only (2 ^ 62)
+    -- full marks for the lockout list, in any order; for order a vertex that is not initial, and one that is not there, make a set shut
+    ∷ lockMarks bench order (setOf (mailpw ∷ token ∷ []) ∷ setOf (ordpw ∷ mailpw ∷ []) ∷ []) 2 0 0 0 0
+    ∷ marks bench order (setOf (mailpw ∷ mail ∷ []) ∷ setOf (mailpw ∷ 63 ∷ []) ∷ setOf (ordpw ∷ mailpw ∷ token ∷ []) ∷ []) 0 0 2 1 2
+    -- a zero value, colour 7, a recovery edge
+    ∷ opening spare acc (setOf (pw ∷ []) ∷ setOf (key ∷ []) ∷ [])
+    ∷ lockout spare acc (setOf (pw ∷ key ∷ []) ∷ [])
+    ∷ score spare acc 0
+    ∷ risk spare acc 1
+    ∷ way spare acc (setOf (key ∷ [])) (record { vertex = acc; colour = 7 } ∷ [])
+    -- 64 items: the last, 63, opens the first
+    ∷ closure full (setOf (last ∷ [])) (setOf (first ∷ last ∷ []))
+    ∷ loss full (setOf (last ∷ [])) (setOf (first ∷ last ∷ []))
     ∷ []
 
 abbrev pub AllHold : List Example → Type 0

@@ -1,0 +1,54 @@
+"""The data files of alterations: a comment on top, then blocks parted by empty lines. A block is a line `file name` and lines `key: text`."""
+import pathlib
+import re
+
+HERE = pathlib.Path(__file__).resolve().parent
+ROOT = HERE.parents[1]
+KEYS = ["old", "new", "py-old", "py-new", "none", "seen"]
+
+
+def read(path):
+    found = []
+    for part in path.read_text().split("\n\n"):
+        lines = [line for line in part.split("\n") if line and not line.startswith("#")]
+        if not lines:
+            continue
+        file, name = lines[0].split()
+        block = {"file": file, "name": name}
+        for line in lines[1:]:
+            key, text = line.split(": ", 1)
+            assert key in KEYS, line
+            block[key] = text
+        found.append(block)
+    return found
+
+
+def write(path, found):
+    top = path.read_text().split("\n\n")[0]
+    parts = [f"{b['file']} {b['name']}\n" + "\n".join(f"{k}: {b[k]}" for k in KEYS if k in b) for b in found]
+    path.write_text("\n\n".join([top] + parts) + "\n")
+
+
+def source(file):
+    crate, name = file.split("/")
+    return ROOT / "crates" / crate / "specs" / f"{name}.antt"
+
+
+def definition(text, name):
+    """The place of a definition in a file: from its head up to the next empty line (comments within it included)."""
+    m = re.search(rf"^(?:unfoldable pub|abbrev pub|pub record|pub data|pub) {re.escape(name)}(?=[ \n])(?:.*\n)(?:.+\n)*", text, re.M)
+    assert m, f"no definition {name}"
+    return m.start(), m.end()
+
+
+def replaced(text, name, old, new):
+    """The text with `old`, which stands in the definition once, replaced by `new`; a `⏎` stands for a line's end."""
+    start, end = definition(text, name)
+    body = text[start:end]
+    old, new = old.replace("⏎", "\n"), new.replace("⏎", "\n")
+    assert body.count(old) == 1, f"{name}: {body.count(old)} times: {old}"
+    return text[:start] + body.replace(old, new) + text[end:]
+
+
+def altered(block):
+    return replaced(source(block["file"]).read_text(), block["name"], block["old"], block["new"])

@@ -1,0 +1,106 @@
+"""Alters each definition of declared.txt in definitions.py and asks the examples of examples.py again."""
+import re
+import subprocess
+import sys
+import types
+
+import blocks
+import examples
+import scratch
+
+DATA = blocks.HERE / "declared.txt"
+SOURCE = (blocks.HERE / "definitions.py").read_text()
+# where Python's name is another, since the names of all files stand in one
+NAMES = {("report_start/Whole", "Run"): "WholeRun"}
+
+
+def module(text):
+    found = types.ModuleType("altered")
+    exec(compile(text, "definitions.py", "exec"), found.__dict__)
+    return found
+
+
+def altered(block):
+    """definitions.py with the block's replacement, in the function of that name."""
+    name = NAMES.get((block["file"], block["name"]), block["name"])
+    m = re.search(rf"^(?:def {re.escape(name)}\(.*|{re.escape(name)} = .*)\n(?:(?:[ #)].*)?\n)*", SOURCE, re.M)
+    assert m, f"no {name} in definitions.py"
+    old, new = (block[k].replace("⏎", "\n") for k in ("py-old", "py-new"))
+    assert m[0].count(old) == 1, f"{name}: {m[0].count(old)} times in definitions.py: {old}"
+    return SOURCE[:m.start()] + m[0].replace(old, new) + SOURCE[m.end():]
+
+
+# The definitions that the examples B1 to B12 rest on.
+HEART = ("vertex_set", "setup", "derivations", "bases")
+
+
+def noticing(D, wanted=lambda name: True, first=None):
+    """The first example whose answer is another one."""
+    for name, answer in examples.outcomes(D, wanted, first):
+        return name, answer
+    return None
+
+
+def looked_for(block):
+    """An example that notices the alteration: one of document 01's, if there is one."""
+    D = module(altered(block))
+    if block["file"].startswith(HEART):
+        seen = noticing(D, examples.of_document)
+        if seen:
+            return seen
+    return noticing(D, first="rows" if block["file"].startswith("sheet_format") else "spare" if block["name"].endswith("Meaning") else None)
+
+
+# Files that stand on those of the scratch crate. Those of Whole are left out: it stands on inner definitions of the report's steps.
+ABOVE = "answers/Demand3 sheet_format/Meaning portal/Portal determined/Determined reference/Meaning report_text/Meaning probe/Told".split()
+UNTYPED = {"report_start/Whole"}
+
+
+def typed():
+    """How many rounds of altered definitions, one alteration of each at a time, the prover does not take as definitions."""
+    left = [b for b in blocks.read(DATA) if "old" in b and b["file"] not in UNTYPED]
+    bad = rounds = 0
+    while left:
+        now = {(b["file"], b["name"]): b for b in reversed(left)}
+        texts = {}
+        for (file, name), b in now.items():
+            texts[file] = blocks.replaced(texts.get(file) or blocks.source(file).read_text(), name, b["old"], b["new"])
+        run = subprocess.run(["rt", "check", str(scratch.write("typed", texts, scratch.NO_EXAMPLES, ABOVE))], capture_output=True, text=True)
+        if run.returncode:
+            print("\n".join(re.findall(r"^.*: error: .*$", run.stdout + run.stderr, re.M))[:3000])
+        bad += run.returncode != 0
+        rounds += 1
+        left = [b for b in left if now[b["file"], b["name"]] is not b]
+    print(f"declared: the altered definitions are definitions, in {rounds} rounds, {bad} refused")
+    return bad
+
+
+def main(words):
+    record = "--record" in words
+    only = [w for w in words if not w.startswith("--")]
+    found = blocks.read(DATA)
+    if not only:
+        wrong = noticing(module(SOURCE))
+        if wrong:
+            print("the definitions as they are:", wrong)
+            return 1
+    bad = tried = 0
+    for b in found:
+        if "none" in b or (only and not any(o in f"{b['file']} {b['name']}" for o in only)) or (record and b.get("seen", "?") != "?"):
+            continue
+        tried += 1
+        blocks.altered(b)
+        seen = looked_for(b) if record else noticing(module(altered(b)), lambda name: name == b.get("seen"))
+        fine = seen is not None and isinstance(seen[1], bool)
+        bad += not fine
+        if record or not fine:
+            print(f"{'noticed' if fine else 'NOT NOTICED'} {b['file']} {b['name']}: {seen}", flush=True)
+        if record:
+            b["seen"] = seen[0] if fine else "?"
+            blocks.write(DATA, found)
+    print(f"declared: {tried} alterations, {bad} not noticed")
+    return bad
+
+
+if __name__ == "__main__":
+    sys.exit(1 if main(sys.argv[1:]) else 0)

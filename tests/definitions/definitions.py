@@ -1,0 +1,1049 @@
+"""The declarative definitions in Python, one function for each, by the names and in the order of docs/TRUST.md.
+
+A record is the conjunction of its fields, in order; `→` is `implies`, `⊎` is `or`, `×` is `and`. A quantifier over numbers, sets, lists or steps
+runs over a finite part of them, the `world` of an example, which examples.py makes wide enough: beyond the setup's own vertices and colours
+there are others. Definitions that compute stand in executables.py.
+"""
+from executables import *
+
+
+class World:
+    """What quantifiers range over: vertices, colours, sets of vertices, and lists of sets."""
+
+    def __init__(self, vertices, colours, sets, lists):
+        self.vertices, self.colours, self.sets, self.lists = vertices, colours, sets, lists
+
+
+world = World(range(8), range(9), range(64), [])
+cache = {}
+kept = {}
+
+
+def enter(w):
+    """Examples of one world stand together, so that what was found out is kept until the next."""
+    global world
+    if w is not world:
+        cache.clear()
+    world = w
+
+
+def mark(x):
+    """A key for a setup or graph, which is kept so that no other gets the same."""
+    kept[id(x)] = x
+    return id(x)
+
+
+def implies(p, q):
+    """Both are functions without arguments, so that q is asked only where p holds."""
+    return not p() or q()
+
+
+# ---- vertex_set/Set
+
+
+def Member(s, i):
+    return s // 2**i % 2 == 1
+
+
+def Within(a, b):
+    return all(implies(lambda: Member(a, i), lambda: Member(b, i)) for i in world.vertices)
+
+
+def ProperlyWithin(a, b):
+    within = Within(a, b)
+    other = a != b
+    return within and other
+
+
+def Meets(a, b):
+    return any(Member(a, vertex) and Member(b, vertex) for vertex in world.vertices)
+
+
+def Decides(P, r):
+    yes = implies(lambda: r == True, lambda: P)
+    no = implies(lambda: r == False, lambda: not P)
+    return yes and no
+
+
+def Iff(P, Q):
+    to = implies(lambda: P, lambda: Q)
+    back = implies(lambda: Q, lambda: P)
+    return to and back
+
+
+def Inserted(s, v, r):
+    taken = implies(lambda: v < 64, lambda: all(Iff(Member(r, i), Member(s, i) or i == v) for i in world.vertices))
+    unchanged = implies(lambda: 63 < v, lambda: r == s)
+    return taken and unchanged
+
+
+def Below(n, r):
+    return all(Iff(Member(r, i), i < n and i < 64) for i in world.vertices)
+
+
+# ---- vertex_set/Order
+
+
+def Listed(l, x):
+    if not l:
+        return False
+    return x == l[0] or Listed(l[1:], x)
+
+
+def Before(a, b):
+    return ones(a) < ones(b) or (ones(a) == ones(b) and a < b)
+
+
+def Ordered(l):
+    if not l:
+        return True
+    return all(implies(lambda: Listed(l[1:], y), lambda: Before(l[0], y)) for y in world.sets) and Ordered(l[1:])
+
+
+# ---- setup/Setup
+
+
+def Edge(g, f, v, c):
+    return Member(row(g, v, c), f)
+
+
+def Chosen(loss, s, v):
+    return given(valueOf(loss, vertexAt(s, v))) == 1
+
+
+def ShapedGraph(g):
+    places = len(g.rows) == 64
+    colours = all(implies(lambda: v < 64, lambda: len(rowsAt(g, v).needs) == 8) for v in world.vertices)
+    return places and colours
+
+
+def Shaped(s):
+    places = len(s.vertices) == 64
+    graph = ShapedGraph(s.graph)
+    recovery = ShapedGraph(s.recovery)
+    return places and graph and recovery
+
+
+def edges():
+    return ((f, v, c) for f in world.vertices for v in world.vertices for c in world.colours)
+
+
+def WithoutRecovery(s, g):
+    shaped = ShapedGraph(g)
+    each = all(Iff(Edge(g, f, v, c), Edge(s.graph, f, v, c) and not Edge(s.recovery, f, v, c)) for f, v, c in edges())
+    return shaped and each
+
+
+def ChosenSet(loss, s, r):
+    each = all(Iff(Member(r, v), Chosen(loss, s, v)) for v in world.vertices)
+    size = ones(r) == chosenCount(loss, s)
+    return each and size
+
+
+# ---- setup/WellFormed
+
+
+def InRange(x):
+    return x is None or x <= 1000000
+
+
+def ValidVertex(x):
+    start = InRange(x.start)
+    loss = InRange(x.loss)
+    rank = x.rank <= 9
+    return start and loss and rank
+
+
+def WellFormed(s):
+    key = ("well", mark(s))
+    if key not in cache:
+        cache[key] = (
+            Shaped(s)
+            and 0 < s.count
+            and s.count <= 64
+            and all(implies(lambda: v < s.count, lambda: ValidVertex(vertexAt(s, v))) for v in world.vertices)
+            and all(implies(lambda: v < 64 and s.count <= v, lambda: vertexAt(s, v) == unusedVertex) for v in world.vertices)
+            and all(implies(lambda: Edge(s.graph, f, v, c), lambda: f < s.count and v < s.count) for f, v, c in edges())
+            and all(implies(lambda: Edge(s.recovery, f, v, c), lambda: Edge(s.graph, f, v, c)) for f, v, c in edges())
+            and edgeCount(s.graph) <= 256
+            and chosenCount(False, s) <= 14
+            and chosenCount(True, s) <= 14
+        )
+    return cache[key]
+
+
+# ---- setup/Calls
+
+
+def Refuses(q, number, values):
+    numbered = number == q
+    empty = values == []
+    return numbered and empty
+
+
+def Inside(s, set_):
+    return all(implies(lambda: Member(set_, v), lambda: v < s.count) for v in world.vertices)
+
+
+# ---- derivations/Derivation: what is held is a predicate, as there
+
+
+class Rule:
+    """The steps of a rule (those of the world), the vertex that a step adds, and when a step is allowed."""
+
+    def __init__(self, key, steps, adds, allowed):
+        self.key, self.steps, self.adds, self.allowed = key, steps, adds, allowed
+
+
+def With(held, v):
+    return lambda i: held(i) or i == v
+
+
+def Run(r, held, d):
+    if not d:
+        return True
+    return r.allowed(held, d[0]) and Run(r, With(held, r.adds(d[0])), d[1:])
+
+
+def Adds(r, d, v):
+    if not d:
+        return False
+    return v == r.adds(d[0]) or Adds(r, d[1:], v)
+
+
+def lists_of_steps(r, held):
+    """All runs in which no step stands twice, which would add nothing: each list is a run that one step more was put behind."""
+    key = (r.key, tuple(held(v) for v in world.vertices))
+    if key not in cache:
+        found, last = [], [[]]
+        while last:
+            found += last
+            last = [d + [e] for d in last for e in r.steps if e not in d and Run(r, held, d + [e])]
+        cache[key] = found
+    return cache[key]
+
+
+def Derivation(r, held, v):
+    return any(Run(r, held, steps) and (held(v) or Adds(r, steps, v)) for steps in lists_of_steps(r, held))
+
+
+def Closure(r, s, t):
+    return all(Iff(Member(t, v), Derivation(r, lambda i: Member(s, i), v)) for v in world.vertices)
+
+
+# ---- derivations/Access
+
+
+def Opens(g, held, e):
+    coloured = row(g, e.vertex, e.colour) != 0
+    complete = all(implies(lambda: Member(row(g, e.vertex, e.colour), i), lambda: held(i)) for i in world.vertices)
+    return coloured and complete
+
+
+def steps():
+    return [Step(v, c) for v in world.vertices for c in world.colours]
+
+
+def access(g):
+    return Rule(("access", mark(g)), steps(), adds=lambda e: e.vertex, allowed=lambda held, e: Opens(g, held, e))
+
+
+def HasAccess(g, held, v):
+    return Derivation(access(g), held, v)
+
+
+def AccessFrom(g, s, r):
+    return Closure(access(g), s, r)
+
+
+# ---- derivations/Lockout
+
+
+def SomeLost(lost, s):
+    return any(Member(s, vertex) and lost(vertex) for vertex in world.vertices)
+
+
+def Shuts(g, lost, v):
+    coloured = any(row(g, v, colour) != 0 for colour in world.colours)
+    every = all(implies(lambda: row(g, v, c) != 0, lambda: SomeLost(lost, row(g, v, c))) for c in world.colours)
+    return coloured and every
+
+
+def lockout(g):
+    return Rule(("lockout", mark(g)), list(world.vertices), adds=lambda v: v, allowed=lambda lost, v: Shuts(g, lost, v))
+
+
+def HasLockout(g, lost, v):
+    return Derivation(lockout(g), lost, v)
+
+
+def LockoutFrom(g, s, r):
+    return Closure(lockout(g), s, r)
+
+
+# ---- derivations/Both
+
+
+def ruleOf(loss, g):
+    return lockout(g) if loss else access(g)
+
+
+# ---- derivations/Way
+
+
+def LowestStep(g, held, e):
+    new = not held(e.vertex)
+    opens = Opens(g, held, e)
+    lowest = all(
+        implies(lambda: Opens(g, held, f) and not held(f.vertex), lambda: e.vertex < f.vertex or (e.vertex == f.vertex and e.colour <= f.colour))
+        for f in steps()
+    )
+    return new and opens and lowest
+
+
+def Way(g, target, held, d):
+    if not d:
+        return held(target)
+    return not held(target) and LowestStep(g, held, d[0]) and Way(g, target, With(held, d[0].vertex), d[1:])
+
+
+# ---- bases/Base
+
+
+def Derives(loss, g, target, x):
+    key = ("derives", loss, mark(g), target, x)
+    if key not in cache:
+        cache[key] = Derivation(ruleOf(loss, g), lambda i: Member(x, i), target)
+    return cache[key]
+
+
+def TargetSet(loss, s, g, target, x):
+    chosen = all(implies(lambda: Member(x, v), lambda: Chosen(loss, s, v)) for v in world.vertices)
+    derives = chosen and Derives(loss, g, target, x)
+    return chosen and derives
+
+
+def MinimalSet(loss, s, g, target, x):
+    key = ("minimal", loss, mark(s), mark(g), target, x)
+    if key not in cache:
+        is_ = TargetSet(loss, s, g, target, x)
+        minimal = is_ and all(implies(lambda: ProperlyWithin(y, x), lambda: not Derives(loss, g, target, y)) for y in world.sets)
+        cache[key] = is_ and minimal
+    return cache[key]
+
+
+def Base(loss, s, g, target, l):
+    sound = all(implies(lambda: Listed(l, x), lambda: MinimalSet(loss, s, g, target, x)) for x in world.sets)
+    whole = all(implies(lambda: MinimalSet(loss, s, g, target, x), lambda: Listed(l, x)) for x in world.sets)
+    ordered = Ordered(l)
+    return sound and whole and ordered
+
+
+# ---- bases/Score
+
+
+def Score(loss, s, g, target, r):
+    sets = [x for x in world.sets if TargetSet(loss, s, g, target, x)]
+    none = implies(lambda: sets == [], lambda: r == never)
+    some = all(r < never for x in sets)
+    least = all(r <= sumOf(loss, s, x) for x in sets)
+    reached = implies(lambda: r < never, lambda: any(r == sumOf(loss, s, x) for x in sets))
+    return none and some and least and reached
+
+
+def ScoreOver(loss, s, l, r):
+    sets = [x for x in world.sets if Listed(l, x)]
+    none = implies(lambda: sets == [], lambda: r == never)
+    some = all(r < never for x in sets)
+    least = all(r <= sumOf(loss, s, x) for x in sets)
+    reached = implies(lambda: r < never, lambda: any(r == sumOf(loss, s, x) for x in sets))
+    return none and some and least and reached
+
+
+def Values(loss, s, r):
+    long = len(r) == 64
+    each = all(getD(r, v, 0) == pointsAt(loss, s, v) for v in world.vertices)
+    return long and each
+
+
+def ScoreBoth(loss, s, g, target, r):
+    all_ = Score(loss, s, g, target, r)
+    base = all(implies(lambda: Base(loss, s, g, target, l), lambda: ScoreOver(loss, s, l, r)) for l in world.lists)
+    return all_ and base
+
+
+# ---- bases/Marks
+
+Mark = ["Repeated", "Shut", "Loose", "Right"]
+
+
+def SmallerDerives(loss, g, target, x):
+    return any(ProperlyWithin(subset, x) and Derives(loss, g, target, subset) for subset in world.sets)
+
+
+def CountsAs(loss, s, g, target, earlier, x, mark):
+    if mark == "Repeated":
+        return Listed(earlier, x)
+    if mark == "Shut":
+        return not Listed(earlier, x) and not TargetSet(loss, s, g, target, x)
+    if mark == "Loose":
+        return not Listed(earlier, x) and TargetSet(loss, s, g, target, x) and SmallerDerives(loss, g, target, x)
+    return not Listed(earlier, x) and MinimalSet(loss, s, g, target, x)
+
+
+def MarkedAs(loss, s, g, target, earlier, handed, marks):
+    if not handed and not marks:
+        return True
+    if not handed or not marks:
+        return False
+    return CountsAs(loss, s, g, target, earlier, handed[0], marks[0]) and MarkedAs(loss, s, g, target, [handed[0]] + earlier, handed[1:], marks[1:])
+
+
+def lists_of_marks(loss, s, g, target, handed, earlier=(), before=()):
+    """All lists of marks as long as the handed-in list of which each begins with marks that fit."""
+    if not handed:
+        return [list(before)]
+    fits = [m for m in Mark if CountsAs(loss, s, g, target, list(earlier), handed[0], m)] or [Mark[0]]
+    return [l for m in fits for l in lists_of_marks(loss, s, g, target, handed[1:], (handed[0],) + tuple(earlier), before + (m,))]
+
+
+def Counts(loss, s, g, target, handed, right, repeated, shut, loose, missing):
+    def tally(m, marks):
+        return sum(x == m for x in marks)
+
+    return any(
+        MarkedAs(loss, s, g, target, [], handed, marks)
+        and Base(loss, s, g, target, base)
+        and right == tally("Right", marks)
+        and repeated == tally("Repeated", marks)
+        and shut == tally("Shut", marks)
+        and loose == tally("Loose", marks)
+        and missing == max(len(base) - right, 0)
+        for marks in lists_of_marks(loss, s, g, target, handed)
+        for base in world.lists
+    )
+
+
+def Once(l):
+    if not l:
+        return True
+    return not Listed(l[1:], l[0]) and Once(l[1:])
+
+
+def IsBaseOnce(loss, s, g, target, handed):
+    sets = all(Iff(Listed(handed, x), MinimalSet(loss, s, g, target, x)) for x in world.sets)
+    once = Once(handed)
+    return sets and once
+
+
+def Full(repeated, shut, loose, missing):
+    return repeated == 0 and shut == 0 and loose == 0 and missing == 0
+
+
+# ---- access/Answers
+
+
+def written(xs, entry):
+    return xs + entry[len(xs):]
+
+
+def SetCall(From, s, set_, number, values):
+    malformed = implies(lambda: not WellFormed(s), lambda: Refuses(12, number, values))
+    outside = implies(lambda: WellFormed(s) and not Inside(s, set_), lambda: Refuses(14, number, values))
+    answers = implies(
+        lambda: WellFormed(s) and Inside(s, set_), lambda: any(number == 0 and values == [r] and From(s.graph, set_, r) for r in world.sets)
+    )
+    return malformed and outside and answers
+
+
+def Untouched(entry, exit, entry_, exit_):
+    first = exit == entry
+    second = exit_ == entry_
+    return first and second
+
+
+def WayWritten(d, number, values, entry, exit, entry_, exit_):
+    room = implies(
+        lambda: len(d) <= len(entry) and len(d) <= len(entry_),
+        lambda: number == 0
+        and values == [len(d)]
+        and exit == written([e.vertex for e in d], entry)
+        and exit_ == written([e.colour for e in d], entry_),
+    )
+    short = implies(
+        lambda: len(entry) < len(d) or len(entry_) < len(d), lambda: Refuses(15, number, values) and Untouched(entry, exit, entry_, exit_)
+    )
+    return room and short
+
+
+def ways(g, target, set_):
+    """The lists of steps among which a way is looked for: those that access derivations are made of."""
+    return lists_of_steps(access(g), lambda i: Member(set_, i))
+
+
+def WayCall(s, target, set_, number, values, entry, exit, entry_, exit_):
+    held = lambda i: Member(set_, i)
+    asked = lambda: WellFormed(s) and target < s.count and Inside(s, set_)
+    malformed = implies(lambda: not WellFormed(s), lambda: Refuses(12, number, values) and Untouched(entry, exit, entry_, exit_))
+    noTarget = implies(lambda: WellFormed(s) and s.count <= target, lambda: Refuses(13, number, values) and Untouched(entry, exit, entry_, exit_))
+    outside = implies(
+        lambda: WellFormed(s) and target < s.count and not Inside(s, set_),
+        lambda: Refuses(14, number, values) and Untouched(entry, exit, entry_, exit_),
+    )
+    shut = implies(
+        lambda: asked() and not HasAccess(s.graph, held, target), lambda: number == 0 and values == [] and Untouched(entry, exit, entry_, exit_)
+    )
+    found = implies(
+        lambda: asked() and HasAccess(s.graph, held, target),
+        lambda: any(
+            Way(s.graph, target, held, d) and WayWritten(d, number, values, entry, exit, entry_, exit_) for d in ways(s.graph, target, set_)
+        ),
+    )
+    return malformed and noTarget and outside and shut and found
+
+
+# ---- answers/Answers
+
+
+def BasesWritten(opening, lock, number, values, entry, exit):
+    room = implies(
+        lambda: len(opening) + len(lock) <= len(entry),
+        lambda: number == 0 and values == [len(opening), len(lock)] and exit == opening + (lock + entry[len(opening) + len(lock):]),
+    )
+    short = implies(lambda: len(entry) < len(opening) + len(lock), lambda: Refuses(15, number, values) and exit == entry)
+    return room and short
+
+
+def BasesCall(s, target, number, values, entry, exit):
+    malformed = implies(lambda: not WellFormed(s), lambda: Refuses(12, number, values) and exit == entry)
+    noTarget = implies(lambda: WellFormed(s) and s.count <= target, lambda: Refuses(13, number, values) and exit == entry)
+    answers = implies(
+        lambda: WellFormed(s) and target < s.count,
+        lambda: any(
+            Base(False, s, s.graph, target, opening)
+            and Base(True, s, s.graph, target, lock)
+            and BasesWritten(opening, lock, number, values, entry, exit)
+            for opening in world.lists
+            for lock in world.lists
+        ),
+    )
+    return malformed and noTarget and answers
+
+
+def ScoreCall(loss, s, target, number, values):
+    malformed = implies(lambda: not WellFormed(s), lambda: Refuses(12, number, values))
+    noTarget = implies(lambda: WellFormed(s) and s.count <= target, lambda: Refuses(13, number, values))
+    answers = implies(
+        lambda: WellFormed(s) and target < s.count,
+        lambda: number == 0
+        and len(values) == 1
+        and Score(loss, s, s.graph, target, values[0])
+        and all(implies(lambda: Base(loss, s, s.graph, target, l), lambda: ScoreOver(loss, s, l, values[0])) for l in world.lists),
+    )
+    return malformed and noTarget and answers
+
+
+def MarksCall(loss, s, target, handed, number, values):
+    malformed = implies(lambda: not WellFormed(s), lambda: Refuses(12, number, values))
+    noTarget = implies(lambda: WellFormed(s) and s.count <= target, lambda: Refuses(13, number, values))
+    answers = implies(
+        lambda: WellFormed(s) and target < s.count,
+        lambda: number == 0
+        and len(values) == 5
+        and Counts(loss, s, s.graph, target, handed, *values)
+        and Iff(Full(*values[1:]), IsBaseOnce(loss, s, s.graph, target, handed)),
+    )
+    return malformed and noTarget and answers
+
+
+# ---- answers/Demand3
+
+
+def Demand3(s, target, entry, exit, bases, lengths, score, scores, risk, risks, opened, openMarks, openCounts, locked, lockMarks, lockCounts):
+    lists = BasesCall(s, target, bases, lengths, entry, exit)
+    security = ScoreCall(False, s, target, score, scores)
+    recoverability = ScoreCall(True, s, target, risk, risks)
+    openings = MarksCall(False, s, target, opened, openMarks, openCounts)
+    lockouts = MarksCall(True, s, target, locked, lockMarks, lockCounts)
+    return lists and security and recoverability and openings and lockouts
+
+
+# ---- sheet_format/Rows
+
+
+def Each(P, l):
+    if not l:
+        return True
+    return P(l[0]) and Each(P, l[1:])
+
+
+def Apart(R, l):
+    if not l:
+        return True
+    return Each(lambda y: not R(l[0], y), l[1:]) and Apart(R, l[1:])
+
+
+def Known(items, n):
+    if not items:
+        return False
+    return items[0].name == n or Known(items[1:], n)
+
+
+def SameName(x, y):
+    return x.name == y.name
+
+
+def SameEdge(x, y):
+    return x.source == y.source and x.to == y.to and x.colour == y.colour
+
+
+def ValidItem(x):
+    name = isName(x.name)
+    start = InRange(x.start)
+    loss = InRange(x.loss)
+    rank = x.rank <= 9
+    return name and start and loss and rank
+
+
+def ValidEdge(items, e):
+    source = Known(items, e.source)
+    to = Known(items, e.to)
+    colour = e.colour <= 7
+    return source and to and colour
+
+
+def Valid(d):
+    return (
+        1 <= len(d.items)
+        and len(d.items) <= 64
+        and Each(ValidItem, d.items)
+        and Apart(SameName, d.items)
+        and startCount(d.items) <= 14
+        and lossCount(d.items) <= 14
+        and Each(lambda e: ValidEdge(d.items, e), d.edges)
+        and Apart(SameEdge, d.edges)
+        and len(d.edges) <= 256
+        and len(render(d)) <= 16384
+    )
+
+
+# ---- sheet_format/Meaning: statements, asked of the documents, texts, numbers and setups that are handed to them
+
+
+def AcceptedOfValid(docs):
+    return all(implies(lambda: Valid(d), lambda: readSheet(render(d)) == accepted(setupOf(d))) for d in docs)
+
+
+def ValidOfAccepted(texts, docs):
+    return all(
+        implies(
+            lambda: readSheet(s) == accepted(readSheet(s).setup),
+            lambda: any(Valid(d) and s == render(d) and readSheet(s).setup == setupOf(d) for d in docs),
+        )
+        for s in texts
+    )
+
+
+start = Place("AtFirstHeader", noRows)
+
+
+def askedAt(p, line):
+    return questionsOf(p.phase, p.above, line)
+
+
+def next(p, line):
+    return behind(p.phase, p.above, line)
+
+
+def OnlyYeses(asked):
+    return Each(lambda a: a.answer == True, asked)
+
+
+def Passed(p, lines, q):
+    if not lines:
+        return p == q
+    return OnlyYeses(askedAt(p, lines[0])) and Passed(next(p, lines[0]), lines[1:], q)
+
+
+def FirstNo(asked, q):
+    return any(asked[i:i + 1] == [Asked(q, False)] and OnlyYeses(asked[:i]) for i in range(len(asked)))
+
+
+def TooLong(s, q, k):
+    number = q == 1
+    line = k == 0
+    long = 16384 < len(s)
+    return number and line and long
+
+
+def NoText(s, q, k):
+    number = q == 2
+    line = k == 0
+    yes1 = question1(s) == True
+    no2 = question2(s) == False
+    return number and line and yes1 and no2
+
+
+def places(lines):
+    """The places among which one is looked for: those to which the lines lead."""
+    found = [start]
+    for line in lines:
+        found.append(next(found[-1], line))
+    return found
+
+
+def NoAtLine(s, q, k):
+    if not (question1(s) == True and question2(s) == True):
+        return False
+    lines = linesOf(s)
+    return any(
+        k == 1 + len(lines[:i]) and Passed(start, lines[:i], place) and FirstNo(askedAt(place, lines[i]), q)
+        for i in range(len(lines))
+        for place in places(lines)
+    )
+
+
+def NoAtEnd(s, q, k):
+    if not (q == 11 and question1(s) == True and question2(s) == True):
+        return False
+    lines = linesOf(s)
+    return k == 1 + len(lines) and any(Passed(start, lines, place) and question11(place.phase) == False for place in places(lines))
+
+
+def Refusal(s, q, k):
+    return TooLong(s, q, k) or NoText(s, q, k) or NoAtLine(s, q, k) or NoAtEnd(s, q, k)
+
+
+def RefusalLaw(texts, numbers, lines):
+    return all(Iff(readSheet(s) == refused(q, k), Refusal(s, q, k)) for s in texts for q in numbers for k in lines)
+
+
+def RefusalUnique(texts, numbers, lines):
+    pairs = [(q, k) for q in numbers for k in lines]
+    return all(implies(lambda: Refusal(s, *a) and Refusal(s, *b), lambda: a == b) for s in texts for a in pairs for b in pairs)
+
+
+def Accepted(s):
+    return any(readSheet(s) == accepted(setup) for setup in [readSheet(s).setup])
+
+
+def EmptySetup():
+    return setupOf(noRows) == Setup(0, (unusedVertex,) * 64, emptyGraph, emptyGraph)
+
+
+def Refused(s, numbers, lines):
+    return any(1 <= number and number <= 11 and readSheet(s) == refused(number, line) for number in numbers for line in lines)
+
+
+def AcceptedOrRefused(texts, numbers, lines):
+    either = all(Accepted(s) or Refused(s, numbers, lines) for s in texts)
+    never_ = all(not (Accepted(s) and Refused(s, numbers, lines)) for s in texts)
+    return either and never_
+
+
+def Question12(setups, texts):
+    return all(Iff(WellFormed(s), any(readSheet(text) == accepted(s) for text in texts)) for s in setups)
+
+
+# ---- sheet_format/Names
+
+
+def NamesOfRows(docs):
+    return all(
+        implies(lambda: Valid(d) and i < len(d.items), lambda: nameOf(render(d), i) == getD([x.name for x in d.items], i, []))
+        for d in docs
+        for i in world.vertices
+    )
+
+
+# ---- findings/Findings
+
+
+def Compared(loss, s, v, r, r_):
+    score = Score(loss, s, s.graph, v, r)
+    return score and any(WithoutRecovery(s, less) and Score(loss, s, less, v, r_) for less in graphs(s))
+
+
+def graphs(s):
+    """The graphs among which that without recovery is looked for."""
+    key = ("graphs", mark(s))
+    if key not in cache:
+        cache[key] = [lessRecovery(s), s.graph, s.recovery, emptyGraph]
+    return cache[key]
+
+
+def Backdoor(s, v, r, r_):
+    are = Compared(False, s, v, r, r_)
+    below = r < r_
+    return are and below
+
+
+def IneffectiveRecovery(s, v, r, r_):
+    are = Compared(True, s, v, r, r_)
+    most = r <= r_
+    return are and most
+
+
+def Inconsistent(s, v, w, r, r_):
+    score = Score(False, s, s.graph, v, r)
+    other = Score(False, s, s.graph, w, r_)
+    rank = vertexAt(s, w).rank < vertexAt(s, v).rank
+    most = r <= r_
+    return score and other and rank and most
+
+
+def scores(s, loss):
+    """The numbers among which scores are looked for."""
+    return sorted({sumOf(loss, s, x) for x in world.sets} | {never})
+
+
+def FindsBackdoor(s, v, answer):
+    return any(
+        Compared(False, s, v, score, without) and Decides(Backdoor(s, v, score, without), answer)
+        for score in scores(s, False)
+        for without in scores(s, False)
+    )
+
+
+def FindsIneffective(s, v, answer):
+    return any(
+        Compared(True, s, v, score, without) and Decides(IneffectiveRecovery(s, v, score, without), answer)
+        for score in scores(s, True)
+        for without in scores(s, True)
+    )
+
+
+def FindsInconsistent(s, v, w, answer):
+    return any(
+        Score(False, s, s.graph, v, score) and Score(False, s, s.graph, w, other) and Decides(Inconsistent(s, v, w, score, other), answer)
+        for score in scores(s, False)
+        for other in scores(s, False)
+    )
+
+
+# ---- findings/Answers
+
+
+def FindingCall(Finds, s, vertices, number, values):
+    malformed = implies(lambda: not WellFormed(s), lambda: Refuses(12, number, values))
+    noVertex = all(
+        implies(lambda: WellFormed(s) and Listed(vertices, v) and s.count <= v, lambda: Refuses(13, number, values)) for v in world.vertices
+    )
+    answers = implies(
+        lambda: WellFormed(s) and all(implies(lambda: Listed(vertices, v), lambda: v < s.count) for v in world.vertices),
+        lambda: any(number == 0 and values == [1 if b else 0] and Finds(b) for b in (False, True)),
+    )
+    return malformed and noVertex and answers
+
+
+def BackdoorCall(s, v, number, values):
+    return FindingCall(lambda b: FindsBackdoor(s, v, b), s, [v], number, values)
+
+
+def IneffectiveCall(s, v, number, values):
+    return FindingCall(lambda b: FindsIneffective(s, v, b), s, [v], number, values)
+
+
+def InconsistentCall(s, v, w, number, values):
+    return FindingCall(lambda b: FindsInconsistent(s, v, w, b), s, [v, w], number, values)
+
+
+# ---- portal/Portal
+
+
+def PortalCall(loss, text, item, r):
+    refused_ = implies(lambda: readSheet(text).number != 0, lambda: r == never + readSheet(text).number)
+    noItem = implies(lambda: readSheet(text).number == 0 and readSheet(text).setup.count <= item, lambda: r == never + 13)
+    answers = implies(
+        lambda: readSheet(text).number == 0 and item < readSheet(text).setup.count, lambda: portal_score(loss, readSheet(text).setup, item, r)
+    )
+    return refused_ and noItem and answers
+
+
+def portal_score(loss, s, item, r):
+    return Score(loss, s, s.graph, item, r)
+
+
+def Decoded(text, item, r):
+    answer = implies(lambda: r <= never, lambda: readSheet(text).number == 0 and item < readSheet(text).setup.count)
+    refusal = implies(lambda: never < r, lambda: readSheet(text).number != 0 or readSheet(text).setup.count <= item)
+    return answer and refusal
+
+
+# ---- determined/Determined: of all pairs of the answers that are handed to them
+
+
+def Same(n, n_, v, v_):
+    number = n == n_
+    values = v == v_
+    return number and values
+
+
+def SetDetermined(loss, s, set_, answers):
+    From = lambda g, x, r: Closure(ruleOf(loss, g), x, r)
+    return all(
+        implies(lambda: SetCall(From, s, set_, n, v) and SetCall(From, s, set_, n_, v_), lambda: Same(n, n_, v, v_))
+        for n, v in answers
+        for n_, v_ in answers
+    )
+
+
+def SameWay(n, n_, v, v_, x, x_, y, y_):
+    answer = Same(n, n_, v, v_)
+    vertices = x == x_
+    colours = y == y_
+    return answer and vertices and colours
+
+
+def WayDetermined(s, target, set_, a, b, answers):
+    return all(
+        implies(
+            lambda: WayCall(s, target, set_, n, v, a, x, b, y) and WayCall(s, target, set_, n_, v_, a, x_, b, y_),
+            lambda: SameWay(n, n_, v, v_, x, x_, y, y_),
+        )
+        for n, v, x, y in answers
+        for n_, v_, x_, y_ in answers
+    )
+
+
+def SameBases(n, n_, v, v_, x, x_):
+    answer = Same(n, n_, v, v_)
+    list_ = x == x_
+    return answer and list_
+
+
+def BasesDetermined(s, target, a, answers):
+    return all(
+        implies(lambda: BasesCall(s, target, n, v, a, x) and BasesCall(s, target, n_, v_, a, x_), lambda: SameBases(n, n_, v, v_, x, x_))
+        for n, v, x in answers
+        for n_, v_, x_ in answers
+    )
+
+
+def ScoreDetermined(loss, s, target, answers):
+    return all(
+        implies(lambda: ScoreCall(loss, s, target, n, v) and ScoreCall(loss, s, target, n_, v_), lambda: Same(n, n_, v, v_))
+        for n, v in answers
+        for n_, v_ in answers
+    )
+
+
+def MarksDetermined(loss, s, target, handed, answers):
+    return all(
+        implies(lambda: MarksCall(loss, s, target, handed, n, v) and MarksCall(loss, s, target, handed, n_, v_), lambda: Same(n, n_, v, v_))
+        for n, v in answers
+        for n_, v_ in answers
+    )
+
+
+# ---- reference/Meaning
+
+
+def Meaning(s, g, handed):
+    both, targets, sets = (False, True), range(s.count), list(world.sets)
+    closure = all(Closure(ruleOf(loss, g), set_, closureOf(loss, s.count, g, set_)) for loss in both for set_ in sets)
+    derives = all(
+        Decides(Derives(loss, g, target, set_), derivesOf(loss, s.count, g, target, set_)) for loss in both for target in targets for set_ in sets
+    )
+    way = all(
+        implies(
+            lambda: derivesOf(False, s.count, g, target, set_) == True,
+            lambda: Way(g, target, lambda i: Member(set_, i), wayOf(s.count, g, target, set_)),
+        )
+        for target in targets
+        for set_ in sets
+    )
+    shut = all(
+        implies(lambda: derivesOf(False, s.count, g, target, set_) == False, lambda: not HasAccess(g, lambda i: Member(set_, i), target))
+        for target in targets
+        for set_ in sets
+    )
+    base = all(Base(loss, s, g, target, baseOf(loss, s, g, target)) for loss in both for target in targets)
+    score = all(Score(loss, s, g, target, scoreOf(loss, s, g, target)) for loss in both for target in targets)
+    counts = all(
+        Counts(loss, s, g, target, h, *marksOf(loss, s, g, target, h)) for loss in both for target in targets for h in handed
+    )
+    return closure and derives and way and shut and base and score and counts
+
+
+# ---- report_text/Meaning
+
+
+def ReportMeaning(s):
+    both, targets = (False, True), range(s.count)
+    accounts = all(Iff(Listed(accountsOf(s), v), v < s.count and vertexAt(s, v).kind == Account) for v in world.vertices)
+    base = all(Base(loss, s, s.graph, v, baseOf(loss, s, s.graph, v)) for loss in both for v in targets)
+    items = all(Iff(Listed(itemsOf(x), v), Member(x, v) and v < 64) for x in list(world.sets) + [2**63 + 1, 2**64 + 1] for v in world.vertices)
+    score = all(Score(loss, s, s.graph, v, scoreOf(loss, s, s.graph, v)) for loss in both for v in targets)
+    less = WithoutRecovery(s, lessRecovery(s))
+    back = all(FindsBackdoor(s, v, isBackdoor(s, v)) for v in targets)
+    idle = all(FindsIneffective(s, v, isIdle(s, v)) for v in targets)
+    pair = all(FindsInconsistent(s, v, w, isOutOfRank(s, v, w)) for v in targets for w in targets)
+    return accounts and base and items and score and less and back and idle and pair
+
+
+# ---- report_start/Whole: `rest` gives what is left of the report at a place, `places` are the places
+
+
+def Begun(rest, report, here, c):
+    whole = rest(c) == report
+    return whole and here(c)
+
+
+def WholeRun(rest, cursors, c, parts):
+    if not parts:
+        return c == "End"
+    return any(rest(c) == parts[0] + rest(d) and WholeRun(rest, cursors, d, parts[1:]) for d in cursors)
+
+
+def inOne(parts):
+    if not parts:
+        return []
+    return parts[0] + inOne(parts[1:])
+
+
+def WholeReport(rest, report, here, cursors, lists_of_parts):
+    return all(
+        implies(lambda: Begun(rest, report, here, c) and WholeRun(rest, cursors, c, parts), lambda: inOne(parts) == report)
+        for c in cursors
+        for parts in lists_of_parts
+    )
+
+
+# ---- probe/Told
+
+
+def Front(xs, entry, exit):
+    room = implies(lambda: len(xs) <= len(entry), lambda: exit == written(xs, entry))
+    short = implies(lambda: len(entry) < len(xs), lambda: exit == entry)
+    return room and short
+
+
+def Told(Call, entry, exit, r, candidates):
+    return any(Call(r, values) and Front(values, entry, exit) for values in candidates)
+
+
+def Question12Call(s, r):
+    yes = implies(lambda: WellFormed(s), lambda: r == 0)
+    no = implies(lambda: not WellFormed(s), lambda: r == 12)
+    return yes and no
+
+
+def WayTo(s, target, set_, entry, exit, entry_, exit_, number, values):
+    return WayCall(s, target, set_, number, values, entry, exit, entry_, exit_)
+
+
+def BasesOf(s, target, entry, exit, number, values):
+    return BasesCall(s, target, number, values, entry, exit)
+
+
+def ReadingCall(text, number, values):
+    numbered = number == readSheet(text).number
+    told = values == [readSheet(text).line] + wordsOf(readSheet(text).setup)
+    return numbered and told
+
+
+def NameCall(text, item, number, values):
+    numbered = number == 0
+    told = values == [nameStart(text, item)] + nameOf(text, item)
+    return numbered and told

@@ -1,0 +1,556 @@
+"""Examples for the declarative definitions: what is asked, and whether it holds. B1 to B12 are document 01's; a name that begins with `not` is a
+wrong answer. The setups are read from sheets."""
+import itertools
+
+from executables import Account, Credential, Doc, EdgeRow, Graph, ItemRow, Rows, Setup, Step, Vertex, emptyGraph, getD, lessRecovery, never
+from executables import readSheet, render, setupOf, text, unusedVertex, wordsOf
+
+H1, H2 = "name kind start loss rank", "from to colour rec"
+BENCH = [H1, "ordpw c 1 2 0", "mailpw c 1 1 0", "token c 3 2 0", "mail a - - 1", "order a - - 3", "", H2]
+BENCH += ["mailpw mail 0 0", "ordpw order 0 0", "token order 0 0", "mail order 1 1"]
+RING = [H1, "pwd_backup c 1 - 0", "pwd_manager c 1 - 0", "device c 1 - 0", "seed c 1 - 0", "code c - - 0", "acc_backup a - - 0", "", H2]
+RING += ["device code 0 0", "seed code 1 0", "pwd_backup acc_backup 0 0", "code acc_backup 0 0", "acc_backup pwd_manager 0 0"]
+RING += ["acc_backup seed 0 0", "pwd_manager pwd_backup 0 0"]
+
+
+def read(lines):
+    r = readSheet(text(lines))
+    assert r.number == 0, (r.number, r.line)
+    return r.setup
+
+
+bench, ring = read(BENCH), read(RING)
+alone = read([H1, "only a 5 - 0", "", H2])
+closed = read([H1, "only a - - 0", "", H2])
+loop = read([H1, "only a - 4 0", "", H2, "only only 0 0"])
+pair = read([H1, "p a - 1 0", "q a - 1 0", "", H2, "p q 0 0", "q p 0 0"])
+# two colours, of which the second is recovery, and an item that is ranked above; zero is a value
+spare = read([H1, "pw c 0 0 0", "key c 2 1 0", "acc a - - 1", "", H2, "pw acc 0 0", "key acc 2 1"])
+MAIL, ORDER = 3, 4
+
+
+def lists_over(pool, most=2):
+    """All lists of up to `most` sets of the pool, repeats and every order included."""
+    return [list(l) for n in range(most + 1) for l in itertools.product(pool, repeat=n)]
+
+
+def worlds(D):
+    return {
+        "far": D.World([0, 1, 2, 3, 4, 5, 6, 7, 62, 63, 64, 65], range(10), range(16), []),
+        "rows": D.World(range(8), range(9), range(16), []),
+        "bench": D.World(range(6), range(3), range(64), lists_over([1, 2, 3, 5, 6, 7])),
+        "ring": D.World(range(6), range(2), range(16), [[5, 6, 9, 10], [5, 6, 10, 9], [5, 6, 9], [5, 6, 9, 10, 12]]),
+        "one": D.World(range(3), range(3), range(8), lists_over([0, 1, 2, 3])),
+        "spare": D.World([0, 1, 2, 3, 64], range(4), range(16), lists_over([0, 1, 2, 3])),
+    }
+
+
+def spoiled(s, **parts):
+    return s._replace(**parts)
+
+
+def with_row(g, v, c, n):
+    rows = list(g.rows)
+    needs = list(rows[v].needs)
+    needs[c] = n
+    rows[v] = Rows(tuple(needs))
+    return Graph(tuple(rows))
+
+
+def with_vertex(s, v, x):
+    return s._replace(vertices=s.vertices[:v] + (x,) + s.vertices[v + 1:])
+
+
+def all_items(n, **parts):
+    x = Vertex(Credential, None, None, 0)
+    return Setup(64, tuple(x._replace(**parts) if i < n else x for i in range(64)), emptyGraph, emptyGraph)
+
+
+def many_edges(n):
+    rows = [Rows(tuple(2**8 - 1 if 64 * v + 8 * c + 8 <= n else 2 ** (n - 64 * v - 8 * c) - 1 if n > 64 * v + 8 * c else 0 for c in range(8))) for v in range(64)]
+    return all_items(0)._replace(graph=Graph(tuple(rows)))
+
+
+def item(name, start=None, loss=None, rank=0, kind=Credential):
+    return ItemRow(list(name.encode()), kind, start, loss, rank)
+
+
+def edge(source, to, colour=0, rec=False):
+    return EdgeRow(list(source.encode()), list(to.encode()), colour, rec)
+
+
+DOC = Doc([item("pw", 10), item("box", rank=9, kind=Account)], [edge("pw", "box", 2, True), edge("box", "box", 2), edge("pw", "box", 7)])
+REFUSED = {
+    "refused 2": ([], 2, 0),
+    "refused 2, no LF": (text(BENCH)[:-1], 2, 0),
+    "refused 3": (text(["name"]), 3, 1),
+    "refused 4": (text([H1, "a c - -"]), 4, 2),
+    "refused 5": (text([H1, "a c 00 - 0"]), 5, 2),
+    "refused 6": (text([H1, "a c - - 0", "a c - - 0"]), 6, 3),
+    "refused 6 and not 7 below": (text([H1, "a c - - 0", "a c - - 0", "b"]), 6, 3),
+    "refused 10": (text([H1, ""]), 10, 2),
+    "refused 8": (text([H1, "a c - - 0", "", H2, "b a 0 0"]), 8, 5),
+    "refused 9": (text([H1, "a c - - 0", "", H2, "a a 0 0", "a a 0 1"]), 9, 6),
+    "refused 11": (text([H1, "a c - - 0", ""]), 11, 4),
+    "refused 1": ([10] * 16385, 1, 0),
+}
+TEXTS = [t for t, q, k in REFUSED.values()] + [text(BENCH), render(DOC)]
+NUMBERS, LINES = range(13), range(8)
+LENT = [90, 91, 92, 93, 94]
+
+
+def examples(D):
+    """Pairs of a world's name and its examples (name, question, expected)."""
+    held = lambda x: lambda i: D.Member(x, i)
+    g, step = bench.graph, Step
+    way = [step(MAIL, 0), step(ORDER, 1)]
+    empty = setupOf(Doc([], []))
+    ends63 = with_row(bench.graph, 63, 0, 1)
+    far = [
+        ("set: 5 has 0 and 2", lambda: D.Member(5, 0) and D.Member(5, 2), True),
+        ("set: 5 has not 1", lambda: D.Member(5, 1), False),
+        ("set: item 63", lambda: D.Member(2**63, 63), True),
+        ("within: 5 in 7", lambda: D.Within(5, 7), True),
+        ("not within: 7 in 5", lambda: D.Within(7, 5), False),
+        ("within: itself", lambda: D.Within(5, 5), True),
+        ("not properly: itself", lambda: D.ProperlyWithin(5, 5), False),
+        ("properly: 4 in 5", lambda: D.ProperlyWithin(4, 5), True),
+        ("not properly: 2 in 5", lambda: D.ProperlyWithin(2, 5), False),
+        ("meets: 6 and 12", lambda: D.Meets(6, 12), True),
+        ("not meets: 6 and 9", lambda: D.Meets(6, 9), False),
+        ("decides: yes", lambda: D.Decides(True, True), True),
+        ("not decides: yes of what is not", lambda: D.Decides(False, True), False),
+        ("not decides: no of what is", lambda: D.Decides(True, False), False),
+        ("iff: both", lambda: D.Iff(True, True), True),
+        ("not iff: only the first", lambda: D.Iff(True, False), False),
+        ("not iff: only the second", lambda: D.Iff(False, True), False),
+        ("inserted: 3 into 5", lambda: D.Inserted(5, 3, 13), True),
+        ("inserted: 63 into 5", lambda: D.Inserted(5, 63, 2**63 + 5), True),
+        ("not inserted: 63 into 5 changes nothing", lambda: D.Inserted(5, 63, 5), False),
+        ("not inserted: 3 into 5 is 8", lambda: D.Inserted(5, 3, 8), False),
+        ("inserted: 64 changes nothing", lambda: D.Inserted(5, 64, 5), True),
+        ("not inserted: 64 into 5", lambda: D.Inserted(5, 64, 2**64 + 5), False),
+        ("below: 3", lambda: D.Below(3, 7), True),
+        ("not below: 3 is 15", lambda: D.Below(3, 15), False),
+        ("below: 66", lambda: D.Below(66, 2**64 - 1), True),
+        ("listed: the second of two", lambda: D.Listed([4, 7], 7), True),
+        ("not listed", lambda: D.Listed([4, 7], 5), False),
+        ("before: fewer vertices", lambda: D.Before(4, 3), True),
+        ("not before: by number only", lambda: D.Before(3, 4), False),
+        ("before: the smaller number", lambda: D.Before(3, 5), True),
+        ("not before: itself", lambda: D.Before(3, 3), False),
+        ("ordered: 4, 3, 5", lambda: D.Ordered([4, 3, 5]), True),
+        ("not ordered: 3, 4", lambda: D.Ordered([3, 4]), False),
+        ("not ordered: 4, 5, 3", lambda: D.Ordered([4, 5, 3]), False),
+        ("not ordered: twice", lambda: D.Ordered([4, 4]), False),
+        ("edge: mail, order, 1", lambda: D.Edge(g, 3, 4, 1), True),
+        ("not edge: order, mail, 1", lambda: D.Edge(g, 4, 3, 1), False),
+        ("initial: token", lambda: D.Chosen(False, bench, 2), True),
+        ("initial: zero is a value", lambda: D.Chosen(False, spare, 0), True),
+        ("not initial: mail", lambda: D.Chosen(False, bench, 3), False),
+        ("losable: loop's item", lambda: D.Chosen(True, loop, 0), True),
+        ("not initial: loop's item", lambda: D.Chosen(False, loop, 0), False),
+        ("shaped: bench", lambda: D.Shaped(bench), True),
+        ("not shaped: 63 vertices", lambda: D.Shaped(bench._replace(vertices=bench.vertices[:63])), False),
+        ("not shaped: 63 places", lambda: D.ShapedGraph(Graph(g.rows[:63])), False),
+        ("not shaped: 7 colours at 63", lambda: D.ShapedGraph(Graph(g.rows[:63] + (Rows((0,) * 7),))), False),
+        ("not shaped: a graph of 63 places", lambda: D.Shaped(bench._replace(graph=Graph(g.rows[:63]))), False),
+        ("not shaped: recovery of 63 places", lambda: D.Shaped(bench._replace(recovery=Graph(g.rows[:63]))), False),
+        ("without recovery: bench", lambda: D.WithoutRecovery(bench, lessRecovery(bench)), True),
+        ("not without recovery: the graph itself", lambda: D.WithoutRecovery(bench, g), False),
+        ("not without recovery: no edge", lambda: D.WithoutRecovery(bench, emptyGraph), False),
+        ("not without recovery: 63 places", lambda: D.WithoutRecovery(bench, Graph(lessRecovery(bench).rows[:63])), False),
+        ("initial set: bench", lambda: D.ChosenSet(False, bench, 7), True),
+        ("not initial set: bench less one", lambda: D.ChosenSet(False, bench, 3), False),
+        ("not initial set: with item 70", lambda: D.ChosenSet(False, bench, 7 + 2**70), False),
+        ("in range: 1,000,000", lambda: D.InRange(1000000), True),
+        ("not in range: 1,000,001", lambda: D.InRange(1000001), False),
+        ("in range: a blank", lambda: D.InRange(None), True),
+        ("vertex: rank 9", lambda: D.ValidVertex(Vertex(Account, 0, 1000000, 9)), True),
+        ("not vertex: rank 10", lambda: D.ValidVertex(Vertex(Account, 0, 0, 10)), False),
+        ("not vertex: start 1,000,001", lambda: D.ValidVertex(Vertex(Account, 1000001, 0, 0)), False),
+        ("not vertex: loss 1,000,001", lambda: D.ValidVertex(Vertex(Account, 0, 1000001, 0)), False),
+        ("well formed: bench", lambda: D.WellFormed(bench), True),
+        ("well formed: 64 items", lambda: D.WellFormed(all_items(0)), True),
+        ("well formed: 256 edges", lambda: D.WellFormed(many_edges(256)), True),
+        ("well formed: 14 initial", lambda: D.WellFormed(all_items(14, start=0)), True),
+        ("well formed: 14 losable", lambda: D.WellFormed(all_items(14, loss=0)), True),
+        ("not well formed: 63 vertices", lambda: D.WellFormed(bench._replace(vertices=bench.vertices[:63])), False),
+        ("not well formed: no item", lambda: D.WellFormed(empty), False),
+        ("not well formed: 65 items", lambda: D.WellFormed(all_items(0)._replace(count=65)), False),
+        ("not well formed: rank 10", lambda: D.WellFormed(with_vertex(bench, 0, Vertex(Credential, 1, 2, 10))), False),
+        ("not well formed: rank 1 at 63", lambda: D.WellFormed(with_vertex(bench, 63, unusedVertex._replace(rank=1))), False),
+        ("not well formed: an edge from 5", lambda: D.WellFormed(bench._replace(graph=with_row(g, 4, 0, 37))), False),
+        ("not well formed: an edge to 63", lambda: D.WellFormed(bench._replace(graph=ends63)), False),
+        ("not well formed: recovery alone", lambda: D.WellFormed(bench._replace(recovery=with_row(bench.recovery, 3, 1, 2))), False),
+        ("not well formed: 257 edges", lambda: D.WellFormed(many_edges(257)), False),
+        ("not well formed: 15 initial", lambda: D.WellFormed(all_items(15, start=0)), False),
+        ("not well formed: 15 losable", lambda: D.WellFormed(all_items(15, loss=0)), False),
+        ("refuses 12", lambda: D.Refuses(12, 12, []), True),
+        ("not refuses 12: 13", lambda: D.Refuses(12, 13, []), False),
+        ("not refuses 12: with a value", lambda: D.Refuses(12, 12, [0]), False),
+        ("inside: order", lambda: D.Inside(bench, 16), True),
+        ("not inside: item 5", lambda: D.Inside(bench, 32), False),
+        ("not inside: item 63", lambda: D.Inside(bench, 2**63 + 1), False),
+        ("values: bench's starts", lambda: D.Values(False, bench, [1, 1, 3] + [0] * 61), True),
+        ("not values: its losses", lambda: D.Values(False, bench, [2, 1, 2] + [0] * 61), False),
+        ("not values: 63 of them", lambda: D.Values(False, bench, [1, 1, 3] + [0] * 60), False),
+        ("once: 4, 3", lambda: D.Once([4, 3]), True),
+        ("not once: 4, 3, 4", lambda: D.Once([4, 3, 4]), False),
+        ("full: all zero", lambda: D.Full(0, 0, 0, 0), True),
+    ]
+    far += [(f"not full: {n}", lambda i=i: D.Full(*[int(i == j) for j in range(4)]), False) for i, n in enumerate(["repeated", "shut", "loose", "missing"])]
+
+    way_call = lambda *a: D.WayCall(bench, *a)
+    bench_ = [
+        ("run: mail, order", lambda: D.Run(D.access(g), held(2), way), True),
+        ("not run: order, mail", lambda: D.Run(D.access(g), held(2), way[::-1]), False),
+        ("run: none", lambda: D.Run(D.access(g), held(2), []), True),
+        ("adds: order", lambda: D.Adds(D.access(g), way, ORDER), True),
+        ("not adds: mailpw", lambda: D.Adds(D.access(g), way, 1), False),
+        ("with: order added", lambda: D.With(held(2), ORDER)(ORDER) and D.With(held(2), ORDER)(1), True),
+        ("not with: mail", lambda: D.With(held(2), ORDER)(MAIL), False),
+        ("derivation: a held vertex", lambda: D.Derivation(D.access(g), held(16), ORDER), True),
+        ("opens: mail from mailpw", lambda: D.Opens(g, held(2), step(MAIL, 0)), True),
+        ("not opens: an empty colour", lambda: D.Opens(g, held(2), step(MAIL, 1)), False),
+        ("not opens: half a colour", lambda: D.Opens(g, held(1), step(ORDER, 0)), False),
+        ("lost: one of ordpw, token", lambda: D.SomeLost(held(1), 5), True),
+        ("not lost: neither of ordpw, token", lambda: D.SomeLost(held(2), 5), False),
+        ("shuts: order without ordpw, mail", lambda: D.Shuts(g, held(9), ORDER), True),
+        ("not shuts: order by one colour", lambda: D.Shuts(g, held(1), ORDER), False),
+        ("not shuts: token, which has no colour", lambda: D.Shuts(g, held(63), 2), False),
+        ("access: order from mailpw", lambda: D.HasAccess(g, held(2), ORDER), True),
+        ("not access: order from token", lambda: D.HasAccess(g, held(4), ORDER), False),
+        ("lockout: order without ordpw, mailpw", lambda: D.HasLockout(g, held(3), ORDER), True),
+        ("not lockout: order without mailpw", lambda: D.HasLockout(g, held(2), ORDER), False),
+        ("B1", lambda: D.AccessFrom(g, 0, 0), True),
+        ("not B1: all", lambda: D.AccessFrom(g, 0, 31), False),
+        ("B2", lambda: D.AccessFrom(g, 2, 26), True),
+        ("not B2: the set handed back", lambda: D.AccessFrom(g, 2, 2), False),
+        ("not B2: with ordpw", lambda: D.AccessFrom(g, 2, 27), False),
+        ("lost set of ordpw, mailpw", lambda: D.LockoutFrom(g, 3, 27), True),
+        ("not lost set: the set itself", lambda: D.LockoutFrom(g, 3, 3), False),
+        ("B6", lambda: D.Way(g, ORDER, held(2), way), True),
+        ("not B6: one step", lambda: D.Way(g, ORDER, held(2), way[:1]), False),
+        ("not B6: a step too many", lambda: D.Way(g, MAIL, held(2), way), False),
+        ("way: the lowest of two colours", lambda: D.Way(g, ORDER, held(7), [step(MAIL, 0), step(ORDER, 0)]), True),
+        ("not way: the higher of two colours", lambda: D.Way(g, ORDER, held(7), [step(MAIL, 0), step(ORDER, 1)]), False),
+        ("not way: the higher vertex first", lambda: D.Way(g, ORDER, held(7), [step(ORDER, 0)]), False),
+        ("not way: a held vertex again", lambda: D.Way(g, ORDER, held(10), [step(MAIL, 0), step(ORDER, 1)]), False),
+        ("not way: an empty colour", lambda: D.Way(g, ORDER, held(0), [step(ORDER, 2)]), False),
+        ("target set: {mailpw, token}", lambda: D.TargetSet(False, bench, g, ORDER, 6), True),
+        ("not target set: {token}", lambda: D.TargetSet(False, bench, g, ORDER, 4), False),
+        ("not target set: {mail}, no initial vertex", lambda: D.TargetSet(False, bench, g, ORDER, 8), False),
+        ("minimal: {ordpw, token}", lambda: D.MinimalSet(False, bench, g, ORDER, 5), True),
+        ("not minimal: {mailpw, token}", lambda: D.MinimalSet(False, bench, g, ORDER, 6), False),
+        ("B3", lambda: D.Base(False, bench, g, ORDER, [2, 5]), True),
+        ("not B3: empty", lambda: D.Base(False, bench, g, ORDER, []), False),
+        ("not B3: one set", lambda: D.Base(False, bench, g, ORDER, [2]), False),
+        ("not B3: one too many", lambda: D.Base(False, bench, g, ORDER, [2, 5, 7]), False),
+        ("not B3: in another order", lambda: D.Base(False, bench, g, ORDER, [5, 2]), False),
+        ("B4", lambda: D.Base(True, bench, g, ORDER, [3, 6]), True),
+        ("not B4: B3", lambda: D.Base(True, bench, g, ORDER, [2, 5]), False),
+        ("B5, score", lambda: D.Score(False, bench, g, ORDER, 1), True),
+        ("B5, risk", lambda: D.Score(True, bench, g, ORDER, 3), True),
+        ("not B5: score 0", lambda: D.Score(False, bench, g, ORDER, 0), False),
+        ("not B5: score 4", lambda: D.Score(False, bench, g, ORDER, 4), False),
+        ("not B5: never", lambda: D.Score(False, bench, g, ORDER, never), False),
+        ("score over B3", lambda: D.ScoreOver(False, bench, [2, 5], 1), True),
+        ("not score over B3: 4", lambda: D.ScoreOver(False, bench, [2, 5], 4), False),
+        ("not score over B3: 0", lambda: D.ScoreOver(False, bench, [2, 5], 0), False),
+        ("not score over B3: never", lambda: D.ScoreOver(False, bench, [2, 5], never), False),
+        ("score over none", lambda: D.ScoreOver(False, bench, [], never), True),
+        ("not score over none: 2^62 + 1", lambda: D.ScoreOver(False, bench, [], 2**62 + 1), False),
+        ("not score over none: 0", lambda: D.ScoreOver(False, bench, [], 0), False),
+        ("score, both ways", lambda: D.ScoreBoth(False, bench, g, ORDER, 1), True),
+        ("not score, both ways: 4", lambda: D.ScoreBoth(False, bench, g, ORDER, 4), False),
+        ("smaller: of {mailpw, token}", lambda: D.SmallerDerives(False, g, ORDER, 6), True),
+        ("not smaller: of {mailpw}", lambda: D.SmallerDerives(False, g, ORDER, 2), False),
+        ("counts as: repeated", lambda: D.CountsAs(False, bench, g, ORDER, [2], 2, "Repeated"), True),
+        ("not counts as: right, where repeated", lambda: D.CountsAs(False, bench, g, ORDER, [2], 2, "Right"), False),
+        ("counts as: shut for a vertex outside", lambda: D.CountsAs(False, bench, g, ORDER, [], 10, "Shut"), True),
+        ("not counts as: loose, where shut", lambda: D.CountsAs(False, bench, g, ORDER, [], 10, "Loose"), False),
+        ("not counts as: shut, where loose", lambda: D.CountsAs(False, bench, g, ORDER, [], 6, "Shut"), False),
+        ("marked: B7's marks", lambda: D.MarkedAs(False, bench, g, ORDER, [], [2, 2, 6, 4], ["Right", "Repeated", "Loose", "Shut"]), True),
+        ("not marked: a mark too few", lambda: D.MarkedAs(False, bench, g, ORDER, [], [2, 2], ["Right"]), False),
+        ("not marked: the second right, too", lambda: D.MarkedAs(False, bench, g, ORDER, [], [2, 2], ["Right", "Right"]), False),
+        ("B7", lambda: D.Counts(False, bench, g, ORDER, [2, 2, 6, 4], 1, 1, 1, 1, 1), True),
+        ("not B7: 2 right", lambda: D.Counts(False, bench, g, ORDER, [2, 2, 6, 4], 2, 0, 1, 1, 0), False),
+        ("not B7: nothing missing", lambda: D.Counts(False, bench, g, ORDER, [2, 2, 6, 4], 1, 1, 1, 1, 0), False),
+        ("counts: loose and shut", lambda: D.Counts(False, bench, g, ORDER, [6, 7, 4], 0, 0, 1, 2, 2), True),
+        ("base once: in any order", lambda: D.IsBaseOnce(False, bench, g, ORDER, [5, 2]), True),
+        ("not base once: twice", lambda: D.IsBaseOnce(False, bench, g, ORDER, [5, 2, 5]), False),
+        ("not base once: one missing", lambda: D.IsBaseOnce(False, bench, g, ORDER, [5]), False),
+        ("call: closure, B2", lambda: D.SetCall(D.AccessFrom, bench, 2, 0, [26]), True),
+        ("not call: closure, the set", lambda: D.SetCall(D.AccessFrom, bench, 2, 0, [2]), False),
+        ("call: closure, 14", lambda: D.SetCall(D.AccessFrom, bench, 32, 14, []), True),
+        ("not call: closure, 12 for 14", lambda: D.SetCall(D.AccessFrom, bench, 32, 12, []), False),
+        ("call: closure, 12", lambda: D.SetCall(D.AccessFrom, empty, 32, 12, []), True),
+        ("not call: closure, 14 before 12", lambda: D.SetCall(D.AccessFrom, empty, 32, 14, []), False),
+        ("written: to the front", lambda: D.written([7, 8], LENT) == [7, 8, 92, 93, 94], True),
+        ("untouched", lambda: D.Untouched([1], [1], [2], [2]), True),
+        ("not untouched: the first", lambda: D.Untouched([1], [0], [2], [2]), False),
+        ("not untouched: the second", lambda: D.Untouched([1], [1], [2], [0]), False),
+        ("call: way, B6", lambda: way_call(ORDER, 2, 0, [2], [9, 9, 9], [3, 4, 9], [9, 9], [0, 1]), True),
+        ("not call: way, items for colours", lambda: way_call(ORDER, 2, 0, [2], [9, 9, 9], [0, 1, 9], [9, 9], [3, 4]), False),
+        ("not call: way, a place behind changed", lambda: way_call(ORDER, 2, 0, [2], [9, 9, 9], [3, 4, 0], [9, 9], [0, 1]), False),
+        ("call: way, 15 for the second list", lambda: way_call(ORDER, 2, 15, [], [9, 9], [9, 9], [9], [9]), True),
+        ("call: way, 15 for the first list", lambda: way_call(ORDER, 2, 15, [], [9], [9], [9, 9], [9, 9]), True),
+        ("not call: way, 15 with equal room", lambda: way_call(ORDER, 2, 15, [], [9, 9], [9, 9], [9, 9], [9, 9]), False),
+        ("not call: way, 15 with a place changed", lambda: way_call(ORDER, 2, 15, [], [9, 9], [9, 9], [9], [0]), False),
+        ("call: way, none where held", lambda: way_call(ORDER, 16, 0, [0], [], [], [], []), True),
+        ("call: way, shut", lambda: way_call(ORDER, 4, 0, [], [], [], [], []), True),
+        ("not call: way, shut where open", lambda: way_call(ORDER, 2, 0, [], [9, 9], [9, 9], [9, 9], [9, 9]), False),
+        ("not call: way, 15 where shut", lambda: way_call(ORDER, 4, 15, [], [], [], [], []), False),
+        ("call: way, 13", lambda: way_call(5, 2, 13, [], [9], [9], [9], [9]), True),
+        ("call: way, 13 before 14", lambda: way_call(5, 32, 13, [], [9], [9], [9], [9]), True),
+        ("not call: way, 14 before 13", lambda: way_call(5, 32, 14, [], [9], [9], [9], [9]), False),
+        ("call: way, 14", lambda: way_call(ORDER, 32, 14, [], [9], [9], [9], [9]), True),
+        ("call: way, 12", lambda: D.WayCall(empty, 5, 32, 12, [], [9], [9], [9], [9]), True),
+        ("not call: way, 12 with a place changed", lambda: D.WayCall(empty, 5, 32, 12, [], [9], [0], [9], [9]), False),
+        ("call: lists, B3 and B4", lambda: D.BasesCall(bench, ORDER, 0, [2, 2], LENT, [2, 5, 3, 6, 94]), True),
+        ("not call: lists, with a gap", lambda: D.BasesCall(bench, ORDER, 0, [2, 2], LENT + [95], [2, 5, 92, 3, 6, 95]), False),
+        ("not call: lists, a place behind changed", lambda: D.BasesCall(bench, ORDER, 0, [2, 2], LENT, [2, 5, 3, 6, 0]), False),
+        ("not call: lists, empty", lambda: D.BasesCall(bench, ORDER, 0, [0, 0], LENT, LENT), False),
+        ("not call: lists, the other way round", lambda: D.BasesCall(bench, ORDER, 0, [2, 2], LENT, [3, 6, 2, 5, 94]), False),
+        ("call: lists, equal room", lambda: D.BasesCall(bench, ORDER, 0, [2, 2], LENT[:4], [2, 5, 3, 6]), True),
+        ("not call: lists, 15 with equal room", lambda: D.BasesCall(bench, ORDER, 15, [], LENT[:4], LENT[:4]), False),
+        ("call: lists, 15", lambda: D.BasesCall(bench, ORDER, 15, [], LENT[:3], LENT[:3]), True),
+        ("not call: lists, 15 with a place changed", lambda: D.BasesCall(bench, ORDER, 15, [], LENT[:3], [2, 5, 3]), False),
+        ("call: lists, 13", lambda: D.BasesCall(bench, 5, 13, [], [], []), True),
+        ("not call: lists, 15 before 13", lambda: D.BasesCall(bench, 5, 15, [], [], []), False),
+        ("call: lists, 12", lambda: D.BasesCall(empty, 5, 12, [], [9], [9]), True),
+        ("not call: lists, 13 before 12", lambda: D.BasesCall(empty, 5, 13, [], [9], [9]), False),
+        ("call: score, B5", lambda: D.ScoreCall(False, bench, ORDER, 0, [1]), True),
+        ("call: risk, B5", lambda: D.ScoreCall(True, bench, ORDER, 0, [3]), True),
+        ("not call: score, never", lambda: D.ScoreCall(False, bench, ORDER, 0, [never]), False),
+        ("call: score, 13", lambda: D.ScoreCall(False, bench, 5, 13, []), True),
+        ("not call: score, 13 inside", lambda: D.ScoreCall(False, bench, ORDER, 13, []), False),
+        ("call: score, 12", lambda: D.ScoreCall(False, empty, 0, 12, []), True),
+        ("not call: score, 13 before 12", lambda: D.ScoreCall(False, empty, 0, 13, []), False),
+        ("call: marks, B7", lambda: D.MarksCall(False, bench, ORDER, [2, 2, 6, 4], 0, [1, 1, 1, 1, 1]), True),
+        ("call: marks, full", lambda: D.MarksCall(False, bench, ORDER, [5, 2], 0, [2, 0, 0, 0, 0]), True),
+        ("not call: marks, full early", lambda: D.MarksCall(False, bench, ORDER, [2], 0, [1, 0, 0, 0, 0]), False),
+        ("call: marks, 13", lambda: D.MarksCall(False, bench, 5, [2], 13, []), True),
+        ("not call: marks, 13 inside", lambda: D.MarksCall(False, bench, ORDER, [2], 13, []), False),
+        ("call: marks, 12", lambda: D.MarksCall(False, empty, 0, [2], 12, []), True),
+        ("not call: marks, 13 before 12", lambda: D.MarksCall(False, empty, 0, [2], 13, []), False),
+    ]
+    demand = [bench, ORDER, LENT, [2, 5, 3, 6, 94], 0, [2, 2], 0, [1], 0, [3], [2], 0, [1, 0, 0, 0, 1], [3, 6], 0, [2, 0, 0, 0, 0]]
+    bench_.append(("demand 3 of order", lambda: D.Demand3(*demand), True))
+    for name, at, wrong in [("score", 7, [4]), ("risk", 9, [1]), ("list", 3, LENT), ("openings' marks", 12, [1, 0, 0, 0, 0]), ("lockouts' marks", 15, [0, 0, 2, 0, 2])]:
+        bench_.append((f"not demand 3: another {name}", lambda at=at, wrong=wrong: D.Demand3(*demand[:at], wrong, *demand[at + 1:]), False))
+    bench_ += [
+        ("backdoor: order", lambda: D.BackdoorCall(bench, ORDER, 0, [1]), True),
+        ("not backdoor: order has none", lambda: D.BackdoorCall(bench, ORDER, 0, [0]), False),
+        ("no backdoor: mail", lambda: D.BackdoorCall(bench, MAIL, 0, [0]), True),
+        ("not backdoor: mail has one", lambda: D.BackdoorCall(bench, MAIL, 0, [1]), False),
+        ("idle: mail", lambda: D.IneffectiveCall(bench, MAIL, 0, [1]), True),
+        ("not idle: mail is not", lambda: D.IneffectiveCall(bench, MAIL, 0, [0]), False),
+        ("not idle: order is", lambda: D.IneffectiveCall(bench, ORDER, 0, [1]), False),
+        ("out of rank: order, mail", lambda: D.InconsistentCall(bench, ORDER, MAIL, 0, [1]), True),
+        ("not out of rank: mail, order", lambda: D.InconsistentCall(bench, MAIL, ORDER, 0, [1]), False),
+        ("not out of rank: order, order", lambda: D.InconsistentCall(bench, ORDER, ORDER, 0, [1]), False),
+        ("finding: 13 of the second", lambda: D.InconsistentCall(bench, MAIL, 5, 13, []), True),
+        ("not finding: 13 where both are there", lambda: D.InconsistentCall(bench, MAIL, ORDER, 13, []), False),
+        ("not finding: answered, though the second is not there", lambda: D.InconsistentCall(bench, MAIL, 5, 0, [0]), False),
+        ("finding: 12", lambda: D.BackdoorCall(empty, MAIL, 12, []), True),
+        ("not finding: 13 before 12", lambda: D.BackdoorCall(empty, MAIL, 13, []), False),
+        ("compared: order, 1 and 4", lambda: D.Compared(False, bench, ORDER, 1, 4), True),
+        ("not compared: order, 1 and 1", lambda: D.Compared(False, bench, ORDER, 1, 1), False),
+        ("not compared: order, 4 and 4", lambda: D.Compared(False, bench, ORDER, 4, 4), False),
+        ("not backdoor: by mail's scores", lambda: D.Backdoor(bench, MAIL, 1, 1), False),
+        ("not a backdoor: by other scores", lambda: D.Backdoor(bench, MAIL, 0, 1), False),
+        ("ineffective: mail's risks", lambda: D.IneffectiveRecovery(bench, MAIL, 1, 1), True),
+        ("not ineffective: order's risks", lambda: D.IneffectiveRecovery(bench, ORDER, 3, 2), False),
+        ("inconsistent: order and mail", lambda: D.Inconsistent(bench, ORDER, MAIL, 1, 1), True),
+        ("not inconsistent: mail and order", lambda: D.Inconsistent(bench, MAIL, ORDER, 1, 1), False),
+        ("not inconsistent: by another score", lambda: D.Inconsistent(bench, ORDER, MAIL, 0, 1), False),
+        ("portal: score 1", lambda: D.PortalCall(False, text(BENCH), ORDER, 1), True),
+        ("portal: risk 3", lambda: D.PortalCall(True, text(BENCH), ORDER, 3), True),
+        ("not portal: risk 1", lambda: D.PortalCall(True, text(BENCH), ORDER, 1), False),
+        ("portal: 13", lambda: D.PortalCall(False, text(BENCH), 5, 2**62 + 13), True),
+        ("not portal: 13 alone", lambda: D.PortalCall(False, text(BENCH), 5, 13), False),
+        ("portal: refused 5", lambda: D.PortalCall(False, REFUSED["refused 5"][0], 0, 2**62 + 5), True),
+        ("not portal: 13 before 5", lambda: D.PortalCall(False, REFUSED["refused 5"][0], 0, 2**62 + 13), False),
+        ("decoded: a score", lambda: D.Decoded(text(BENCH), ORDER, 1), True),
+        ("decoded: never is an answer", lambda: D.Decoded(text([H1, "only a - - 0", "", H2]), 0, 2**62), True),
+        ("not decoded: a score of a refused sheet", lambda: D.Decoded(REFUSED["refused 5"][0], 0, 1), False),
+        ("not decoded: never of an item that isn't there", lambda: D.Decoded(text(BENCH), 5, 2**62), False),
+        ("not decoded: a refusal of an item that is there", lambda: D.Decoded(text(BENCH), ORDER, 2**62 + 1), False),
+        ("decoded: 13", lambda: D.Decoded(text(BENCH), 5, 2**62 + 13), True),
+        ("same", lambda: D.Same(0, 0, [1], [1]), True),
+        ("not same: numbers", lambda: D.Same(0, 1, [1], [1]), False),
+        ("not same: values", lambda: D.Same(0, 0, [1], [2]), False),
+        ("same way: not with other items", lambda: D.SameWay(0, 0, [], [], [1], [2], [], []), False),
+        ("same way: not with other colours", lambda: D.SameWay(0, 0, [], [], [1], [1], [1], [2]), False),
+        ("same way", lambda: D.SameWay(0, 0, [], [], [1], [1], [1], [1]), True),
+        ("same bases: not with another list", lambda: D.SameBases(0, 0, [], [], [1], [2]), False),
+        ("same bases", lambda: D.SameBases(0, 0, [], [], [1], [1]), True),
+        ("front: to the front", lambda: D.Front([7, 8], [1, 2, 3], [7, 8, 3]), True),
+        ("front: equal room", lambda: D.Front([7, 8], [1, 2], [7, 8]), True),
+        ("not front: equal room unused", lambda: D.Front([7, 8], [1, 2], [1, 2]), False),
+        ("front: no room", lambda: D.Front([7, 8], [1], [1]), True),
+        ("not front: no room, and changed", lambda: D.Front([7, 8], [1], [7]), False),
+        ("told: score 1", lambda: D.Told(lambda n, v: D.ScoreCall(False, bench, ORDER, n, v), [9, 9], [1, 9], 0, [[], [1], [3]]), True),
+        ("not told: another score", lambda: D.Told(lambda n, v: D.ScoreCall(False, bench, ORDER, n, v), [9, 9], [3, 9], 0, [[], [1], [3]]), False),
+        ("not told: the score behind", lambda: D.Told(lambda n, v: D.ScoreCall(False, bench, ORDER, n, v), [9, 9], [9, 1], 0, [[], [1], [3]]), False),
+        ("question 12: bench", lambda: D.Question12Call(bench, 0), True),
+        ("not question 12: bench is 12", lambda: D.Question12Call(bench, 12), False),
+        ("question 12: no item", lambda: D.Question12Call(empty, 12), True),
+        ("not question 12: no item is 0", lambda: D.Question12Call(empty, 0), False),
+        ("told way: B6", lambda: D.WayTo(bench, ORDER, 2, [9, 9], [3, 4], [8, 8], [0, 1], 0, [2]), True),
+        ("told lists: B3 and B4", lambda: D.BasesOf(bench, ORDER, LENT, [2, 5, 3, 6, 94], 0, [2, 2]), True),
+        ("told reading: bench", lambda: D.ReadingCall(text(BENCH), 0, [0] + wordsOf(bench)), True),
+        ("not told reading: no line", lambda: D.ReadingCall(text(BENCH), 0, wordsOf(bench)), False),
+        ("told reading: refused 5 in line 2", lambda: D.ReadingCall(REFUSED["refused 5"][0], 5, [2] + wordsOf(empty)), True),
+        ("not told reading: number for line", lambda: D.ReadingCall(REFUSED["refused 5"][0], 2, [5] + wordsOf(empty)), False),
+        ("told name: mail at 69", lambda: D.NameCall(text(BENCH), MAIL, 0, [69] + list(b"mail")), True),
+        ("not told name: order", lambda: D.NameCall(text(BENCH), MAIL, 0, [84] + list(b"order")), False),
+        ("told name: none", lambda: D.NameCall(text(BENCH), 5, 0, [0]), True),
+        ("not told name: with a number", lambda: D.NameCall(text(BENCH), 5, 13, [0]), False),
+    ]
+    answers = [(n, v) for n in (0, 12, 13, 14) for v in ([], [0], [1], [2], [3], [4], [26])]
+    way_answers = [(0, [2], [3, 4], [0, 1]), (0, [2], [3, 4], [9, 9]), (0, [], [9, 9], [9, 9]), (15, [], [9, 9], [9, 9]), (13, [], [9, 9], [9, 9])]
+    base_answers = [(0, [2, 2], [2, 5, 3, 6]), (0, [2, 2], [5, 2, 3, 6]), (0, [0, 0], LENT[:4]), (15, [], LENT[:4]), (13, [], LENT[:4])]
+    mark_answers = [(0, [1, 1, 1, 1, 1]), (0, [2, 0, 1, 1, 0]), (0, [0, 0, 0, 0, 2]), (13, []), (12, []), (0, [])]
+    bench_ += [
+        ("determined: closure of mailpw", lambda: D.SetDetermined(False, bench, 2, answers), True),
+        ("determined: way from mailpw", lambda: D.WayDetermined(bench, ORDER, 2, [9, 9], [9, 9], way_answers), True),
+        ("determined: lists of order", lambda: D.BasesDetermined(bench, ORDER, LENT[:4], base_answers), True),
+        ("determined: score of order", lambda: D.ScoreDetermined(False, bench, ORDER, answers), True),
+        ("determined: marks of B7", lambda: D.MarksDetermined(False, bench, ORDER, [2, 2, 6, 4], mark_answers), True),
+    ]
+
+    ring_ = [
+        ("B8", lambda: D.Base(False, ring, ring.graph, 5, [5, 6, 9, 10]), True),
+        ("not B8: one set", lambda: D.Base(False, ring, ring.graph, 5, [5]), False),
+        ("B8: closure from device, pwd_manager", lambda: D.AccessFrom(ring.graph, 6, 63), True),
+    ]
+    one = [
+        ("B9", lambda: D.Score(False, alone, alone.graph, 0, 5), True),
+        ("B10", lambda: D.Score(False, closed, closed.graph, 0, 2**62), True),
+        ("not B10: 2^62 + 1", lambda: D.Score(False, closed, closed.graph, 0, 2**62 + 1), False),
+        ("not B10: 0", lambda: D.Score(False, closed, closed.graph, 0, 0), False),
+        ("B11, no opening set", lambda: D.Base(False, loop, loop.graph, 0, []), True),
+        ("B11, lockout set", lambda: D.Base(True, loop, loop.graph, 0, [1]), True),
+        ("B12", lambda: D.Base(True, pair, pair.graph, 0, [1, 2]), True),
+        ("not B12: {p}", lambda: D.Base(True, pair, pair.graph, 0, [1]), False),
+        ("portal: never", lambda: D.PortalCall(False, text([H1, "only a - - 0", "", H2]), 0, 2**62), True),
+        ("never against never: no backdoor", lambda: D.BackdoorCall(closed, 0, 0, [0]), True),
+        ("never against never: idle", lambda: D.IneffectiveCall(closed, 0, 0, [1]), True),
+    ]
+    spare_ = [
+        ("meaning: the executable definitions", lambda: D.Meaning(spare, spare.graph, [[1, 2, 1], [3, 4], []]), True),
+        ("report meaning", lambda: D.ReportMeaning(spare), True),
+    ]
+    docs = [DOC, Doc([item("a")], []), Doc([item("a"), item("a")], []), Doc([], []), Doc([item("A")], []), Doc([item("a", 1000001)], [])]
+    docs += [Doc([item("a", loss=1000001)], []), Doc([item("a", rank=10)], []), Doc([item("a")], [edge("b", "a")]), Doc([item("a")], [edge("a", "b")])]
+    docs += [Doc([item("a")], [edge("a", "a", 8)]), Doc([item("a")], [edge("a", "a"), edge("a", "a", 0, True)]), Doc([item("a")], [edge("a", "a"), edge("a", "a", 1)])]
+    docs += [Doc([item(f"i{n}", 0 if n < s else None, 0 if n < l else None) for n in range(m)], []) for m, s, l in [(64, 14, 14), (65, 0, 0), (64, 15, 0), (64, 0, 15)]]
+    full = [edge(f"i{f}", f"i{v}", c) for v in range(5) for c in range(8) for f in range(8)]
+    eight = [item(f"i{n}") for n in range(8)]
+    docs += [Doc(eight, full[:256]), Doc(eight, full[:257]), Doc([item("a" * 16, 1000000, 1000000, 9)] + eight, full[:1])]
+    valid = [True, True] + [False] * 10 + [True, True, False, False, False, True, False, True]
+    assert len(valid) == len(docs)
+    names = "two rows|one row|a name twice|no row|a name in capitals|start 1,000,001|loss 1,000,001|rank 10|an edge from nowhere|an edge to nowhere".split("|")
+    names += "colour 8|an edge twice|two colours|64 items, 14 and 14|65 items|15 starts|15 losses|256 edges|257 edges|the longest name, highest values".split("|")
+    rows = [(("valid: " if ok else "not valid: ") + n, lambda d=d: D.Valid(d), ok) for n, d, ok in zip(names, docs, valid)]
+    long_names = Doc([item(f"{n:016d}") for n in range(64)], [edge(f"{f:016d}", f"{v:016d}", c) for v in range(4) for c in range(8) for f in range(8)])
+    rows += [
+        ("each: all small", lambda: D.Each(lambda x: x < 3, [1, 2]), True),
+        ("not each: the second", lambda: D.Each(lambda x: x < 3, [1, 3]), False),
+        ("apart: rising", lambda: D.Apart(lambda x, y: x > y, [1, 2, 3]), True),
+        ("not apart: the second and the third", lambda: D.Apart(lambda x, y: x > y, [1, 3, 2]), False),
+        ("known: the second name", lambda: D.Known(DOC.items, list(b"box")), True),
+        ("not known: another name", lambda: D.Known(DOC.items, list(b"b")), False),
+        ("same name", lambda: D.SameName(item("a", 1), item("a", 2)), True),
+        ("not same name", lambda: D.SameName(item("a", 1), item("b", 1)), False),
+        ("same edge, recovery or not", lambda: D.SameEdge(edge("a", "b", 1), edge("a", "b", 1, True)), True),
+        ("not same edge: the other way", lambda: D.SameEdge(edge("a", "b", 1), edge("b", "a", 1)), False),
+        ("not same edge: another colour", lambda: D.SameEdge(edge("a", "b", 1), edge("a", "b", 2)), False),
+        ("not same edge: another end", lambda: D.SameEdge(edge("a", "b", 1), edge("a", "c", 1)), False),
+        ("valid item", lambda: D.ValidItem(item("a", 0, 1000000, 9)), True),
+        ("not valid item: no name", lambda: D.ValidItem(item("")), False),
+        ("not valid item: rank 10", lambda: D.ValidItem(item("a", rank=10)), False),
+        ("valid edge: colour 7", lambda: D.ValidEdge(DOC.items, edge("pw", "box", 7)), True),
+        ("not valid edge: colour 8", lambda: D.ValidEdge(DOC.items, edge("pw", "box", 8)), False),
+        ("valid: 64 names of 16 bytes, 256 edges", lambda: D.Valid(long_names), True),
+        ("accepted of valid", lambda: D.AcceptedOfValid(docs), True),
+        ("valid of accepted", lambda: D.ValidOfAccepted(TEXTS + [render(d) for d in docs], docs + [BENCH_DOC]), True),
+        ("only yeses", lambda: D.OnlyYeses([D.Asked(4, True), D.Asked(5, True)]), True),
+        ("not only yeses: the second", lambda: D.OnlyYeses([D.Asked(4, True), D.Asked(5, False)]), False),
+        ("first no: 5", lambda: D.FirstNo([D.Asked(4, True), D.Asked(5, False), D.Asked(6, False)], 5), True),
+        ("not first no: 6 behind 5", lambda: D.FirstNo([D.Asked(4, True), D.Asked(5, False), D.Asked(6, False)], 6), False),
+        ("not first no: 4, a yes", lambda: D.FirstNo([D.Asked(4, True), D.Asked(5, False)], 4), False),
+        ("refusal law", lambda: D.RefusalLaw(TEXTS, NUMBERS, LINES), True),
+        ("refusal unique", lambda: D.RefusalUnique(TEXTS[:6] + TEXTS[10:11], NUMBERS, LINES), True),
+        ("accepted: bench", lambda: D.Accepted(text(BENCH)), True),
+        ("not accepted: refused 5", lambda: D.Accepted(REFUSED["refused 5"][0]), False),
+        ("refused: with 5 in line 2", lambda: D.Refused(REFUSED["refused 5"][0], NUMBERS, LINES), True),
+        ("refused: with 11 in line 4", lambda: D.Refused(REFUSED["refused 11"][0], NUMBERS, LINES), True),
+        ("refused: with 1 in line 0", lambda: D.Refused(REFUSED["refused 1"][0], NUMBERS, LINES), True),
+        ("not refused: bench", lambda: D.Refused(text(BENCH), NUMBERS, LINES), False),
+        ("empty setup", lambda: D.EmptySetup(), True),
+        ("accepted or refused", lambda: D.AcceptedOrRefused(TEXTS, NUMBERS, LINES), True),
+        ("question 12: setups and sheets", lambda: D.Question12([bench, setupOf(DOC), empty, with_vertex(bench, 0, Vertex(Credential, 1, 2, 10))], TEXTS), True),
+        ("names of rows", lambda: D.NamesOfRows(docs), True),
+    ]
+    for n, (t, q, k) in REFUSED.items():
+        rows.append((n, lambda t=t, q=q, k=k: D.Refusal(t, q, k), True))
+        rows.append((f"not {n}: another line", lambda t=t, q=q, k=k: D.Refusal(t, q, k + 1), False))
+        rows.append((f"not {n}: another number", lambda t=t, q=q, k=k: D.Refusal(t, q + 1, k), False))
+    rest = {"Start": [1, 2, 3], "Middle": [3], "End": []}
+    whole = [
+        ("whole: begun at the start", lambda: D.Begun(rest.get, [1, 2, 3], lambda c: True, "Start"), True),
+        ("not whole: begun in the middle", lambda: D.Begun(rest.get, [1, 2, 3], lambda c: True, "Middle"), False),
+        ("not whole: with nothing known", lambda: D.Begun(rest.get, [1, 2, 3], lambda c: False, "Start"), False),
+        ("whole: two parts to the end", lambda: D.WholeRun(rest.get, list(rest), "Start", [[1, 2], [3]]), True),
+        ("not whole: one part, and not the end", lambda: D.WholeRun(rest.get, list(rest), "Start", [[1, 2]]), False),
+        ("not whole: another part", lambda: D.WholeRun(rest.get, list(rest), "Start", [[1], [3]]), False),
+        ("whole: texts in one", lambda: D.inOne([[1, 2], [3]]) == [1, 2, 3], True),
+        ("whole report", lambda: D.WholeReport(rest.get, [1, 2, 3], lambda c: True, list(rest), [[[1, 2], [3]], [[1, 2, 3]], [[1, 2]], [[3]], []]), True),
+    ]
+    return {"far": far + whole, "one": one, "bench": bench_, "rows": rows, "spare": spare_, "ring": ring_}
+
+
+def doc_of(lines):
+    rows = [line.split() for line in lines]
+    at = rows.index([])
+    value = lambda f: None if f == "-" else int(f)
+    items = [item(n, value(s), value(l), int(r), Account if k == "a" else Credential) for n, k, s, l, r in rows[1:at]]
+    return Doc(items, [edge(f, t, int(c), rec == "1") for f, t, c, rec in rows[at + 2:]])
+
+
+BENCH_DOC = doc_of(BENCH)
+
+
+def of_document(name):
+    """Is it one of B1 to B12, or a wrong answer to one?"""
+    return name.startswith(("B", "not B"))
+
+
+def outcomes(D, wanted=lambda name: True, first=None):
+    """Examples whose answer is not the expected one; an error counts as such. Of those that are wanted; the world `first` comes first."""
+    found = worlds(D)
+    for world, asked in sorted(examples(D).items(), key=lambda x: x[0] != first):
+        D.enter(found[world])
+        for name, question, expected in asked:
+            if not wanted(name):
+                continue
+            try:
+                answer = bool(question())
+            except Exception as e:
+                answer = f"{type(e).__name__}: {e}"
+            if answer != expected:
+                yield name, answer
+
+
+if __name__ == "__main__":
+    import time
+
+    import definitions
+
+    t = time.time()
+    wrong = list(outcomes(definitions))
+    print(wrong, sum(len(v) for v in examples(definitions).values()), "examples", round(time.time() - t, 1), "s")

@@ -1,0 +1,394 @@
+"""The executable definitions on which declarative ones rest, in Python: sheets, reference, the report's findings. Here they are used and not
+altered; computed.txt alters the definitions themselves. Texts are lists of bytes, a blank value is None."""
+from collections import namedtuple
+
+Vertex = namedtuple("Vertex", "kind start loss rank")
+Rows = namedtuple("Rows", "needs")
+Graph = namedtuple("Graph", "rows")
+Setup = namedtuple("Setup", "count vertices graph recovery")
+ItemRow = namedtuple("ItemRow", "name kind start loss rank")
+EdgeRow = namedtuple("EdgeRow", "source to colour rec")
+Doc = namedtuple("Doc", "items edges")
+Place = namedtuple("Place", "phase above")
+Asked = namedtuple("Asked", "number answer")
+Reading = namedtuple("Reading", "number line setup")
+Step = namedtuple("Step", "vertex colour")
+
+Credential, Account = "Credential", "Account"
+never = 2**62
+
+
+def getD(l, i, default):
+    return l[i] if i < len(l) else default
+
+
+# ---- setup/Setup
+
+unusedVertex = Vertex(Credential, None, None, 0)
+
+
+def vertexAt(s, v):
+    return getD(s.vertices, v, unusedVertex)
+
+
+def rowsAt(g, v):
+    return getD(g.rows, v, Rows(()))
+
+
+def rowOf(r, c):
+    return getD(r.needs, c, 0)
+
+
+def row(g, v, c):
+    return rowOf(rowsAt(g, v), c)
+
+
+def ones(n):
+    return bin(n).count("1")
+
+
+def edgeCount(g):
+    return sum(sum(ones(n) for n in r.needs) for r in g.rows)
+
+
+def given(x):
+    return 0 if x is None else 1
+
+
+def valueOf(loss, x):
+    return x.loss if loss else x.start
+
+
+def chosenCount(loss, s):
+    return sum(given(valueOf(loss, x)) for x in s.vertices)
+
+
+# ---- bases/Score
+
+
+def points(x):
+    return 0 if x is None else x
+
+
+def pointsAt(loss, s, v):
+    return points(valueOf(loss, vertexAt(s, v)))
+
+
+def sumOf(loss, s, x):
+    return sum(x // 2**v % 2 * pointsAt(loss, s, v) for v in range(64))
+
+
+# ---- sheet_format
+
+
+def text(lines):
+    return [b for line in lines for b in line.encode() + b"\n"]
+
+
+def linesOf(s):
+    lines, last = [], None
+    for b in s:
+        if b == 10:
+            lines.append(last or [])
+            last = None
+        else:
+            last = (last or []) + [b]
+    return lines if last is None else lines + [last]
+
+
+def fieldsOf(line):
+    fields = [[]]
+    for b in line:
+        if b == 32:
+            fields.append([])
+        else:
+            fields[-1].append(b)
+    return fields
+
+
+def isName(f):
+    return 1 <= len(f) <= 16 and all(97 <= b <= 122 or 48 <= b <= 57 or b == 95 for b in f)
+
+
+def isNumberTo(most, f):
+    return len(f) > 0 and all(48 <= b <= 57 for b in f) and (len(f) == 1 or f[0] != 48) and numberOf(f) <= most
+
+
+def numberOf(f):
+    n = 0
+    for b in f:
+        n = n * 10 + (b - 48)
+    return n
+
+
+def decimal(n):
+    return list(str(n).encode())
+
+
+def isValue(f):
+    return f == [45] or isNumberTo(1000000, f)
+
+
+def fieldValue(f):
+    return None if f == [45] else numberOf(f)
+
+
+def valueText(x):
+    return [45] if x is None else decimal(x)
+
+
+def kindText(k):
+    return [97] if k == Account else [99]
+
+
+def startCount(xs):
+    return sum(given(x.start) for x in xs)
+
+
+def lossCount(xs):
+    return sum(given(x.loss) for x in xs)
+
+
+def lineText(fields):
+    return list(b" ".join(bytes(f) for f in fields)) + [10]
+
+
+firstHeader = list(b"name kind start loss rank")
+secondHeader = list(b"from to colour rec")
+
+
+def render(d):
+    items = [b for x in d.items for b in lineText([x.name, kindText(x.kind), valueText(x.start), valueText(x.loss), decimal(x.rank)])]
+    edges = [b for e in d.edges for b in lineText([e.source, e.to, decimal(e.colour), decimal(1 if e.rec else 0)])]
+    return firstHeader + [10] + items + [10] + secondHeader + [10] + edges
+
+
+def numberIn(xs, n):
+    for i, x in enumerate(xs):
+        if x.name == n:
+            return i
+    return len(xs)
+
+
+def verticesOf(xs):
+    return tuple(Vertex(x.kind, x.start, x.loss, x.rank) for x in xs) + (unusedVertex,) * (64 - len(xs))
+
+
+emptyGraph = Graph((Rows((0,) * 8),) * 64)
+
+
+def withEdge(g, f, v, c):
+    needs = list(rowsAt(g, v).needs)
+    needs[c] |= 2**f
+    rows = list(g.rows)
+    rows[v] = Rows(tuple(needs))
+    return Graph(tuple(rows))
+
+
+def withEdges(xs, g, es):
+    for e in es:
+        g = withEdge(g, numberIn(xs, e.source), numberIn(xs, e.to), e.colour)
+    return g
+
+
+def setupOf(d):
+    return Setup(len(d.items), verticesOf(d.items), withEdges(d.items, emptyGraph, d.edges), withEdges(d.items, emptyGraph, [e for e in d.edges if e.rec]))
+
+
+def question1(s):
+    return len(s) <= 16384
+
+
+def question2(s):
+    return all(b == 10 or 32 <= b <= 126 for b in s) and len(s) > 0 and s[-1] == 10
+
+
+noRows = Doc([], [])
+
+
+def field(fs, i):
+    return getD(fs, i, [])
+
+
+def question4(n, fs):
+    return len(fs) == n and all(len(f) > 0 for f in fs)
+
+
+def itemOf(fs):
+    kind = Account if field(fs, 1) == [97] else Credential
+    return ItemRow(field(fs, 0), kind, fieldValue(field(fs, 2)), fieldValue(field(fs, 3)), numberOf(field(fs, 4)))
+
+
+def edgeOf(fs):
+    return EdgeRow(field(fs, 0), field(fs, 1), numberOf(field(fs, 2)), numberOf(field(fs, 3)) == 1)
+
+
+def isKnown(xs, n):
+    return any(x.name == n for x in xs)
+
+
+def itemQuestions(d, fs):
+    x = itemOf(fs)
+    form = isName(field(fs, 0)) and field(fs, 1) in ([97], [99]) and isValue(field(fs, 2)) and isValue(field(fs, 3)) and isNumberTo(9, field(fs, 4))
+    bounds = len(d.items) + 1 <= 64 and startCount(d.items) + given(x.start) <= 14 and lossCount(d.items) + given(x.loss) <= 14
+    return [Asked(4, question4(5, fs)), Asked(5, form), Asked(6, not isKnown(d.items, x.name)), Asked(7, bounds)]
+
+
+def edgeQuestions(d, fs):
+    e = edgeOf(fs)
+    form = isName(field(fs, 0)) and isName(field(fs, 1)) and isNumberTo(7, field(fs, 2)) and isNumberTo(1, field(fs, 3))
+    known = isKnown(d.items, e.source) and isKnown(d.items, e.to)
+    repeated = any((x.source, x.to, x.colour) == (e.source, e.to, e.colour) for x in d.edges)
+    return [Asked(4, question4(4, fs)), Asked(5, form), Asked(8, known), Asked(9, not repeated), Asked(7, len(d.edges) + 1 <= 256)]
+
+
+def questionsOf(phase, d, line):
+    if phase == "AtFirstHeader":
+        return [Asked(3, line == firstHeader)]
+    if phase == "AmongItems":
+        return [Asked(10, len(d.items) >= 1)] if not line else itemQuestions(d, fieldsOf(line))
+    if phase == "AtSecondHeader":
+        return [Asked(3, line == secondHeader)]
+    return edgeQuestions(d, fieldsOf(line))
+
+
+def behind(phase, d, line):
+    if phase == "AtFirstHeader":
+        return Place("AmongItems", d)
+    if phase == "AmongItems":
+        return Place("AtSecondHeader", d) if not line else Place("AmongItems", Doc(d.items + [itemOf(fieldsOf(line))], d.edges))
+    if phase == "AtSecondHeader":
+        return Place("AmongEdges", d)
+    return Place("AmongEdges", Doc(d.items, d.edges + [edgeOf(fieldsOf(line))]))
+
+
+def question11(phase):
+    return phase == "AmongEdges"
+
+
+def accepted(s):
+    return Reading(0, 0, s)
+
+
+def refused(n, k):
+    return Reading(n, k, setupOf(noRows))
+
+
+def readSheet(s):
+    if not question1(s):
+        return refused(1, 0)
+    if not question2(s):
+        return refused(2, 0)
+    place, k = Place("AtFirstHeader", noRows), 1
+    for line in linesOf(s):
+        for a in questionsOf(place.phase, place.above, line):
+            if not a.answer:
+                return refused(a.number, k)
+        place, k = behind(place.phase, place.above, line), k + 1
+    return accepted(setupOf(place.above)) if question11(place.phase) else refused(11, k)
+
+
+def nameOf(s, i):
+    r = readSheet(s)
+    return fieldsOf(linesOf(s)[i + 1])[0] if r.number == 0 and i < r.setup.count else []
+
+
+def nameStart(s, i):
+    r = readSheet(s)
+    return sum(len(line) + 1 for line in linesOf(s)[: i + 1]) if r.number == 0 and i < r.setup.count else 0
+
+
+# ---- reference: closures, bases, scores and marks, computed
+
+
+def closureOf(loss, count, g, held):
+    while True:
+        before = held
+        for v in range(count):
+            rows = [row(g, v, c) for c in range(8) if row(g, v, c)]
+            added = rows and all(n & held for n in rows) if loss else any(n & held == n for n in rows)
+            held |= 2**v if added else 0
+        if held == before:
+            return held
+
+
+def derivesOf(loss, count, g, target, held):
+    return closureOf(loss, count, g, held) // 2**target % 2 == 1
+
+
+def wayOf(count, g, target, held):
+    steps = []
+    while held // 2**target % 2 == 0 and len(steps) < count:
+        can = [(v, c) for v in range(count) for c in range(8) if not held >> v & 1 and row(g, v, c) and row(g, v, c) & held == row(g, v, c)]
+        if not can:
+            break
+        steps.append(Step(*min(can)))
+        held |= 2 ** min(can)[0]
+    return steps
+
+
+def targetSetsOf(loss, s, g, target):
+    chosen = sum(2**v for v in range(s.count) if given(valueOf(loss, vertexAt(s, v))))
+    sets = [x for x in range(2**s.count) if x & ~chosen == 0]
+    return [x for x in sorted(sets, key=lambda x: (ones(x), x)) if derivesOf(loss, s.count, g, target, x)]
+
+
+def baseOf(loss, s, g, target):
+    return [
+        x
+        for x in targetSetsOf(loss, s, g, target)
+        if not any(x >> v & 1 and derivesOf(loss, s.count, g, target, x - 2**v) for v in range(s.count))
+    ]
+
+
+def scoreOf(loss, s, g, target):
+    return min([sumOf(loss, s, x) for x in baseOf(loss, s, g, target)] + [never])
+
+
+def marksOf(loss, s, g, target, handed):
+    sets, base, earlier, counts = targetSetsOf(loss, s, g, target), baseOf(loss, s, g, target), [], [0, 0, 0, 0]
+    for x in handed:
+        counts[1 if x in earlier else 2 if x not in sets else 0 if x in base else 3] += 1
+        earlier.append(x)
+    return counts + [len(base) - counts[0]]
+
+
+# ---- report_text: what the report's rows rest on
+
+
+def lessRecovery(s):
+    return Graph(tuple(Rows(tuple(row(s.graph, v, c) & ~row(s.recovery, v, c) for c in range(8))) for v in range(64)))
+
+
+def accountsOf(s):
+    return [v for v in range(s.count) if vertexAt(s, v).kind == Account]
+
+
+def itemsOf(x):
+    return [v for v in range(64) if x >> v & 1]
+
+
+def isBackdoor(s, v):
+    return scoreOf(False, s, s.graph, v) < scoreOf(False, s, lessRecovery(s), v)
+
+
+def isIdle(s, v):
+    return scoreOf(True, s, s.graph, v) <= scoreOf(True, s, lessRecovery(s), v)
+
+
+def isOutOfRank(s, v, w):
+    return vertexAt(s, w).rank < vertexAt(s, v).rank and scoreOf(False, s, s.graph, v) <= scoreOf(False, s, s.graph, w)
+
+
+# ---- probe_setup: a setup as plain numbers
+
+
+def wordsOf(s):
+    blank = 2**64 - 1
+    vertices = [
+        w
+        for x in s.vertices
+        for w in (1 if x.kind == Account else 0, blank if x.start is None else x.start, blank if x.loss is None else x.loss, x.rank)
+    ]
+    rows = [n for g in (s.graph, s.recovery) for r in g.rows for n in r.needs]
+    return [s.count] + vertices + rows

@@ -1,0 +1,89 @@
+"""The definitions alone, in one scratch crate: copies of the specs, the types of the sources, and examples that are computed by `refl`.
+
+No law stands between a definition and an example here, so an altered definition is refused by the prover exactly where an example no longer
+computes. The crate is written under build/definitions, which git ignores.
+"""
+import pathlib
+import re
+
+ROOT = pathlib.Path(__file__).resolve().parents[2]
+FOLDER = ROOT / "build" / "definitions"
+NO_EXAMPLES = "use mathlib.Core.Path.{_≡_, refl}\n\n-- none\n"
+
+# The files with executable definitions, and what they stand on, in order.
+FILES = """
+vertex_set/Set vertex_set/Order
+setup/Setup setup/WellFormed setup/Calls
+derivations/Derivation derivations/Access derivations/Lockout derivations/Both derivations/Way
+bases/Base bases/Score bases/Marks
+access/Answers answers/Answers
+sheet_format/Text sheet_format/Fields sheet_format/Rows sheet_format/Questions sheet_format/Read sheet_format/Names
+findings/Findings findings/Answers
+reference/Tests reference/Closures reference/Bases
+report_text/Rows report_text/Report
+report_facts/Texts report_steps/Rest
+probe_setup/Words
+worked_examples/Sheets worked_examples/Table
+""".split()
+
+# Crates whose types the definitions use, and types of theirs that no definition uses.
+TYPES = ["vertex_set", "setup", "scores", "access", "answers", "sheet_format", "findings", "report_steps"]
+UNUSED = {"AllAnswers", "Step"}
+
+
+def types_of(crate):
+    """The structs and enums of a crate's source, without functions and comments."""
+    text = (ROOT / "crates" / crate / "src" / "lib.rt").read_text()
+    found = re.finditer(r"^pub (?:struct|enum) (\w+)(?:\([^)]*\);| \{\n(?:.*\n)*?\})", text, re.M)
+    return [re.sub(r"\s*//.*", "", m[0]).replace("setup::", "") for m in found if m[1] not in UNUSED]
+
+
+def renamed(text):
+    """A file's text with every project module named as one of the scratch crate."""
+    text = re.sub(r"Rattle·\w+?(?:·specs|·proofs)?\.specs\.declared\.", "Rattle.defs.specs.declared.", text)
+    return re.sub(r"Rattle·(\w+?)(?:·specs|·proofs)?\.specs\.(?!declared)(\w+)", lambda m: f"Rattle.defs.specs.{m[1]}_{m[2]}", text)
+
+
+def names_of(kind, text):
+    """The names of the definitions of one kind (unfoldable, abbrev) of a file."""
+    return re.findall(rf"^{kind} pub (\S+)", text, re.M)
+
+
+def examples_file(text):
+    """The file of examples: statements, to each of which the proof by computation is added."""
+    unfolded = {f: names_of("unfoldable", (ROOT / "crates" / f.split("/")[0] / "specs" / (f.split("/")[1] + ".antt")).read_text()) for f in FILES}
+    uses = "".join(f"use Rattle.{f.split('/')[0]}.specs.{f.split('/')[1]}.{{{', '.join(n)}}}\n" for f, n in unfolded.items() if n)
+    every = " ".join(n for ns in unfolded.values() for n in ns)
+    head, *rest = re.split(r"^(?=pub )", text, flags=re.M)
+    first = head.rindex("\n", 0, head.index("\n\n")) + 1
+    out = [head[:first] + uses + "use lib.Count.{ones}\n" + head[first:].rstrip() + "\n"]
+    for part in rest:
+        name = part.split()[1]
+        # a comment that stands behind the statement belongs to the next one
+        lines = part.split("\n")
+        end = next(i for i in range(1, len(lines) + 1) if i == len(lines) or not lines[i].startswith(" "))
+        by = "refl"
+        if lines[end - 1].startswith("  -- by: "):
+            end, by = end - 1, lines[end - 1][9:]
+            del lines[end]
+        out.append("\n".join(lines[:end]) + f"\nunfolding {every} ones\n{name} = {by}\n" + "\n".join(lines[end:]).rstrip())
+    return "\n".join(out) + "\n"
+
+
+def write(folder, altered=None, examples=None, more=()):
+    """Writes the crate; `altered` maps a file (crate/Name) to its text in place of the project's; `more` are files behind the others."""
+    altered = altered or {}
+    crate_folder = FOLDER / folder / "defs"
+    specs = crate_folder / "specs"
+    proofs = crate_folder / "proofs"
+    for d in (specs, proofs, crate_folder / "src"):
+        d.mkdir(parents=True, exist_ok=True)
+    (crate_folder / "src" / "lib.rt").write_text("// The types that the definitions use.\n\n" + "\n\n".join(t for c in TYPES for t in types_of(c)) + "\n")
+    for f in [*FILES, *more]:
+        crate, name = f.split("/")
+        text = altered.get(f) or (ROOT / "crates" / crate / "specs" / f"{name}.antt").read_text()
+        (specs / f"{crate}_{name}.antt").write_text(renamed(text))
+    (specs / "Lib.antt").write_text("".join(f"pub mod {f.replace('/', '_')}\n" for f in [*FILES, *more]))
+    (proofs / "Examples.antt").write_text(renamed(examples_file(examples or (pathlib.Path(__file__).parent / "Examples.antt").read_text())))
+    (proofs / "Lib.antt").write_text("pub mod Examples\n")
+    return crate_folder

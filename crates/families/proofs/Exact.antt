@@ -3,22 +3,20 @@
 use mathlib.Core.Path.{_≡_, sym, ap, _∙_, subst}
 use mathlib.Core.Logic.{_⊎_, inl, inr, ⊎-elim}
 use mathlib.Core.List.{List}
-use Prim.Native.Nat.{ℕ, zero, suc, _+_, _-_, _/_, _%_, _^_, _≤_, _<_}
+use Prim.Native.Nat.{ℕ, zero, suc, _+_, _-_, _/_, _%_, _^_, _<_}
 use native.Mathlib.Nat.{mod-lt}
 use native.Mathlib.Omega.{arith}
 use lib.Count.{ones, ones-cat, ones-step}
-use lib.Pow.{pow-pos, pow-mono, split}
-use Rattle.vertex_set.specs.Set.{Member, Within, Iff}
+use lib.Pow.{pow-pos, split}
+use Rattle.vertex_set.specs.Set.{Member, Within}
 use Rattle.vertex_set.proofs.Cases.{less-or}
 use Rattle.vertex_set.proofs.Sets.{member-or, member-below, within-le, within-trans, within-refl}
 use Rattle.vertex_set.proofs.Places.{removed-within, member-le}
 use Rattle.vertex_set.proofs.Shifts.{in-low}
-use Rattle.vertex_set.proofs.Subsets.{proper-less}
 use Rattle.families.specs.Family.{In, Monotone, MinimalMembers}
-use Rattle.families.specs.Masks.{rank, Picked, SetOfMask}
-use Rattle.families.specs.Exact.{OnChosen, FamilyOf, MinimalSet}
+use Rattle.families.specs.Masks.{rank, Picked}
+use Rattle.families.specs.Exact.{OnChosen, FamilyOf}
 use Rattle.families.proofs.Families.{in-or}
-use Rattle.families.proofs.Masks.{spread, set-of, set-within, gather, gather-lt, mask-of, proper-subset, proper-submask}
 
 -- P keeps holding as the set grows.
 abbrev pub Rising : ((ℕ → Type 0) → Type 0) → Type 1
@@ -81,14 +79,6 @@ module _ (c : ℕ) (P : (ℕ → Type 0) → Type 0) (up : Rising P) (f : List �
         up = λ k m hk hm w i. e .each m hm .from (up (Picked c k) (Picked c m) (λ v p. (p .0, w .each (rank c v) (p .1))) (e .each k hk .to i));
       }
 
-  -- a mask is in exactly if P holds for its set
-  pub family-set : (m x : ℕ) → m < 16384 → SetOfMask c m x → Iff (In f m) (P (Member x))
-  family-set m x h s =
-      record {
-        to = λ i. up (Picked c m) (Member x) (λ v p. s .each v .from p) (e .each m h .to i);
-        from = λ p. e .each m h .from (up (Member x) (Picked c m) (λ v k. s .each v .to k) p);
-      }
-
   module _ (g : List ℕ) (q : MinimalMembers f g) where
     -- Minimal members have no bit beyond the chosen vertices.
     pub minimal-on-chosen : OnChosen c g
@@ -105,31 +95,3 @@ module _ (c : ℕ) (P : (ℕ → Type 0) → Type 0) (up : Rising P) (f : List �
               (e .each k (omega arith) .from (up (Picked c m) (Picked c k) (low-picked c m) (e .each m h .to (least .is))))))
               (less-or m (2 ^ ones c));
         }
-
-    -- The set of a minimal member is a minimal set,
-    pub minimal-set : (m x : ℕ) → c < 2 ^ 64 → ones c ≤ 14 → m < 16384 → SetOfMask c m x → In g m → MinimalSet c P x
-    minimal-set m x hc few h s i =
-        let least = q .minimal family-monotone m h .to i in
-        record {
-          within = set-within c m x s;
-          is = family-set m x h s .to (least .is);
-          none = λ y p r.
-              let w = within-trans (p .within) (set-within c m x s) in
-              let k : ℕ = gather 64 c y in
-              let l = gather-lt 64 c y hc in
-              let room = pow-mono {i = ones c} {j = 14} few in
-              let o = mask-of c y hc w in
-              least .none k (proper-submask c k m y x hc l o s p) (family-set k y (omega arith) o .from r);
-        }
-
-    -- and the mask of a minimal set is a minimal member.
-    pub minimal-mask : (m x : ℕ) → c < 2 ^ 64 → m < 2 ^ ones c → m < 16384 → SetOfMask c m x → MinimalSet c P x → In g m
-    minimal-mask m x hc l h s p =
-        q .minimal family-monotone m h .from (record {
-          is = family-set m x h s .from (p .is);
-          none = λ k w i.
-              let less = proper-less k m w in
-              let y : ℕ = spread 64 c k in
-              let o = set-of c k hc in
-              p .none y (proper-subset c k m y x hc (omega arith) l o s w) (family-set k y (omega arith) o .to i);
-        })

@@ -2,7 +2,7 @@
 use mathlib.Core.List.{List}
 use Prim.Native.Nat.{ℕ, _^_, _<_}
 use lib.Count.{ones}
-use Rattle.vertex_set.specs.Set.{Member, Within, ProperlyWithin, Iff}
+use Rattle.vertex_set.specs.Set.{Iff}
 use Rattle.families.specs.Family.{In}
 use Rattle.families.specs.Masks.{Picked}
 
@@ -13,9 +13,3 @@ pub record OnChosen (chosen : ℕ) (f : List ℕ) : Type 0 where
 -- f has a mask exactly if P holds of the set that it stands for, given as a predicate on vertices.
 pub record FamilyOf (chosen : ℕ) (P : (ℕ → Type 0) → Type 0) (f : List ℕ) : Type 0 where
   pub each : (m : ℕ) → m < 16384 → Iff (In f m) (P (Picked chosen m))
-
--- x is a set of chosen vertices for which P holds, and P holds for no proper subset of it.
-pub record MinimalSet (chosen : ℕ) (P : (ℕ → Type 0) → Type 0) (x : ℕ) : Type 0 where
-  pub within : Within x chosen
-  pub is : P (Member x)
-  pub none : (y : ℕ) → ProperlyWithin y x → P (Member y) → ⊥

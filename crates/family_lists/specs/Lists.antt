@@ -1,10 +1,10 @@
 -- The sets of a family's members: their list in order, and the least sum of values over them.
 use mathlib.Core.Path.{_≡_}
-use mathlib.Core.List.{List, [], _++_}
+use mathlib.Core.List.{List, _++_}
 use Prim.Native.Nat.{ℕ, _^_, _≤_, _<_}
 use lib.Count.{ones}
 use lib.ListN.{length, drop}
-use Rattle.vertex_set.specs.Set.{Member, Within}
+use Rattle.vertex_set.specs.Set.{Member}
 use Rattle.vertex_set.specs.Order.{Listed, Ordered, sumOver}
 use Rattle.families.specs.Family.{In, size}
 use Rattle.families.specs.Masks.{SetOfMask}
@@ -63,17 +63,3 @@ pub record LeastSum (chosen : ℕ) (f : List ℕ) (value : ℕ → ℕ) (r : ℕ
 -- r is the least sum of values over the sets of the members of f, whatever values the two tables give the sums of.
 pub record LeastBy (f low high : List ℕ) (r : ℕ) : Type 0 where
   pub each : (chosen : ℕ) (value : ℕ → ℕ) → SumTables chosen value low high → LeastSum chosen f value r
-
--- r is the least sum of values over all sets of chosen vertices for which P holds, and 2^62 where there is none.
-pub record LeastOver (chosen : ℕ) (P : (ℕ → Type 0) → Type 0) (value : ℕ → ℕ) (r : ℕ) : Type 0 where
-  pub never : ((x : ℕ) → Within x chosen → P (Member x) → ⊥) → r ≡ 2 ^ 62
-  pub below : (x : ℕ) → Within x chosen → P (Member x) → r < 2 ^ 62
-  pub reached : (x : ℕ) → Within x chosen → P (Member x) → (y : ℕ) × Within y chosen × P (Member y) × (r ≡ sumOver value y)
-  pub least : (x : ℕ) → Within x chosen → P (Member x) → r ≤ sumOver value x
-
--- r is the least sum of values over the sets of the list l, and 2^62 where the list is empty.
-pub record LeastListed (value : ℕ → ℕ) (l : List ℕ) (r : ℕ) : Type 0 where
-  pub never : l ≡ [] → r ≡ 2 ^ 62
-  pub below : (x : ℕ) → Listed l x → r < 2 ^ 62
-  pub reached : (x : ℕ) → Listed l x → (y : ℕ) × Listed l y × (r ≡ sumOver value y)
-  pub least : (x : ℕ) → Listed l x → r ≤ sumOver value x

@@ -1,6 +1,5 @@
 // The fields of the report's rows, written straight into the bytes that go out. Each function writes
 // from `at` on and gives the next place; every other byte stays as it was.
-ghost use mathlib.Core.Path.{_≡_};
 ghost use mathlib.Core.List.{[], _∷_, _++_};
 ghost use Prim.Native.Nat.{_+_, _≤_, _<_};
 ghost use lib.ListN.{length};

@@ -1,5 +1,4 @@
 // The report's first section, list by list.
-ghost use mathlib.Core.Path.{_≡_};
 ghost use Prim.Native.Nat.{_≤_};
 ghost use lib.ListN.{length};
 ghost use Rattle.report_text.specs.Report.{nameIn};

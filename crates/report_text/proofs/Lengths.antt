@@ -109,9 +109,6 @@ pub pair-row-short : (name : ℕ → List ℕ) (v w : ℕ) → length (name v) �
 unfolding pairRow bytesOf
 pair-row-short name v w p q = omega (arith, line-length (name v) (name w ∷ []))
 
-pub pair-row-length : (name : ℕ → List ℕ) (v w : ℕ) → length (name v) ≤ 16 → length (name w) ≤ 16 → length (pairRow name v w) ≤ longest
-pair-row-length name v w p q = omega (arith, pair-row-short name v w p q)
-
 pub refused-row-length : (number line : ℕ) → number < 2 ^ 64 → line < 2 ^ 64 → length (refusedRow number line) ≤ longest
 unfolding refusedRow bytesOf
 refused-row-length number line p q =

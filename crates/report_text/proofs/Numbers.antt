@@ -9,7 +9,6 @@ use lib.ListN.{length, getD}
 use Rattle.vertex_set.specs.Set.{Iff}
 use Rattle.vertex_set.specs.Order.{Listed}
 use Rattle.vertex_set.proofs.Cases.{same-or}
-use Rattle.reference.specs.Tests.{those}
 use Rattle.report_text.specs.Rows.{numbersFrom}
 
 pub length-numbers : {A : Type 0} (f : ℕ → A) (k n : ℕ) → length (map f (numbersFrom k n)) ≡ n

@@ -221,15 +221,13 @@ def own_errors(said, function):
 
 
 def first_error(said, trial):
-    """The place of the first error about the function, and whether it is only about the proof's shape."""
+    """The place of the first error about the function, and whether it is only about the proof's shape. A function without a proof
+    file has none: there the prover's `search` finds no proof."""
     function = trial.function
-    errors = list(ERROR.finditer(said))
-    own = own_errors(said, function)
-    in_code = [e for e in errors if e.group(3).startswith("src/") and function.first - 30 <= int(e.group(4)) <= function.last]
-    for error in own or in_code[-1:] or errors:
-        return f"{error.group(3)}:{error.group(4)}", bool(SHAPE.search(error.group(6)))
-    noted = re.search(rf"^note: \S*?crates/{function.crate}/(\S+?:\d+):\d+", said, re.M)
-    return (noted.group(1) if noted else "no place"), False
+    errors = list(ERROR.finditer(said)) if function.constant else own_errors(said, function)
+    if errors:
+        return f"{errors[0].group(3)}:{errors[0].group(4)}", bool(SHAPE.search(errors[0].group(6)))
+    return ("no place" if has_proof(function) else "search"), False
 
 
 def settle(said, trial, alone):
@@ -377,7 +375,8 @@ where it has as many, on different lines where it can, and each constant one. `s
 An edit that the front end rejects, as a type error, does not count, and another one takes its place.
 
 The crate with the edit is checked by `rt dev` over what was checked of it without the edit. An edit is refused where the edited function
-itself is not proved; "where" is the place of the first error about it. Several functions are edited in one run, each at one place:
+itself is not proved; "where" is the place of the first error about it, or `search` where the function has no proof file and the prover
+finds no proof by itself. Several functions are edited in one run, each at one place:
 a proof rests on the contracts of the functions that it calls, and on no other body. What seems to survive such a run is tried again alone.
 "Refused by shape" ({shape} edits): the first error is not about a fact, but that the proof names a step of the code that is no longer there;
 such an edit counts only where no better one is left.

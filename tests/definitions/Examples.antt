@@ -59,7 +59,8 @@ abbrev twoSetup : Setup
 twoSetup =
     record {
       count = 2;
-      vertices = places (record { kind = Credential; start = Of 10; loss = Blank; rank = 0 } ∷ record { kind = Account; start = Blank; loss = Blank; rank = 9 } ∷ []);
+      vertices = places
+          (record { kind = Credential; start = Of 10; loss = Blank; rank = 0 } ∷ record { kind = Account; start = Blank; loss = Blank; rank = 9 } ∷ []);
       graph = graph ([] ∷ (0 ∷ 0 ∷ 3 ∷ []) ∷ []);
       recovery = graph ([] ∷ (0 ∷ 0 ∷ 1 ∷ []) ∷ []);
     }
@@ -183,7 +184,8 @@ pub report-leading : reportOf (linesText ("name kind start loss rank" ∷ "a c 0
 
 pub unused-place : vertexAt (alone .setup) 63 ≡ record { kind = Credential; start = Blank; loss = Blank; rank = 0 }
 
-pub read-unused-place : getD (readSheet (linesText (alone .lines)) .setup .vertices) 63 (alone-vertex) ≡ record { kind = Credential; start = Blank; loss = Blank; rank = 0 }
+pub read-unused-place : getD (readSheet (linesText (alone .lines)) .setup .vertices) 63 (alone-vertex) ≡
+      record { kind = Credential; start = Blank; loss = Blank; rank = 0 }
 
 pub no-rows : getD (emptyGraph .rows) 63 (record { needs = [] }) ≡ record { needs = 0 ∷ 0 ∷ 0 ∷ 0 ∷ 0 ∷ 0 ∷ 0 ∷ 0 ∷ [] }
 
@@ -207,7 +209,8 @@ pub loss-of-two : closureOf true (bench .setup .count) (bench .setup .graph) 3 �
 
 pub loss-of-one : closureOf true (bench .setup .count) (bench .setup .graph) 1 ≡ 1
 
-pub way-by-lowest-colour : wayOf (bench .setup .count) (bench .setup .graph) order 7 ≡ record { vertex = 3; colour = 0 } ∷ record { vertex = 4; colour = 0 } ∷ []
+pub way-by-lowest-colour : wayOf (bench .setup .count) (bench .setup .graph) order 7 ≡
+      record { vertex = 3; colour = 0 } ∷ record { vertex = 4; colour = 0 } ∷ []
 
 pub way-held : wayOf (bench .setup .count) (bench .setup .graph) order 16 ≡ []
 
@@ -378,7 +381,8 @@ pub edge-257 : question7Edge (above 1 blankRow (replicate 256 loopRow)) ≡ fals
 
 -- ---- accepted at the bounds: a name of 16 of all kinds of bytes, 1,000,000, rank 9, colour 7
 
-pub reads-bounds : readSheet (linesText (h1 ∷ "az_09bcdefghijkl a 1000000 0 9" ∷ "" ∷ h2 ∷ "az_09bcdefghijkl az_09bcdefghijkl 7 1" ∷ [])) ≡ accepted boundsSetup
+pub reads-bounds : readSheet (linesText (h1 ∷ "az_09bcdefghijkl a 1000000 0 9" ∷ "" ∷ h2 ∷ "az_09bcdefghijkl az_09bcdefghijkl 7 1" ∷ [])) ≡
+      accepted boundsSetup
 
 -- ---- names
 
@@ -403,10 +407,12 @@ pub rest-of-start : restOf benchName (bench .setup) cursor.Start ≡ reportOf (l
 pub rest-of-lists : restOf benchName (bench .setup) (cursor.Lists 8 1 2) ≡ linesText ("order open 2 4 ordpw+token" ∷ "order lock 2 3 ordpw+mailpw"
       ∷ "order lock 2 3 mailpw+token" ∷ restLines)
 
-pub rest-of-no-list : restOf benchName (bench .setup) (cursor.Lists 1 0 0) ≡ linesText ("mail open 1 1 mailpw" ∷ "mail lock 1 1 mailpw" ∷ "order open 1 1 mailpw"
+pub rest-of-no-list : restOf benchName (bench .setup) (cursor.Lists 1 0 0) ≡
+      linesText ("mail open 1 1 mailpw" ∷ "mail lock 1 1 mailpw" ∷ "order open 1 1 mailpw"
       ∷ "order open 2 4 ordpw+token" ∷ "order lock 2 3 ordpw+mailpw" ∷ "order lock 2 3 mailpw+token" ∷ restLines)
 
-pub rest-of-scores : restOf benchName (bench .setup) (cursor.Scores 2) ≡ linesText ("mail 1 1 no yes" ∷ "order 1 3 yes no" ∷ "" ∷ "above below" ∷ "order mail" ∷ [])
+pub rest-of-scores : restOf benchName (bench .setup) (cursor.Scores 2) ≡
+      linesText ("mail 1 1 no yes" ∷ "order 1 3 yes no" ∷ "" ∷ "above below" ∷ "order mail" ∷ [])
 
 pub rest-of-pairs : restOf benchName (bench .setup) (cursor.Pairs 0) ≡ linesText ("order mail" ∷ [])
 
@@ -430,6 +436,7 @@ pub words-no-recovery : getD (wordsOf (bench .setup)) 801 0 ≡ 0
 
 pub words-both-ways : setupIn (wordsOf (bench .setup)) ≡ bench .setup
 
-pub words-vertex : getD (setupIn (2 ∷ 0 ∷ 1 ∷ 2 ∷ 3 ∷ 1 ∷ 5 ∷ 18446744073709551615 ∷ 4 ∷ []) .vertices) 1 alone-vertex ≡ record { kind = Account; start = Of 5; loss = Blank; rank = 4 }
+pub words-vertex : getD (setupIn (2 ∷ 0 ∷ 1 ∷ 2 ∷ 3 ∷ 1 ∷ 5 ∷ 18446744073709551615 ∷ 4 ∷ []) .vertices) 1 alone-vertex ≡
+      record { kind = Account; start = Of 5; loss = Blank; rank = 4 }
 
 pub words-count : setupIn (2 ∷ []) .count ≡ 2

@@ -212,11 +212,12 @@ def Adds(r, d, v):
 
 
 def lists_of_steps(r, held):
-    """All runs in which no step stands twice, which would add nothing: each list is a run that one step more was put behind."""
+    """All runs in which no step stands twice, of at most as many steps as there are vertices: others add nothing. Each list is a run that one
+    step more was put behind."""
     key = (r.key, tuple(held(v) for v in world.vertices))
     if key not in cache:
         found, last = [], [[]]
-        while last:
+        while last and len(last[0]) <= len(world.vertices):
             found += last
             last = [d + [e] for d in last for e in r.steps if e not in d and Run(r, held, d + [e])]
         cache[key] = found

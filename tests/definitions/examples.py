@@ -2,7 +2,7 @@
 wrong answer. The setups are read from sheets."""
 import itertools
 
-from executables import Account, Credential, Doc, EdgeRow, Graph, ItemRow, Rows, Setup, Step, Vertex, emptyGraph, getD, lessRecovery, never
+from executables import Account, Credential, Doc, EdgeRow, Graph, ItemRow, Rows, Setup, Step, Vertex, emptyGraph, lessRecovery, never
 from executables import readSheet, render, setupOf, text, unusedVertex, wordsOf
 
 H1, H2 = "name kind start loss rank", "from to colour rec"
@@ -45,10 +45,6 @@ def worlds(D):
     }
 
 
-def spoiled(s, **parts):
-    return s._replace(**parts)
-
-
 def with_row(g, v, c, n):
     rows = list(g.rows)
     needs = list(rows[v].needs)
@@ -67,8 +63,8 @@ def all_items(n, **parts):
 
 
 def many_edges(n):
-    rows = [Rows(tuple(2**8 - 1 if 64 * v + 8 * c + 8 <= n else 2 ** (n - 64 * v - 8 * c) - 1 if n > 64 * v + 8 * c else 0 for c in range(8))) for v in range(64)]
-    return all_items(0)._replace(graph=Graph(tuple(rows)))
+    needs = [2 ** max(0, min(8, n - 8 * i)) - 1 for i in range(64 * 8)]
+    return all_items(0)._replace(graph=Graph(tuple(Rows(tuple(needs[8 * v:8 * v + 8])) for v in range(64))))
 
 
 def item(name, start=None, loss=None, rank=0, kind=Credential):
@@ -99,14 +95,56 @@ NUMBERS, LINES = range(13), range(8)
 LENT = [90, 91, 92, 93, 94]
 
 
-def examples(D):
-    """Pairs of a world's name and its examples (name, question, expected)."""
-    held = lambda x: lambda i: D.Member(x, i)
-    g, step = bench.graph, Step
-    way = [step(MAIL, 0), step(ORDER, 1)]
-    empty = setupOf(Doc([], []))
-    ends63 = with_row(bench.graph, 63, 0, 1)
-    far = [
+def one_item(**parts):
+    return Doc([item("a", **parts)], [])
+
+
+def loops(*edges):
+    return Doc([item("a")], list(edges))
+
+
+def items_with(count, starts, losses):
+    return Doc([item(f"i{n}", 0 if n < starts else None, 0 if n < losses else None) for n in range(count)], [])
+
+
+EIGHT = [item(f"i{n}") for n in range(8)]
+MANY = [edge(f"i{f}", f"i{v}", c) for v in range(5) for c in range(8) for f in range(8)]
+ROWS = [
+    ("two rows", DOC, True),
+    ("one row", one_item(), True),
+    ("a name twice", Doc([item("a"), item("a")], []), False),
+    ("no row", Doc([], []), False),
+    ("a name in capitals", Doc([item("A")], []), False),
+    ("start 1,000,001", one_item(start=1000001), False),
+    ("loss 1,000,001", one_item(loss=1000001), False),
+    ("rank 10", one_item(rank=10), False),
+    ("an edge from nowhere", loops(edge("b", "a")), False),
+    ("an edge to nowhere", loops(edge("a", "b")), False),
+    ("colour 8", loops(edge("a", "a", 8)), False),
+    ("an edge twice", loops(edge("a", "a"), edge("a", "a", 0, True)), False),
+    ("two colours", loops(edge("a", "a"), edge("a", "a", 1)), True),
+    ("64 items, 14 and 14", items_with(64, 14, 14), True),
+    ("65 items", items_with(65, 0, 0), False),
+    ("15 starts", items_with(64, 15, 0), False),
+    ("15 losses", items_with(64, 0, 15), False),
+    ("256 edges", Doc(EIGHT, MANY[:256]), True),
+    ("257 edges", Doc(EIGHT, MANY[:257]), False),
+    ("the longest name, highest values", Doc([item("a" * 16, 1000000, 1000000, 9)] + EIGHT, MANY[:1]), True),
+]
+DOCS = [d for n, d, ok in ROWS]
+LONG = [f"{n:016d}" for n in range(64)]
+LONG_NAMES = Doc([item(n) for n in LONG], [edge(LONG[f], LONG[v], c) for v in range(4) for c in range(8) for f in range(8)])
+RANK_10 = with_vertex(bench, 0, Vertex(Credential, 1, 2, 10))
+
+
+G = bench.graph
+WAY = [Step(MAIL, 0), Step(ORDER, 1)]
+EMPTY = setupOf(Doc([], []))
+
+
+def of_sets(D):
+    """Sets of vertices, and their order."""
+    return [
         ("set: 5 has 0 and 2", lambda: D.Member(5, 0) and D.Member(5, 2), True),
         ("set: 5 has not 1", lambda: D.Member(5, 1), False),
         ("set: item 63", lambda: D.Member(2**63, 63), True),
@@ -143,8 +181,14 @@ def examples(D):
         ("not ordered: 3, 4", lambda: D.Ordered([3, 4]), False),
         ("not ordered: 4, 5, 3", lambda: D.Ordered([4, 5, 3]), False),
         ("not ordered: twice", lambda: D.Ordered([4, 4]), False),
-        ("edge: mail, order, 1", lambda: D.Edge(g, 3, 4, 1), True),
-        ("not edge: order, mail, 1", lambda: D.Edge(g, 4, 3, 1), False),
+    ]
+
+
+def of_setups(D):
+    """Reading a setup."""
+    return [
+        ("edge: mail, order, 1", lambda: D.Edge(G, 3, 4, 1), True),
+        ("not edge: order, mail, 1", lambda: D.Edge(G, 4, 3, 1), False),
         ("initial: token", lambda: D.Chosen(False, bench, 2), True),
         ("initial: zero is a value", lambda: D.Chosen(False, spare, 0), True),
         ("not initial: mail", lambda: D.Chosen(False, bench, 3), False),
@@ -152,17 +196,23 @@ def examples(D):
         ("not initial: loop's item", lambda: D.Chosen(False, loop, 0), False),
         ("shaped: bench", lambda: D.Shaped(bench), True),
         ("not shaped: 63 vertices", lambda: D.Shaped(bench._replace(vertices=bench.vertices[:63])), False),
-        ("not shaped: 63 places", lambda: D.ShapedGraph(Graph(g.rows[:63])), False),
-        ("not shaped: 7 colours at 63", lambda: D.ShapedGraph(Graph(g.rows[:63] + (Rows((0,) * 7),))), False),
-        ("not shaped: a graph of 63 places", lambda: D.Shaped(bench._replace(graph=Graph(g.rows[:63]))), False),
-        ("not shaped: recovery of 63 places", lambda: D.Shaped(bench._replace(recovery=Graph(g.rows[:63]))), False),
+        ("not shaped: 63 places", lambda: D.ShapedGraph(Graph(G.rows[:63])), False),
+        ("not shaped: 7 colours at 63", lambda: D.ShapedGraph(Graph(G.rows[:63] + (Rows((0,) * 7),))), False),
+        ("not shaped: a graph of 63 places", lambda: D.Shaped(bench._replace(graph=Graph(G.rows[:63]))), False),
+        ("not shaped: recovery of 63 places", lambda: D.Shaped(bench._replace(recovery=Graph(G.rows[:63]))), False),
         ("without recovery: bench", lambda: D.WithoutRecovery(bench, lessRecovery(bench)), True),
-        ("not without recovery: the graph itself", lambda: D.WithoutRecovery(bench, g), False),
+        ("not without recovery: the graph itself", lambda: D.WithoutRecovery(bench, G), False),
         ("not without recovery: no edge", lambda: D.WithoutRecovery(bench, emptyGraph), False),
         ("not without recovery: 63 places", lambda: D.WithoutRecovery(bench, Graph(lessRecovery(bench).rows[:63])), False),
         ("initial set: bench", lambda: D.ChosenSet(False, bench, 7), True),
         ("not initial set: bench less one", lambda: D.ChosenSet(False, bench, 3), False),
         ("not initial set: with item 70", lambda: D.ChosenSet(False, bench, 7 + 2**70), False),
+    ]
+
+
+def of_well_formed(D):
+    """Well formed setups, and one that is not for each clause."""
+    return [
         ("in range: 1,000,000", lambda: D.InRange(1000000), True),
         ("not in range: 1,000,001", lambda: D.InRange(1000001), False),
         ("in range: a blank", lambda: D.InRange(None), True),
@@ -176,16 +226,22 @@ def examples(D):
         ("well formed: 14 initial", lambda: D.WellFormed(all_items(14, start=0)), True),
         ("well formed: 14 losable", lambda: D.WellFormed(all_items(14, loss=0)), True),
         ("not well formed: 63 vertices", lambda: D.WellFormed(bench._replace(vertices=bench.vertices[:63])), False),
-        ("not well formed: no item", lambda: D.WellFormed(empty), False),
+        ("not well formed: no item", lambda: D.WellFormed(EMPTY), False),
         ("not well formed: 65 items", lambda: D.WellFormed(all_items(0)._replace(count=65)), False),
-        ("not well formed: rank 10", lambda: D.WellFormed(with_vertex(bench, 0, Vertex(Credential, 1, 2, 10))), False),
+        ("not well formed: rank 10", lambda: D.WellFormed(RANK_10), False),
         ("not well formed: rank 1 at 63", lambda: D.WellFormed(with_vertex(bench, 63, unusedVertex._replace(rank=1))), False),
-        ("not well formed: an edge from 5", lambda: D.WellFormed(bench._replace(graph=with_row(g, 4, 0, 37))), False),
-        ("not well formed: an edge to 63", lambda: D.WellFormed(bench._replace(graph=ends63)), False),
+        ("not well formed: an edge from 5", lambda: D.WellFormed(bench._replace(graph=with_row(G, 4, 0, 37))), False),
+        ("not well formed: an edge to 63", lambda: D.WellFormed(bench._replace(graph=with_row(G, 63, 0, 1))), False),
         ("not well formed: recovery alone", lambda: D.WellFormed(bench._replace(recovery=with_row(bench.recovery, 3, 1, 2))), False),
         ("not well formed: 257 edges", lambda: D.WellFormed(many_edges(257)), False),
         ("not well formed: 15 initial", lambda: D.WellFormed(all_items(15, start=0)), False),
         ("not well formed: 15 losable", lambda: D.WellFormed(all_items(15, loss=0)), False),
+    ]
+
+
+def of_parts(D):
+    """Refusals, question 14, values, full marks."""
+    return [
         ("refuses 12", lambda: D.Refuses(12, 12, []), True),
         ("not refuses 12: 13", lambda: D.Refuses(12, 13, []), False),
         ("not refuses 12: with a value", lambda: D.Refuses(12, 12, [0]), False),
@@ -199,62 +255,83 @@ def examples(D):
         ("not once: 4, 3, 4", lambda: D.Once([4, 3, 4]), False),
         ("full: all zero", lambda: D.Full(0, 0, 0, 0), True),
     ]
-    far += [(f"not full: {n}", lambda i=i: D.Full(*[int(i == j) for j in range(4)]), False) for i, n in enumerate(["repeated", "shut", "loose", "missing"])]
 
-    way_call = lambda *a: D.WayCall(bench, *a)
-    bench_ = [
-        ("run: mail, order", lambda: D.Run(D.access(g), held(2), way), True),
-        ("not run: order, mail", lambda: D.Run(D.access(g), held(2), way[::-1]), False),
-        ("run: none", lambda: D.Run(D.access(g), held(2), []), True),
-        ("adds: order", lambda: D.Adds(D.access(g), way, ORDER), True),
-        ("not adds: mailpw", lambda: D.Adds(D.access(g), way, 1), False),
+
+def of_derivations(D):
+    """Runs, derivations, closures."""
+    held = lambda x: lambda i: D.Member(x, i)
+    return [
+        ("run: mail, order", lambda: D.Run(D.access(G), held(2), WAY), True),
+        ("not run: order, mail", lambda: D.Run(D.access(G), held(2), WAY[::-1]), False),
+        ("run: none", lambda: D.Run(D.access(G), held(2), []), True),
+        ("adds: order", lambda: D.Adds(D.access(G), WAY, ORDER), True),
+        ("not adds: mailpw", lambda: D.Adds(D.access(G), WAY, 1), False),
         ("with: order added", lambda: D.With(held(2), ORDER)(ORDER) and D.With(held(2), ORDER)(1), True),
         ("not with: mail", lambda: D.With(held(2), ORDER)(MAIL), False),
-        ("derivation: a held vertex", lambda: D.Derivation(D.access(g), held(16), ORDER), True),
-        ("opens: mail from mailpw", lambda: D.Opens(g, held(2), step(MAIL, 0)), True),
-        ("not opens: an empty colour", lambda: D.Opens(g, held(2), step(MAIL, 1)), False),
-        ("not opens: half a colour", lambda: D.Opens(g, held(1), step(ORDER, 0)), False),
+        ("derivation: a held vertex", lambda: D.Derivation(D.access(G), held(16), ORDER), True),
+        ("opens: mail from mailpw", lambda: D.Opens(G, held(2), Step(MAIL, 0)), True),
+        ("not opens: an empty colour", lambda: D.Opens(G, held(2), Step(MAIL, 1)), False),
+        ("not opens: half a colour", lambda: D.Opens(G, held(1), Step(ORDER, 0)), False),
         ("lost: one of ordpw, token", lambda: D.SomeLost(held(1), 5), True),
         ("not lost: neither of ordpw, token", lambda: D.SomeLost(held(2), 5), False),
-        ("shuts: order without ordpw, mail", lambda: D.Shuts(g, held(9), ORDER), True),
-        ("not shuts: order by one colour", lambda: D.Shuts(g, held(1), ORDER), False),
-        ("not shuts: token, which has no colour", lambda: D.Shuts(g, held(63), 2), False),
-        ("access: order from mailpw", lambda: D.HasAccess(g, held(2), ORDER), True),
-        ("not access: order from token", lambda: D.HasAccess(g, held(4), ORDER), False),
-        ("lockout: order without ordpw, mailpw", lambda: D.HasLockout(g, held(3), ORDER), True),
-        ("not lockout: order without mailpw", lambda: D.HasLockout(g, held(2), ORDER), False),
-        ("B1", lambda: D.AccessFrom(g, 0, 0), True),
-        ("not B1: all", lambda: D.AccessFrom(g, 0, 31), False),
-        ("B2", lambda: D.AccessFrom(g, 2, 26), True),
-        ("not B2: the set handed back", lambda: D.AccessFrom(g, 2, 2), False),
-        ("not B2: with ordpw", lambda: D.AccessFrom(g, 2, 27), False),
-        ("lost set of ordpw, mailpw", lambda: D.LockoutFrom(g, 3, 27), True),
-        ("not lost set: the set itself", lambda: D.LockoutFrom(g, 3, 3), False),
-        ("B6", lambda: D.Way(g, ORDER, held(2), way), True),
-        ("not B6: one step", lambda: D.Way(g, ORDER, held(2), way[:1]), False),
-        ("not B6: a step too many", lambda: D.Way(g, MAIL, held(2), way), False),
-        ("way: the lowest of two colours", lambda: D.Way(g, ORDER, held(7), [step(MAIL, 0), step(ORDER, 0)]), True),
-        ("not way: the higher of two colours", lambda: D.Way(g, ORDER, held(7), [step(MAIL, 0), step(ORDER, 1)]), False),
-        ("not way: the higher vertex first", lambda: D.Way(g, ORDER, held(7), [step(ORDER, 0)]), False),
-        ("not way: a held vertex again", lambda: D.Way(g, ORDER, held(10), [step(MAIL, 0), step(ORDER, 1)]), False),
-        ("not way: an empty colour", lambda: D.Way(g, ORDER, held(0), [step(ORDER, 2)]), False),
-        ("target set: {mailpw, token}", lambda: D.TargetSet(False, bench, g, ORDER, 6), True),
-        ("not target set: {token}", lambda: D.TargetSet(False, bench, g, ORDER, 4), False),
-        ("not target set: {mail}, no initial vertex", lambda: D.TargetSet(False, bench, g, ORDER, 8), False),
-        ("minimal: {ordpw, token}", lambda: D.MinimalSet(False, bench, g, ORDER, 5), True),
-        ("not minimal: {mailpw, token}", lambda: D.MinimalSet(False, bench, g, ORDER, 6), False),
-        ("B3", lambda: D.Base(False, bench, g, ORDER, [2, 5]), True),
-        ("not B3: empty", lambda: D.Base(False, bench, g, ORDER, []), False),
-        ("not B3: one set", lambda: D.Base(False, bench, g, ORDER, [2]), False),
-        ("not B3: one too many", lambda: D.Base(False, bench, g, ORDER, [2, 5, 7]), False),
-        ("not B3: in another order", lambda: D.Base(False, bench, g, ORDER, [5, 2]), False),
-        ("B4", lambda: D.Base(True, bench, g, ORDER, [3, 6]), True),
-        ("not B4: B3", lambda: D.Base(True, bench, g, ORDER, [2, 5]), False),
-        ("B5, score", lambda: D.Score(False, bench, g, ORDER, 1), True),
-        ("B5, risk", lambda: D.Score(True, bench, g, ORDER, 3), True),
-        ("not B5: score 0", lambda: D.Score(False, bench, g, ORDER, 0), False),
-        ("not B5: score 4", lambda: D.Score(False, bench, g, ORDER, 4), False),
-        ("not B5: never", lambda: D.Score(False, bench, g, ORDER, never), False),
+        ("shuts: order without ordpw, mail", lambda: D.Shuts(G, held(9), ORDER), True),
+        ("not shuts: order by one colour", lambda: D.Shuts(G, held(1), ORDER), False),
+        ("not shuts: token, which has no colour", lambda: D.Shuts(G, held(63), 2), False),
+        ("access: order from mailpw", lambda: D.HasAccess(G, held(2), ORDER), True),
+        ("not access: order from token", lambda: D.HasAccess(G, held(4), ORDER), False),
+        ("lockout: order without ordpw, mailpw", lambda: D.HasLockout(G, held(3), ORDER), True),
+        ("not lockout: order without mailpw", lambda: D.HasLockout(G, held(2), ORDER), False),
+        ("B1", lambda: D.AccessFrom(G, 0, 0), True),
+        ("not B1: all", lambda: D.AccessFrom(G, 0, 31), False),
+        ("B2", lambda: D.AccessFrom(G, 2, 26), True),
+        ("not B2: the set handed back", lambda: D.AccessFrom(G, 2, 2), False),
+        ("not B2: with ordpw", lambda: D.AccessFrom(G, 2, 27), False),
+        ("lost set of ordpw, mailpw", lambda: D.LockoutFrom(G, 3, 27), True),
+        ("not lost set: the set itself", lambda: D.LockoutFrom(G, 3, 3), False),
+    ]
+
+
+def of_ways(D):
+    """Ways in."""
+    held = lambda x: lambda i: D.Member(x, i)
+    return [
+        ("B6", lambda: D.Way(G, ORDER, held(2), WAY), True),
+        ("not B6: one step", lambda: D.Way(G, ORDER, held(2), WAY[:1]), False),
+        ("not B6: a step too many", lambda: D.Way(G, MAIL, held(2), WAY), False),
+        ("way: the lowest of two colours", lambda: D.Way(G, ORDER, held(7), [Step(MAIL, 0), Step(ORDER, 0)]), True),
+        ("not way: the higher of two colours", lambda: D.Way(G, ORDER, held(7), [Step(MAIL, 0), Step(ORDER, 1)]), False),
+        ("not way: the higher vertex first", lambda: D.Way(G, ORDER, held(7), [Step(ORDER, 0)]), False),
+        ("not way: a held vertex again", lambda: D.Way(G, ORDER, held(10), [Step(MAIL, 0), Step(ORDER, 1)]), False),
+        ("not way: an empty colour", lambda: D.Way(G, ORDER, held(0), [Step(ORDER, 2)]), False),
+    ]
+
+
+def of_bases(D):
+    """Lists."""
+    return [
+        ("target set: {mailpw, token}", lambda: D.TargetSet(False, bench, G, ORDER, 6), True),
+        ("not target set: {token}", lambda: D.TargetSet(False, bench, G, ORDER, 4), False),
+        ("not target set: {mail}, no initial vertex", lambda: D.TargetSet(False, bench, G, ORDER, 8), False),
+        ("minimal: {ordpw, token}", lambda: D.MinimalSet(False, bench, G, ORDER, 5), True),
+        ("not minimal: {mailpw, token}", lambda: D.MinimalSet(False, bench, G, ORDER, 6), False),
+        ("B3", lambda: D.Base(False, bench, G, ORDER, [2, 5]), True),
+        ("not B3: empty", lambda: D.Base(False, bench, G, ORDER, []), False),
+        ("not B3: one set", lambda: D.Base(False, bench, G, ORDER, [2]), False),
+        ("not B3: one too many", lambda: D.Base(False, bench, G, ORDER, [2, 5, 7]), False),
+        ("not B3: in another order", lambda: D.Base(False, bench, G, ORDER, [5, 2]), False),
+        ("B4", lambda: D.Base(True, bench, G, ORDER, [3, 6]), True),
+        ("not B4: B3", lambda: D.Base(True, bench, G, ORDER, [2, 5]), False),
+    ]
+
+
+def of_scores(D):
+    """Scores."""
+    return [
+        ("B5, score", lambda: D.Score(False, bench, G, ORDER, 1), True),
+        ("B5, risk", lambda: D.Score(True, bench, G, ORDER, 3), True),
+        ("not B5: score 0", lambda: D.Score(False, bench, G, ORDER, 0), False),
+        ("not B5: score 4", lambda: D.Score(False, bench, G, ORDER, 4), False),
+        ("not B5: never", lambda: D.Score(False, bench, G, ORDER, never), False),
         ("score over B3", lambda: D.ScoreOver(False, bench, [2, 5], 1), True),
         ("not score over B3: 4", lambda: D.ScoreOver(False, bench, [2, 5], 4), False),
         ("not score over B3: 0", lambda: D.ScoreOver(False, bench, [2, 5], 0), False),
@@ -262,31 +339,50 @@ def examples(D):
         ("score over none", lambda: D.ScoreOver(False, bench, [], never), True),
         ("not score over none: 2^62 + 1", lambda: D.ScoreOver(False, bench, [], 2**62 + 1), False),
         ("not score over none: 0", lambda: D.ScoreOver(False, bench, [], 0), False),
-        ("score, both ways", lambda: D.ScoreBoth(False, bench, g, ORDER, 1), True),
-        ("not score, both ways: 4", lambda: D.ScoreBoth(False, bench, g, ORDER, 4), False),
-        ("smaller: of {mailpw, token}", lambda: D.SmallerDerives(False, g, ORDER, 6), True),
-        ("not smaller: of {mailpw}", lambda: D.SmallerDerives(False, g, ORDER, 2), False),
-        ("counts as: repeated", lambda: D.CountsAs(False, bench, g, ORDER, [2], 2, "Repeated"), True),
-        ("not counts as: right, where repeated", lambda: D.CountsAs(False, bench, g, ORDER, [2], 2, "Right"), False),
-        ("counts as: shut for a vertex outside", lambda: D.CountsAs(False, bench, g, ORDER, [], 10, "Shut"), True),
-        ("not counts as: loose, where shut", lambda: D.CountsAs(False, bench, g, ORDER, [], 10, "Loose"), False),
-        ("not counts as: shut, where loose", lambda: D.CountsAs(False, bench, g, ORDER, [], 6, "Shut"), False),
-        ("marked: B7's marks", lambda: D.MarkedAs(False, bench, g, ORDER, [], [2, 2, 6, 4], ["Right", "Repeated", "Loose", "Shut"]), True),
-        ("not marked: a mark too few", lambda: D.MarkedAs(False, bench, g, ORDER, [], [2, 2], ["Right"]), False),
-        ("not marked: the second right, too", lambda: D.MarkedAs(False, bench, g, ORDER, [], [2, 2], ["Right", "Right"]), False),
-        ("B7", lambda: D.Counts(False, bench, g, ORDER, [2, 2, 6, 4], 1, 1, 1, 1, 1), True),
-        ("not B7: 2 right", lambda: D.Counts(False, bench, g, ORDER, [2, 2, 6, 4], 2, 0, 1, 1, 0), False),
-        ("not B7: nothing missing", lambda: D.Counts(False, bench, g, ORDER, [2, 2, 6, 4], 1, 1, 1, 1, 0), False),
-        ("counts: loose and shut", lambda: D.Counts(False, bench, g, ORDER, [6, 7, 4], 0, 0, 1, 2, 2), True),
-        ("base once: in any order", lambda: D.IsBaseOnce(False, bench, g, ORDER, [5, 2]), True),
-        ("not base once: twice", lambda: D.IsBaseOnce(False, bench, g, ORDER, [5, 2, 5]), False),
-        ("not base once: one missing", lambda: D.IsBaseOnce(False, bench, g, ORDER, [5]), False),
+        ("score, both ways", lambda: D.ScoreBoth(False, bench, G, ORDER, 1), True),
+        ("not score, both ways: 4", lambda: D.ScoreBoth(False, bench, G, ORDER, 4), False),
+    ]
+
+
+def of_marks(D):
+    """Marks."""
+    return [
+        ("smaller: of {mailpw, token}", lambda: D.SmallerDerives(False, G, ORDER, 6), True),
+        ("not smaller: of {mailpw}", lambda: D.SmallerDerives(False, G, ORDER, 2), False),
+        ("counts as: repeated", lambda: D.CountsAs(False, bench, G, ORDER, [2], 2, "Repeated"), True),
+        ("not counts as: right, where repeated", lambda: D.CountsAs(False, bench, G, ORDER, [2], 2, "Right"), False),
+        ("counts as: shut for a vertex outside", lambda: D.CountsAs(False, bench, G, ORDER, [], 10, "Shut"), True),
+        ("not counts as: loose, where shut", lambda: D.CountsAs(False, bench, G, ORDER, [], 10, "Loose"), False),
+        ("not counts as: shut, where loose", lambda: D.CountsAs(False, bench, G, ORDER, [], 6, "Shut"), False),
+        ("marked: B7's marks", lambda: D.MarkedAs(False, bench, G, ORDER, [], [2, 2, 6, 4], ["Right", "Repeated", "Loose", "Shut"]), True),
+        ("not marked: a mark too few", lambda: D.MarkedAs(False, bench, G, ORDER, [], [2, 2], ["Right"]), False),
+        ("not marked: the second right, too", lambda: D.MarkedAs(False, bench, G, ORDER, [], [2, 2], ["Right", "Right"]), False),
+        ("B7", lambda: D.Counts(False, bench, G, ORDER, [2, 2, 6, 4], 1, 1, 1, 1, 1), True),
+        ("not B7: 2 right", lambda: D.Counts(False, bench, G, ORDER, [2, 2, 6, 4], 2, 0, 1, 1, 0), False),
+        ("not B7: nothing missing", lambda: D.Counts(False, bench, G, ORDER, [2, 2, 6, 4], 1, 1, 1, 1, 0), False),
+        ("counts: loose and shut", lambda: D.Counts(False, bench, G, ORDER, [6, 7, 4], 0, 0, 1, 2, 2), True),
+        ("base once: in any order", lambda: D.IsBaseOnce(False, bench, G, ORDER, [5, 2]), True),
+        ("not base once: twice", lambda: D.IsBaseOnce(False, bench, G, ORDER, [5, 2, 5]), False),
+        ("not base once: one missing", lambda: D.IsBaseOnce(False, bench, G, ORDER, [5]), False),
+    ]
+
+
+def of_set_calls(D):
+    """The calls for closure and lost set."""
+    return [
         ("call: closure, B2", lambda: D.SetCall(D.AccessFrom, bench, 2, 0, [26]), True),
         ("not call: closure, the set", lambda: D.SetCall(D.AccessFrom, bench, 2, 0, [2]), False),
         ("call: closure, 14", lambda: D.SetCall(D.AccessFrom, bench, 32, 14, []), True),
         ("not call: closure, 12 for 14", lambda: D.SetCall(D.AccessFrom, bench, 32, 12, []), False),
-        ("call: closure, 12", lambda: D.SetCall(D.AccessFrom, empty, 32, 12, []), True),
-        ("not call: closure, 14 before 12", lambda: D.SetCall(D.AccessFrom, empty, 32, 14, []), False),
+        ("call: closure, 12", lambda: D.SetCall(D.AccessFrom, EMPTY, 32, 12, []), True),
+        ("not call: closure, 14 before 12", lambda: D.SetCall(D.AccessFrom, EMPTY, 32, 14, []), False),
+    ]
+
+
+def of_way_calls(D):
+    """The call for the way in."""
+    way_call = lambda *a: D.WayCall(bench, *a)
+    return [
         ("written: to the front", lambda: D.written([7, 8], LENT) == [7, 8, 92, 93, 94], True),
         ("untouched", lambda: D.Untouched([1], [1], [2], [2]), True),
         ("not untouched: the first", lambda: D.Untouched([1], [0], [2], [2]), False),
@@ -306,8 +402,14 @@ def examples(D):
         ("call: way, 13 before 14", lambda: way_call(5, 32, 13, [], [9], [9], [9], [9]), True),
         ("not call: way, 14 before 13", lambda: way_call(5, 32, 14, [], [9], [9], [9], [9]), False),
         ("call: way, 14", lambda: way_call(ORDER, 32, 14, [], [9], [9], [9], [9]), True),
-        ("call: way, 12", lambda: D.WayCall(empty, 5, 32, 12, [], [9], [9], [9], [9]), True),
-        ("not call: way, 12 with a place changed", lambda: D.WayCall(empty, 5, 32, 12, [], [9], [0], [9], [9]), False),
+        ("call: way, 12", lambda: D.WayCall(EMPTY, 5, 32, 12, [], [9], [9], [9], [9]), True),
+        ("not call: way, 12 with a place changed", lambda: D.WayCall(EMPTY, 5, 32, 12, [], [9], [0], [9], [9]), False),
+    ]
+
+
+def of_base_calls(D):
+    """The call for both lists."""
+    return [
         ("call: lists, B3 and B4", lambda: D.BasesCall(bench, ORDER, 0, [2, 2], LENT, [2, 5, 3, 6, 94]), True),
         ("not call: lists, with a gap", lambda: D.BasesCall(bench, ORDER, 0, [2, 2], LENT + [95], [2, 5, 92, 3, 6, 95]), False),
         ("not call: lists, a place behind changed", lambda: D.BasesCall(bench, ORDER, 0, [2, 2], LENT, [2, 5, 3, 6, 0]), False),
@@ -319,28 +421,34 @@ def examples(D):
         ("not call: lists, 15 with a place changed", lambda: D.BasesCall(bench, ORDER, 15, [], LENT[:3], [2, 5, 3]), False),
         ("call: lists, 13", lambda: D.BasesCall(bench, 5, 13, [], [], []), True),
         ("not call: lists, 15 before 13", lambda: D.BasesCall(bench, 5, 15, [], [], []), False),
-        ("call: lists, 12", lambda: D.BasesCall(empty, 5, 12, [], [9], [9]), True),
-        ("not call: lists, 13 before 12", lambda: D.BasesCall(empty, 5, 13, [], [9], [9]), False),
+        ("call: lists, 12", lambda: D.BasesCall(EMPTY, 5, 12, [], [9], [9]), True),
+        ("not call: lists, 13 before 12", lambda: D.BasesCall(EMPTY, 5, 13, [], [9], [9]), False),
+    ]
+
+
+def of_score_calls(D):
+    """The calls for scores and marks."""
+    return [
         ("call: score, B5", lambda: D.ScoreCall(False, bench, ORDER, 0, [1]), True),
         ("call: risk, B5", lambda: D.ScoreCall(True, bench, ORDER, 0, [3]), True),
         ("not call: score, never", lambda: D.ScoreCall(False, bench, ORDER, 0, [never]), False),
         ("call: score, 13", lambda: D.ScoreCall(False, bench, 5, 13, []), True),
         ("not call: score, 13 inside", lambda: D.ScoreCall(False, bench, ORDER, 13, []), False),
-        ("call: score, 12", lambda: D.ScoreCall(False, empty, 0, 12, []), True),
-        ("not call: score, 13 before 12", lambda: D.ScoreCall(False, empty, 0, 13, []), False),
+        ("call: score, 12", lambda: D.ScoreCall(False, EMPTY, 0, 12, []), True),
+        ("not call: score, 13 before 12", lambda: D.ScoreCall(False, EMPTY, 0, 13, []), False),
         ("call: marks, B7", lambda: D.MarksCall(False, bench, ORDER, [2, 2, 6, 4], 0, [1, 1, 1, 1, 1]), True),
         ("call: marks, full", lambda: D.MarksCall(False, bench, ORDER, [5, 2], 0, [2, 0, 0, 0, 0]), True),
         ("not call: marks, full early", lambda: D.MarksCall(False, bench, ORDER, [2], 0, [1, 0, 0, 0, 0]), False),
         ("call: marks, 13", lambda: D.MarksCall(False, bench, 5, [2], 13, []), True),
         ("not call: marks, 13 inside", lambda: D.MarksCall(False, bench, ORDER, [2], 13, []), False),
-        ("call: marks, 12", lambda: D.MarksCall(False, empty, 0, [2], 12, []), True),
-        ("not call: marks, 13 before 12", lambda: D.MarksCall(False, empty, 0, [2], 13, []), False),
+        ("call: marks, 12", lambda: D.MarksCall(False, EMPTY, 0, [2], 12, []), True),
+        ("not call: marks, 13 before 12", lambda: D.MarksCall(False, EMPTY, 0, [2], 13, []), False),
     ]
-    demand = [bench, ORDER, LENT, [2, 5, 3, 6, 94], 0, [2, 2], 0, [1], 0, [3], [2], 0, [1, 0, 0, 0, 1], [3, 6], 0, [2, 0, 0, 0, 0]]
-    bench_.append(("demand 3 of order", lambda: D.Demand3(*demand), True))
-    for name, at, wrong in [("score", 7, [4]), ("risk", 9, [1]), ("list", 3, LENT), ("openings' marks", 12, [1, 0, 0, 0, 0]), ("lockouts' marks", 15, [0, 0, 2, 0, 2])]:
-        bench_.append((f"not demand 3: another {name}", lambda at=at, wrong=wrong: D.Demand3(*demand[:at], wrong, *demand[at + 1:]), False))
-    bench_ += [
+
+
+def of_findings(D):
+    """Findings."""
+    return [
         ("backdoor: order", lambda: D.BackdoorCall(bench, ORDER, 0, [1]), True),
         ("not backdoor: order has none", lambda: D.BackdoorCall(bench, ORDER, 0, [0]), False),
         ("no backdoor: mail", lambda: D.BackdoorCall(bench, MAIL, 0, [0]), True),
@@ -354,8 +462,8 @@ def examples(D):
         ("finding: 13 of the second", lambda: D.InconsistentCall(bench, MAIL, 5, 13, []), True),
         ("not finding: 13 where both are there", lambda: D.InconsistentCall(bench, MAIL, ORDER, 13, []), False),
         ("not finding: answered, though the second is not there", lambda: D.InconsistentCall(bench, MAIL, 5, 0, [0]), False),
-        ("finding: 12", lambda: D.BackdoorCall(empty, MAIL, 12, []), True),
-        ("not finding: 13 before 12", lambda: D.BackdoorCall(empty, MAIL, 13, []), False),
+        ("finding: 12", lambda: D.BackdoorCall(EMPTY, MAIL, 12, []), True),
+        ("not finding: 13 before 12", lambda: D.BackdoorCall(EMPTY, MAIL, 13, []), False),
         ("compared: order, 1 and 4", lambda: D.Compared(False, bench, ORDER, 1, 4), True),
         ("not compared: order, 1 and 1", lambda: D.Compared(False, bench, ORDER, 1, 1), False),
         ("not compared: order, 4 and 4", lambda: D.Compared(False, bench, ORDER, 4, 4), False),
@@ -366,6 +474,12 @@ def examples(D):
         ("inconsistent: order and mail", lambda: D.Inconsistent(bench, ORDER, MAIL, 1, 1), True),
         ("not inconsistent: mail and order", lambda: D.Inconsistent(bench, MAIL, ORDER, 1, 1), False),
         ("not inconsistent: by another score", lambda: D.Inconsistent(bench, ORDER, MAIL, 0, 1), False),
+    ]
+
+
+def of_portal(D):
+    """The portal's numbers."""
+    return [
         ("portal: score 1", lambda: D.PortalCall(False, text(BENCH), ORDER, 1), True),
         ("portal: risk 3", lambda: D.PortalCall(True, text(BENCH), ORDER, 3), True),
         ("not portal: risk 1", lambda: D.PortalCall(True, text(BENCH), ORDER, 1), False),
@@ -379,6 +493,12 @@ def examples(D):
         ("not decoded: never of an item that isn't there", lambda: D.Decoded(text(BENCH), 5, 2**62), False),
         ("not decoded: a refusal of an item that is there", lambda: D.Decoded(text(BENCH), ORDER, 2**62 + 1), False),
         ("decoded: 13", lambda: D.Decoded(text(BENCH), 5, 2**62 + 13), True),
+    ]
+
+
+def of_same(D):
+    """When two answers are the same."""
+    return [
         ("same", lambda: D.Same(0, 0, [1], [1]), True),
         ("not same: numbers", lambda: D.Same(0, 1, [1], [1]), False),
         ("not same: values", lambda: D.Same(0, 0, [1], [2]), False),
@@ -387,6 +507,12 @@ def examples(D):
         ("same way", lambda: D.SameWay(0, 0, [], [], [1], [1], [1], [1]), True),
         ("same bases: not with another list", lambda: D.SameBases(0, 0, [], [], [1], [2]), False),
         ("same bases", lambda: D.SameBases(0, 0, [], [], [1], [1]), True),
+    ]
+
+
+def of_told(D):
+    """What the harness is told."""
+    return [
         ("front: to the front", lambda: D.Front([7, 8], [1, 2, 3], [7, 8, 3]), True),
         ("front: equal room", lambda: D.Front([7, 8], [1, 2], [7, 8]), True),
         ("not front: equal room unused", lambda: D.Front([7, 8], [1, 2], [1, 2]), False),
@@ -397,24 +523,29 @@ def examples(D):
         ("not told: the score behind", lambda: D.Told(lambda n, v: D.ScoreCall(False, bench, ORDER, n, v), [9, 9], [9, 1], 0, [[], [1], [3]]), False),
         ("question 12: bench", lambda: D.Question12Call(bench, 0), True),
         ("not question 12: bench is 12", lambda: D.Question12Call(bench, 12), False),
-        ("question 12: no item", lambda: D.Question12Call(empty, 12), True),
-        ("not question 12: no item is 0", lambda: D.Question12Call(empty, 0), False),
+        ("question 12: no item", lambda: D.Question12Call(EMPTY, 12), True),
+        ("not question 12: no item is 0", lambda: D.Question12Call(EMPTY, 0), False),
         ("told way: B6", lambda: D.WayTo(bench, ORDER, 2, [9, 9], [3, 4], [8, 8], [0, 1], 0, [2]), True),
         ("told lists: B3 and B4", lambda: D.BasesOf(bench, ORDER, LENT, [2, 5, 3, 6, 94], 0, [2, 2]), True),
         ("told reading: bench", lambda: D.ReadingCall(text(BENCH), 0, [0] + wordsOf(bench)), True),
         ("not told reading: no line", lambda: D.ReadingCall(text(BENCH), 0, wordsOf(bench)), False),
-        ("told reading: refused 5 in line 2", lambda: D.ReadingCall(REFUSED["refused 5"][0], 5, [2] + wordsOf(empty)), True),
-        ("not told reading: number for line", lambda: D.ReadingCall(REFUSED["refused 5"][0], 2, [5] + wordsOf(empty)), False),
+        ("told reading: refused 5 in line 2", lambda: D.ReadingCall(REFUSED["refused 5"][0], 5, [2] + wordsOf(EMPTY)), True),
+        ("not told reading: number for line", lambda: D.ReadingCall(REFUSED["refused 5"][0], 2, [5] + wordsOf(EMPTY)), False),
         ("told name: mail at 69", lambda: D.NameCall(text(BENCH), MAIL, 0, [69] + list(b"mail")), True),
         ("not told name: order", lambda: D.NameCall(text(BENCH), MAIL, 0, [84] + list(b"order")), False),
         ("told name: none", lambda: D.NameCall(text(BENCH), 5, 0, [0]), True),
         ("not told name: with a number", lambda: D.NameCall(text(BENCH), 5, 13, [0]), False),
     ]
+
+
+def of_determined(D):
+    """That contracts determine their answers."""
     answers = [(n, v) for n in (0, 12, 13, 14) for v in ([], [0], [1], [2], [3], [4], [26])]
-    way_answers = [(0, [2], [3, 4], [0, 1]), (0, [2], [3, 4], [9, 9]), (0, [], [9, 9], [9, 9]), (15, [], [9, 9], [9, 9]), (13, [], [9, 9], [9, 9])]
+    same = [9, 9]
+    way_answers = [(0, [2], [3, 4], [0, 1]), (0, [2], [3, 4], same), (0, [], same, same), (15, [], same, same), (13, [], same, same)]
     base_answers = [(0, [2, 2], [2, 5, 3, 6]), (0, [2, 2], [5, 2, 3, 6]), (0, [0, 0], LENT[:4]), (15, [], LENT[:4]), (13, [], LENT[:4])]
     mark_answers = [(0, [1, 1, 1, 1, 1]), (0, [2, 0, 1, 1, 0]), (0, [0, 0, 0, 0, 2]), (13, []), (12, []), (0, [])]
-    bench_ += [
+    return [
         ("determined: closure of mailpw", lambda: D.SetDetermined(False, bench, 2, answers), True),
         ("determined: way from mailpw", lambda: D.WayDetermined(bench, ORDER, 2, [9, 9], [9, 9], way_answers), True),
         ("determined: lists of order", lambda: D.BasesDetermined(bench, ORDER, LENT[:4], base_answers), True),
@@ -422,12 +553,19 @@ def examples(D):
         ("determined: marks of B7", lambda: D.MarksDetermined(False, bench, ORDER, [2, 2, 6, 4], mark_answers), True),
     ]
 
-    ring_ = [
+
+def of_ring(D):
+    """Document 003's example 5."""
+    return [
         ("B8", lambda: D.Base(False, ring, ring.graph, 5, [5, 6, 9, 10]), True),
         ("not B8: one set", lambda: D.Base(False, ring, ring.graph, 5, [5]), False),
         ("B8: closure from device, pwd_manager", lambda: D.AccessFrom(ring.graph, 6, 63), True),
     ]
-    one = [
+
+
+def of_one(D):
+    """One or two items."""
+    return [
         ("B9", lambda: D.Score(False, alone, alone.graph, 0, 5), True),
         ("B10", lambda: D.Score(False, closed, closed.graph, 0, 2**62), True),
         ("not B10: 2^62 + 1", lambda: D.Score(False, closed, closed.graph, 0, 2**62 + 1), False),
@@ -440,24 +578,19 @@ def examples(D):
         ("never against never: no backdoor", lambda: D.BackdoorCall(closed, 0, 0, [0]), True),
         ("never against never: idle", lambda: D.IneffectiveCall(closed, 0, 0, [1]), True),
     ]
-    spare_ = [
+
+
+def of_spare(D):
+    """What executable definitions mean."""
+    return [
         ("meaning: the executable definitions", lambda: D.Meaning(spare, spare.graph, [[1, 2, 1], [3, 4], []]), True),
         ("report meaning", lambda: D.ReportMeaning(spare), True),
     ]
-    docs = [DOC, Doc([item("a")], []), Doc([item("a"), item("a")], []), Doc([], []), Doc([item("A")], []), Doc([item("a", 1000001)], [])]
-    docs += [Doc([item("a", loss=1000001)], []), Doc([item("a", rank=10)], []), Doc([item("a")], [edge("b", "a")]), Doc([item("a")], [edge("a", "b")])]
-    docs += [Doc([item("a")], [edge("a", "a", 8)]), Doc([item("a")], [edge("a", "a"), edge("a", "a", 0, True)]), Doc([item("a")], [edge("a", "a"), edge("a", "a", 1)])]
-    docs += [Doc([item(f"i{n}", 0 if n < s else None, 0 if n < l else None) for n in range(m)], []) for m, s, l in [(64, 14, 14), (65, 0, 0), (64, 15, 0), (64, 0, 15)]]
-    full = [edge(f"i{f}", f"i{v}", c) for v in range(5) for c in range(8) for f in range(8)]
-    eight = [item(f"i{n}") for n in range(8)]
-    docs += [Doc(eight, full[:256]), Doc(eight, full[:257]), Doc([item("a" * 16, 1000000, 1000000, 9)] + eight, full[:1])]
-    valid = [True, True] + [False] * 10 + [True, True, False, False, False, True, False, True]
-    assert len(valid) == len(docs)
-    names = "two rows|one row|a name twice|no row|a name in capitals|start 1,000,001|loss 1,000,001|rank 10|an edge from nowhere|an edge to nowhere".split("|")
-    names += "colour 8|an edge twice|two colours|64 items, 14 and 14|65 items|15 starts|15 losses|256 edges|257 edges|the longest name, highest values".split("|")
-    rows = [(("valid: " if ok else "not valid: ") + n, lambda d=d: D.Valid(d), ok) for n, d, ok in zip(names, docs, valid)]
-    long_names = Doc([item(f"{n:016d}") for n in range(64)], [edge(f"{f:016d}", f"{v:016d}", c) for v in range(4) for c in range(8) for f in range(8)])
-    rows += [
+
+
+def of_rows(D):
+    """Rows as data."""
+    return [
         ("each: all small", lambda: D.Each(lambda x: x < 3, [1, 2]), True),
         ("not each: the second", lambda: D.Each(lambda x: x < 3, [1, 3]), False),
         ("apart: rising", lambda: D.Apart(lambda x, y: x > y, [1, 2, 3]), True),
@@ -475,9 +608,15 @@ def examples(D):
         ("not valid item: rank 10", lambda: D.ValidItem(item("a", rank=10)), False),
         ("valid edge: colour 7", lambda: D.ValidEdge(DOC.items, edge("pw", "box", 7)), True),
         ("not valid edge: colour 8", lambda: D.ValidEdge(DOC.items, edge("pw", "box", 8)), False),
-        ("valid: 64 names of 16 bytes, 256 edges", lambda: D.Valid(long_names), True),
-        ("accepted of valid", lambda: D.AcceptedOfValid(docs), True),
-        ("valid of accepted", lambda: D.ValidOfAccepted(TEXTS + [render(d) for d in docs], docs + [BENCH_DOC]), True),
+        ("valid: 64 names of 16 bytes, 256 edges", lambda: D.Valid(LONG_NAMES), True),
+    ]
+
+
+def of_meaning(D):
+    """What reading a sheet means."""
+    return [
+        ("accepted of valid", lambda: D.AcceptedOfValid(DOCS), True),
+        ("valid of accepted", lambda: D.ValidOfAccepted(TEXTS + [render(d) for d in DOCS], DOCS + [BENCH_DOC]), True),
         ("only yeses", lambda: D.OnlyYeses([D.Asked(4, True), D.Asked(5, True)]), True),
         ("not only yeses: the second", lambda: D.OnlyYeses([D.Asked(4, True), D.Asked(5, False)]), False),
         ("first no: 5", lambda: D.FirstNo([D.Asked(4, True), D.Asked(5, False), D.Asked(6, False)], 5), True),
@@ -493,15 +632,16 @@ def examples(D):
         ("not refused: bench", lambda: D.Refused(text(BENCH), NUMBERS, LINES), False),
         ("empty setup", lambda: D.EmptySetup(), True),
         ("accepted or refused", lambda: D.AcceptedOrRefused(TEXTS, NUMBERS, LINES), True),
-        ("question 12: setups and sheets", lambda: D.Question12([bench, setupOf(DOC), empty, with_vertex(bench, 0, Vertex(Credential, 1, 2, 10))], TEXTS), True),
-        ("names of rows", lambda: D.NamesOfRows(docs), True),
+        ("question 12: setups and sheets", lambda: D.Question12([bench, setupOf(DOC), EMPTY, RANK_10], TEXTS), True),
+        ("names of rows", lambda: D.NamesOfRows(DOCS), True),
     ]
-    for n, (t, q, k) in REFUSED.items():
-        rows.append((n, lambda t=t, q=q, k=k: D.Refusal(t, q, k), True))
-        rows.append((f"not {n}: another line", lambda t=t, q=q, k=k: D.Refusal(t, q, k + 1), False))
-        rows.append((f"not {n}: another number", lambda t=t, q=q, k=k: D.Refusal(t, q + 1, k), False))
+
+
+def of_whole(D):
+    """The report's parts."""
     rest = {"Start": [1, 2, 3], "Middle": [3], "End": []}
-    whole = [
+    parts = [[[1, 2], [3]], [[1, 2, 3]], [[1, 2]], [[3]], []]
+    return [
         ("whole: begun at the start", lambda: D.Begun(rest.get, [1, 2, 3], lambda c: True, "Start"), True),
         ("not whole: begun in the middle", lambda: D.Begun(rest.get, [1, 2, 3], lambda c: True, "Middle"), False),
         ("not whole: with nothing known", lambda: D.Begun(rest.get, [1, 2, 3], lambda c: False, "Start"), False),
@@ -509,9 +649,54 @@ def examples(D):
         ("not whole: one part, and not the end", lambda: D.WholeRun(rest.get, list(rest), "Start", [[1, 2]]), False),
         ("not whole: another part", lambda: D.WholeRun(rest.get, list(rest), "Start", [[1], [3]]), False),
         ("whole: texts in one", lambda: D.inOne([[1, 2], [3]]) == [1, 2, 3], True),
-        ("whole report", lambda: D.WholeReport(rest.get, [1, 2, 3], lambda c: True, list(rest), [[[1, 2], [3]], [[1, 2, 3]], [[1, 2]], [[3]], []]), True),
+        ("whole report", lambda: D.WholeReport(rest.get, [1, 2, 3], lambda c: True, list(rest), parts), True),
     ]
-    return {"far": far + whole, "one": one, "bench": bench_, "rows": rows, "spare": spare_, "ring": ring_}
+
+
+def of_full_marks(D):
+    """Full marks, less one count at a time."""
+    names = ["repeated", "shut", "loose", "missing"]
+    return [(f"not full: {n}", lambda i=i: D.Full(*[int(i == j) for j in range(4)]), False) for i, n in enumerate(names)]
+
+
+def of_demand3(D):
+    """Demand 3 of order, and with one answer replaced."""
+    right = [bench, ORDER, LENT, [2, 5, 3, 6, 94], 0, [2, 2], 0, [1], 0, [3], [2], 0, [1, 0, 0, 0, 1], [3, 6], 0, [2, 0, 0, 0, 0]]
+    others = [("score", 7, [4]), ("risk", 9, [1]), ("list", 3, LENT)]
+    others += [("openings' marks", 12, [1, 0, 0, 0, 0]), ("lockouts' marks", 15, [0, 0, 2, 0, 2])]
+    wrong = [(f"not demand 3: another {n}", lambda at=at, x=x: D.Demand3(*right[:at], x, *right[at + 1:]), False) for n, at, x in others]
+    return [("demand 3 of order", lambda: D.Demand3(*right), True)] + wrong
+
+
+def of_valid_rows(D):
+    """Rows at each bound and beyond it."""
+    return [(("valid: " if ok else "not valid: ") + n, lambda d=d: D.Valid(d), ok) for n, d, ok in ROWS]
+
+
+def of_refusals(D):
+    """Each refused sheet, and the same with another line and another number."""
+    found = []
+    for n, (t, q, k) in REFUSED.items():
+        found.append((n, lambda t=t, q=q, k=k: D.Refusal(t, q, k), True))
+        found.append((f"not {n}: another line", lambda t=t, q=q, k=k: D.Refusal(t, q, k + 1), False))
+        found.append((f"not {n}: another number", lambda t=t, q=q, k=k: D.Refusal(t, q + 1, k), False))
+    return found
+
+
+GROUPS = {
+    "far": [of_sets, of_setups, of_well_formed, of_parts, of_full_marks, of_whole],
+    "one": [of_one],
+    "bench": [of_derivations, of_ways, of_bases, of_scores, of_marks, of_set_calls, of_way_calls, of_base_calls, of_score_calls, of_demand3]
+    + [of_findings, of_portal, of_same, of_told, of_determined],
+    "rows": [of_valid_rows, of_rows, of_meaning, of_refusals],
+    "spare": [of_spare],
+    "ring": [of_ring],
+}
+
+
+def examples(D):
+    """For each world its examples: name, question, expected answer."""
+    return {world: [e for group in groups for e in group(D)] for world, groups in GROUPS.items()}
 
 
 def doc_of(lines):

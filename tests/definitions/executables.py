@@ -192,7 +192,9 @@ def withEdges(xs, g, es):
 
 
 def setupOf(d):
-    return Setup(len(d.items), verticesOf(d.items), withEdges(d.items, emptyGraph, d.edges), withEdges(d.items, emptyGraph, [e for e in d.edges if e.rec]))
+    graph = withEdges(d.items, emptyGraph, d.edges)
+    recovery = withEdges(d.items, emptyGraph, [e for e in d.edges if e.rec])
+    return Setup(len(d.items), verticesOf(d.items), graph, recovery)
 
 
 def question1(s):

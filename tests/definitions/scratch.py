@@ -70,7 +70,7 @@ def examples_file(text):
     return "\n".join(out) + "\n"
 
 
-def write(folder, altered=None, examples=None, more=()):
+def write(folder, altered, examples, more=()):
     """Writes the crate; `altered` maps a file (crate/Name) to its text in place of the project's; `more` are files behind the others."""
     altered = altered or {}
     crate_folder = FOLDER / folder / "defs"
@@ -78,12 +78,13 @@ def write(folder, altered=None, examples=None, more=()):
     proofs = crate_folder / "proofs"
     for d in (specs, proofs, crate_folder / "src"):
         d.mkdir(parents=True, exist_ok=True)
-    (crate_folder / "src" / "lib.rt").write_text("// The types that the definitions use.\n\n" + "\n\n".join(t for c in TYPES for t in types_of(c)) + "\n")
+    types = "\n\n".join(t for c in TYPES for t in types_of(c))
+    (crate_folder / "src" / "lib.rt").write_text(f"// The types that the definitions use.\n\n{types}\n")
     for f in [*FILES, *more]:
         crate, name = f.split("/")
         text = altered.get(f) or (ROOT / "crates" / crate / "specs" / f"{name}.antt").read_text()
         (specs / f"{crate}_{name}.antt").write_text(renamed(text))
     (specs / "Lib.antt").write_text("".join(f"pub mod {f.replace('/', '_')}\n" for f in [*FILES, *more]))
-    (proofs / "Examples.antt").write_text(renamed(examples_file(examples or (pathlib.Path(__file__).parent / "Examples.antt").read_text())))
+    (proofs / "Examples.antt").write_text(renamed(examples_file(examples)))
     (proofs / "Lib.antt").write_text("pub mod Examples\n")
     return crate_folder

@@ -89,7 +89,14 @@ def sum_of(crate, table):
             for path in sorted((ROOT / "crates" / name / part).rglob("*")):
                 if path.suffix in (".rt", ".antt"):
                     digest.update(f"{path.relative_to(ROOT)}\n".encode() + path.read_bytes())
+    for path in written_edits(crate):
+        digest.update(path.read_bytes())
     return digest.hexdigest()[:12]
+
+
+def written_edits(crate):
+    """The edits of a crate that are written by hand and that the gate does not try."""
+    return sorted((ROOT / "crates" / crate / "mutations").glob("*.edit"))
 
 
 def lay_out(crate, table):
@@ -99,7 +106,7 @@ def lay_out(crate, table):
     for name in [*below(crate, table), crate]:
         home = SCRATCH / "crates" / name
         shutil.rmtree(home, ignore_errors=True)
-        shutil.copytree(ROOT / "crates" / name, home, ignore=shutil.ignore_patterns("must-fail"))
+        shutil.copytree(ROOT / "crates" / name, home, ignore=shutil.ignore_patterns("must-fail", "mutations"))
         stamp, own_stamp = ROOT / "target" / "stamp" / name, SCRATCH / "target" / "stamp" / name
         if stamp.is_file() and name != crate and not (own_stamp.is_file() and own_stamp.read_bytes() == stamp.read_bytes()):
             rlib, own_rlib = ROOT / "target" / "rlib" / f"{name}.rlib", SCRATCH / "target" / "rlib" / f"{name}.rlib"
@@ -302,6 +309,26 @@ def try_crate(crate, table, shapes):
     return trials
 
 
+def try_written(crate):
+    """Tries the edits that are written by hand, one by one; gives their rows."""
+    rows = []
+    for path in written_edits(crate):
+        lay_edits(crate, [])
+        lines = path.read_text(encoding="utf-8").splitlines()
+        name, old, new = (next(line[len(key) :] for line in lines if line.startswith(key)) for key in ("file: ", "old: ", "new: "))
+        home = SCRATCH / "crates" / crate / name
+        text = home.read_text(encoding="utf-8")
+        if text.count(old) != 1:
+            sys.exit(f"mutate: {path.relative_to(ROOT)}: the old text stands {text.count(old)} times in {name}")
+        home.write_text(text.replace(old, new), encoding="utf-8")
+        said = run_dev(crate)
+        keep_said(crate, said)
+        verdict = "refused" if re.search(r"^logic=not-proved", said, re.M) else "survived" if re.search(r"^logic=", said, re.M) else "rejected"
+        places = [f"{error.group(3)}:{error.group(4)}" for error in ERROR.finditer(said)]
+        rows.append([f"edit {path.stem}", "-", code(old.strip()), code(new.strip()), verdict, places[0] if places else "-"])
+    return rows
+
+
 def code(text):
     """A text as code in a table's cell."""
     return "`" + text.replace("|", "\\|") + "`"
@@ -356,7 +383,7 @@ def few_of(sections):
     """The functions with fewer edits than wanted, by crate."""
     few = []
     for crate, (_, _, rows) in sections.items():
-        names = list(dict.fromkeys(row[0] for row in rows if not row[0].startswith("const ")))
+        names = list(dict.fromkeys(row[0] for row in rows if not row[0].startswith(("const ", "edit "))))
         short = [(name, sum(row[0] == name and row[4] != "no edit" for row in rows)) for name in names]
         short = [f"`{name}` {count}" for name, count in short if count < WANTED]
         if short:
@@ -372,7 +399,8 @@ Written by `scripts/mutate.py` (`make mutate`). {date}: {functions} functions an
 An edit changes one operand of a function's code: an operator by its sibling, a number by the next one, a variable, a field or a case by
 another of the same type, a truth value by the other. Contracts, definitions and proofs stay as they are. Each function gets three edits
 where it has as many, on different lines where it can, and each constant one. `scripts/edits.py` finds them, the same ones in every run.
-An edit that the front end rejects, as a type error, does not count, and another one takes its place.
+An edit that the front end rejects, as a type error, does not count, and another one takes its place. Beside these stand the edits of
+`crates/NAME/mutations`, which are written by hand.
 
 The crate with the edit is checked by `rt dev` over what was checked of it without the edit. An edit is refused where the edited function
 itself is not proved; "where" is the place of the first error about it, or `search` where the function has no proof file and the prover
@@ -397,7 +425,7 @@ def write_record(sections, order, notes):
     items = {(crate, row[0]) for crate, row in everything}
     counts = {
         "date": max((date for _, date, _ in sections.values()), default="-"),
-        "functions": sum(not name.startswith("const ") for _, name in items),
+        "functions": sum(not name.startswith(("const ", "edit ")) for _, name in items),
         "constants": sum(name.startswith("const ") for _, name in items),
         "crates": len(sections),
         "edits": len(tried),
@@ -433,10 +461,11 @@ def main():
         began = time.time()
         trials = try_crate(crate, table, shapes)
         if trials:
-            sections[crate] = (total, datetime.date.today().isoformat(), rows_of(trials))
+            rows = rows_of(trials) + try_written(crate)
+            sections[crate] = (total, datetime.date.today().isoformat(), rows)
             write_record(sections, order, read_notes())
-            survived = sum(result == "survived" for trial in trials for _, result, _ in trial.results)
-            count = sum(len(trial.results) for trial in trials)
+            survived = sum(row[4] == "survived" for row in rows)
+            count = sum(row[4] != "no edit" for row in rows)
             print(f"mutate: {crate}: {count} edits, {survived} not refused, {time.time() - began:.0f} s", flush=True)
     open_ones = write_record(read_record(), order, read_notes())
     print(f"mutate: {open_ones} survivors of which nothing is said")

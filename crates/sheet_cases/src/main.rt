@@ -240,7 +240,7 @@ fn tell_between(label: &[u8], above: &[u8], rows: &[u8], below: &[u8]) {
 fn tell_case(above: &[u8], case: &[u8], below: &[u8]) {
     let bar = sheet_fields::find(case, 0, b'|');
     if bar < case.len() {
-        tell_between(&case[..bar], above, &case[bar + 1..], below);
+        tell_between(&case[0..bar], above, &case[bar + 1..], below);
     } else {
         tell_between(case, above, case, below);
     }

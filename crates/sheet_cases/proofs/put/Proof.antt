@@ -24,8 +24,11 @@ same-length c = search needs
 returns : tie.Need-returns Inv-loop μ-loop
 returns c = counts _ _ (c .before .before .loop .inv .1)
 
-shared-slice-read-text : tie.Need-shared-slice-read-text Inv-loop μ-loop
-shared-slice-read-text c = search needs
+shared-slice-read-byte-of : tie.Need-shared-slice-read-byte-of Inv-loop μ-loop
+shared-slice-read-byte-of c = search needs
+
+byte-of-requires : tie.Need-byte-of-requires Inv-loop μ-loop
+byte-of-requires c κs = search needs
 
 slice-write-text : tie.Need-slice-write-text Inv-loop μ-loop
 slice-write-text c = search needs
@@ -41,10 +44,9 @@ loop-less c = search needs
 
 loop-again : tie.Need-loop-again Inv-loop μ-loop
 loop-again c =
-    let b = c .before .before .before in
-    let byte = getD (b .before .before .before .before .args .part .now) (b .loop .i) 0 in
+    let b = c .before .before .before .before in
     let lt : b .loop .next < length (b .loop .text) = search needs in
-    stored (b .loop .text) _ (b .loop .next) byte (b .loop .inv .0) lt
+    stored (b .loop .text) _ (b .loop .next) _ (b .loop .inv .0) lt
 
 same-length-2 : tie.Need-same-length-2 Inv-loop μ-loop
 same-length-2 c = search needs
@@ -62,7 +64,8 @@ put-spec =
     loop-holds
     same-length
     returns
-    shared-slice-read-text
+    shared-slice-read-byte-of
+    byte-of-requires
     slice-write-text
     add-next
     add-i

@@ -60,7 +60,8 @@ twoSetup =
     record {
       count = 2;
       vertices = places
-          (record { kind = Credential; start = Of 10; loss = Blank; rank = 0 } ∷ record { kind = Account; start = Blank; loss = Blank; rank = 9 } ∷ []);
+          (record { kind = Credential; start = Of 10; loss = Blank; rank = 0 }
+          ∷ record { kind = Account; start = Blank; loss = Blank; rank = 9 } ∷ []);
       graph = graph ([] ∷ (0 ∷ 0 ∷ 3 ∷ []) ∷ []);
       recovery = graph ([] ∷ (0 ∷ 0 ∷ 1 ∷ []) ∷ []);
     }
@@ -173,7 +174,8 @@ pub report-ordered : reportOf (linesText ("name kind start loss rank" ∷ "p c 0
       ∷ "low 0 7 no yes" ∷ "high 1000000 - no yes" ∷ "" ∷ "above below" ∷ [])
 
 -- accounts that nothing opens and nothing locks
-pub report-unreachable : reportOf (linesText ("name kind start loss rank" ∷ "shut a - - 2" ∷ "gone a - - 1" ∷ "" ∷ "from to colour rec" ∷ "shut gone 0 1" ∷ [])) ≡
+pub report-unreachable : reportOf (linesText ("name kind start loss rank" ∷ "shut a - - 2" ∷ "gone a - - 1" ∷ ""
+      ∷ "from to colour rec" ∷ "shut gone 0 1" ∷ [])) ≡
       linesText ("target way size sum items" ∷ "" ∷ "target score risk back idle" ∷ "shut - - no yes" ∷ "gone - - no yes" ∷ "" ∷ "above below"
       ∷ "shut gone" ∷ [])
 
@@ -208,6 +210,9 @@ pub item-63 : sumOver (λ v. v) (2 ^ 63 + 2 ^ 5) ≡ 68
 pub loss-of-two : closureOf true (bench .setup .count) (bench .setup .graph) 3 ≡ 27
 
 pub loss-of-one : closureOf true (bench .setup .count) (bench .setup .graph) 1 ≡ 1
+
+-- seed, which acc_backup opens, stands before it
+pub late-edge : baseOf false (ring .setup) (ring .setup .graph) 3 ≡ 8 ∷ 5 ∷ 6 ∷ []
 
 pub way-by-lowest-colour : wayOf (bench .setup .count) (bench .setup .graph) order 7 ≡
       record { vertex = 3; colour = 0 } ∷ record { vertex = 4; colour = 0 } ∷ []

@@ -1,4 +1,7 @@
-"""Alters each definition of computed.txt in a copy of the definitions and has the prover compute the examples again."""
+"""Alters each definition of computed.txt in a copy of the definitions and has the prover compute the examples again.
+
+`--record` looks for an example that fails where none is named yet, `--limit=N` ends after N alterations, other words choose files and names.
+"""
 import re
 import subprocess
 import sys
@@ -7,8 +10,6 @@ import blocks
 import scratch
 
 DATA = blocks.HERE / "computed.txt"
-
-
 TEXT = (blocks.HERE / "Examples.antt").read_text()
 DOCUMENT = TEXT[:TEXT.index("-- ---- the other examples of the report")]
 # The examples to try first for the definitions of a file, by the beginnings of their names; then those of document 01, then the further ones.

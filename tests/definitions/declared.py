@@ -67,7 +67,8 @@ def typed():
             texts[file] = blocks.replaced(texts.get(file) or blocks.source(file).read_text(), name, b["old"], b["new"])
         run = subprocess.run(["rt", "check", str(scratch.write("typed", texts, scratch.NO_EXAMPLES, ABOVE))], capture_output=True, text=True)
         if run.returncode:
-            print("\n".join(re.findall(r"^.*: error: .*$", run.stdout + run.stderr, re.M))[:3000])
+            errors = re.findall(r"^.*: error: .*$", run.stdout + run.stderr, re.M)
+            print("\n".join(e[:300] for e in errors if "was not admitted" not in e))
         bad += run.returncode != 0
         rounds += 1
         left = [b for b in left if now[b["file"], b["name"]] is not b]

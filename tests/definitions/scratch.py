@@ -8,7 +8,7 @@ import re
 
 ROOT = pathlib.Path(__file__).resolve().parents[2]
 FOLDER = ROOT / "build" / "definitions"
-NO_EXAMPLES = "use mathlib.Core.Path.{_≡_, refl}\n\n-- none\n"
+NO_EXAMPLES = "-- No examples.\nuse mathlib.Core.Path.{_≡_, refl}\n\n"
 
 # The files with executable definitions, and what they stand on, in order.
 FILES = """

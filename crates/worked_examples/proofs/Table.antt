@@ -95,10 +95,11 @@ further-shown : Each Shown further
 unfolding lowest some every those isListed isMember isWithin isMeeting withVertex isComplete isBroken colourOf isAdded passOf passesOf closureOf derivesOf vertexOf stepsOf wayOf isChosen setsOfSize setsUpTo setsOf targetSetsOf isMinimal baseOf leastSum scoreOf markOf marksFrom countsOf marksOf sumOver
 further-shown =
     let bench = all-read .0 in
+    let ring = all-read .1 .0 in
     let closed = all-read .1 .1 .1 .0 in
     let spare = all-read .1 .1 .1 .1 .1 .1 .0 in
     let full = all-read .1 .1 .1 .1 .1 .1 .1 .0 in
-    (bench, refl) & (bench, refl) & (bench, (refl, refl)) & (bench, (refl, refl)) & (closed, refl) & (bench, refl) & (bench, refl)
+    (bench, refl) & (bench, refl) & (ring, refl) & (bench, (refl, refl)) & (bench, (refl, refl)) & (closed, refl) & (bench, refl) & (bench, refl)
     & (spare, refl) & (spare, refl) & (spare, refl) & (spare, refl) & (spare, (refl, refl)) & (full, refl) & (full, refl) & tt
 
 -- and what B1 to B12 leave open

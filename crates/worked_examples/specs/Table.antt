@@ -88,6 +88,8 @@ further =
     -- losses: by all colours of order, and by one of two
     loss bench (setOf (ordpw ∷ mailpw ∷ [])) (setOf (ordpw ∷ mailpw ∷ mail ∷ order ∷ []))
     ∷ loss bench (setOf (ordpw ∷ [])) (setOf (ordpw ∷ []))
+    -- a late edge: acc_backup, which opens seed, stands behind it, and one pass over the vertices is not enough
+    ∷ opening ring seed (setOf (seed ∷ []) ∷ setOf (pwdBackup ∷ device ∷ []) ∷ setOf (pwdManager ∷ device ∷ []) ∷ [])
     -- the lower of two complete colours, and a target that is held
     ∷ way bench order (setOf (ordpw ∷ mailpw ∷ token ∷ [])) (record { vertex = mail; colour = 0 } ∷ record { vertex = order; colour = 0 } ∷ [])
     ∷ way bench order (setOf (order ∷ [])) []

@@ -403,14 +403,15 @@ An edit that the front end rejects, as a type error, does not count, and another
 `crates/NAME/mutations`, which are written by hand.
 
 The crate with the edit is checked by `rt dev` over what was checked of it without the edit. An edit is refused where the edited function
-itself is not proved; "where" is the place of the first error about it, or `search` where the function has no proof file and the prover
-finds no proof by itself. Several functions are edited in one run, each at one place:
-a proof rests on the contracts of the functions that it calls, and on no other body. What seems to survive such a run is tried again alone.
-"Refused by shape" ({shape} edits): the first error is not about a fact, but that the proof names a step of the code that is no longer there;
-such an edit counts only where no better one is left.
+itself is not proved (for a constant: some function of its crate). "Where" is the place of the first error about it, or `search` where the
+function has no proof file and the prover finds no proof by itself. Several functions are edited in one run, each at one place: a proof
+rests on the contracts of the functions that it calls, and on no other body. What seems to survive such a run is tried again alone.
 
-What a refusal does not show: proofs are written for the code as it is, so a refused edit may be one that a new proof would accept.
-What a survivor shows: the contract leaves the difference open.
+"Refused by shape" ({shape} edits): the first error is not about a fact, but that the proof names a step of the code that is no longer
+there. Such an edit counts only where no better one is left.
+
+What a refusal does not show: proofs are written for the code as it is, so a refused edit may be one that a new proof would accept. What
+a survivor shows: the difference is one that the contract leaves open, or no difference at all.
 
 A crate is tried again when its own files, or the code or definitions of a crate below it, have changed: the sum beside its name tells.
 """
@@ -455,13 +456,13 @@ def main():
     shapes = shapes_of(order)
     for crate in asked or order:
         total = sum_of(crate, table)
-        sections = read_record()
-        if not asked and crate in sections and sections[crate][0] == total:
+        if not asked and read_record().get(crate, ("",))[0] == total:
             continue
         began = time.time()
         trials = try_crate(crate, table, shapes)
         if trials:
             rows = rows_of(trials) + try_written(crate)
+            sections = read_record()
             sections[crate] = (total, datetime.date.today().isoformat(), rows)
             write_record(sections, order, read_notes())
             survived = sum(row[4] == "survived" for row in rows)

@@ -10,7 +10,7 @@ import blocks
 import scratch
 
 DATA = blocks.HERE / "computed.txt"
-TEXT = (blocks.HERE / "Examples.antt").read_text()
+TEXT = (blocks.HERE / "Examples.txt").read_text()
 DOCUMENT = TEXT[:TEXT.index("-- ---- the other examples of the report")]
 # The examples to try first for the definitions of a file, by the beginnings of their names; then those of document 01, then the further ones.
 FIRST = {

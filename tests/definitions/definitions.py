@@ -467,7 +467,7 @@ def WayWritten(d, number, values, entry, exit, entry_, exit_):
     room = implies(
         lambda: len(d) <= len(entry) and len(d) <= len(entry_),
         lambda: number == 0
-        and values == [len(d)]
+        and values == [1, len(d)]
         and exit == written([e.vertex for e in d], entry)
         and exit_ == written([e.colour for e in d], entry_),
     )
@@ -492,7 +492,7 @@ def WayCall(s, target, set_, number, values, entry, exit, entry_, exit_):
         lambda: Refuses(14, number, values) and Untouched(entry, exit, entry_, exit_),
     )
     shut = implies(
-        lambda: asked() and not HasAccess(s.graph, held, target), lambda: number == 0 and values == [] and Untouched(entry, exit, entry_, exit_)
+        lambda: asked() and not HasAccess(s.graph, held, target), lambda: number == 0 and values == [0] and Untouched(entry, exit, entry_, exit_)
     )
     found = implies(
         lambda: asked() and HasAccess(s.graph, held, target),
@@ -937,6 +937,32 @@ def MarksDetermined(loss, s, target, handed, answers):
     )
 
 
+# ---- demands/Demands
+
+
+def FindingsDetermined(s, v, w, answers):
+    backdoor = all(
+        implies(lambda: BackdoorCall(s, v, n, x) and BackdoorCall(s, v, n_, x_), lambda: Same(n, n_, x, x_)) for n, x in answers for n_, x_ in answers
+    )
+    ineffective = all(
+        implies(lambda: IneffectiveCall(s, v, n, x) and IneffectiveCall(s, v, n_, x_), lambda: Same(n, n_, x, x_))
+        for n, x in answers
+        for n_, x_ in answers
+    )
+    inconsistent = all(
+        implies(lambda: InconsistentCall(s, v, w, n, x) and InconsistentCall(s, v, w, n_, x_), lambda: Same(n, n_, x, x_))
+        for n, x in answers
+        for n_, x_ in answers
+    )
+    return backdoor and ineffective and inconsistent
+
+
+def PortalDetermined(loss, text, item, answers):
+    return all(
+        implies(lambda: PortalCall(loss, text, item, r) and PortalCall(loss, text, item, r_), lambda: r == r_) for r in answers for r_ in answers
+    )
+
+
 # ---- reference/Meaning
 
 
@@ -1011,13 +1037,22 @@ def WholeReport(rest, report, here, cursors, lists_of_parts):
     )
 
 
-# ---- probe/Told
+# ---- probe_tells/Tells
 
 
 def Front(xs, entry, exit):
     room = implies(lambda: len(xs) <= len(entry), lambda: exit == written(xs, entry))
     short = implies(lambda: len(entry) < len(xs), lambda: exit == entry)
     return room and short
+
+
+def Tells(number, values, entry, exit, r):
+    returned = r == number
+    front = Front(values, entry, exit)
+    return returned and front
+
+
+# ---- probe/Told
 
 
 def Told(Call, entry, exit, r, candidates):

@@ -387,16 +387,17 @@ def of_way_calls(D):
         ("untouched", lambda: D.Untouched([1], [1], [2], [2]), True),
         ("not untouched: the first", lambda: D.Untouched([1], [0], [2], [2]), False),
         ("not untouched: the second", lambda: D.Untouched([1], [1], [2], [0]), False),
-        ("call: way, B6", lambda: way_call(ORDER, 2, 0, [2], [9, 9, 9], [3, 4, 9], [9, 9], [0, 1]), True),
-        ("not call: way, items for colours", lambda: way_call(ORDER, 2, 0, [2], [9, 9, 9], [0, 1, 9], [9, 9], [3, 4]), False),
-        ("not call: way, a place behind changed", lambda: way_call(ORDER, 2, 0, [2], [9, 9, 9], [3, 4, 0], [9, 9], [0, 1]), False),
+        ("call: way, B6", lambda: way_call(ORDER, 2, 0, [1, 2], [9, 9, 9], [3, 4, 9], [9, 9], [0, 1]), True),
+        ("not call: way, items for colours", lambda: way_call(ORDER, 2, 0, [1, 2], [9, 9, 9], [0, 1, 9], [9, 9], [3, 4]), False),
+        ("not call: way, a place behind changed", lambda: way_call(ORDER, 2, 0, [1, 2], [9, 9, 9], [3, 4, 0], [9, 9], [0, 1]), False),
         ("call: way, 15 for the second list", lambda: way_call(ORDER, 2, 15, [], [9, 9], [9, 9], [9], [9]), True),
         ("call: way, 15 for the first list", lambda: way_call(ORDER, 2, 15, [], [9], [9], [9, 9], [9, 9]), True),
         ("not call: way, 15 with equal room", lambda: way_call(ORDER, 2, 15, [], [9, 9], [9, 9], [9, 9], [9, 9]), False),
         ("not call: way, 15 with a place changed", lambda: way_call(ORDER, 2, 15, [], [9, 9], [9, 9], [9], [0]), False),
-        ("call: way, none where held", lambda: way_call(ORDER, 16, 0, [0], [], [], [], []), True),
-        ("call: way, shut", lambda: way_call(ORDER, 4, 0, [], [], [], [], []), True),
-        ("not call: way, shut where open", lambda: way_call(ORDER, 2, 0, [], [9, 9], [9, 9], [9, 9], [9, 9]), False),
+        ("call: way, none where held", lambda: way_call(ORDER, 16, 0, [1, 0], [], [], [], []), True),
+        ("call: way, shut", lambda: way_call(ORDER, 4, 0, [0], [], [], [], []), True),
+        ("not call: way, a refusal without a number for shut", lambda: way_call(ORDER, 4, 0, [], [], [], [], []), False),
+        ("not call: way, shut where open", lambda: way_call(ORDER, 2, 0, [0], [9, 9], [9, 9], [9, 9], [9, 9]), False),
         ("not call: way, 15 where shut", lambda: way_call(ORDER, 4, 15, [], [], [], [], []), False),
         ("call: way, 13", lambda: way_call(5, 2, 13, [], [9], [9], [9], [9]), True),
         ("call: way, 13 before 14", lambda: way_call(5, 32, 13, [], [9], [9], [9], [9]), True),
@@ -513,6 +514,8 @@ def of_same(D):
 def of_told(D):
     """What the harness is told."""
     return [
+        ("tells: 3 and 7", lambda: D.Tells(3, [7], [1, 2], [7, 2], 3), True),
+        ("not tells: another number", lambda: D.Tells(3, [7], [1, 2], [7, 2], 4), False),
         ("front: to the front", lambda: D.Front([7, 8], [1, 2, 3], [7, 8, 3]), True),
         ("front: equal room", lambda: D.Front([7, 8], [1, 2], [7, 8]), True),
         ("not front: equal room unused", lambda: D.Front([7, 8], [1, 2], [1, 2]), False),
@@ -525,7 +528,7 @@ def of_told(D):
         ("not question 12: bench is 12", lambda: D.Question12Call(bench, 12), False),
         ("question 12: no item", lambda: D.Question12Call(EMPTY, 12), True),
         ("not question 12: no item is 0", lambda: D.Question12Call(EMPTY, 0), False),
-        ("told way: B6", lambda: D.WayTo(bench, ORDER, 2, [9, 9], [3, 4], [8, 8], [0, 1], 0, [2]), True),
+        ("told way: B6", lambda: D.WayTo(bench, ORDER, 2, [9, 9], [3, 4], [8, 8], [0, 1], 0, [1, 2]), True),
         ("told lists: B3 and B4", lambda: D.BasesOf(bench, ORDER, LENT, [2, 5, 3, 6, 94], 0, [2, 2]), True),
         ("told reading: bench", lambda: D.ReadingCall(text(BENCH), 0, [0] + wordsOf(bench)), True),
         ("not told reading: no line", lambda: D.ReadingCall(text(BENCH), 0, wordsOf(bench)), False),
@@ -542,7 +545,7 @@ def of_determined(D):
     """That contracts determine their answers."""
     answers = [(n, v) for n in (0, 12, 13, 14) for v in ([], [0], [1], [2], [3], [4], [26])]
     same = [9, 9]
-    way_answers = [(0, [2], [3, 4], [0, 1]), (0, [2], [3, 4], same), (0, [], same, same), (15, [], same, same), (13, [], same, same)]
+    way_answers = [(0, [1, 2], [3, 4], [0, 1]), (0, [1, 2], [3, 4], same), (0, [0], same, same), (15, [], same, same), (13, [], same, same)]
     base_answers = [(0, [2, 2], [2, 5, 3, 6]), (0, [2, 2], [5, 2, 3, 6]), (0, [0, 0], LENT[:4]), (15, [], LENT[:4]), (13, [], LENT[:4])]
     mark_answers = [(0, [1, 1, 1, 1, 1]), (0, [2, 0, 1, 1, 0]), (0, [0, 0, 0, 0, 2]), (13, []), (12, []), (0, [])]
     return [
@@ -551,6 +554,8 @@ def of_determined(D):
         ("determined: lists of order", lambda: D.BasesDetermined(bench, ORDER, LENT[:4], base_answers), True),
         ("determined: score of order", lambda: D.ScoreDetermined(False, bench, ORDER, answers), True),
         ("determined: marks of B7", lambda: D.MarksDetermined(False, bench, ORDER, [2, 2, 6, 4], mark_answers), True),
+        ("determined: findings of order", lambda: D.FindingsDetermined(bench, ORDER, MAIL, answers), True),
+        ("determined: the portal's number for order", lambda: D.PortalDetermined(False, text(BENCH), ORDER, [0, 1, 3, 13, 2**62, 2**62 + 13]), True),
     ]
 
 

@@ -10,13 +10,14 @@ use lib.Bits.{bitOr}
 use lib.ListN.{length, List·getD-eq-default}
 use Rattle.vertex_set.specs.Set.{Member, Iff}
 use Rattle.vertex_set.proofs.Cases.{same-or, less-or, false-true}
+use Rattle.vertex_set.proofs.Decisions.{iff-trans}
 use Rattle.vertex_set.proofs.Sets.{in-or, none-in-zero, some-member}
 use Rattle.setup.specs.declared.Rows.{Rows}
 use Rattle.setup.specs.Setup.{rowOf}
 use Rattle.derivations.specs.Lockout.{SomeLost}
 use Rattle.derivations.specs.Derivation.{Vertices}
 use Rattle.words.specs.Words.{At, FamilyWhere}
-use Rattle.words.proofs.Families.{iff-trans, family-as, full-word}
+use Rattle.words.proofs.Families.{family-as, full-word}
 use Rattle.lanes.specs.Lanes.{Lane, AllHeld, WholeColour, CutColour, Takes, untakenWord, Admits, Coloured, Needed}
 
 -- ---- places below n

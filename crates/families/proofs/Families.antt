@@ -105,7 +105,7 @@ least-minimal f m mono h l =
           l .none (w .0) (w .1) (mono .up k (m - 2 ^ w .0) (omega arith) (omega arith) (within-removed k m (w .0) (p .within) (w .1) (w .2)) i);
     }
 
-minimal-least : (f : List ℕ) (m : ℕ) → Minimal f m → Least f m
+pub minimal-least : (f : List ℕ) (m : ℕ) → Minimal f m → Least f m
 minimal-least f m l = record { is = l .is; none = λ j k i. l .none (m - 2 ^ j) (removed-proper m j k) i }
 
 pub minimal-members : (f g : List ℕ) → ((b : ℕ) → b < 256 → LeastWord f b (getD g b 0)) → MinimalMembers f g

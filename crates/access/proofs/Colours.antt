@@ -14,20 +14,21 @@ use Rattle.vertex_set.proofs.Cases.{less-or, false-true}
 use Rattle.setup.specs.declared.Rows.{Rows}
 use Rattle.setup.specs.Setup.{rowOf}
 use Rattle.derivations.specs.Derivation.{Vertices}
-use Rattle.derivations.specs.Lockout.{SomeLost}
-use Rattle.access.specs.Inner.{Complete, LowestColour, SomeComplete, AllBroken}
+use Rattle.derivations.specs.Admits.{Complete, Broken, SomeComplete, AllBroken}
+use Rattle.access.specs.Inner.{LowestColour}
 
 -- ---- the lowest complete colour
 
 -- No colour below n is complete.
 abbrev pub NoneBelow : Rows → Vertices → ℕ → Type 0
-NoneBelow rows held n = (c : ℕ) → c < n → Complete rows held c → ⊥
+NoneBelow rows held n = (c : ℕ) → c < n → Complete held (rowOf rows c) → ⊥
 
-complete-below : (rows : Rows) (s c : ℕ) → length (rows .needs) ≡ 8 → Complete rows (Member s) c → c < 8
+complete-below : (rows : Rows) (s c : ℕ) → length (rows .needs) ≡ 8 → Complete (Member s) (rowOf rows c) → c < 8
 complete-below rows s c long h =
     ⊎-elim (λ l. l) (λ l. absurd (h .coloured (List·getD-eq-default (rows .needs) 0 (omega arith)))) (less-or c 8)
 
-not-below : (rows : Rows) (s n : ℕ) → length (rows .needs) ≡ 8 → NoneBelow rows (Member s) n → (c : ℕ) → Complete rows (Member s) c → (n ≤ c) × (c < 8)
+not-below : (rows : Rows) (s n : ℕ) → length (rows .needs) ≡ 8 → NoneBelow rows (Member s) n
+    → (c : ℕ) → Complete (Member s) (rowOf rows c) → (n ≤ c) × (c < 8)
 not-below rows s n long none c h = (⊎-elim (λ k. absurd (none c k h)) (λ k. k) (less-or c n), complete-below rows s c long h)
 
 pub lowest-found : (rows : Rows) (s c : ℕ) → c < 8 → length (rows .needs) ≡ 8 → NoneBelow rows (Member s) c → (rowOf rows c ≡ 0 → ⊥) → Within (rowOf rows c) s
@@ -38,10 +39,10 @@ lowest-found rows s c l long none n w =
 pub lowest-none : (rows : Rows) (s : ℕ) → length (rows .needs) ≡ 8 → NoneBelow rows (Member s) 8 → LowestColour rows (Member s) 8
 lowest-none rows s long none = record { most = omega arith; complete = λ k. absurd (omega arith); lower = not-below rows s 8 long none }
 
-pub none-empty : (rows : Rows) (s c : ℕ) → rowOf rows c ≡ 0 → Complete rows (Member s) c → ⊥
+pub none-empty : (rows : Rows) (s c : ℕ) → rowOf rows c ≡ 0 → Complete (Member s) (rowOf rows c) → ⊥
 none-empty rows s c e h = h .coloured e
 
-pub none-within : (rows : Rows) (s c : ℕ) → (Within (rowOf rows c) s → ⊥) → Complete rows (Member s) c → ⊥
+pub none-within : (rows : Rows) (s c : ℕ) → (Within (rowOf rows c) s → ⊥) → Complete (Member s) (rowOf rows c) → ⊥
 none-within rows s c n h = n (record { each = h .within })
 
 -- a complete colour is there exactly where the lowest is below 8
@@ -63,7 +64,7 @@ some-complete rows s r l =
 pub record BrokenBelow (rows : Rows) (lost : Vertices) (n : ℕ) (some : Bool) : Type 0 where
   pub yes : some ≡ true → (c : ℕ) × (rowOf rows c ≡ 0 → ⊥)
   pub no : some ≡ false → (c : ℕ) → c < n → rowOf rows c ≡ 0
-  pub every : (c : ℕ) → c < n → (rowOf rows c ≡ 0 → ⊥) → SomeLost lost (rowOf rows c)
+  pub every : (c : ℕ) → c < n → Broken lost (rowOf rows c)
 
 pub broken-none : (rows : Rows) (s : ℕ) → BrokenBelow rows (Member s) 0 false
 broken-none rows s = record { yes = λ e. absurd (false-true e); no = λ e. below-none _; every = below-none _ }

@@ -1,56 +1,24 @@
 -- Passes over the vertices: each is sound, and where one adds nothing the set is closed.
 -- Assumes nothing.
 use mathlib.Core.Path.{_≡_, refl, sym, subst}
-use mathlib.Core.Bool.{Bool, true, false}
-use mathlib.Core.List.{[]}
-use mathlib.Core.Logic.{_⊎_, inl, inr, ⊎-elim}
-use Prim.Native.Nat.{ℕ, _+_, _-_, _^_, _≤_, _<_}
+use mathlib.Core.Bool.{Bool}
+use mathlib.Core.Logic.{inl, inr, ⊎-elim}
+use Prim.Native.Nat.{ℕ, _+_, _-_, _^_, _<_}
 use native.Mathlib.Omega.{arith}
 use lib.Arith.{lt-of-le-ne}
-use lib.ListN.{length, List·getD-eq-default}
+use lib.ListN.{length}
 use borrow.Author.Count.{below-none, below-more}
 use Rattle.vertex_set.specs.Set.{Member, Within, Inserted}
-use Rattle.vertex_set.proofs.Cases.{less-or}
 use Rattle.vertex_set.proofs.Sets.{within-refl, within-trans, within-le}
-use Rattle.setup.specs.declared.Rows.{Rows}
 use Rattle.setup.specs.declared.Graph.{Graph}
-use Rattle.setup.specs.Setup.{rowsAt, rowOf}
-use Rattle.derivations.specs.Derivation.{Vertices, Derivation, Closure}
-use Rattle.derivations.specs.Access.{Step}
+use Rattle.setup.specs.Setup.{rowsAt}
+use Rattle.derivations.specs.Derivation.{Derivation, Closure}
 use Rattle.derivations.specs.Both.{ruleOf}
-use Rattle.derivations.proofs.Rules.{Sub, held, monotone, closed, least, twice}
-use Rattle.derivations.proofs.Graphs.{some-lost-mono}
+use Rattle.derivations.specs.Admits.{Admits}
+use Rattle.derivations.proofs.Rules.{held, monotone, least, twice}
 use Rattle.derivations.proofs.Both.{lawful}
-use Rattle.access.specs.Inner.{RowsAdmit, Passed}
-
--- ---- a vertex admitted by its rows is one that a step adds
-
-pub rows-mono : (loss : Bool) (rows : Rows) (P Q : Vertices) → Sub P Q → RowsAdmit loss rows P → RowsAdmit loss rows Q
-rows-mono false rows P Q s a =
-    record { colour = a .colour; complete = record { coloured = a .complete .coloured; within = λ i m. s i (a .complete .within i m) } }
-rows-mono true rows P Q s a = record { colour = a .colour; coloured = a .coloured; every = λ c n. some-lost-mono P Q s (rowOf rows c) (a .every c n) }
-
--- what derivable vertices admit is derivable
-pub admitted : (loss : Bool) (g : Graph) (P : Vertices) (v : ℕ) → RowsAdmit loss (rowsAt g v) (Derivation (ruleOf loss g) P) → Derivation (ruleOf loss g) P v
-admitted false g P v a =
-    closed (ruleOf false g) (lawful false g) P (record { vertex = v; colour = a .colour })
-    (record { coloured = a .complete .coloured; complete = a .complete .within })
-admitted true g P v a = closed (ruleOf true g) (lawful true g) P v (record { colour = a .colour; coloured = a .coloured; every = a .every })
-
-pub step-rows : (loss : Bool) (g : Graph) (P : Vertices) (e : ruleOf loss g .Step) → ruleOf loss g .Allowed P e → RowsAdmit loss (rowsAt g (ruleOf loss g .adds e)) P
-step-rows false g P e o = record { colour = e .colour; complete = record { coloured = o .coloured; within = o .complete } }
-step-rows true g P v o = record { colour = o .colour; coloured = o .coloured; every = o .every }
-
--- only the 64 places have rows
-pub admitted-place : (loss : Bool) (g : Graph) (P : Vertices) (v : ℕ) → length (g .rows) ≡ 64 → RowsAdmit loss (rowsAt g v) P → v < 64
-admitted-place loss g P v long a = ⊎-elim (λ l. l) (λ l. absurd (none loss (subst (λ (r : Rows). RowsAdmit loss r P) (out l) a))) (less-or v 64)
-  where
-    out : 64 ≤ v → rowsAt g v ≡ record { needs = [] }
-    out l = List·getD-eq-default (g .rows) (record { needs = [] }) (omega arith)
-
-    none : (b : Bool) → RowsAdmit b (record { needs = [] }) P → ⊥
-    none false h = h .complete .coloured refl
-    none true h = h .coloured refl
+use Rattle.derivations.proofs.Admits.{admits-mono, step-admits, admits-derived, admits-place}
+use Rattle.access.specs.Inner.{Passed}
 
 -- ---- one pass
 
@@ -58,18 +26,19 @@ admitted-place loss g P v long a = ⊎-elim (λ l. l) (λ l. absurd (none loss (
 pub record PassedBelow (loss : Bool) (g : Graph) (s n r : ℕ) : Type 0 where
   pub grows : Within s r
   pub sound : (v : ℕ) → Member r v → Derivation (ruleOf loss g) (Member s) v
-  pub whole : (v : ℕ) → v < n → RowsAdmit loss (rowsAt g v) (Member s) → Member r v
+  pub whole : (v : ℕ) → v < n → Admits loss (rowsAt g v) (Member s) → Member r v
 
 module _ (loss : Bool) (g : Graph) (s : ℕ) where
   pub pass-none : PassedBelow loss g s 0 s
   pass-none = record { grows = within-refl s; sound = λ v m. held (ruleOf loss g) (Member s) v m; whole = below-none _ }
 
-  pub pass-more : (n r r′ : ℕ) → n < 64 → PassedBelow loss g s n r → RowsAdmit loss (rowsAt g n) (Member r) → Inserted r n r′ → PassedBelow loss g s (n + 1) r′
+  pub pass-more : (n r r′ : ℕ) → n < 64 → PassedBelow loss g s n r → Admits loss (rowsAt g n) (Member r) → Inserted r n r′
+      → PassedBelow loss g s (n + 1) r′
   pass-more n r r′ l p a t =
       record {
         grows = record { each = λ i m. keep i (p .grows .each i m) };
         sound = λ v m. ⊎-elim (p .sound v)
-            (λ e. subst (Derivation (ruleOf loss g) (Member s)) (sym e) (admitted loss g (Member s) n (rows-mono loss (rowsAt g n) (Member r) (Derivation (ruleOf loss g) (Member s)) (p .sound) a)))
+            (λ e. subst (Derivation (ruleOf loss g) (Member s)) (sym e) (admits-derived loss g (Member s) (Member r) n (p .sound) a))
             (t .taken l v .to m);
         whole = below-more _ n (λ v k h. keep v (p .whole v k h)) (λ h. t .taken l n .from (inr refl));
       }
@@ -77,12 +46,12 @@ module _ (loss : Bool) (g : Graph) (s : ℕ) where
       keep : (i : ℕ) → Member r i → Member r′ i
       keep i m = t .taken l i .from (inl m)
 
-  pub pass-same : (n r : ℕ) → PassedBelow loss g s n r → (RowsAdmit loss (rowsAt g n) (Member r) → ⊥) → PassedBelow loss g s (n + 1) r
+  pub pass-same : (n r : ℕ) → PassedBelow loss g s n r → (Admits loss (rowsAt g n) (Member r) → ⊥) → PassedBelow loss g s (n + 1) r
   pass-same n r p d =
       record {
         grows = p .grows;
         sound = p .sound;
-        whole = below-more _ n (p .whole) (λ h. absurd (d (rows-mono loss (rowsAt g n) (Member s) (Member r) (p .grows .each) h)));
+        whole = below-more _ n (p .whole) (λ h. absurd (d (admits-mono loss (rowsAt g n) (Member s) (Member r) (p .grows .each) h)));
       }
 
 -- ---- passes until nothing is new
@@ -115,9 +84,9 @@ module _ (loss : Bool) (g : Graph) (s : ℕ) where
     where
       shut : (q : ruleOf loss g .Step) → ruleOf loss g .Allowed (Member r) q → Member r (ruleOf loss g .adds q)
       shut q o =
-          let a = step-rows loss g (Member r) q o in
+          let a = step-admits loss g (Member r) q o in
           subst (λ (x : ℕ). Member x (ruleOf loss g .adds q)) e
-          (p .whole (ruleOf loss g .adds q) (admitted-place loss g (Member r) (ruleOf loss g .adds q) long a) a)
+          (p .whole (ruleOf loss g .adds q) (admits-place loss g (Member r) (ruleOf loss g .adds q) long a) a)
 
 -- a set that grew is the larger number
 pub falls : (r t : ℕ) → t < 2 ^ 64 → Within r t → (t ≡ r → ⊥) → 2 ^ 64 - t < 2 ^ 64 - r

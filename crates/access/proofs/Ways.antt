@@ -14,14 +14,15 @@ use Rattle.vertex_set.specs.Set.{Member, Within, Inserted, Iff}
 use Rattle.vertex_set.proofs.Cases.{same-or, less-or, false-true}
 use Rattle.vertex_set.proofs.Sets.{within-refl, within-trans, within-le}
 use Rattle.setup.specs.declared.Graph.{Graph}
-use Rattle.setup.specs.Setup.{rowsAt}
+use Rattle.setup.specs.Setup.{row, rowsAt}
 use Rattle.derivations.specs.Derivation.{Vertices, With}
 use Rattle.derivations.specs.Access.{Step, Opens, HasAccess, access}
 use Rattle.derivations.specs.Way.{LowestStep, Way}
+use Rattle.derivations.specs.Admits.{Complete}
 use Rattle.derivations.proofs.Rules.{least}
 use Rattle.derivations.proofs.Graphs.{access-lawful}
 use Rattle.derivations.proofs.Way.{way-same, way-unique, lowest-unique, way-derives}
-use Rattle.access.specs.Inner.{Complete, LowestColour, StepFound, WayFound, Room, Written, WayTaken}
+use Rattle.access.specs.Inner.{LowestColour, StepFound, WayFound, Room, Written, WayTaken}
 use Rattle.access.specs.Answers.{written}
 use Rattle.access.proofs.Calls.{refuses}
 
@@ -31,7 +32,7 @@ use Rattle.access.proofs.Calls.{refuses}
 abbrev pub PassedOver : Graph → ℕ → ℕ → Type 0
 PassedOver g s n = (f : Step) → f .vertex < n → Opens g (Member s) f → Member s (f .vertex)
 
-by-rows : (g : Graph) (s : ℕ) (f : Step) → Opens g (Member s) f → Complete (rowsAt g (f .vertex)) (Member s) (f .colour)
+by-rows : (g : Graph) (s : ℕ) (f : Step) → Opens g (Member s) f → Complete (Member s) (row g (f .vertex) (f .colour))
 by-rows g s f o = record { coloured = o .coloured; within = o .complete }
 
 module _ (g : Graph) (s n : ℕ) (p : PassedOver g s n) where
@@ -43,7 +44,7 @@ module _ (g : Graph) (s n : ℕ) (p : PassedOver g s n) where
     where
       none : f .vertex ≡ n → ⊥
       none e =
-          let q = low .lower (f .colour) (subst (λ (v : ℕ). Complete (rowsAt g v) (Member s) (f .colour)) e (by-rows g s f o)) in
+          let q = low .lower (f .colour) (subst (λ (v : ℕ). Complete (Member s) (row g v (f .colour))) e (by-rows g s f o)) in
           let a = q .0 in
           let b = q .1 in
           omega arith
@@ -58,7 +59,7 @@ module _ (g : Graph) (s n : ℕ) (p : PassedOver g s n) where
             lowest = λ f o d. ⊎-elim
                 (λ k. absurd (d (p f k o)))
                 (λ k. ⊎-elim
-                (λ q. inr (sym q, low .lower (f .colour) (subst (λ (v : ℕ). Complete (rowsAt g v) (Member s) (f .colour)) q (by-rows g s f o)) .0))
+                (λ q. inr (sym q, low .lower (f .colour) (subst (λ (v : ℕ). Complete (Member s) (row g v (f .colour))) q (by-rows g s f o)) .0))
                 (λ q. inl (omega (arith, q)))
                 (same-or (f .vertex) n))
                 (less-or (f .vertex) n);

@@ -5,8 +5,9 @@ ghost use Rattle.derivations.specs.Derivation.{Closure};
 ghost use Rattle.derivations.specs.Access.{AccessFrom};
 ghost use Rattle.derivations.specs.Lockout.{LockoutFrom};
 ghost use Rattle.derivations.specs.Both.{ruleOf};
+ghost use Rattle.derivations.specs.Admits.{AllBroken, Admits};
 ghost use Rattle.access.specs.Answers.{numberOf, valuesOf, SetCall, wayNumber, wayValues, WayCall};
-ghost use Rattle.access.specs.Inner.{LowestColour, RowsAdmit, AllBroken, Passed, StepFound, WayFound, Room, Written, WayTaken};
+ghost use Rattle.access.specs.Inner.{LowestColour, Passed, StepFound, WayFound, Room, Written, WayTaken};
 use setup::Graph;
 use setup::Rows;
 use setup::Setup;
@@ -58,7 +59,7 @@ fn all_broken(rows: Rows, lost: VertexSet) -> bool
 
 // Is the vertex with these rows opened by what is held, or for a loss lost?
 fn admits(loss: bool, rows: Rows, held: VertexSet) -> bool
-    ensures { λ r. ⌜ Decides (RowsAdmit loss rows (Member (held .0))) r ⌝ }
+    ensures { λ r. ⌜ Decides (Admits loss rows (Member (held .0))) r ⌝ }
 {
     if loss {
         all_broken(rows, held)

@@ -3,17 +3,17 @@
 use mathlib.Core.Path.{_≡_, sym, subst, _∙_}
 use mathlib.Core.Bool.{Bool}
 use mathlib.Core.List.{List}
-use mathlib.Core.Logic.{_⊎_, ⊎-elim}
-use Prim.Native.Nat.{ℕ, _/_, _%_, _^_, _≤_, _<_}
+use mathlib.Core.Logic.{⊎-elim}
+use Prim.Native.Nat.{ℕ, _^_, _≤_, _<_}
 use native.Mathlib.Nat.{lt-of-lt-of-le}
 use native.Mathlib.Omega.{arith}
-use lib.ListN.{length, getD}
+use lib.ListN.{length}
 use lib.Count.{ones}
 use lib.Pow.{pow-mono}
 use Rattle.vertex_set.specs.Set.{Member, Within, Iff}
 use Rattle.vertex_set.specs.Order.{Listed, sumOver}
 use Rattle.vertex_set.proofs.Cases.{search-below}
-use Rattle.vertex_set.proofs.Sets.{within-le, member-or}
+use Rattle.vertex_set.proofs.Sets.{within-le}
 use Rattle.setup.specs.declared.Graph.{Graph}
 use Rattle.setup.specs.declared.Setup.{Setup}
 use Rattle.setup.specs.Setup.{ChosenSet}
@@ -26,6 +26,7 @@ use Rattle.families.specs.Family.{In, Minimal, MinimalMembers, size}
 use Rattle.families.specs.Masks.{Picked, SetOfMask}
 use Rattle.families.specs.Exact.{OnChosen}
 use Rattle.family_lists.specs.Lists.{ListOf, LeastSum}
+use Rattle.families.proofs.Families.{in-or}
 use Rattle.families.proofs.Masks.{spread, set-of, set-unique, set-within, gather, gather-lt, mask-of, proper-subset, proper-submask}
 use Rattle.families.proofs.Exact.{minimal-on-chosen}
 use Rattle.family_lists.proofs.Order.{Words}
@@ -59,10 +60,6 @@ pub record MaskFor (f : List ℕ) (chosen x : ℕ) : Type 0 where
   pub room : mask < 16384
   pub member : In f mask
   pub of : SetOfMask chosen mask x
-
-pub in-or : (f : List ℕ) (m : ℕ) → In f m ⊎ (In f m → ⊥)
-unfolding In
-in-or f m = member-or (getD f (m / 64) 0) (m % 64)
 
 module _ (loss : Bool) (s : Setup) (g : Graph) (target chosen : ℕ) (f : List ℕ)
     (fits : chosen < 2 ^ 64) (small-count : ones chosen ≤ 14) (ch : ChosenSet loss s chosen) (fam : FamilyOf (ruleOf loss g) chosen target f) where

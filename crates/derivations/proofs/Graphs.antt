@@ -46,7 +46,7 @@ access-lawful g = record { mono = opens-mono g; gathers = opens-gathers g }
 
 -- ---- lockout
 
-pub some-lost-mono : (P Q : Vertices) → Sub P Q → (s : ℕ) → SomeLost P s → SomeLost Q s
+some-lost-mono : (P Q : Vertices) → Sub P Q → (s : ℕ) → SomeLost P s → SomeLost Q s
 some-lost-mono P Q sub s l = record { vertex = l .vertex; member = l .member; gone = sub (l .vertex) (l .gone) }
 
 shuts-mono : (g : Graph) (P Q : Vertices) → Sub P Q → (v : ℕ) → Shuts g P v → Shuts g Q v

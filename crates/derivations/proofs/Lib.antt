@@ -1,3 +1,4 @@
+pub mod Admits
 pub mod Both
 pub mod Graphs
 pub mod Rules

@@ -1,4 +1,5 @@
 pub mod Access
+pub mod Admits
 pub mod Both
 pub mod Derivation
 pub mod Laws

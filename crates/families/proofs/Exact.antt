@@ -1,22 +1,22 @@
 -- Families that are exact for a predicate on sets: monotone, with minimal members that are the minimal sets.
 -- Assumes nothing.
-use mathlib.Core.Path.{_≡_, sym, ap, _∙_, subst}
-use mathlib.Core.Logic.{_⊎_, inl, inr, ⊎-elim}
+use mathlib.Core.Path.{_≡_, sym, ap, _∙_}
+use mathlib.Core.Logic.{⊎-elim}
 use mathlib.Core.List.{List}
-use Prim.Native.Nat.{ℕ, zero, suc, _+_, _-_, _/_, _%_, _^_, _<_}
+use Prim.Native.Nat.{ℕ, _+_, _/_, _%_, _^_, _<_}
 use native.Mathlib.Nat.{mod-lt}
 use native.Mathlib.Omega.{arith}
 use lib.Count.{ones, ones-cat, ones-step}
 use lib.Pow.{pow-pos, split}
 use Rattle.vertex_set.specs.Set.{Member, Within}
 use Rattle.vertex_set.proofs.Cases.{less-or}
-use Rattle.vertex_set.proofs.Sets.{member-or, member-below, within-le, within-trans, within-refl}
-use Rattle.vertex_set.proofs.Places.{removed-within, member-le}
+use Rattle.vertex_set.proofs.Sets.{member-below, within-le}
 use Rattle.vertex_set.proofs.Shifts.{in-low}
-use Rattle.families.specs.Family.{In, Monotone, MinimalMembers}
+use Rattle.vertex_set.proofs.Subsets.{minimal-below}
+use Rattle.families.specs.Family.{In, Monotone, Minimal, MinimalMembers}
 use Rattle.families.specs.Masks.{rank, Picked}
 use Rattle.families.specs.Exact.{OnChosen, FamilyOf}
-use Rattle.families.proofs.Families.{in-or}
+use Rattle.families.proofs.Families.{in-or, minimal-least}
 
 -- P keeps holding as the set grows.
 abbrev pub Rising : ((ℕ → Type 0) → Type 0) → Type 1
@@ -24,33 +24,17 @@ Rising P = (A B : ℕ → Type 0) → ((v : ℕ) → A v → B v) → P A → P 
 
 -- ---- every member has a minimal one within
 
--- a step down that stays in the family, by a bit below n, or none
-step-or : (f : List ℕ) (m n : ℕ) → ((j : ℕ) × Member m j × In f (m - 2 ^ j)) ⊎ ((j : ℕ) → j < n → Member m j → In f (m - 2 ^ j) → ⊥)
-step-or f m zero = inr (λ j h k i. omega arith)
-step-or f m (suc n) =
-    ⊎-elim inl
-    (λ none. ⊎-elim
-    (λ k. ⊎-elim (λ i. inl (n, k, i)) (λ o. inr (λ j h l i. ⊎-elim
-    (λ less. none j less l i) (λ ge. let e : j ≡ n = omega arith in o (subst (λ (x : ℕ). In f (m - 2 ^ x)) e i)) (less-or j n)))
-    (in-or f (m - 2 ^ n)))
-    (λ o. inr (λ j h l i. ⊎-elim (λ less. none j less l i) (λ ge. let e : j ≡ n = omega arith in o (rw e at l)) (less-or j n)))
-    (member-or m n))
-    (step-or f m n)
+pub minimal-within-mask : (f : List ℕ) (m : ℕ) → m < 16384 → In f m → (k : ℕ) × (k < 16384) × Within k m × Minimal f k
+minimal-within-mask f m h i =
+    let r = minimal-below (In f) (in-or f) m (omega arith) i in
+    let le = within-le (r .0) m (r .1) in
+    (r .0, omega arith, r .1, record { is = r .2; none = r .3 })
 
+-- as the family of the minimal members has it
 pub above-minimal : (f g : List ℕ) → MinimalMembers f g → (m : ℕ) → m < 16384 → In f m → (k : ℕ) × (k < 16384) × Within k m × In g k
-above-minimal f g q m h i = down (suc m) m (omega arith) h i
-  where
-    down : (n m : ℕ) → m < n → m < 16384 → In f m → (k : ℕ) × (k < 16384) × Within k m × In g k
-    down zero m l h i = absurd (omega arith)
-    down (suc n) m l h i =
-        ⊎-elim
-        (λ s.
-        let le = member-le (s .0) m (s .1) in
-        let p = pow-pos (s .0) in
-        let r = down n (m - 2 ^ s .0) (omega arith) (omega arith) (s .2) in
-        (r .0, r .1, within-trans (r .2) (removed-within m (s .0) (s .1)), r .3))
-        (λ none. (m, h, within-refl m, q .least m h .from (record { is = i; none = λ j k. none j (member-below 14 m j h k) k })))
-        (step-or f m 14)
+above-minimal f g q m h i =
+    let r = minimal-within-mask f m h i in
+    (r .0, r .1, r .2, q .least (r .0) (r .1) .from (minimal-least f (r .0) (r .3)))
 
 -- ---- a mask's bits beyond the chosen vertices
 

@@ -14,6 +14,7 @@ use lib.Pow.{pow-add}
 use lib.Count.{ones}
 use Rattle.vertex_set.specs.Set.{Member, Decides, Iff}
 use Rattle.vertex_set.proofs.Cases.{false-true, less-or, same-or}
+use Rattle.vertex_set.proofs.Decisions.{iff-refl}
 use Rattle.vertex_set.proofs.Sets.{none-in-zero, member-or, member-decided, member-below}
 use Rattle.vertex_set.proofs.Places.{member-le}
 use Rattle.vertex_set.proofs.Shifts.{in-low, in-high}
@@ -59,7 +60,7 @@ step-low f m j r =
     let le = member-le j (m % 64) r in
     let e : (m - 2 ^ j) / 64 ≡ m / 64 = omega arith in
     let g : (m - 2 ^ j) % 64 ≡ m % 64 - 2 ^ j = omega arith in
-    rw (e, g) (record { to = λ i. i; from = λ i. i })
+    rw (e, g) iff-refl
 
 step-high : (f : List ℕ) (m d : ℕ) → Member (m / 64) d → Iff (In f (m - 2 ^ (6 + d))) (Member (getD f (m / 64 - 2 ^ d) 0) (m % 64))
 unfolding In
@@ -68,7 +69,7 @@ step-high f m d r =
     let p = pow-add 2 6 d in
     let e : (m - 2 ^ (6 + d)) / 64 ≡ m / 64 - 2 ^ d = omega arith in
     let g : (m - 2 ^ (6 + d)) % 64 ≡ m % 64 = omega arith in
-    rw (e, g) (record { to = λ i. i; from = λ i. i })
+    rw (e, g) iff-refl
 
 -- what is least in the lanes of words is least by masks
 lane-least : (f : List ℕ) (m : ℕ) → m < 16384 → LeastLane f (m / 64) (m % 64) → Least f m
@@ -104,7 +105,7 @@ least-minimal f m mono h l =
           l .none (w .0) (w .1) (mono .up k (m - 2 ^ w .0) (omega arith) (omega arith) (within-removed k m (w .0) (p .within) (w .1) (w .2)) i);
     }
 
-minimal-least : (f : List ℕ) (m : ℕ) → Minimal f m → Least f m
+pub minimal-least : (f : List ℕ) (m : ℕ) → Minimal f m → Least f m
 minimal-least f m l = record { is = l .is; none = λ j k i. l .none (m - 2 ^ j) (removed-proper m j k) i }
 
 pub minimal-members : (f g : List ℕ) → ((b : ℕ) → b < 256 → LeastWord f b (getD g b 0)) → MinimalMembers f g

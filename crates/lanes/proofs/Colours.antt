@@ -10,14 +10,17 @@ use lib.Bits.{bitOr}
 use lib.ListN.{length, List·getD-eq-default}
 use Rattle.vertex_set.specs.Set.{Member, Iff}
 use Rattle.vertex_set.proofs.Cases.{same-or, less-or, false-true}
+use Rattle.vertex_set.proofs.Decisions.{iff-trans}
 use Rattle.vertex_set.proofs.Sets.{in-or, none-in-zero, some-member}
 use Rattle.setup.specs.declared.Rows.{Rows}
 use Rattle.setup.specs.Setup.{rowOf}
-use Rattle.derivations.specs.Lockout.{SomeLost}
 use Rattle.derivations.specs.Derivation.{Vertices}
+use Rattle.derivations.specs.Lockout.{SomeLost}
+use Rattle.derivations.specs.Admits.{Complete, Broken, Admits}
+use Rattle.derivations.proofs.Admits.{admits-coloured}
 use Rattle.words.specs.Words.{At, FamilyWhere}
-use Rattle.words.proofs.Families.{iff-trans, family-as, full-word}
-use Rattle.lanes.specs.Lanes.{Lane, AllHeld, WholeColour, CutColour, Takes, untakenWord, Admits, Coloured, Needed}
+use Rattle.words.proofs.Families.{family-as, full-word}
+use Rattle.lanes.specs.Lanes.{Lane, AllHeld, Takes, untakenWord, Coloured, Needed}
 
 -- ---- places below n
 
@@ -96,7 +99,7 @@ module _ (w : List ℕ) (row : ℕ) (out : List ℕ) where
   take-none false h e =
       record { words = h; each = λ b i hb hi. record { to = λ a. inl a; from = ⊎-elim (λ a. a) (λ q. absurd (q .coloured e)) } }
   take-none true h e =
-      record { words = h; each = λ b i hb hi. record { to = λ a. (a, record { some = λ n. absurd (n e) }); from = λ p. p .0 } }
+      record { words = h; each = λ b i hb hi. record { to = λ a. (a, λ n. absurd (n e)); from = λ p. p .0 } }
 
   module _ (part out′ : List ℕ) (n : row ≡ 0 → ⊥) where
     pub take-whole : (loss : Bool) → loss ≡ false → FamilyWhere (λ b i. AllHeld (Lane w b i) row) part
@@ -104,8 +107,8 @@ module _ (w : List ℕ) (row : ℕ) (out : List ℕ) where
     take-whole true q p l = absurd (false-true (sym q))
     take-whole false q p l =
         family-as out′ l (λ b i hb hi. record {
-          to = ⊎-elim (λ a. inl a) (λ a. inr (record { coloured = n; complete = p .each b i hb hi .to a }));
-          from = ⊎-elim (λ a. inl a) (λ c. inr (p .each b i hb hi .from (c .complete)));
+          to = ⊎-elim (λ a. inl a) (λ a. inr (record { coloured = n; within = p .each b i hb hi .to a .each }));
+          from = ⊎-elim (λ a. inl a) (λ c. inr (p .each b i hb hi .from (record { each = c .within })));
         })
 
     pub take-cut : (loss : Bool) → loss ≡ true → FamilyWhere (λ b i. SomeLost (Lane w b i) row) part
@@ -113,36 +116,36 @@ module _ (w : List ℕ) (row : ℕ) (out : List ℕ) where
     take-cut false q p l = absurd (false-true q)
     take-cut true q p l =
         family-as out′ l (λ b i hb hi. record {
-          to = λ a. (a .0, record { some = λ _. p .each b i hb hi .to (a .1) });
-          from = λ a. (a .0, p .each b i hb hi .from (a .1 .some n));
+          to = λ a. (a .0, λ _. p .each b i hb hi .to (a .1));
+          from = λ a. (a .0, p .each b i hb hi .from (a .1 n));
         })
 
 -- ---- all colours
 
--- What the colours below n say: some is whole, or all are cut.
+-- What the colours below n say: some is complete, or all are broken.
 abbrev Colours : Bool → Rows → Vertices → ℕ → Type 0
-Colours false rows held n = SomeBelow (λ c. WholeColour held (rowOf rows c)) n
-Colours true rows lost n = AllBelow (λ c. CutColour lost (rowOf rows c)) n
+Colours false rows held n = SomeBelow (λ c. Complete held (rowOf rows c)) n
+Colours true rows lost n = AllBelow (λ c. Broken lost (rowOf rows c)) n
 
 colours-more : (loss : Bool) (rows : Rows) (P : Vertices) (was : Type 0) (n : ℕ) → Iff was (Colours loss rows P n)
     → Iff (Takes loss was P (rowOf rows n)) (Colours loss rows P (n + 1))
 colours-more false rows P was n o =
     iff-trans (record { to = ⊎-elim (λ a. inl (o .to a)) (λ q. inr q); from = ⊎-elim (λ a. inl (o .from a)) (λ q. inr q) })
-    (some-below-more (λ c. WholeColour P (rowOf rows c)) n)
+    (some-below-more (λ c. Complete P (rowOf rows c)) n)
 colours-more true rows P was n o =
     iff-trans (record { to = λ p. (o .to (p .0), p .1); from = λ p. (o .from (p .0), p .1) })
-    (all-below-more (λ c. CutColour P (rowOf rows c)) n)
+    (all-below-more (λ c. Broken P (rowOf rows c)) n)
 
 -- of all eight colours, where one of them needs a vertex
 colours-all : (loss : Bool) (rows : Rows) (P : Vertices) (n v : ℕ) → length (rows .needs) ≡ 8 → 8 ≤ n → Coloured rows v
     → Iff (Colours loss rows P n) (Admits loss rows P)
 colours-all false rows P n v e h k =
     record {
-      to = λ s. record { colour = s .place; whole = s .has };
+      to = λ s. record { colour = s .place; complete = s .has };
       from = λ a. record {
         place = a .colour;
-        below = ⊎-elim (λ q. omega arith) (λ q. absurd (a .whole .coloured (past-rows rows 8 (a .colour) e q))) (less-or (a .colour) 8);
-        has = a .whole;
+        below = ⊎-elim (λ q. omega arith) (λ q. absurd (a .complete .coloured (past-rows rows 8 (a .colour) e q))) (less-or (a .colour) 8);
+        has = a .complete;
       };
     }
 colours-all true rows P n v e h k =
@@ -150,15 +153,10 @@ colours-all true rows P n v e h k =
       to = λ a. record {
         colour = k .colour;
         coloured = λ q. none-in-zero v (subst (λ (x : ℕ). Member x v) q (k .member));
-        every = λ c. ⊎-elim (λ q. a .each c (omega arith)) (λ q. record { some = λ t. absurd (t (past-rows rows 8 c e q)) }) (less-or c 8);
+        every = λ c. ⊎-elim (λ q. a .each c (omega arith)) (λ q t. absurd (t (past-rows rows 8 c e q))) (less-or c 8);
       };
       from = λ a. record { each = λ c q. a .every c };
     }
-
--- a vertex that is admitted has a colour
-pub admits-coloured : (loss : Bool) (rows : Rows) (P : Vertices) → Admits loss rows P → (c : ℕ) × (rowOf rows c ≡ 0 → ⊥)
-admits-coloured false rows P a = (a .colour, a .whole .coloured)
-admits-coloured true rows P a = (a .colour, a .coloured)
 
 pub record Taken (w : List ℕ) (rows : Rows) (loss : Bool) (n : ℕ) (out : List ℕ) : Type 0 where
   pub place : n ≤ 8

@@ -3,7 +3,8 @@ ghost use mathlib.Core.Path.{_≡_};
 ghost use lib.ListN.{length};
 ghost use Rattle.words.specs.Words.{At, FamilyWhere};
 ghost use Rattle.derivations.specs.Lockout.{SomeLost};
-ghost use Rattle.lanes.specs.Lanes.{Lane, AllHeld, Takes, untakenWord, Admits, Needed};
+ghost use Rattle.derivations.specs.Admits.{Admits};
+ghost use Rattle.lanes.specs.Lanes.{Lane, AllHeld, Takes, untakenWord, Needed};
 use setup::Rows;
 use words::WORDS;
 

@@ -1,15 +1,14 @@
 -- `baseOf` is the base.
 -- Assumes nothing.
 use mathlib.Core.Bool.{Bool, _&&_}
-use Prim.Native.Nat.{ℕ, zero, suc, _-_, _^_, _<_}
+use mathlib.Core.Logic.{inl, inr}
+use Prim.Native.Nat.{ℕ, _-_, _^_, _<_}
 use native.Mathlib.Nat.{lt-of-lt-of-le}
-use native.Mathlib.Omega.{arith}
 use lib.Pow.{pow-mono}
 use Rattle.vertex_set.specs.Set.{Member, Within, ProperlyWithin, Decides, Iff}
 use Rattle.vertex_set.specs.Order.{Listed, Before}
 use Rattle.vertex_set.proofs.Decisions.{decide-iff}
-use Rattle.vertex_set.proofs.Sets.{within-refl, within-trans}
-use Rattle.vertex_set.proofs.Subsets.{proper-lacks, within-removed, removed-proper, proper-less}
+use Rattle.vertex_set.proofs.Subsets.{proper-lacks, within-removed, removed-proper, minimal-below}
 use Rattle.vertex_set.proofs.Sorted.{sorted-ordered}
 use Rattle.setup.specs.declared.Graph.{Graph}
 use Rattle.setup.specs.declared.Setup.{Setup}
@@ -51,19 +50,21 @@ module _ (loss : Bool) (s : Setup) (g : Graph) (target : ℕ) (wf : WellFormed s
   decide-less-one x =
       decide-some (LessOne x) _ (λ v. decide-and _ _ (decide-member x v) (decide-derives loss s g wf h target (x - 2 ^ v))) (s .count)
 
+  -- a set of chosen vertices is a word
+  chosen-fits : (x : ℕ) → ((v : ℕ) → Member x v → Chosen loss s v) → x < 2 ^ 64
+  chosen-fits x c =
+      lt-of-lt-of-le (below-pow (s .count) x (wf .most) (λ v i. chosen-below loss s wf v (c v i))) (pow-mono {i = s .count} {j = 64} (wf .most))
+
   -- of a set of chosen vertices
   pub less-one-iff : (x : ℕ) → ((v : ℕ) → Member x v → Chosen loss s v)
       → Iff (SomeBelow (LessOne x) (s .count) → ⊥) ((y : ℕ) → ProperlyWithin y x → Derives loss g target y → ⊥)
   less-one-iff x c =
       record {
         to = λ none y p d.
-            let l = proper-lacks y x fits p in
+            let l = proper-lacks y x (chosen-fits x c) p in
             none (l .0, chosen-below loss s wf (l .0) (c (l .0) (l .1)), (l .1, derives-more y (x - 2 ^ l .0) (within-removed y x (l .0) (p .within) (l .1) (l .2)) d));
         from = λ m w. m (x - 2 ^ w .0) (removed-proper x (w .0) (w .2 .0)) (w .2 .1);
       }
-    where
-      fits : x < 2 ^ 64
-      fits = lt-of-lt-of-le (below-pow (s .count) x (wf .most) (λ v i. chosen-below loss s wf v (c v i))) (pow-mono {i = s .count} {j = 64} (wf .most))
 
   decide-minimal : (x : ℕ) → TargetSet loss s g target x → Decides (MinimalSet loss s g target x) (isMinimal loss s g target x)
   unfolding isMinimal
@@ -88,13 +89,8 @@ module _ (loss : Bool) (s : Setup) (g : Graph) (target : ℕ) (wf : WellFormed s
       }
 
   -- each target set has a minimal one within it
-  pub minimal-within : (n x : ℕ) → x < n → TargetSet loss s g target x → (y : ℕ) × Within y x × MinimalSet loss s g target y
-  minimal-within zero x l t = absurd (omega arith)
-  minimal-within (suc n) x l t =
-      by-decision _ (decide-less-one x)
-      (λ e w.
-      let p = removed-proper x (w .0) (w .2 .0) in
-      let b = proper-less (x - 2 ^ w .0) x p in
-      let r = minimal-within n (x - 2 ^ w .0) (omega arith) (record { chosen = λ v m. t .chosen v (p .within .each v m); derives = w .2 .1 }) in
-      (r .0, within-trans (r .1) (p .within), r .2))
-      (λ e none. (x, within-refl x, record { is = t; minimal = less-one-iff x (t .chosen) .to none }))
+  pub minimal-within : (x : ℕ) → TargetSet loss s g target x → (y : ℕ) × Within y x × MinimalSet loss s g target y
+  minimal-within x t =
+      let r = minimal-below (Derives loss g target) (λ y. by-decision _ (decide-derives loss s g wf h target y) (λ e d. inl d) (λ e n. inr n))
+      x (chosen-fits x (t .chosen)) (t .derives) in
+      (r .0, r .1, record { is = record { chosen = λ v m. t .chosen v (r .1 .each v m); derives = r .2 }; minimal = r .3 })

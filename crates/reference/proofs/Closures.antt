@@ -20,13 +20,14 @@ use Rattle.setup.specs.declared.Setup.{Setup}
 use Rattle.setup.specs.Setup.{rowsAt, rowOf}
 use Rattle.setup.specs.WellFormed.{WellFormed}
 use Rattle.derivations.specs.Derivation.{Closure}
-use Rattle.derivations.specs.Lockout.{SomeLost}
 use Rattle.derivations.specs.Both.{ruleOf}
+use Rattle.derivations.specs.Admits.{Complete, Broken, Admits}
 use Rattle.derivations.proofs.Rules.{least}
 use Rattle.derivations.proofs.Both.{lawful}
-use Rattle.access.specs.Inner.{Complete, LowestColour, RowsAdmit, Passed}
+use Rattle.derivations.proofs.Admits.{step-admits}
+use Rattle.access.specs.Inner.{LowestColour, Passed}
 use Rattle.access.proofs.Colours.{some-complete}
-use Rattle.access.proofs.Passes.{step-rows, PassedBelow, pass-none, pass-more, pass-same, Grown, grown-none, grown-more}
+use Rattle.access.proofs.Passes.{PassedBelow, pass-none, pass-more, pass-same, Grown, grown-none, grown-more}
 use Rattle.bases.specs.Base.{Derives}
 use Rattle.reference.specs.Tests.{every}
 use Rattle.reference.specs.Closures.{isComplete, isBroken, colourOf, isAdded, passOf, passesOf, closureOf, derivesOf}
@@ -41,7 +42,7 @@ use Rattle.reference.proofs.Missing.{missing, missing-most, missing-les
 colour-below : (rows : Rows) (c : ℕ) → length (rows .needs) ≤ 8 → (rowOf rows c ≡ 0 → ⊥) → c < 8
 colour-below rows c long d = ⊎-elim (λ l. l) (λ l. absurd (d (List·getD-eq-default (rows .needs) 0 (omega arith)))) (less-or c 8)
 
-decide-complete : (rows : Rows) (held c : ℕ) → Decides (Complete rows (Member held) c) (isComplete (rowOf rows c) held)
+decide-complete : (rows : Rows) (held c : ℕ) → Decides (Complete (Member held) (rowOf rows c)) (isComplete (rowOf rows c) held)
 unfolding isComplete
 decide-complete rows held c =
     decide-iff
@@ -54,14 +55,14 @@ decide-complete rows held c =
 pub lowest-colour : (rows : Rows) (held : ℕ) → length (rows .needs) ≤ 8 → LowestColour rows (Member held) (colourOf rows held)
 unfolding colourOf
 lowest-colour rows held long =
-    let h = lowest-of (Complete rows (Member held)) (λ c. isComplete (rowOf rows c) held) (decide-complete rows held) 8 in
+    let h = lowest-of (λ c. Complete (Member held) (rowOf rows c)) (λ c. isComplete (rowOf rows c) held) (decide-complete rows held) 8 in
     record {
       most = h .most;
       complete = h .is;
       lower = λ c k. (⊎-elim (λ l. absurd (h .none c l k)) (λ l. l) (less-or c (colourOf rows held)), colour-below rows c long (k .coloured));
     }
 
-decide-broken : (rows : Rows) (lost c : ℕ) → Decides ((rowOf rows c ≡ 0 → ⊥) → SomeLost (Member lost) (rowOf rows c)) (isBroken (rowOf rows c) lost)
+decide-broken : (rows : Rows) (lost c : ℕ) → Decides (Broken (Member lost) (rowOf rows c)) (isBroken (rowOf rows c) lost)
 unfolding isBroken
 decide-broken rows lost c =
     decide-iff
@@ -71,7 +72,8 @@ decide-broken rows lost c =
     })
     (decide-or _ _ (decide-eqb (rowOf rows c) 0) (decide-meeting (rowOf rows c) lost))
 
-pub decide-added : (loss : Bool) (rows : Rows) (held : ℕ) → length (rows .needs) ≤ 8 → Decides (RowsAdmit loss rows (Member held)) (isAdded loss rows held)
+pub decide-added : (loss : Bool) (rows : Rows) (held : ℕ) → length (rows .needs) ≤ 8
+    → Decides (Admits loss rows (Member held)) (isAdded loss rows held)
 unfolding isAdded
 decide-added false rows held long = some-complete rows held (colourOf rows held) (lowest-colour rows held long)
 decide-added true rows held long =
@@ -106,7 +108,7 @@ module _ (loss : Bool) (s : Setup) (g : Graph) (wf : WellFormed s) (h : GraphOf 
 
   -- The set has all that it allows.
   abbrev Closed : ℕ → Type 0
-  Closed t = (v : ℕ) → RowsAdmit loss (rowsAt g v) (Member t) → Member t v
+  Closed t = (v : ℕ) → Admits loss (rowsAt g v) (Member t) → Member t v
 
   same-closed : (held : ℕ) → passOf loss g (s .count) held ≡ held → Closed held
   same-closed held e v a =
@@ -153,7 +155,7 @@ module _ (loss : Bool) (s : Setup) (g : Graph) (wf : WellFormed s) (h : GraphOf 
         each = λ v. record {
           to = z .grown .sound v;
           from = least (ruleOf loss g) (lawful loss g) (Member set) (Member (closureOf loss (s .count) g set)) (z .grown .grows .each)
-              (λ e a. z .all (ruleOf loss g .adds e) (step-rows loss g (Member (closureOf loss (s .count) g set)) e a)) v;
+              (λ e a. z .all (ruleOf loss g .adds e) (step-admits loss g (Member (closureOf loss (s .count) g set)) e a)) v;
         };
       }
 

@@ -16,10 +16,10 @@ use Rattle.setup.specs.Setup.{rowsAt, row, given, valueOf, vertexAt, unusedVert
 use Rattle.setup.specs.WellFormed.{WellFormed}
 use Rattle.derivations.specs.Derivation.{Vertices, Derivation}
 use Rattle.derivations.specs.Both.{ruleOf}
+use Rattle.derivations.specs.Admits.{Admits}
 use Rattle.derivations.proofs.Rules.{least}
 use Rattle.derivations.proofs.Both.{lawful}
-use Rattle.access.specs.Inner.{RowsAdmit}
-use Rattle.access.proofs.Passes.{step-rows}
+use Rattle.derivations.proofs.Admits.{step-admits, admits-coloured}
 use Rattle.reference.specs.Graphs.{GraphOf}
 
 -- the setup's own graph is one
@@ -53,17 +53,16 @@ few-colours s g h v = ⊎-elim (λ l. let e = h .shaped .colours v l in omega ar
 
 module _ (loss : Bool) (s : Setup) (g : Graph) (h : GraphOf s g) where
   -- only vertices of the setup can be added
-  pub added-below : (P : Vertices) (v : ℕ) → RowsAdmit loss (rowsAt g v) P → v < s .count
-  added-below P v a = let c = colour loss a in let f = some-member (row g v (c .0)) (c .1) in h .ends (f .0) v (c .0) (f .1) .1
-    where
-      colour : (b : Bool) → RowsAdmit b (rowsAt g v) P → (c : ℕ) × (row g v c ≡ 0 → ⊥)
-      colour false x = (x .colour, x .complete .coloured)
-      colour true x = (x .colour, x .coloured)
+  pub added-below : (P : Vertices) (v : ℕ) → Admits loss (rowsAt g v) P → v < s .count
+  added-below P v a =
+      let c = admits-coloured loss (rowsAt g v) P a in
+      let f = some-member (row g v (c .0)) (c .1) in
+      h .ends (f .0) v (c .0) (f .1) .1
 
   -- what is derivable is held, or a vertex of the setup
   pub derived-below : (P : Vertices) (v : ℕ) → Derivation (ruleOf loss g) P v → P v ⊎ (v < s .count)
   derived-below P =
-      least (ruleOf loss g) (lawful loss g) P Q (λ i p. inl p) (λ e a. inr (added-below Q (ruleOf loss g .adds e) (step-rows loss g Q e a)))
+      least (ruleOf loss g) (lawful loss g) P Q (λ i p. inl p) (λ e a. inr (added-below Q (ruleOf loss g .adds e) (step-admits loss g Q e a)))
     where
       Q : Vertices
       Q i = P i ⊎ (i < s .count)

@@ -4,7 +4,7 @@ use mathlib.Core.Path.{_≡_, refl, sym, subst, _∙_}
 use mathlib.Core.Bool.{Bool}
 use mathlib.Core.List.{List, [], _∷_}
 use mathlib.Core.Logic.{inl, inr, ⊎-elim}
-use Prim.Native.Nat.{ℕ, suc, _*_, _≤_, _<_, min}
+use Prim.Native.Nat.{ℕ, _*_, _≤_, _<_, min}
 use native.Mathlib.Nat.{le-trans, min-le-left, min-le-right}
 use native.Mathlib.Omega.{arith}
 use Rattle.vertex_set.specs.Set.{Within}
@@ -80,7 +80,7 @@ module _ (loss : Bool) (s : Setup) (wf : WellFormed s) where
         }
       where
         under : (x : ℕ) → TargetSet loss s g target x → (y : ℕ) × Within y x × MinimalSet loss s g target y
-        under x t = minimal-within loss s g target wf h (suc x) x (omega arith) t
+        under x t = minimal-within loss s g target wf h x t
 
     pub score-of : Score loss s g target (scoreOf loss s g target)
     unfolding scoreOf

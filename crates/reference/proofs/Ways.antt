@@ -15,10 +15,10 @@ use Rattle.setup.specs.Setup.{rowsAt}
 use Rattle.setup.specs.WellFormed.{WellFormed}
 use Rattle.derivations.specs.Access.{access, HasAccess}
 use Rattle.derivations.specs.Way.{LowestStep, Way}
+use Rattle.derivations.specs.Admits.{Admits}
 use Rattle.derivations.proofs.Rules.{least, monotone}
 use Rattle.derivations.proofs.Graphs.{access-lawful}
-use Rattle.access.specs.Inner.{RowsAdmit}
-use Rattle.access.proofs.Passes.{step-rows}
+use Rattle.derivations.proofs.Admits.{step-admits}
 use Rattle.access.proofs.Ways.{PassedOver, step-found, way-behind}
 use Rattle.reference.specs.Tests.{isMember, withVertex}
 use Rattle.reference.specs.Closures.{colourOf, isAdded, derivesOf, vertexOf, stepsOf, wayOf}
@@ -31,7 +31,7 @@ use Rattle.reference.proofs.Closures.{lowest-colour, decide-added, deci
 module _ (s : Setup) (g : Graph) (wf : WellFormed s) (h : GraphOf s g) where
   -- The vertex is not held, and can be opened.
   abbrev Next : ℕ → ℕ → Type 0
-  Next held v = (Member held v → ⊥) × RowsAdmit false (rowsAt g v) (Member held)
+  Next held v = (Member held v → ⊥) × Admits false (rowsAt g v) (Member held)
 
   next-vertex : (held : ℕ) → LowestOf (Next held) (s .count) (vertexOf (s .count) g held)
   unfolding vertexOf
@@ -42,7 +42,7 @@ module _ (s : Setup) (g : Graph) (wf : WellFormed s) (h : GraphOf s g) where
   -- a vertex below the one found that can be opened is held
   passed-over : (held : ℕ) → PassedOver g held (vertexOf (s .count) g held)
   passed-over held f l o =
-      ⊎-elim (λ m. m) (λ n. absurd (next-vertex held .none (f .vertex) l (n, step-rows false g (Member held) f o))) (member-or held (f .vertex))
+      ⊎-elim (λ m. m) (λ n. absurd (next-vertex held .none (f .vertex) l (n, step-admits false g (Member held) f o))) (member-or held (f .vertex))
 
   -- the search finds the lowest step
   lowest-step : (held : ℕ) → vertexOf (s .count) g held < s .count
@@ -63,7 +63,7 @@ module _ (s : Setup) (g : Graph) (wf : WellFormed s) (h : GraphOf s g) where
       ⊎-elim (λ l. l)
       (λ l. absurd (o (least (access g) (access-lawful g) (Member held) (Member held) (λ i m. m)
       (λ e a.
-      let k = added-below false s g h (Member held) (e .vertex) (step-rows false g (Member held) e a) in
+      let k = added-below false s g h (Member held) (e .vertex) (step-admits false g (Member held) e a) in
       passed-over held e (lt-of-lt-of-le k l) a) target d)))
       (less-or (vertexOf (s .count) g held) (s .count))
 

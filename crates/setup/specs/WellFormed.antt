@@ -1,4 +1,4 @@
--- What makes a setup well formed. `sheet` proves that these are exactly the setups that accepted sheets yield (question 12).
+-- What makes a setup well formed. `sheet_format` proves that these are exactly the setups that accepted sheets yield (question 12).
 use mathlib.Core.Path.{_≡_}
 use mathlib.Core.Bool.{true, false}
 use Prim.Native.Nat.{ℕ, _≤_, _<_}

@@ -11,11 +11,12 @@ use lib.Seq.{length-take-le, getD-append-add, getD-take, getD-drop}
 use borrow.Rule.Slice.PartMut.{putMid, put-same}
 use Rattle.vertex_set.specs.Set.{Member, Iff}
 use Rattle.vertex_set.proofs.Cases.{same-or, less-or}
+use Rattle.vertex_set.proofs.Decisions.{iff-trans}
 use Rattle.setup.specs.declared.Rows.{Rows}
+use Rattle.derivations.specs.Admits.{Admits}
 use Rattle.words.specs.Words.{At, FamilyWhere, room, Joined}
-use Rattle.words.proofs.Families.{iff-trans}
 use Rattle.words.proofs.Joins.{room-append}
-use Rattle.lanes.specs.Lanes.{Lane, Admits}
+use Rattle.lanes.specs.Lanes.{Lane}
 use Rattle.lanes.proofs.Scans.{part-lane}
 use Rattle.tables.specs.Steps.{Stepped}
 

@@ -1,87 +1,28 @@
 -- Vertices are looked at again until no lane gains one. Each lane then has the vertices that are derivable from its start.
 -- Assumes nothing.
-use mathlib.Core.Path.{_≡_, refl, sym, ap, subst}
-use mathlib.Core.Bool.{Bool, true, false}
-use mathlib.Core.List.{List, []}
-use mathlib.Core.Logic.{_⊎_, inl, inr, ⊎-elim}
+use mathlib.Core.Path.{_≡_, sym, ap, subst}
+use mathlib.Core.Bool.{Bool, false}
+use mathlib.Core.List.{List}
+use mathlib.Core.Logic.{inl, inr, ⊎-elim}
 use Prim.Native.Nat.{ℕ, _+_, _-_, _*_, _^_, _<_}
 use native.Mathlib.Omega.{arith}
 use lib.Bits.{bitOr}
-use lib.ListN.{length, List·getD-eq-default}
+use lib.ListN.{length}
 use Rattle.vertex_set.specs.Set.{Member}
-use Rattle.vertex_set.proofs.Cases.{same-or, less-or}
+use Rattle.vertex_set.proofs.Cases.{same-or}
 use Rattle.vertex_set.proofs.Sets.{in-or, none-in-zero}
-use Rattle.setup.specs.declared.Rows.{Rows}
 use Rattle.setup.specs.declared.Graph.{Graph}
 use Rattle.setup.specs.Setup.{rowOf, rowsAt}
-use Rattle.derivations.specs.Derivation.{Vertices, Rule, Derivation}
-use Rattle.derivations.specs.Access.{Step}
+use Rattle.derivations.specs.Derivation.{Derivation}
 use Rattle.derivations.specs.Both.{ruleOf}
-use Rattle.derivations.proofs.Rules.{Sub, held, closed, least}
+use Rattle.derivations.specs.Admits.{Admits}
+use Rattle.derivations.proofs.Rules.{Sub, held, least}
 use Rattle.derivations.proofs.Both.{lawful}
+use Rattle.derivations.proofs.Admits.{admits-local, step-admits, admits-derived, admits-place}
 use Rattle.words.specs.Words.{Without, room}
 use Rattle.words.proofs.Families.{full-word}
-use Rattle.lanes.specs.Lanes.{Lane, Admits}
-use Rattle.lanes.proofs.Colours.{admits-coloured}
+use Rattle.lanes.specs.Lanes.{Lane}
 use Rattle.tables.specs.Steps.{Stepped, AllNeeded, Users, Closed}
-
--- ---- a vertex that a lane admits is one that the rule allows there
-
--- v is added by a step that is allowed where these vertices are held
-pub record Reaches (r : Rule) (P : Vertices) (v : ℕ) : Type 0 where
-  pub step : r .Step
-  pub adds : r .adds step ≡ v
-  pub allowed : r .Allowed P step
-
-pub admits-reaches : (loss : Bool) (g : Graph) (P : Vertices) (v : ℕ) → Admits loss (rowsAt g v) P → Reaches (ruleOf loss g) P v
-admits-reaches false g P v a =
-    record {
-      step = record { vertex = v; colour = a .colour };
-      adds = refl;
-      allowed = record { coloured = a .whole .coloured; complete = a .whole .complete .each };
-    }
-admits-reaches true g P v a =
-    record { step = v; adds = refl; allowed = record { colour = a .colour; coloured = a .coloured; every = λ c. a .every c .some } }
-
-pub allowed-admits : (loss : Bool) (g : Graph) (P : Vertices) (e : ruleOf loss g .Step) → ruleOf loss g .Allowed P e
-    → Admits loss (rowsAt g (ruleOf loss g .adds e)) P
-allowed-admits false g P e o =
-    record { colour = e .colour; whole = record { coloured = o .coloured; complete = record { each = o .complete } } }
-allowed-admits true g P v o = record { colour = o .colour; coloured = o .coloured; every = λ c. record { some = o .every c } }
-
--- what is derivable is closed under what it admits
-pub admits-derived : (loss : Bool) (g : Graph) (P Q : Vertices) (v : ℕ) → Sub Q (Derivation (ruleOf loss g) P) → Admits loss (rowsAt g v) Q
-    → Derivation (ruleOf loss g) P v
-admits-derived loss g P Q v s a =
-    let r = ruleOf loss g in
-    let h = admits-reaches loss g Q v a in
-    subst (Derivation r P) (h .adds) (closed r (lawful loss g) P (h .step) (lawful loss g .mono Q (Derivation r P) s (h .step) (h .allowed)))
-
--- only the needed vertices count
-pub admits-local : (loss : Bool) (rows : Rows) (P Q : Vertices) → ((c i : ℕ) → Member (rowOf rows c) i → P i → Q i) → Admits loss rows P → Admits loss rows Q
-admits-local false rows P Q h a =
-    record {
-      colour = a .colour;
-      whole = record { coloured = a .whole .coloured; complete = record { each = λ i m. h (a .colour) i m (a .whole .complete .each i m) } };
-    }
-admits-local true rows P Q h a =
-    record {
-      colour = a .colour;
-      coloured = a .coloured;
-      every = λ c. record {
-        some = λ n. let s = a .every c .some n in record { vertex = s .vertex; member = s .member; gone = h c (s .vertex) (s .member) (s .gone) };
-      };
-    }
-
--- a vertex that is admitted has a colour, and so a place in the graph
-pub admits-place : (loss : Bool) (g : Graph) (P : Vertices) (v : ℕ) → length (g .rows) ≡ 64 → Admits loss (rowsAt g v) P → v < 64
-admits-place loss g P v e a =
-    ⊎-elim (λ l. l)
-    (λ l. let c = admits-coloured loss (rowsAt g v) P a in
-    absurd (c .1 (ap (λ (r : Rows). rowOf r (c .0)) (List·getD-eq-default (g .rows) (record { needs = [] }) {n = v} (omega arith)))))
-    (less-or v 64)
-
--- ---- the loop
 
 -- Each lane lies between its start and what is derivable from there, and gains no vertex that is not to be looked at again.
 pub record Settling (loss : Bool) (g : Graph) (needs w₀ w : List ℕ) (todo : ℕ) : Type 0 where
@@ -151,7 +92,7 @@ module _ (loss : Bool) (g : Graph) (needs w₀ : List ℕ) where
           to = s .sound b i hb hi v;
           from = least (ruleOf loss g) (lawful loss g) (Lane w₀ b i) (Lane w b i) (s .grown b i hb hi)
               (λ k a.
-              let m = allowed-admits loss g (Lane w b i) k a in
+              let m = step-admits loss g (Lane w b i) k a in
               let u = ruleOf loss g .adds k in
               s .quiet u (admits-place loss g (Lane w b i) u e m) (λ q. none-in-zero u (subst (λ (x : ℕ). Member x u) z q)) b i hb hi m) v;
         };

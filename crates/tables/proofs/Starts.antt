@@ -12,10 +12,11 @@ use lib.Pow.{pow-pos}
 use borrow.Rule.Slice.PartMut.{putMid}
 use Rattle.vertex_set.specs.Set.{Member, Iff}
 use Rattle.vertex_set.proofs.Cases.{same-or, less-or}
+use Rattle.vertex_set.proofs.Decisions.{iff-trans}
 use Rattle.vertex_set.proofs.Sets.{shifted-one, none-in-zero, member-below}
 use Rattle.families.specs.Masks.{rank, Picked}
 use Rattle.words.specs.Words.{FamilyWhere}
-use Rattle.words.proofs.Families.{iff-trans, family-as}
+use Rattle.words.proofs.Families.{family-as}
 use Rattle.lanes.specs.Lanes.{Lane}
 use Rattle.tables.specs.Steps.{Started}
 use Rattle.tables.proofs.Parts.{put-length, lane-put, lane-kept}

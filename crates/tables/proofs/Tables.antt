@@ -7,6 +7,7 @@ use Prim.Native.Nat.{ℕ, _+_, _*_, _/_, _%_, _<_}
 use native.Mathlib.Omega.{arith}
 use lib.ListN.{take, drop}
 use Rattle.vertex_set.specs.Set.{Within, Iff}
+use Rattle.vertex_set.proofs.Decisions.{iff-trans}
 use Rattle.setup.specs.declared.Graph.{Graph}
 use Rattle.derivations.specs.Derivation.{Rule}
 use Rattle.derivations.specs.Both.{ruleOf}
@@ -15,7 +16,6 @@ use Rattle.derivations.proofs.Both.{lawful}
 use Rattle.families.specs.Masks.{Picked}
 use Rattle.families.specs.Family.{In, Monotone}
 use Rattle.words.specs.Words.{At}
-use Rattle.words.proofs.Families.{iff-trans}
 use Rattle.lanes.specs.Lanes.{Lane}
 use Rattle.lanes.proofs.Scans.{part-lane}
 use Rattle.tables.specs.Table.{Table, FamilyOf}

@@ -10,9 +10,10 @@ use Rattle.setup.specs.declared.Rows.{Rows}
 use Rattle.setup.specs.declared.Graph.{Graph}
 use Rattle.setup.specs.Setup.{rowsAt}
 use Rattle.derivations.specs.Derivation.{Rule, Derivation}
+use Rattle.derivations.specs.Admits.{Admits}
 use Rattle.families.specs.Masks.{Picked}
 use Rattle.words.specs.Words.{room}
-use Rattle.lanes.specs.Lanes.{Lane, Admits, Needed}
+use Rattle.lanes.specs.Lanes.{Lane, Needed}
 
 -- The table w has become e: the vertex v was added to each lane that admits it; r says whether one was new.
 pub record Stepped (loss : Bool) (rows : Rows) (v : ℕ) (w : List ℕ) (r : Bool) (e : List ℕ) : Type 0 where

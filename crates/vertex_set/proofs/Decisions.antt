@@ -1,4 +1,4 @@
--- Answers yes and no: how a decision is made, and carried from one proposition to another.
+-- Propositions that follow from each other; answers yes and no: how a decision is made, and carried from one proposition to another.
 -- Assumes nothing.
 use mathlib.Core.Path.{_≡_, sym}
 use mathlib.Core.Bool.{Bool, true, false}
@@ -8,6 +8,12 @@ use borrow.Author.Tests.{leb-true, leb-false, ltb-true, ltb-false, eqb-true, eqb
 use native.Mathlib.Nat.{not-le-of-lt}
 use Rattle.vertex_set.specs.Set.{Decides, Iff}
 use Rattle.vertex_set.proofs.Cases.{false-true}
+
+pub iff-refl : {P : Type 0} → Iff P P
+iff-refl = record { to = λ p. p; from = λ p. p }
+
+pub iff-trans : {P Q R : Type 0} → Iff P Q → Iff Q R → Iff P R
+iff-trans p q = record { to = λ x. q .to (p .to x); from = λ x. p .from (q .from x) }
 
 pub decide-yes : {P : Type 0} → P → Decides P true
 decide-yes p = record { yes = λ e. p; no = λ e. absurd (false-true (sym e)) }

@@ -1,15 +1,16 @@
--- Proper subsets: each lies within the set less one vertex.
+-- Proper subsets: each lies within the set less one vertex; and minimal ones among the subsets that have a property.
 -- Assumes nothing.
 use mathlib.Core.Path.{subst}
-use mathlib.Core.Logic.{⊎-elim}
+use mathlib.Core.Logic.{_⊎_, inl, inr, ⊎-elim}
 use Prim.Native.Nat.{ℕ, _-_, _^_, _<_}
 use native.Mathlib.Nat.{lt-of-le-of-lt}
 use native.Mathlib.Omega.{arith}
 use lib.Bits.{bitAnd}
 use lib.Pow.{pow-pos}
 use Rattle.vertex_set.specs.Set.{Member, Within, ProperlyWithin}
-use Rattle.vertex_set.proofs.Cases.{same-or}
-use Rattle.vertex_set.proofs.Sets.{some-member, same-set, within-le, within-test, in-and, in-not, member-below}
+use Rattle.vertex_set.proofs.Cases.{byTest, less-or, same-or, lowest}
+use Rattle.vertex_set.proofs.Sets.{some-member, same-set, in-and, in-not, member-below}
+use Rattle.vertex_set.proofs.Sets.{within-refl, within-trans, within-le, within-decided, within-test}
 use Rattle.vertex_set.proofs.Places.{member-le, in-removed, removed-within}
 
 -- a proper subset lacks some member
@@ -34,3 +35,33 @@ removed-proper b i m =
 
 pub proper-less : (a b : ℕ) → ProperlyWithin a b → a < b
 proper-less a b p = let l = within-le a b (p .within) in let n = p .other in omega arith
+
+-- ---- minimal subsets
+
+-- k lies within m and has the property
+record Among (P : ℕ → Type 0) (m k : ℕ) : Type 0 where
+  within : Within k m
+  has : P k
+
+within-or : (a b : ℕ) → b < 2 ^ 64 → Within a b ⊎ (Within a b → ⊥)
+within-or a b h =
+    ⊎-elim (λ l. inr (λ w. let le = within-le a b w in omega arith))
+    (λ l. let d = within-decided a b (omega arith) h in byTest _ (λ e. inl (d .yes e)) (λ e. inr (d .no e))) (less-or b a)
+
+-- within each set that has a property which is decided there is a minimal one: that of the lowest number
+pub minimal-below : (P : ℕ → Type 0) → ((k : ℕ) → P k ⊎ (P k → ⊥)) → (m : ℕ) → m < 2 ^ 64 → P m
+    → (k : ℕ) × Within k m × P k × ((j : ℕ) → ProperlyWithin j k → P j → ⊥)
+minimal-below P dec m h p =
+    let k = lowest (Among P m) among-or m (record { within = within-refl m; has = p }) in (
+      k .0,
+      k .1 .within,
+      k .1 .has,
+      λ j q r. k .2 j (proper-less j (k .0) q) (record { within = within-trans (q .within) (k .1 .within); has = r }),
+    )
+  where
+    among-or : (k : ℕ) → Among P m k ⊎ (Among P m k → ⊥)
+    among-or k =
+        ⊎-elim
+        (λ w. ⊎-elim (λ q. inl (record { within = w; has = q })) (λ n. inr (λ a. n (a .has))) (dec k))
+        (λ n. inr (λ a. n (a .within)))
+        (within-or k m h)

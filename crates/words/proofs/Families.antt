@@ -8,17 +8,12 @@ use native.Mathlib.Omega.{arith}
 use lib.Bits.{bitAnd, bitOr}
 use lib.ListN.{getD}
 use Rattle.vertex_set.specs.Set.{Member, Iff}
+use Rattle.vertex_set.proofs.Decisions.{iff-refl, iff-trans}
 use Rattle.vertex_set.proofs.Sets.{in-and, in-or, below-power}
 use Rattle.words.specs.Words.{At, FamilyWhere}
 use Rattle.words.proofs.Words.{Mapped}
 
 -- ---- the same bits, said otherwise
-
-pub iff-refl : {P : Type 0} → Iff P P
-iff-refl = record { to = λ p. p; from = λ p. p }
-
-pub iff-trans : {P Q R : Type 0} → Iff P Q → Iff Q R → Iff P R
-iff-trans p q = record { to = λ x. q .to (p .to x); from = λ x. p .from (q .from x) }
 
 pub family-as : {P Q : ℕ → ℕ → Type 0} (f : List ℕ) → FamilyWhere P f → ((b i : ℕ) → b < 256 → i < 64 → Iff (P b i) (Q b i)) → FamilyWhere Q f
 family-as f l q = record { words = l .words; each = λ b i hb hi. iff-trans (l .each b i hb hi) (q b i hb hi) }

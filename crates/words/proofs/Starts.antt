@@ -11,12 +11,13 @@ use lib.ListN.{getD}
 use borrow.Author.Tests.{eqb-true}
 use Rattle.vertex_set.specs.Set.{Member, Iff}
 use Rattle.vertex_set.proofs.Cases.{same-or}
+use Rattle.vertex_set.proofs.Decisions.{iff-trans}
 use Rattle.vertex_set.proofs.Digits.{digit, digit-lt}
 use Rattle.vertex_set.proofs.Sets.{none-in-zero}
 use Rattle.vertex_set.proofs.Shifts.{in-low, in-high, all, all-at}
 use Rattle.words.specs.Words.{FamilyWhere}
 use Rattle.words.proofs.Words.{Mapped}
-use Rattle.words.proofs.Families.{iff-trans, mapped-family, family-as, full-word}
+use Rattle.words.proofs.Families.{mapped-family, family-as, full-word}
 
 -- the six patterns, and the test that each bit of each is right
 unfoldable pub patterns : List ℕ

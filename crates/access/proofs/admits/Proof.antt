@@ -2,7 +2,7 @@ use mathlib.Core.Path.{sym, subst}
 use mathlib.Core.Bool.{Bool}
 use lib.Dec.{ltb}
 use Rattle.vertex_set.specs.Set.{Member, Decides}
-use Rattle.access.specs.Inner.{RowsAdmit}
+use Rattle.derivations.specs.Admits.{Admits}
 use Rattle.access.proofs.Colours.{some-complete}
 use borrow.Author.Needs.{needs}
 use Rattle.access.proofs.admits.Statement.{statement}
@@ -17,12 +17,14 @@ lowest-colour-requires c κs = search needs
 returns : tie.Need-returns
 returns c =
     let a = c .before .before .args in
-    subst (λ (b : Bool). Decides (RowsAdmit b (a .rows) (Member (a .held .0))) (c .all-broken .result)) (sym (c .before .if1 .taken)) (c .all-broken .ensures)
+    subst (λ (b : Bool). Decides (Admits b (a .rows) (Member (a .held .0))) (c .all-broken .result)) (sym (c .before .if1 .taken))
+    (c .all-broken .ensures)
 
 returns-2 : tie.Need-returns-2
 returns-2 c =
     let a = c .before .before .args in
-    subst (λ (b : Bool). Decides (RowsAdmit b (a .rows) (Member (a .held .0))) (ltb (c .lowest-colour .result) 8)) (sym (c .before .if1 .left)) (some-complete (a .rows) (a .held .0) (c .lowest-colour .result) (c .lowest-colour .ensures))
+    subst (λ (b : Bool). Decides (Admits b (a .rows) (Member (a .held .0))) (ltb (c .lowest-colour .result) 8)) (sym (c .before .if1 .left))
+    (some-complete (a .rows) (a .held .0) (c .lowest-colour .result) (c .lowest-colour .ensures))
 
 pub admits-spec : {M : Type 1} → statement M
 admits-spec = tie.close (tie.spec all-broken-requires lowest-colour-requires returns returns-2)

@@ -5,8 +5,8 @@ use mathlib.Core.Bool.{false}
 use native.Mathlib.Omega.{arith}
 use lib.ListN.{length, length-map}
 use Rattle.access.proofs.Ways.{PassedOver, over-held, over-shut, step-found, step-none}
-use Rattle.access.proofs.Passes.{admitted-place, step-rows}
 use Rattle.vertex_set.specs.Set.{Member}
+use Rattle.derivations.proofs.Admits.{step-admits, admits-place}
 use Rattle.access.proofs.lowest_step.Statement.{statement}
 use Rattle.access.proofs.lowest_step.Tie as tie
 
@@ -64,7 +64,8 @@ returns-2 c =
     let a = c .before .before .args in
     let e : c .before .loop .v ≡ 64 = omega arith in
     let long : length (a .t1 .rows) ≡ 64 = simp length-map at (c .before .before .good .0 .1 .1 .0 .1 .0 .1) in
-    step-none (a .t1) (a .held .0) _ (rw e at (c .before .loop .inv .1)) (λ f o. admitted-place false (a .t1) (Member (a .held .0)) (f .vertex) long (step-rows false (a .t1) (Member (a .held .0)) f o))
+    step-none (a .t1) (a .held .0) _ (rw e at (c .before .loop .inv .1))
+    (λ f o. admits-place false (a .t1) (Member (a .held .0)) (f .vertex) long (step-admits false (a .t1) (Member (a .held .0)) f o))
 
 pub lowest-step-spec : {M : Type 1} → statement M
 lowest-step-spec =

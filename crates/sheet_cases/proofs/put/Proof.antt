@@ -2,7 +2,7 @@ use Rattle.sheet_cases.proofs.Parts.{counts, stored}
 use borrow.Author.Needs.{needs}
 use Prim.Native.Nat.{_≤_, _<_, _-_}
 use mathlib.Core.Path.{_≡_}
-use lib.ListN.{length, getD}
+use lib.ListN.{length}
 use Rattle.sheet_cases.proofs.put.Statement.{statement}
 use Rattle.sheet_cases.proofs.put.Tie as tie
 

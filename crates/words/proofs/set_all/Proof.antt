@@ -3,7 +3,8 @@
 use mathlib.Core.Path.{refl}
 use Prim.Native.Nat.{_-_}
 use borrow.Author.Needs.{needs}
-use Rattle.words.proofs.Families.{iff-refl, mapped-family}
+use Rattle.vertex_set.proofs.Decisions.{iff-refl}
+use Rattle.words.proofs.Families.{mapped-family}
 use Rattle.words.proofs.Words.{Mapped, mapped-more}
 use Rattle.words.proofs.set_all.Statement.{statement}
 use Rattle.words.proofs.set_all.Tie as tie

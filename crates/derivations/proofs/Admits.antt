@@ -1,0 +1,67 @@
+-- A vertex that its rows admit is one that a step adds.
+-- Assumes nothing.
+use mathlib.Core.Path.{_≡_, ap}
+use mathlib.Core.Bool.{Bool, true, false}
+use mathlib.Core.List.{[]}
+use mathlib.Core.Logic.{⊎-elim}
+use Prim.Native.Nat.{ℕ, _<_}
+use native.Mathlib.Omega.{arith}
+use lib.ListN.{length, List·getD-eq-default}
+use Rattle.vertex_set.specs.Set.{Member}
+use Rattle.vertex_set.proofs.Cases.{less-or}
+use Rattle.setup.specs.declared.Rows.{Rows}
+use Rattle.setup.specs.declared.Graph.{Graph}
+use Rattle.setup.specs.Setup.{rowOf, rowsAt}
+use Rattle.derivations.specs.Derivation.{Vertices, Derivation}
+use Rattle.derivations.specs.Both.{ruleOf}
+use Rattle.derivations.specs.Admits.{Admits}
+use Rattle.derivations.proofs.Rules.{Sub, closed}
+use Rattle.derivations.proofs.Both.{lawful}
+
+-- only the needed vertices count
+pub admits-local : (loss : Bool) (rows : Rows) (P Q : Vertices) → ((c i : ℕ) → Member (rowOf rows c) i → P i → Q i) → Admits loss rows P → Admits loss rows Q
+admits-local false rows P Q h a =
+    record {
+      colour = a .colour;
+      complete = record { coloured = a .complete .coloured; within = λ i m. h (a .colour) i m (a .complete .within i m) };
+    }
+admits-local true rows P Q h a =
+    record {
+      colour = a .colour;
+      coloured = a .coloured;
+      every = λ c n. let s = a .every c n in record { vertex = s .vertex; member = s .member; gone = h c (s .vertex) (s .member) (s .gone) };
+    }
+
+-- where more is held or lost, more is admitted
+pub admits-mono : (loss : Bool) (rows : Rows) (P Q : Vertices) → Sub P Q → Admits loss rows P → Admits loss rows Q
+admits-mono loss rows P Q s = admits-local loss rows P Q (λ c i m. s i)
+
+-- the rows of the vertex that an allowed step adds admit it
+pub step-admits : (loss : Bool) (g : Graph) (P : Vertices) (e : ruleOf loss g .Step) → ruleOf loss g .Allowed P e
+    → Admits loss (rowsAt g (ruleOf loss g .adds e)) P
+step-admits false g P e o = record { colour = e .colour; complete = record { coloured = o .coloured; within = o .complete } }
+step-admits true g P v o = record { colour = o .colour; coloured = o .coloured; every = o .every }
+
+-- what derivable vertices admit is derivable
+pub admits-derived : (loss : Bool) (g : Graph) (P Q : Vertices) (v : ℕ) → Sub Q (Derivation (ruleOf loss g) P) → Admits loss (rowsAt g v) Q
+    → Derivation (ruleOf loss g) P v
+admits-derived loss g P Q v s a = derived loss (admits-mono loss (rowsAt g v) Q (Derivation (ruleOf loss g) P) s a)
+  where
+    derived : (b : Bool) → Admits b (rowsAt g v) (Derivation (ruleOf b g) P) → Derivation (ruleOf b g) P v
+    derived false h =
+        closed (ruleOf false g) (lawful false g) P (record { vertex = v; colour = h .colour })
+        (record { coloured = h .complete .coloured; complete = h .complete .within })
+    derived true h = closed (ruleOf true g) (lawful true g) P v (record { colour = h .colour; coloured = h .coloured; every = h .every })
+
+-- a vertex that is admitted has a colour,
+pub admits-coloured : (loss : Bool) (rows : Rows) (P : Vertices) → Admits loss rows P → (c : ℕ) × (rowOf rows c ≡ 0 → ⊥)
+admits-coloured false rows P a = (a .colour, a .complete .coloured)
+admits-coloured true rows P a = (a .colour, a .coloured)
+
+-- and so a place in the graph
+pub admits-place : (loss : Bool) (g : Graph) (P : Vertices) (v : ℕ) → length (g .rows) ≡ 64 → Admits loss (rowsAt g v) P → v < 64
+admits-place loss g P v e a =
+    ⊎-elim (λ l. l)
+    (λ l. let c = admits-coloured loss (rowsAt g v) P a in
+    absurd (c .1 (ap (λ (r : Rows). rowOf r (c .0)) (List·getD-eq-default (g .rows) (record { needs = [] }) {n = v} (omega arith)))))
+    (less-or v 64)

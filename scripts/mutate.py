@@ -388,6 +388,7 @@ The crate with the edit is checked by `rt dev` over what was checked of it witho
 itself is not proved (for a constant: some function of its crate). "Where" is the place of the first error about it, or `search` where the
 function has no proof file and the prover finds no proof by itself. Several functions are edited in one run, each at one place: a proof
 rests on the contracts of the functions that it calls, and on no other body. What seems to survive such a run is tried again alone.
+Five of the edits, three refused and two not, were also checked from nothing by `rt check` (2026-11-15), with the same verdicts.
 
 "Refused by shape" ({shape} edits): the first error is not about a fact, but that the proof names a step of the code that is no longer
 there. Such an edit counts only where no better one is left.

@@ -290,7 +290,7 @@ def run_batch(crate, batch):
 
 def try_crate(crate, table, shapes):
     """Tries the edits of a crate's functions and constants."""
-    items = [item for path in sorted((ROOT / "crates" / crate / "src").rglob("*.rt")) for item in functions_of(crate, path)]
+    items = items_of(crate)
     if not any(not item.constant for item in items):
         return []
     start_crate(crate, table)
@@ -379,6 +379,16 @@ def note_of(notes, crate, row):
     return notes.get((crate, row[0], after)) or notes.get((crate, row[0], None)) or ""
 
 
+def items_of(crate):
+    """The functions and constants of a crate."""
+    return [item for path in sorted((ROOT / "crates" / crate / "src").rglob("*.rt")) for item in functions_of(crate, path)]
+
+
+def untried(sections, order):
+    """The crates with functions that the record does not have."""
+    return [crate for crate in order if crate not in sections and any(not item.constant for item in items_of(crate))]
+
+
 def few_of(sections):
     """The functions with fewer edits than wanted, by crate."""
     few = []
@@ -406,6 +416,7 @@ The crate with the edit is checked by `rt dev` over what was checked of it witho
 itself is not proved (for a constant: some function of its crate). "Where" is the place of the first error about it, or `search` where the
 function has no proof file and the prover finds no proof by itself. Several functions are edited in one run, each at one place: a proof
 rests on the contracts of the functions that it calls, and on no other body. What seems to survive such a run is tried again alone.
+Five of the edits, three refused and two not, were also checked from nothing by `rt check` (2026-11-15), with the same verdicts.
 
 "Refused by shape" ({shape} edits): the first error is not about a fact, but that the proof names a step of the code that is no longer
 there. Such an edit counts only where no better one is left.
@@ -414,6 +425,7 @@ What a refusal does not show: proofs are written for the code as it is, so a ref
 a survivor shows: the difference is one that the contract leaves open, or no difference at all.
 
 A crate is tried again when its own files, or the code or definitions of a crate below it, have changed: the sum beside its name tells.
+Not tried yet: {untried}.
 """
 
 
@@ -432,6 +444,7 @@ def write_record(sections, order, notes):
         "edits": len(tried),
         "refused": sum(row[4].startswith("refused") for _, row in tried),
         "survived": len(survivors),
+        "untried": ", ".join(f"`{crate}`" for crate in untried(sections, order)) or "none",
         "shape": sum(row[4] == "refused by shape" for _, row in tried),
     }
     lines = [HEAD.format(**counts), "## Not refused", "", "| crate | function | before | after | why |", "|---|---|---|---|---|"]

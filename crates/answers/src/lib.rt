@@ -9,9 +9,6 @@ use scores::RecoverabilityScore;
 use scores::SecurityScore;
 use setup::Setup;
 
-// "Never": the score of an account that no set opens, above every sum.
-pub const NEVER: u64 = 0x4000_0000_0000_0000;
-
 const WORDS: usize = 256;
 
 pub enum BasesAnswer {

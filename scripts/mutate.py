@@ -4,7 +4,7 @@
     python3 scripts/mutate.py            all crates whose sources, or those of crates below them, have changed since they were tried
     python3 scripts/mutate.py bases      this crate
 
-The crates are copied to build/mutate, so that nothing of the project is changed. docs/MUTATION.md is both the record that is
+The crates are copied to target/mutate, so that nothing of the project is changed. docs/MUTATION.md is both the record that is
 read and the one that is written. The exit status is 1 where an edit was not refused and scripts/survivors.txt does not say why.
 """
 import datetime
@@ -26,7 +26,7 @@ WANTED = 3
 MOST_TRIES = 14
 TOGETHER = 16
 SECONDS = 240
-SCRATCH = ROOT / "build" / "mutate"
+SCRATCH = ROOT / "target" / "mutate"
 RECORD = ROOT / "docs" / "MUTATION.md"
 NOTES = ROOT / "scripts" / "survivors.txt"
 # A program of test cases, and what serves the tests alone.

@@ -1,13 +1,13 @@
 """The definitions alone, in one scratch crate: copies of the specs, the types of the sources, and examples that are computed by `refl`.
 
 No law stands between a definition and an example here, so an altered definition is refused by the prover exactly where an example no longer
-computes. The crate is written under build/definitions, which git ignores.
+computes. The crate is written under target/definitions, which git ignores.
 """
 import pathlib
 import re
 
 ROOT = pathlib.Path(__file__).resolve().parents[2]
-FOLDER = ROOT / "build" / "definitions"
+FOLDER = ROOT / "target" / "definitions"
 NO_EXAMPLES = "-- No examples.\nuse mathlib.Core.Path.{_≡_, refl}\n\n"
 
 # The files with executable definitions, and what they stand on, in order.

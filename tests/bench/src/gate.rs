@@ -15,8 +15,8 @@ pub fn times(root: &Path) -> Option<Grid> {
     let mut grid = Grid::new("The gate's time by crate", &header);
     grid.note(&format!(
         "`make test` of {} took {} minutes on {} cores, with the C and Rust tests. Seconds by the \
-         clock, with as many crates or edits at a time as there are cores. An edit is refused by \
-         checking the crate with it.",
+         clock, with up to four crates or edits at a time. An edit is refused by checking the \
+         crate with it.",
         field("date "),
         field("minutes "),
         field("cores "),

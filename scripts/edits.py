@@ -359,7 +359,7 @@ def edits_at(toks, at, function, known, places, shapes, imported):
     """The edits of one token: the new text and the edit's kind."""
     tok = toks[at]
     if tok.kind == "number" and not (at and toks[at - 1].text == "."):
-        in_length = at > 1 and toks[at - 1].text == ";" and toks[at + 1].text == "]"
+        in_length = 1 < at < len(toks) - 1 and toks[at - 1].text == ";" and toks[at + 1].text == "]"
         yield from number_edits(tok, in_length)
     elif tok.kind in ("byte", "text"):
         yield from byte_edits(tok)

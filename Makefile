@@ -10,7 +10,7 @@ report:
 	@test -r "$$SHEET" || { echo "report: cannot read $$SHEET" >&2; exit 1; }
 	@test -x target/bin/report || echo "report: proving the program first, which takes minutes (build/report.log)" >&2
 	@mkdir -p build
-	@rt check report > build/report.log 2>&1 || { cat build/report.log >&2; exit 1; }
+	@python3 scripts/prove.py report build/report.log
 	@target/bin/report < "$$SHEET"
 
 # The proofs alone: no must-fail edits, no programs, no Rust or C.
@@ -30,11 +30,11 @@ fuzz:
 bench:
 	@bash scripts/bench.sh
 
-# Small edits of every function, each of which the prover must refuse; writes docs/MUTATION.md. make mutate CRATE=bases tries one crate.
+# Small edits of every function, each of which the prover must refuse; writes records/mutation.md. make mutate CRATE=bases tries one crate.
 mutate:
 	@python3 scripts/mutate.py $(CRATE)
 
-# Each definition altered, and an example that notices it: docs/DEFINITIONS.md.
+# Each definition altered, and an example that notices it: records/definitions.md.
 alter:
 	@python3 tests/definitions/alter.py
 

@@ -1,5 +1,5 @@
 #!/usr/bin/env python3
-"""Records the gate's time by crate: gate_times.py LOG reads what `make test` has printed and writes docs/gate-times.txt.
+"""Records the gate's time by crate: gate_times.py LOG reads what `make test` has printed and writes records/gate-times.txt.
 
 The slowest crate comes first: the seconds to prove it, how many must-fail edits it has, and the seconds to refuse these. A log of
 a gate that did not pass, or in which not every crate and edit is found, is refused.
@@ -8,7 +8,7 @@ import re
 import sys
 from pathlib import Path
 
-RECORD = Path(__file__).resolve().parent.parent / "docs" / "gate-times.txt"
+RECORD = Path(__file__).resolve().parent.parent / "records" / "gate-times.txt"
 
 
 def times(log):
@@ -34,7 +34,7 @@ def main(log):
     slowest = sorted(crates.items(), key=lambda crate: -crate[1][0] - crate[1][2])
     lines += [f"{name} {proving} {edits} {refusing}" for name, (proving, edits, refusing) in slowest]
     RECORD.write_text("\n".join(lines) + "\n", encoding="utf-8")
-    print(f"gate_times: {len(crates)} crates to docs/gate-times.txt")
+    print(f"gate_times: {len(crates)} crates to records/gate-times.txt")
 
 
 if __name__ == "__main__":

@@ -4,7 +4,7 @@
     python3 scripts/mutate.py            all crates whose sources, or those of crates below them, have changed since they were tried
     python3 scripts/mutate.py bases      this crate
 
-The crates are copied to target/mutate, so that nothing of the project is changed. docs/MUTATION.md is both the record that is
+The crates are copied to target/mutate, so that nothing of the project is changed. records/mutation.md is both the record that is
 read and the one that is written. The exit status is 1 where an edit was not refused and scripts/survivors.txt does not say why.
 """
 import datetime
@@ -27,7 +27,7 @@ MOST_TRIES = 14
 TOGETHER = 16
 SECONDS = 240
 SCRATCH = ROOT / "target" / "mutate"
-RECORD = ROOT / "docs" / "MUTATION.md"
+RECORD = ROOT / "records" / "mutation.md"
 NOTES = ROOT / "scripts" / "survivors.txt"
 # A program of test cases, and what serves the tests alone.
 LEFT_OUT = {"sheet_cases"}
@@ -401,31 +401,14 @@ def few_of(sections):
     return few
 
 
-HEAD = """# Mutation testing
+HEAD = """# Mutation testing: the record
 
-Written by `scripts/mutate.py` (`make mutate`). {date}: {functions} functions and {constants} constants of {crates} crates, {edits} edits,
-{refused} refused, {survived} not refused.
+Written by `scripts/mutate.py` (`make mutate`); docs/TESTING.md says what is done and what it shows. {date}: {functions} functions and
+{constants} constants of {crates} crates, {edits} edits, {refused} refused ({shape} of them by shape), {survived} not refused.
 
-An edit changes one operand of a function's code: an operator by its sibling, a number by the next one, a variable, a field or a case by
-another of the same type, a truth value by the other. Contracts, definitions and proofs stay as they are. Each function gets three edits
-where it has as many, on different lines where it can, and each constant one. `scripts/edits.py` finds them, the same ones in every run.
-An edit that the front end rejects, as a type error, does not count, and another one takes its place. Beside these stand the edits of
-`crates/NAME/mutations`, which are written by hand.
-
-The crate with the edit is checked by `rt dev` over what was checked of it without the edit. An edit is refused where the edited function
-itself is not proved (for a constant: some function of its crate). "Where" is the place of the first error about it, or `search` where the
-function has no proof file and the prover finds no proof by itself. Several functions are edited in one run, each at one place: a proof
-rests on the contracts of the functions that it calls, and on no other body. What seems to survive such a run is tried again alone.
-Five of the edits, three refused and two not, were also checked from nothing by `rt check` (2026-11-15), with the same verdicts.
-
-"Refused by shape" ({shape} edits): the first error is not about a fact, but that the proof names a step of the code that is no longer
-there. Such an edit counts only where no better one is left.
-
-What a refusal does not show: proofs are written for the code as it is, so a refused edit may be one that a new proof would accept. What
-a survivor shows: the difference is one that the contract leaves open, or no difference at all.
-
-A crate is tried again when its own files, or the code or definitions of a crate below it, have changed: the sum beside its name tells.
-Not tried yet: {untried}.
+"Where" is the place of the first error about the edited function, or `search` where it has no proof file and the prover finds no proof by
+itself. A crate is tried again when its own files, or the code or definitions of a crate below it, have changed: the sum beside its name
+tells. Not tried yet: {untried}.
 """
 
 

@@ -1,7 +1,7 @@
 """Alters each definition that the three demands cite, once or more, and sees that an example notices it.
 
     python3 tests/definitions/alter.py            all of it: that none is left out, then both ways
-    python3 tests/definitions/alter.py --write    the same, and writes the table of docs/DEFINITIONS.md
+    python3 tests/definitions/alter.py --write    the same, and writes the table of records/definitions.md
     python3 tests/definitions/alter.py --table    writes the table alone
 """
 import re
@@ -11,7 +11,7 @@ import blocks
 import computed
 import declared
 
-DOC = blocks.ROOT / "docs" / "DEFINITIONS.md"
+DOC = blocks.ROOT / "records" / "definitions.md"
 MARK = "<!-- the table: written by tests/definitions/alter.py -->"
 DOCUMENT = re.compile(r"(not )?B\d+\b|reads-(bench|ring|alone|closed|loop|pair)$|report-document$")
 

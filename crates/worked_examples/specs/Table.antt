@@ -82,7 +82,7 @@ table =
     ∷ lockout pair p (setOf (p ∷ []) ∷ setOf (q ∷ []) ∷ [])
     ∷ []
 
--- Further examples, for what B1 to B12 leave open: a definition could be altered there, and none of them would tell (docs/DEFINITIONS.md).
+-- Further examples, for what B1 to B12 leave open: a definition could be altered there, and none of them would tell (docs/TESTING.md).
 abbrev pub further : List Example
 further =
     -- losses: by all colours of order, and by one of two

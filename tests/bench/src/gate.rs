@@ -5,11 +5,11 @@ use std::path::Path;
 
 /// The recorded times as a table, where there is a record.
 pub fn times(root: &Path) -> Option<Grid> {
-    let record = std::fs::read_to_string(root.join("docs/gate-times.txt")).ok()?;
-    let (run, crates) = record.split_once("\n\n").expect("docs/gate-times.txt has two parts");
+    let record = std::fs::read_to_string(root.join("records/gate-times.txt")).ok()?;
+    let (run, crates) = record.split_once("\n\n").expect("records/gate-times.txt has two parts");
     let field = |name: &str| -> &str {
         let found = run.lines().find_map(|line| line.strip_prefix(name));
-        found.unwrap_or_else(|| panic!("docs/gate-times.txt has no {name}")).trim()
+        found.unwrap_or_else(|| panic!("records/gate-times.txt has no {name}")).trim()
     };
     let header = ["crate", "proving, s", "must-fail edits", "refusing them, s"];
     let mut grid = Grid::new("The gate's time by crate", &header);
@@ -33,7 +33,7 @@ pub fn times(root: &Path) -> Option<Grid> {
 }
 
 fn number(word: &str) -> u64 {
-    word.parse().expect("docs/gate-times.txt has whole seconds")
+    word.parse().expect("records/gate-times.txt has whole seconds")
 }
 
 fn row(name: &str, numbers: &[u64]) -> Vec<String> {

@@ -1,0 +1,45 @@
+#!/usr/bin/env python3
+"""Proves a crate and what it stands on, and shows on standard error how far it is: prove.py NAME LOG.
+
+What `rt check` prints goes to the file LOG, and is shown where it fails. Nothing is shown where all was proved before.
+"""
+import re
+import subprocess
+import sys
+from pathlib import Path
+
+ROOT = Path(__file__).resolve().parent.parent
+
+
+def stands_on(name):
+    """The crates that `rt check NAME` proves: NAME, and those of the project that it reaches."""
+    lines = (ROOT / "crates.txt").read_text(encoding="utf-8").splitlines()
+    table = {crate.strip(): names.split() for crate, colon, names in (line.partition("#")[0].partition(":") for line in lines) if colon}
+    reached, todo = set(), [name]
+    while todo:
+        crate = todo.pop()
+        if crate in table and crate not in reached:
+            reached.add(crate)
+            todo += table[crate]
+    return reached
+
+
+def main(name, log):
+    count, done = len(stands_on(name)), 0
+    with open(log, "w", encoding="utf-8") as out:
+        check = subprocess.Popen(["rt", "check", name], cwd=ROOT, stdout=subprocess.PIPE, stderr=subprocess.STDOUT, text=True)
+        for line in check.stdout:
+            out.write(line)
+            found = re.match(r"rt: (\w+) proved \((.*)\)", line)
+            done += bool(found)
+            if found and not found.group(2).startswith("unchanged"):
+                print(f"{name}: crate {done} of {count} proved: {found.group(1)} ({found.group(2)})", file=sys.stderr, flush=True)
+    if check.wait():
+        sys.stderr.write(Path(log).read_text(encoding="utf-8"))
+    return check.returncode
+
+
+if __name__ == "__main__":
+    if len(sys.argv) != 3:
+        sys.exit("usage: prove.py NAME LOG")
+    sys.exit(main(*sys.argv[1:]))

@@ -1,5 +1,5 @@
 # `make test` proves and tests everything; its last line is the verdict.
-.PHONY: test report prove lib fuzz bench mutate alter check-contracts
+.PHONY: test report definitions prove lib fuzz bench mutate alter check-contracts
 
 test:
 	@bash scripts/test.sh
@@ -12,6 +12,10 @@ report:
 	@mkdir -p build
 	@python3 scripts/prove.py report build/report.log
 	@target/bin/report < "$$SHEET"
+
+# Every definition that must be believed, in reading order, as one text.
+definitions:
+	@python3 scripts/definitions.py
 
 # The proofs alone: no must-fail edits, no programs, no Rust or C.
 prove:

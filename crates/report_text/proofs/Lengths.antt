@@ -69,12 +69,12 @@ set-length name x b few h =
 -- ---- lines
 
 -- The bytes of the fields, and one behind each.
-bytesOf : List (List ℕ) → ℕ
-bytesOf [] = 0
-bytesOf (f ∷ fs) = length f + 1 + bytesOf fs
+lineBytes : List (List ℕ) → ℕ
+lineBytes [] = 0
+lineBytes (f ∷ fs) = length f + 1 + lineBytes fs
 
-line-length : (f : List ℕ) (fs : List (List ℕ)) → length (lineText (f ∷ fs)) ≡ bytesOf (f ∷ fs)
-unfolding bytesOf
+line-length : (f : List ℕ) (fs : List (List ℕ)) → length (lineText (f ∷ fs)) ≡ lineBytes (f ∷ fs)
+unfolding lineBytes
 line-length f [] = omega (arith, length-append f (10 ∷ []))
 line-length f (g ∷ fs) = let ih = line-length g fs in omega (arith, length-append f (32 ∷ lineText (g ∷ fs)))
 
@@ -86,7 +86,7 @@ longest = 272
 
 pub set-row-length : (name : ℕ → List ℕ) (loss : Bool) (target x sum : ℕ) → x < 2 ^ 64 → ones x ≤ 14 → sum < 100000000
     → length (name target) ≤ 16 → ((v : ℕ) → Member x v → length (name v) ≤ 16) → length (setRow name loss target x sum) ≤ longest
-unfolding setRow bytesOf
+unfolding setRow lineBytes
 set-row-length name loss target x sum b few low t h =
     let w = way-length loss in
     let n = decimal-length 1 (ones x) (omega arith) in
@@ -96,7 +96,7 @@ set-row-length name loss target x sum b few low t h =
 
 pub score-row-length : (name : ℕ → List ℕ) (target score risk : ℕ) (back idle : Bool) → score < 2 ^ 64 → risk < 2 ^ 64
     → length (name target) ≤ 16 → length (scoreRow name target score risk back idle) ≤ longest
-unfolding scoreRow bytesOf
+unfolding scoreRow lineBytes
 score-row-length name target score risk back idle p q t =
     let a = score-length score p in
     let b = score-length risk q in
@@ -106,11 +106,11 @@ score-row-length name target score risk back idle p q t =
 
 -- A pair has two names and a byte behind each.
 pub pair-row-short : (name : ℕ → List ℕ) (v w : ℕ) → length (name v) ≤ 16 → length (name w) ≤ 16 → length (pairRow name v w) ≤ 34
-unfolding pairRow bytesOf
+unfolding pairRow lineBytes
 pair-row-short name v w p q = omega (arith, line-length (name v) (name w ∷ []))
 
 pub refused-row-length : (number line : ℕ) → number < 2 ^ 64 → line < 2 ^ 64 → length (refusedRow number line) ≤ longest
-unfolding refusedRow bytesOf
+unfolding refusedRow lineBytes
 refused-row-length number line p q =
     let a = decimal-length 19 number (omega arith) in
     let b = decimal-length 19 line (omega arith) in

@@ -4,6 +4,7 @@ use mathlib.Core.List.{List, [], _∷_, _++_}
 use Prim.Native.Nat.{ℕ, zero, suc}
 use lib.Count.{ones}
 use lib.Dec.{eqb}
+use Rattle.sheet_format.specs.Text.{bytesOf}
 use Rattle.sheet_format.specs.Fields.{decimal, dash}
 use Rattle.sheet_format.specs.Rows.{lineText}
 use Rattle.bases.specs.Score.{never}
@@ -21,15 +22,14 @@ textsOf text (x ∷ l) = text x ++ textsOf text l
 
 -- ---- fields
 
--- `open` for the opening list, `lock` for the lockout list
+-- The opening list, and the lockout list.
 unfoldable pub wayText : Bool → List ℕ
-wayText false = 111 ∷ 112 ∷ 101 ∷ 110 ∷ []
-wayText true = 108 ∷ 111 ∷ 99 ∷ 107 ∷ []
+wayText false = bytesOf "open"
+wayText true = bytesOf "lock"
 
--- `yes` or `no`
 unfoldable pub answerText : Bool → List ℕ
-answerText true = 121 ∷ 101 ∷ 115 ∷ []
-answerText false = 110 ∷ 111 ∷ []
+answerText true = bytesOf "yes"
+answerText false = bytesOf "no"
 
 -- A score or a risk: `-` for never.
 unfoldable pub scoreText : ℕ → List ℕ
@@ -65,20 +65,15 @@ pairRow name v w = lineText (name v ∷ name w ∷ [])
 
 -- `refused 5 2`: the number and the line of a refusal.
 unfoldable pub refusedRow : ℕ → ℕ → List ℕ
-refusedRow number line = lineText ((114 ∷ 101 ∷ 102 ∷ 117 ∷ 115 ∷ 101 ∷ 100 ∷ []) ∷ decimal number ∷ decimal line ∷ [])
+refusedRow number line = lineText (bytesOf "refused" ∷ decimal number ∷ decimal line ∷ [])
 
 -- ---- headers
 
--- `target way size sum items`
 unfoldable pub listHeader : List ℕ
-listHeader =
-    116 ∷ 97 ∷ 114 ∷ 103 ∷ 101 ∷ 116 ∷ 32 ∷ 119 ∷ 97 ∷ 121 ∷ 32 ∷ 115 ∷ 105 ∷ 122 ∷ 101 ∷ 32 ∷ 115 ∷ 117 ∷ 109 ∷ 32 ∷ 105 ∷ 116 ∷ 101 ∷ 109 ∷ 115 ∷ 10 ∷ []
+listHeader = lineText (bytesOf "target way size sum items" ∷ [])
 
--- `target score risk back idle`
 unfoldable pub scoreHeader : List ℕ
-scoreHeader =
-    116 ∷ 97 ∷ 114 ∷ 103 ∷ 101 ∷ 116 ∷ 32 ∷ 115 ∷ 99 ∷ 111 ∷ 114 ∷ 101 ∷ 32 ∷ 114 ∷ 105 ∷ 115 ∷ 107 ∷ 32 ∷ 98 ∷ 97 ∷ 99 ∷ 107 ∷ 32 ∷ 105 ∷ 100 ∷ 108 ∷ 101 ∷ 10 ∷ []
+scoreHeader = lineText (bytesOf "target score risk back idle" ∷ [])
 
--- `above below`
 unfoldable pub pairHeader : List ℕ
-pairHeader = 97 ∷ 98 ∷ 111 ∷ 118 ∷ 101 ∷ 32 ∷ 98 ∷ 101 ∷ 108 ∷ 111 ∷ 119 ∷ 10 ∷ []
+pairHeader = lineText (bytesOf "above below" ∷ [])

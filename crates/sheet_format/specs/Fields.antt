@@ -8,7 +8,7 @@ use Rattle.setup.specs.declared.Kind.{Kind}
 use Rattle.setup.specs.declared.Kind.the-variants.{Credential, Account}
 use Rattle.setup.specs.declared.Value.{Value}
 use Rattle.setup.specs.declared.Value.the-variants.{Blank, Of}
-use Rattle.sheet_format.specs.Text.{isEmpty, sameText, all}
+use Rattle.sheet_format.specs.Text.{bytesOf, isEmpty, sameText, all}
 
 -- ---- names: 1 to 16 of a-z, 0-9, `_`
 
@@ -49,11 +49,11 @@ digitsIn (suc places) n = cond (ltb n 10) ((48 + n) ∷ []) (digitsIn places (n 
 unfoldable pub decimal : ℕ → List ℕ
 decimal n = digitsIn 20 n
 
--- ---- kinds: `c` credential or `a` account
+-- ---- kinds: credential or account
 
 abbrev pub kindText : Kind → List ℕ
-kindText Credential = 99 ∷ []
-kindText Account = 97 ∷ []
+kindText Credential = bytesOf "c"
+kindText Account = bytesOf "a"
 
 unfoldable pub isKind : List ℕ → Bool
 isKind f = sameText f (kindText Credential) || sameText f (kindText Account)
@@ -64,7 +64,7 @@ kindOf f = cond (sameText f (kindText Account)) Account Credential
 -- ---- start and loss: 0 to 1,000,000, or `-`
 
 abbrev pub dash : List ℕ
-dash = 45 ∷ []
+dash = bytesOf "-"
 
 unfoldable pub isValue : List ℕ → Bool
 isValue f = sameText f dash || isNumberTo 1000000 f

@@ -13,7 +13,7 @@ use Rattle.setup.specs.declared.Graph.{Graph}
 use Rattle.setup.specs.declared.Setup.{Setup}
 use Rattle.setup.specs.Setup.{unusedVertex, rowsAt, row, total, given}
 use Rattle.setup.specs.WellFormed.{InRange}
-use Rattle.sheet_format.specs.Text.{sameText}
+use Rattle.sheet_format.specs.Text.{bytesOf, sameText}
 use Rattle.sheet_format.specs.Fields.{isName, decimal, kindText, valueText}
 
 pub record ItemRow : Type 0 where
@@ -83,14 +83,11 @@ lineText [] = 10 ∷ []
 lineText (f ∷ []) = f ++ (10 ∷ [])
 lineText (f ∷ g ∷ fs) = f ++ (32 ∷ lineText (g ∷ fs))
 
--- `name kind start loss rank`
 unfoldable pub firstHeader : List ℕ
-firstHeader =
-    110 ∷ 97 ∷ 109 ∷ 101 ∷ 32 ∷ 107 ∷ 105 ∷ 110 ∷ 100 ∷ 32 ∷ 115 ∷ 116 ∷ 97 ∷ 114 ∷ 116 ∷ 32 ∷ 108 ∷ 111 ∷ 115 ∷ 115 ∷ 32 ∷ 114 ∷ 97 ∷ 110 ∷ 107 ∷ []
+firstHeader = bytesOf "name kind start loss rank"
 
--- `from to colour rec`
 unfoldable pub secondHeader : List ℕ
-secondHeader = 102 ∷ 114 ∷ 111 ∷ 109 ∷ 32 ∷ 116 ∷ 111 ∷ 32 ∷ 99 ∷ 111 ∷ 108 ∷ 111 ∷ 117 ∷ 114 ∷ 32 ∷ 114 ∷ 101 ∷ 99 ∷ []
+secondHeader = bytesOf "from to colour rec"
 
 abbrev pub itemFields : ItemRow → List (List ℕ)
 itemFields x = x .name ∷ kindText (x .kind) ∷ valueText (x .start) ∷ valueText (x .loss) ∷ decimal (x .rank) ∷ []

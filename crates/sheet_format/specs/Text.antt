@@ -1,8 +1,16 @@
--- Texts as lists of bytes: the lines of a text, and the fields of a line.
+-- Texts as lists of bytes: how one is written out in a definition, the lines of a text, and the fields of a line.
 use mathlib.Core.List.{List, [], _∷_}
 use mathlib.Core.Bool.{Bool, true, false, cond, _&&_}
 use Prim.Native.Nat.{ℕ}
+use Prim.Native.Char.{code}
+use Prim.Native.String.{String}
+use Prim.Native.String as string
 use lib.Dec.{eqb}
+
+-- The bytes of a text that is written out in a definition; each of its characters is one byte.
+abbrev pub bytesOf : String → List ℕ
+bytesOf string.[] = []
+bytesOf (string._∷_ c s) = code c ∷ bytesOf s
 
 -- The byte b, put in front of the first of the parts.
 unfoldable pub grow : ℕ → List (List ℕ) → List (List ℕ)

@@ -2,9 +2,7 @@
 use mathlib.Core.Path.{_≡_}
 use mathlib.Core.List.{List, [], _∷_, _++_, map}
 use Prim.Native.Nat.{ℕ, _-_}
-use Prim.Native.Char.{code}
 use Prim.Native.String.{String}
-use Prim.Native.String as string
 use lib.ListN.{length, replicate}
 use Rattle.setup.specs.declared.Kind.the-variants.{Credential, Account}
 use Rattle.setup.specs.declared.Value.the-variants.{Blank, Of}
@@ -13,15 +11,11 @@ use Rattle.setup.specs.declared.Rows.{Rows}
 use Rattle.setup.specs.declared.Graph.{Graph}
 use Rattle.setup.specs.declared.Setup.{Setup}
 use Rattle.setup.specs.Setup.{unusedVertex}
+use Rattle.sheet_format.specs.Text.{bytesOf}
 use Rattle.sheet_format.specs.Rows.{Each}
 use Rattle.sheet_format.specs.Read.{readSheet, accepted, refused}
 
 -- ---- how they are written here
-
--- The bytes of a text, all of whose characters have one byte.
-abbrev pub bytesOf : String → List ℕ
-bytesOf string.[] = []
-bytesOf (string._∷_ c s) = code c ∷ bytesOf s
 
 -- The lines of a sheet, each with LF.
 abbrev pub linesText : List String → List ℕ

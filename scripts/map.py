@@ -1,0 +1,106 @@
+#!/usr/bin/env python3
+"""Holds crates.txt, the map of the crates, to the sources, and README.md's picture of the layers to crates.txt.
+
+    map.py            checks: every crate stands below its heading with a line that says what it holds, behind the crates that it
+                      depends on; it depends on just those that its files name; README.md shows the picture made from it
+    map.py --write    writes the dependencies and the picture
+"""
+import re
+import sys
+from pathlib import Path
+
+ROOT = Path(__file__).resolve().parent.parent
+KIT = {"io", "libc", "os", "check", "bytes"}
+LINE = re.compile(r"^(\w+):([^#]*)(?:#\s*(inner: )?(.*))?$")
+BEGIN, END = "<!-- the map: written by scripts/map.py from crates.txt -->\n", "<!-- end of the map -->\n"
+
+
+def read_map():
+    """The layers of crates.txt: heading, and of each crate its name, its dependencies, whether it is inner, and what it holds."""
+    layers = []
+    for line in (ROOT / "crates.txt").read_text(encoding="utf-8").splitlines():
+        found = LINE.match(line)
+        if line.startswith("# == "):
+            layers.append((line[5:].strip(), []))
+        elif found and layers:
+            layers[-1][1].append((found[1], found[2].split(), bool(found[3]), (found[4] or "").strip()))
+        elif found:
+            sys.exit(f"map: {found[1]} stands below no heading")
+    return layers
+
+
+def named_by(crate, names):
+    """The crates that a crate's files name."""
+    used = set()
+    for path in sorted((ROOT / "crates" / crate).rglob("*")):
+        if path.suffix == ".antt":
+            used |= set(re.findall(r"Rattle·(\w+?)(?:·specs|·proofs)?\.", path.read_text(encoding="utf-8")))
+        elif path.suffix == ".rt":
+            text = re.sub(r"//.*", "", path.read_text(encoding="utf-8"))
+            used |= set(re.findall(r"Rattle·(\w+?)(?:·specs|·proofs)?\.", text)) | set(re.findall(r"\b(\w+)::", text))
+    return used & (set(names) | KIT) - {crate}
+
+
+def picture(layers):
+    """The layers, the uppermost first, as a text for README.md. A dot marks an inner crate."""
+    width = max(len(name) for _, crates in layers for name, *_ in crates) + 2
+    lines = []
+    for heading, crates in reversed(layers):
+        lines += ["", f"    {heading}"] + [f"      {'.' if inner else ' '} {name:<{width}}{what}" for name, _, inner, what in crates]
+    return "\n".join(lines[1:]) + "\n"
+
+
+def faults_of(layers):
+    """What is wrong with the map."""
+    names = [name for _, crates in layers for name, *_ in crates]
+    faults, above = [], set()
+    for _, crates in layers:
+        for name, deps, _, what in crates:
+            used = named_by(name, names)
+            faults += [f"{name} names {dep} and does not depend on it" for dep in sorted(used - set(deps))]
+            faults += [f"{name} depends on {dep} and does not name it" for dep in deps if dep not in used]
+            faults += [f"{name} stands above {dep}, on which it depends" for dep in deps if dep in names and dep not in above]
+            faults += [f"{name}: nothing says what it holds"] * (not what)
+            above.add(name)
+    faults += [f"crates/{path.name} is not on the map" for path in sorted((ROOT / "crates").iterdir()) if path.name not in names]
+    return faults
+
+
+def with_picture(readme, layers):
+    """README.md with the picture between its two marks."""
+    before, _, rest = readme.partition(BEGIN)
+    _, mark, after = rest.partition(END)
+    if not mark:
+        sys.exit("map: README.md has no place for the picture")
+    return before + BEGIN + "\n" + picture(layers) + "\n" + END + after
+
+
+def write(layers):
+    """Writes the dependencies that the sources name, in the map's order, and the picture."""
+    names = [name for _, crates in layers for name, *_ in crates]
+    lines = (ROOT / "crates.txt").read_text(encoding="utf-8").splitlines()
+    for at, line in enumerate(lines):
+        found = LINE.match(line)
+        if found:
+            used = named_by(found[1], names)
+            deps = [name for name in names if name in used] + sorted(used & KIT)
+            lines[at] = " ".join([f"{found[1]}:", *deps]) + f"  # {found[3] or ''}{(found[4] or '').strip()}".rstrip()
+    (ROOT / "crates.txt").write_text("\n".join(lines) + "\n", encoding="utf-8")
+    readme = ROOT / "README.md"
+    readme.write_text(with_picture(readme.read_text(encoding="utf-8"), layers), encoding="utf-8")
+
+
+def main(words):
+    if "--write" in words:
+        write(read_map())
+    layers = read_map()
+    readme = (ROOT / "README.md").read_text(encoding="utf-8")
+    faults = faults_of(layers) + ["README.md's picture is not that of crates.txt"] * (with_picture(readme, layers) != readme)
+    for fault in faults:
+        print(f"map: {fault}")
+    print(f"map: {sum(len(crates) for _, crates in layers)} crates in {len(layers)} layers, {len(faults)} faults")
+    return 1 if faults else 0
+
+
+if __name__ == "__main__":
+    sys.exit(main(sys.argv[1:]))

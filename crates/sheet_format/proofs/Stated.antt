@@ -25,7 +25,7 @@ use Rattle.sheet_format.proofs.Question12Yielded.{in-recovery, recovery
 
 -- ---- where a row stands
 
-stands-below : {A : Type 0} (xs : List A) (i : ℕ) (x : A) → StandsAt xs i x → i < length xs
+pub stands-below : {A : Type 0} (xs : List A) (i : ℕ) (x : A) → StandsAt xs i x → i < length xs
 stands-below [] i x h = absurd h
 stands-below (y ∷ ys) zero x h = omega arith
 stands-below (y ∷ ys) (suc i) x h = let l = stands-below ys i x h in omega arith

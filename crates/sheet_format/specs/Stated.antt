@@ -1,4 +1,4 @@
--- What rows state, item by item and edge by edge (document 01, "The sheet"). `setupOf` makes a setup from rows; no word of it is used here.
+-- What rows state, item by item and edge by edge (document 01, "The sheet"), without the definitions by which `setupOf` makes a setup from rows.
 -- Statements only; proofs/Stated.antt has the theorems.
 use mathlib.Core.Path.{_≡_}
 use mathlib.Core.List.{List, [], _∷_}

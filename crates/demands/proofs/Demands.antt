@@ -7,8 +7,9 @@ use Prim.Native.Nat.{ℕ}
 use Rattle.vertex_set.proofs.Cases.{same-or, less-or}
 use Rattle.sheet_format.specs.Read.{readSheet}
 use Rattle.sheet_format.proofs.Meaning.{accepted-of-valid, valid-of-accepted, refusal-law, refusal-unique, empty-setup, accepted-or-refused}
+use Rattle.sheet_format.proofs.Stated.{stated-by-rows, stated-unique}
 use Rattle.sheet_format.proofs.Question12.{question-12}
-use Rattle.sheet.proofs.Names.{names-of-rows}
+use Rattle.sheet.proofs.Names.{names-of-rows, name-places}
 use Rattle.reference.proofs.Meaning.{meaning}
 use Rattle.reference.proofs.Unique.{score-unique}
 use Rattle.determined.specs.Determined.{Same}
@@ -58,10 +59,13 @@ demand-2 =
     record {
       accepted = accepted-of-valid;
       valid = valid-of-accepted;
+      stated = stated-by-rows;
+      statedOnce = stated-unique;
       refused = refusal-law;
       empty = empty-setup;
       question12 = question-12;
       names = names-of-rows;
+      namePlaces = name-places;
       computed = meaning;
       reported = report-meaning;
       whole = whole-report;

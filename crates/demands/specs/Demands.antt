@@ -6,8 +6,9 @@ use Prim.Native.Nat.{ℕ}
 use Rattle.setup.specs.declared.Graph.{Graph}
 use Rattle.setup.specs.declared.Setup.{Setup}
 use Rattle.setup.specs.WellFormed.{WellFormed}
+use Rattle.sheet_format.specs.Stated.{StatedByRows, StatedUnique}
 use Rattle.sheet_format.specs.Meaning.{AcceptedOfValid, ValidOfAccepted, RefusalLaw, RefusalUnique, EmptySetup, AcceptedOrRefused, Question12}
-use Rattle.sheet_format.specs.Names.{NamesOfRows}
+use Rattle.sheet_format.specs.Names.{NamesOfRows, NamePlaces}
 use Rattle.reference.specs.Graphs.{GraphOf}
 use Rattle.reference.specs.Meaning.{Meaning}
 use Rattle.determined.specs.Determined.{Same, SetDetermined, WayDetermined, BasesDetermined, ScoreDetermined, MarksDetermined}
@@ -44,10 +45,14 @@ pub record Demand1 : Type 0 where
 pub record Demand2 : Type 0 where
   pub accepted : AcceptedOfValid
   pub valid : ValidOfAccepted
+  -- that setup, item by item and edge by edge, and that there is only one such
+  pub stated : StatedByRows
+  pub statedOnce : StatedUnique
   pub refused : RefusalLaw
   pub empty : EmptySetup
   pub question12 : Question12
   pub names : NamesOfRows
+  pub namePlaces : NamePlaces
   -- closures, lost sets, ways in, lists, scores and marks
   pub computed : (s : Setup) (g : Graph) → WellFormed s → GraphOf s g → Meaning s g
   -- accounts, rows, scores and findings of the report, and that its parts are the whole of it

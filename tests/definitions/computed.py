@@ -15,9 +15,10 @@ DOCUMENT = TEXT[:TEXT.index("-- ---- the other examples of the report")]
 # The examples to try first for the definitions of a file, by the beginnings of their names; then those of document 01, then the further ones.
 FIRST = {
     "vertex_set": ["B", "item-63"],
+    "setup/Calls": ["written-"],
     "setup": ["B", "reads-alone"],
     "bases": ["B"],
-    "access": ["set-", "way-", "written-"],
+    "access": ["set-", "way-"],
     "answers": ["bases-", "score-", "risk-", "marks-"],
     "sheet_format/Names": ["name-", "line-"],
     "sheet_format": ["reads-alone", "reads-loop", "reads-pair", "refuses-", "passes-", "renders", "decimal-", "no-fields"],

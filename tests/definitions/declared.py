@@ -31,7 +31,7 @@ def altered(block):
 
 
 # The definitions that the examples B1 to B12 rest on.
-HEART = ("vertex_set", "setup", "derivations", "bases")
+HEART = ("vertex_set", "setup", "derivations", "formed", "bases")
 
 
 def noticing(D, wanted=lambda name: True, first=None):

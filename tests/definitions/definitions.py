@@ -140,7 +140,7 @@ def ChosenSet(loss, s, r):
     return each and size
 
 
-# ---- setup/WellFormed
+# ---- formed/WellFormed
 
 
 def InRange(x):
@@ -183,6 +183,16 @@ def Refuses(q, number, values):
 
 def Inside(s, set_):
     return all(implies(lambda: Member(set_, v), lambda: v < s.count) for v in world.vertices)
+
+
+def written(xs, entry):
+    return xs + entry[len(xs):]
+
+
+def Untouched(entry, exit, entry_, exit_):
+    first = exit == entry
+    second = exit_ == entry_
+    return first and second
 
 
 # ---- derivations/Derivation: what is held is a predicate, as there
@@ -444,10 +454,6 @@ def Full(repeated, shut, loose, missing):
 # ---- access/Answers
 
 
-def written(xs, entry):
-    return xs + entry[len(xs):]
-
-
 def SetCall(From, s, set_, number, values):
     malformed = implies(lambda: not WellFormed(s), lambda: Refuses(12, number, values))
     outside = implies(lambda: WellFormed(s) and not Inside(s, set_), lambda: Refuses(14, number, values))
@@ -455,12 +461,6 @@ def SetCall(From, s, set_, number, values):
         lambda: WellFormed(s) and Inside(s, set_), lambda: any(number == 0 and values == [r] and From(s.graph, set_, r) for r in world.sets)
     )
     return malformed and outside and answers
-
-
-def Untouched(entry, exit, entry_, exit_):
-    first = exit == entry
-    second = exit_ == entry_
-    return first and second
 
 
 def WayWritten(d, number, values, entry, exit, entry_, exit_):

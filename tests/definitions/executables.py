@@ -25,6 +25,7 @@ def getD(l, i, default):
 # ---- setup/Setup
 
 unusedVertex = Vertex(Credential, None, None, 0)
+emptyGraph = Graph((Rows((0,) * 8),) * 64)
 
 
 def vertexAt(s, v):
@@ -175,9 +176,6 @@ def numberIn(xs, n):
 
 def verticesOf(xs):
     return tuple(Vertex(x.kind, x.start, x.loss, x.rank) for x in xs) + (unusedVertex,) * (64 - len(xs))
-
-
-emptyGraph = Graph((Rows((0,) * 8),) * 64)
 
 
 def withEdge(g, f, v, c):

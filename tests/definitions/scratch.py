@@ -13,8 +13,9 @@ NO_EXAMPLES = "-- No examples.\nuse mathlib.Core.Path.{_≡_, refl}\n\n"
 # The files with executable definitions, and what they stand on, in order.
 FILES = """
 vertex_set/Set vertex_set/Order
-setup/Setup setup/WellFormed setup/Calls
+setup/Setup setup/Calls
 derivations/Derivation derivations/Access derivations/Lockout derivations/Both derivations/Way
+formed/WellFormed
 bases/Base bases/Score bases/Marks
 access/Answers answers/Answers
 sheet_format/Text sheet_format/Fields sheet_format/Rows sheet_format/Stated sheet_format/Questions sheet_format/Read sheet_format/Names

@@ -1,16 +1,22 @@
--- The questions 12 to 14 in their order.
+-- The questions 12 to 15 in their order.
 -- Assumes nothing.
-use mathlib.Core.Path.{refl}
+use mathlib.Core.Path.{_≡_, refl, ap}
 use mathlib.Core.List.{List, [], _∷_}
+use mathlib.Core.Logic.{_⊎_, ⊎-elim}
 use Prim.Native.Nat.{ℕ, _≤_, _<_, _^_}
 use native.Mathlib.Omega.{arith}
-use Rattle.vertex_set.specs.Set.{Within, Iff, Below}
+use lib.ListN.{length}
+use Rattle.vertex_set.specs.Set.{Member, Within, Iff, Below}
 use Rattle.vertex_set.proofs.Sets.{member-below}
 use Rattle.setup.specs.declared.Graph.{Graph}
 use Rattle.setup.specs.declared.Setup.{Setup}
-use Rattle.setup.specs.WellFormed.{WellFormed}
-use Rattle.setup.specs.Calls.{Refuses, Inside}
-use Rattle.access.specs.Answers.{SetCall, WayCall, Untouched}
+use Rattle.formed.specs.WellFormed.{WellFormed}
+use Rattle.setup.specs.Calls.{Refuses, Inside, Untouched}
+use Rattle.derivations.specs.Access.{Step, HasAccess}
+use Rattle.derivations.specs.Way.{Way}
+use Rattle.derivations.proofs.Way.{way-derives}
+use Rattle.ways.specs.Inner.{Written}
+use Rattle.access.specs.Answers.{SetCall, WayCall}
 use Rattle.access.specs.Inner.{WayTaken}
 
 -- a set is inside the setup exactly where it is within the vertices below the count
@@ -36,6 +42,43 @@ module _ (From : Graph → ℕ → ℕ → Type 0) (s : Setup) (set : ℕ) where
 
 untouched : (entry entry′ : List ℕ) → Untouched entry entry entry′ entry′
 untouched entry entry′ = record { first = refl; second = refl }
+
+-- ---- shut, the way in, or no room for it
+
+pub way-taken-shut : (g : Graph) (target s : ℕ) (entry entry′ : List ℕ) → (HasAccess g (Member s) target → ⊥) → WayTaken g target s 0 (0 ∷ []) entry entry entry′ entry′
+way-taken-shut g target s entry entry′ n = record { shut = λ d. (refl, refl, untouched entry entry′); found = λ a. absurd (n a) }
+
+module _ (g : Graph) (target s : ℕ) (d : List Step) (w : Way g target (Member s) d) (entry entry′ : List ℕ) where
+  pub taken-short : (length entry < length d) ⊎ (length entry′ < length d) → WayTaken g target s 15 [] entry entry entry′ entry′
+  taken-short n =
+      record {
+        shut = λ no-way. absurd (no-way (way-derives g target (Member s) d w));
+        found = λ a. (
+          d,
+          w,
+          record {
+            room = λ p q. absurd (⊎-elim (λ k. omega (arith, k)) (λ k. omega (arith, k)) n);
+            short = λ k. (refuses 15, untouched entry entry′);
+          },
+        );
+      }
+
+  pub taken-room : (k : ℕ) (exit exit′ : List ℕ) → k ≡ length d → k ≤ length entry → k ≤ length entry′ → Written g target s entry exit entry′ exit′
+      → WayTaken g target s 0 (1 ∷ k ∷ []) entry exit entry′ exit′
+  taken-room k exit exit′ e p q h =
+      record {
+        shut = λ no-way. absurd (no-way (way-derives g target (Member s) d w));
+        found = λ a. (
+          d,
+          w,
+          record {
+            room = λ m l. (refl, ap (λ (n : ℕ). 1 ∷ n ∷ []) e, h .each d w .0, h .each d w .1);
+            short = λ l. absurd (⊎-elim (λ m. omega (arith, m)) (λ m. omega (arith, m)) l);
+          },
+        );
+      }
+
+-- ---- the call for the way in
 
 module _ (s : Setup) (target set : ℕ) (entry entry′ : List ℕ) where
   pub way-malformed : (WellFormed s → ⊥) → WayCall s target set 12 [] entry entry entry′ entry′

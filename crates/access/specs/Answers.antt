@@ -1,14 +1,14 @@
 -- What the calls answer, for every setup, set, target and lent list.
 use mathlib.Core.Path.{_≡_}
-use mathlib.Core.List.{List, [], _∷_, _++_, map}
+use mathlib.Core.List.{List, [], _∷_, map}
 use mathlib.Core.Logic.{_⊎_}
 use Prim.Native.Nat.{ℕ, _≤_, _<_}
-use lib.ListN.{length, drop}
+use lib.ListN.{length}
 use Rattle.vertex_set.specs.Set.{Member}
 use Rattle.setup.specs.declared.Graph.{Graph}
 use Rattle.setup.specs.declared.Setup.{Setup}
-use Rattle.setup.specs.WellFormed.{WellFormed}
-use Rattle.setup.specs.Calls.{Refuses, Inside}
+use Rattle.formed.specs.WellFormed.{WellFormed}
+use Rattle.setup.specs.Calls.{Refuses, Inside, written, Untouched}
 use Rattle.derivations.specs.Access.{Step, HasAccess}
 use Rattle.derivations.specs.Way.{Way}
 use Rattle.access.specs.declared.SetAnswer.{SetAnswer}
@@ -47,15 +47,6 @@ abbrev pub wayValues : WayAnswer → List ℕ
 wayValues (way.Steps n) = 1 ∷ n ∷ []
 wayValues way.Shut = 0 ∷ []
 wayValues (way.Refused q) = []
-
--- xs stand in the first places of the lent list, and the places behind them are unchanged.
-abbrev pub written : List ℕ → List ℕ → List ℕ
-written xs entry = xs ++ drop (length xs) entry
-
--- Both lent lists are as they were.
-pub record Untouched (entry exit entry′ exit′ : List ℕ) : Type 0 where
-  pub first : exit ≡ entry
-  pub second : exit′ ≡ entry′
 
 -- Of the way d, its vertices stand in the one list and its colours in the other, where both have room; 15 where one has not.
 pub record WayWritten (d : List Step) (number : ℕ) (values entry exit entry′ exit′ : List ℕ) : Type 0 where

@@ -9,7 +9,7 @@ use lib.ListN.{length, take, drop, length-append, length-take, length-drop, drop
 use lib.Seq.{take-append-seam, drop-append-seam, drop-drop, take-all}
 use borrow.Rule.Slice.PartMut.{putMid}
 use Rattle.setup.specs.declared.Setup.{Setup}
-use Rattle.setup.specs.WellFormed.{WellFormed}
+use Rattle.formed.specs.WellFormed.{WellFormed}
 use Rattle.setup.specs.Calls.{Refuses}
 use Rattle.families.specs.Family.{size}
 use Rattle.bases.specs.Score.{ScoreBoth}

@@ -6,7 +6,7 @@ use Prim.Native.Nat.{ℕ, _+_, _≤_, _<_}
 use lib.ListN.{length, drop}
 use Rattle.vertex_set.specs.Set.{Iff}
 use Rattle.setup.specs.declared.Setup.{Setup}
-use Rattle.setup.specs.WellFormed.{WellFormed}
+use Rattle.formed.specs.WellFormed.{WellFormed}
 use Rattle.setup.specs.Calls.{Refuses}
 use Rattle.bases.specs.Base.{Base}
 use Rattle.bases.specs.Score.{Score, ScoreOver}

@@ -68,7 +68,7 @@ fn write_bases(s: Setup, target: usize, out: &mut [u64]) -> BasesAnswer
 pub fn both_bases(s: Setup, target: usize, out: &mut [u64]) -> BasesAnswer
     ensures { λ r. ⌜ BasesCall s target (basesNumber r) (basesValues r) (now (out .entry)) (now (out .exit)) ⌝ }
 {
-    if setup::well_formed(s) {
+    if formed::well_formed(s) {
         if target < s.count {
             return write_bases(s, target, out);
         }
@@ -81,7 +81,7 @@ pub fn both_bases(s: Setup, target: usize, out: &mut [u64]) -> BasesAnswer
 pub fn security_score(s: Setup, target: usize) -> ScoreAnswer
     ensures { λ r. ⌜ ScoreCall false s target (scoreNumber r) (scoreValues r) ⌝ }
 {
-    if setup::well_formed(s) {
+    if formed::well_formed(s) {
         if target < s.count {
             let graph = s.graph;
             let r = bases::score_of(s, graph, false, target);
@@ -96,7 +96,7 @@ pub fn security_score(s: Setup, target: usize) -> ScoreAnswer
 pub fn recoverability_score(s: Setup, target: usize) -> RiskAnswer
     ensures { λ r. ⌜ ScoreCall true s target (riskNumber r) (riskValues r) ⌝ }
 {
-    if setup::well_formed(s) {
+    if formed::well_formed(s) {
         if target < s.count {
             let graph = s.graph;
             let r = bases::score_of(s, graph, true, target);
@@ -138,7 +138,7 @@ fn take_marks(loss: bool, s: Setup, target: usize, handed: &[u64]) -> Marks
 fn mark(loss: bool, s: Setup, target: usize, handed: &[u64]) -> MarksAnswer
     ensures { λ r. ⌜ MarksCall loss s target (now (handed .entry)) (marksNumber r) (marksValues r) ⌝ }
 {
-    if setup::well_formed(s) {
+    if formed::well_formed(s) {
         if target < s.count {
             let marks = take_marks(loss, s, target, handed);
             return MarksAnswer::Marked(marks);

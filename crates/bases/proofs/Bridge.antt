@@ -17,7 +17,7 @@ use Rattle.vertex_set.proofs.Sets.{within-le}
 use Rattle.setup.specs.declared.Graph.{Graph}
 use Rattle.setup.specs.declared.Setup.{Setup}
 use Rattle.setup.specs.Setup.{ChosenSet}
-use Rattle.setup.specs.WellFormed.{WellFormed}
+use Rattle.formed.specs.WellFormed.{WellFormed}
 use Rattle.derivations.specs.Derivation.{Derivation}
 use Rattle.derivations.specs.Both.{ruleOf}
 use Rattle.derivations.proofs.Rules.{monotone}

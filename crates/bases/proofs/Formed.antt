@@ -13,7 +13,7 @@ use Rattle.setup.specs.declared.Value.the-variants.{Blank, Of}
 use Rattle.setup.specs.declared.Vertex.{Vertex}
 use Rattle.setup.specs.declared.Setup.{Setup}
 use Rattle.setup.specs.Setup.{valueOf, vertexAt, unusedVertex, ChosenSet}
-use Rattle.setup.specs.WellFormed.{InRange, ValidVertex, WellFormed}
+use Rattle.formed.specs.WellFormed.{InRange, ValidVertex, WellFormed}
 use Rattle.bases.specs.Score.{points, pointsAt}
 
 pub few : (loss : Bool) (s : Setup) (chosen : ℕ) → WellFormed s → ChosenSet loss s chosen → ones chosen ≤ 14

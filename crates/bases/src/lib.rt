@@ -2,7 +2,7 @@
 ghost use mathlib.Core.Path.{_≡_};
 ghost use Prim.Native.Nat.{_*_, _<_};
 ghost use lib.ListN.{length, take, drop};
-ghost use Rattle.setup.specs.WellFormed.{WellFormed};
+ghost use Rattle.formed.specs.WellFormed.{WellFormed};
 ghost use Rattle.derivations.specs.Both.{ruleOf};
 ghost use Rattle.tables.specs.Table.{FamilyOf};
 ghost use Rattle.bases.specs.Score.{points, Values, ScoreBoth};

@@ -5,7 +5,7 @@ use mathlib.Core.List.{List}
 use Prim.Native.Nat.{ℕ}
 use Rattle.setup.specs.declared.Graph.{Graph}
 use Rattle.setup.specs.declared.Setup.{Setup}
-use Rattle.setup.specs.WellFormed.{WellFormed}
+use Rattle.formed.specs.WellFormed.{WellFormed}
 use Rattle.sheet_format.specs.Stated.{StatedByRows, StatedUnique}
 use Rattle.sheet_format.specs.Meaning.{AcceptedOfValid, ValidOfAccepted, RefusalLaw, RefusalUnique, EmptySetup, AcceptedOrRefused, Question12}
 use Rattle.sheet_format.specs.Names.{NamesOfRows, NamePlaces}

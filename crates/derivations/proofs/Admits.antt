@@ -1,17 +1,14 @@
 -- A vertex that its rows admit is one that a step adds.
 -- Assumes nothing.
-use mathlib.Core.Path.{_≡_, ap}
+use mathlib.Core.Path.{_≡_}
 use mathlib.Core.Bool.{Bool, true, false}
-use mathlib.Core.List.{[]}
-use mathlib.Core.Logic.{⊎-elim}
 use Prim.Native.Nat.{ℕ, _<_}
-use native.Mathlib.Omega.{arith}
-use lib.ListN.{length, List·getD-eq-default}
+use lib.ListN.{length}
 use Rattle.vertex_set.specs.Set.{Member}
-use Rattle.vertex_set.proofs.Cases.{less-or}
 use Rattle.setup.specs.declared.Rows.{Rows}
 use Rattle.setup.specs.declared.Graph.{Graph}
 use Rattle.setup.specs.Setup.{rowOf, rowsAt}
+use Rattle.setup.proofs.Graphs.{coloured-place}
 use Rattle.derivations.specs.Derivation.{Vertices, Derivation}
 use Rattle.derivations.specs.Both.{ruleOf}
 use Rattle.derivations.specs.Admits.{Admits}
@@ -60,8 +57,4 @@ admits-coloured true rows P a = (a .colour, a .coloured)
 
 -- and so a place in the graph
 pub admits-place : (loss : Bool) (g : Graph) (P : Vertices) (v : ℕ) → length (g .rows) ≡ 64 → Admits loss (rowsAt g v) P → v < 64
-admits-place loss g P v e a =
-    ⊎-elim (λ l. l)
-    (λ l. let c = admits-coloured loss (rowsAt g v) P a in
-    absurd (c .1 (ap (λ (r : Rows). rowOf r (c .0)) (List·getD-eq-default (g .rows) (record { needs = [] }) {n = v} (omega arith)))))
-    (less-or v 64)
+admits-place loss g P v e a = let c = admits-coloured loss (rowsAt g v) P a in coloured-place g e v (c .0) (c .1)

@@ -6,12 +6,13 @@ use mathlib.Core.Logic.{_⊎_, inl, inr, ⊎-elim}
 use Prim.Native.Nat.{ℕ, zero, suc, _^_, _<_}
 use native.Mathlib.Nat.{pow-suc}
 use native.Mathlib.Omega.{arith}
-use lib.ListN.{length, List·getD-eq-default}
+use lib.ListN.{length}
 use Rattle.vertex_set.specs.Set.{Member}
-use Rattle.vertex_set.proofs.Cases.{same-or, less-or}
+use Rattle.vertex_set.proofs.Cases.{same-or}
 use Rattle.vertex_set.proofs.Sets.{member-or, member-below}
 use Rattle.setup.specs.declared.Graph.{Graph}
 use Rattle.setup.specs.Setup.{row, rowsAt}
+use Rattle.setup.proofs.Graphs.{colour-below}
 use Rattle.derivations.specs.Derivation.{Vertices, Run, Derivation}
 use Rattle.derivations.specs.Access.{Step, Opens, access}
 use Rattle.derivations.specs.Lockout.{SomeLost, Shuts, lockout}
@@ -52,10 +53,6 @@ some-lost-mono P Q sub s l = record { vertex = l .vertex; member = l .member; go
 shuts-mono : (g : Graph) (P Q : Vertices) → Sub P Q → (v : ℕ) → Shuts g P v → Shuts g Q v
 shuts-mono g P Q s v o = record { colour = o .colour; coloured = o .coloured; every = λ c n. some-lost-mono P Q s (row g v c) (o .every c n) }
 
--- a colour has a place in the row
-pub coloured-below : (g : Graph) (v c : ℕ) → (row g v c ≡ 0 → ⊥) → c < length (rowsAt g v .needs)
-coloured-below g v c n = ⊎-elim (λ l. l) (λ l. absurd (n (List·getD-eq-default (rowsAt g v .needs) 0 l))) (less-or c (length (rowsAt g v .needs)))
-
 -- a row is empty, or is not
 pub empty-or : (s : ℕ) → (s ≡ 0 → ⊥) ⊎ ((s ≡ 0 → ⊥) → ⊥)
 empty-or s = ⊎-elim (λ e. inr (λ n. n e)) (λ n. inl n) (same-or s 0)
@@ -71,7 +68,7 @@ shuts-gathers g P v o =
         colour = o .colour;
         coloured = o .coloured;
         every = λ c n.
-            let w = h .2 c (coloured-below g v c n) n in
+            let w = h .2 c (colour-below (rowsAt g v) (length (rowsAt g v .needs)) c (omega arith) n) n in
             record { vertex = w .0; member = w .1; gone = w .2 };
       },
     )

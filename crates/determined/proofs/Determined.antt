@@ -11,12 +11,12 @@ use lib.ListN.{length}
 use Rattle.vertex_set.specs.Set.{Member}
 use Rattle.vertex_set.proofs.Cases.{less-or}
 use Rattle.setup.specs.declared.Setup.{Setup}
-use Rattle.setup.specs.WellFormed.{WellFormed}
-use Rattle.setup.specs.Calls.{Refuses, Inside}
+use Rattle.formed.specs.WellFormed.{WellFormed}
+use Rattle.setup.specs.Calls.{Refuses, Inside, Untouched}
 use Rattle.derivations.specs.Access.{Step, HasAccess}
 use Rattle.derivations.specs.Both.{ruleOf}
 use Rattle.derivations.proofs.Way.{way-unique}
-use Rattle.access.specs.Answers.{Untouched, WayWritten}
+use Rattle.access.specs.Answers.{WayWritten}
 use Rattle.answers.specs.Answers.{BasesWritten}
 use Rattle.reference.proofs.Unique.{closure-unique, base-unique, score-unique, counts-unique}
 use Rattle.determined.specs.Determined.{Same, SetDetermined, SameWay, WayDetermined, SameBases, BasesDetermined, ScoreDetermined, MarksDetermined}

@@ -12,7 +12,7 @@ use Rattle.vertex_set.proofs.Decisions.{decide-no, decide-iff}
 use Rattle.setup.specs.declared.Graph.{Graph}
 use Rattle.setup.specs.declared.Setup.{Setup}
 use Rattle.setup.specs.Setup.{vertexAt, WithoutRecovery}
-use Rattle.setup.specs.WellFormed.{WellFormed}
+use Rattle.formed.specs.WellFormed.{WellFormed}
 use Rattle.bases.specs.Score.{Score}
 use Rattle.answers.proofs.Calls.{refuses}
 use Rattle.reference.proofs.Graphs.{own-graph}

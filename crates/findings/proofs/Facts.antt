@@ -11,7 +11,7 @@ use Rattle.vertex_set.proofs.Decisions.{decide-yes, decide-no}
 use Rattle.setup.specs.declared.Graph.{Graph}
 use Rattle.setup.specs.declared.Setup.{Setup}
 use Rattle.setup.specs.Setup.{vertexAt, Edge, WithoutRecovery}
-use Rattle.setup.specs.WellFormed.{WellFormed}
+use Rattle.formed.specs.WellFormed.{WellFormed}
 use Rattle.derivations.specs.Derivation.{Vertices}
 use Rattle.bases.specs.Base.{TargetSet}
 use Rattle.bases.specs.Score.{never, Score}

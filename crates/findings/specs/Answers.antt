@@ -5,7 +5,7 @@ use mathlib.Core.List.{List, [], _∷_}
 use Prim.Native.Nat.{ℕ, _≤_, _<_}
 use Rattle.vertex_set.specs.Order.{Listed}
 use Rattle.setup.specs.declared.Setup.{Setup}
-use Rattle.setup.specs.WellFormed.{WellFormed}
+use Rattle.formed.specs.WellFormed.{WellFormed}
 use Rattle.setup.specs.Calls.{Refuses}
 use Rattle.findings.specs.declared.FindingAnswer.{FindingAnswer}
 use Rattle.findings.specs.declared.FindingAnswer.the-variants.{Is, Refused}

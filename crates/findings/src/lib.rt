@@ -75,7 +75,7 @@ fn find_inconsistent(s: Setup, v: usize, w: usize) -> bool
 pub fn has_backdoor(s: Setup, v: usize) -> FindingAnswer
     ensures { λ r. ⌜ BackdoorCall s v (findingNumber r) (findingValues r) ⌝ }
 {
-    if setup::well_formed(s) {
+    if formed::well_formed(s) {
         if v < s.count {
             let found = find_backdoor(s, v);
             return FindingAnswer::Is(found);
@@ -90,7 +90,7 @@ pub fn has_backdoor(s: Setup, v: usize) -> FindingAnswer
 pub fn ineffective_recovery(s: Setup, v: usize) -> FindingAnswer
     ensures { λ r. ⌜ IneffectiveCall s v (findingNumber r) (findingValues r) ⌝ }
 {
-    if setup::well_formed(s) {
+    if formed::well_formed(s) {
         if v < s.count {
             let found = find_ineffective(s, v);
             return FindingAnswer::Is(found);
@@ -105,7 +105,7 @@ pub fn ineffective_recovery(s: Setup, v: usize) -> FindingAnswer
 pub fn inconsistent(s: Setup, v: usize, w: usize) -> FindingAnswer
     ensures { λ r. ⌜ InconsistentCall s v w (findingNumber r) (findingValues r) ⌝ }
 {
-    if setup::well_formed(s) {
+    if formed::well_formed(s) {
         if v < s.count {
             if w < s.count {
                 let found = find_inconsistent(s, v, w);

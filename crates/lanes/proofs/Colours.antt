@@ -7,13 +7,14 @@ use mathlib.Core.Logic.{_⊎_, inl, inr, ⊎-elim}
 use Prim.Native.Nat.{ℕ, _+_, _≤_, _<_}
 use native.Mathlib.Omega.{arith}
 use lib.Bits.{bitOr}
-use lib.ListN.{length, List·getD-eq-default}
+use lib.ListN.{length}
 use Rattle.vertex_set.specs.Set.{Member, Iff}
-use Rattle.vertex_set.proofs.Cases.{same-or, less-or, false-true}
+use Rattle.vertex_set.proofs.Cases.{same-or, false-true}
 use Rattle.vertex_set.proofs.Decisions.{iff-trans}
-use Rattle.vertex_set.proofs.Sets.{in-or, none-in-zero, some-member}
+use Rattle.vertex_set.proofs.Sets.{in-or, none-in-zero, not-empty, some-member}
 use Rattle.setup.specs.declared.Rows.{Rows}
 use Rattle.setup.specs.Setup.{rowOf}
+use Rattle.setup.proofs.Graphs.{colour-below}
 use Rattle.derivations.specs.Derivation.{Vertices}
 use Rattle.derivations.specs.Lockout.{SomeLost}
 use Rattle.derivations.specs.Admits.{Complete, Broken, Admits}
@@ -51,10 +52,6 @@ module _ (Q : ℕ → Type 0) where
         from = λ a. (record { each = λ c l. a .each c (omega arith) }, a .each n (omega arith));
       }
 
--- a place past the rows is no colour
-pub past-rows : (rows : Rows) (n c : ℕ) → length (rows .needs) ≡ n → n ≤ c → rowOf rows c ≡ 0
-past-rows rows n c e l = List·getD-eq-default (rows .needs) 0 {n = c} (omega arith)
-
 -- ---- all vertices that are needed
 
 pub record NeededBelow (rows : Rows) (s n : ℕ) : Type 0 where
@@ -85,8 +82,7 @@ module _ (rows : Rows) where
           to = λ m. let b = h .each v .to m in record { colour = b .place; member = b .has };
           from = λ k. h .each v .from (record {
             place = k .colour;
-            below = ⊎-elim (λ q. omega arith)
-                (λ q. absurd (none-in-zero v (subst (λ (x : ℕ). Member x v) (past-rows rows 8 (k .colour) e q) (k .member)))) (less-or (k .colour) 8);
+            below = colour-below rows n (k .colour) (omega arith) (not-empty (rowOf rows (k .colour)) v (k .member));
             has = k .member;
           });
         };
@@ -144,7 +140,7 @@ colours-all false rows P n v e h k =
       to = λ s. record { colour = s .place; complete = s .has };
       from = λ a. record {
         place = a .colour;
-        below = ⊎-elim (λ q. omega arith) (λ q. absurd (a .complete .coloured (past-rows rows 8 (a .colour) e q))) (less-or (a .colour) 8);
+        below = colour-below rows n (a .colour) (omega arith) (a .complete .coloured);
         has = a .complete;
       };
     }
@@ -152,8 +148,8 @@ colours-all true rows P n v e h k =
     record {
       to = λ a. record {
         colour = k .colour;
-        coloured = λ q. none-in-zero v (subst (λ (x : ℕ). Member x v) q (k .member));
-        every = λ c. ⊎-elim (λ q. a .each c (omega arith)) (λ q t. absurd (t (past-rows rows 8 c e q))) (less-or c 8);
+        coloured = not-empty (rowOf rows (k .colour)) v (k .member);
+        every = λ c d. a .each c (colour-below rows n c (omega arith) d) d;
       };
       from = λ a. record { each = λ c q. a .every c };
     }
@@ -168,7 +164,7 @@ module _ (w : List ℕ) (rows : Rows) where
       record {
         place = omega arith;
         family = family-as out l (λ b i hb hi. record {
-          to = λ m. absurd (none-in-zero i (subst (λ (y : ℕ). Member y i) q m));
+          to = λ m. absurd (not-empty _ i m q);
           from = λ s. let k = s .below in absurd (omega arith);
         });
       }

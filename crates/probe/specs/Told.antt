@@ -3,7 +3,7 @@ use mathlib.Core.Path.{_≡_}
 use mathlib.Core.List.{List, _∷_}
 use Prim.Native.Nat.{ℕ}
 use Rattle.setup.specs.declared.Setup.{Setup}
-use Rattle.setup.specs.WellFormed.{WellFormed}
+use Rattle.formed.specs.WellFormed.{WellFormed}
 use Rattle.sheet_format.specs.Read.{readSheet}
 use Rattle.sheet_format.specs.Names.{nameOf, nameStart}
 use Rattle.access.specs.Answers.{WayCall}

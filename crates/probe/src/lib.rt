@@ -21,7 +21,7 @@ pub extern "C" fn probe_well_formed(words: &[u64]) -> u64
     ensures { λ r. ⌜ Question12Call (setupIn (now (words .entry))) r ⌝ }
 {
     let s = probe_setup::setup_in(words);
-    if setup::well_formed(s) {
+    if formed::well_formed(s) {
         return 0;
     }
     12

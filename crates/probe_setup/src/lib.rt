@@ -77,9 +77,7 @@ fn graph_in(words: &[u64], at: usize) -> Graph
     requires { ⌜ at ≤ 1024 ⌝ }
     ensures { λ r. ⌜ r ≡ graphIn (now (words .entry)) at ⌝ }
 {
-    let mut r = Graph {
-        rows: [Rows { needs: [0; 8] }; 64],
-    };
+    let mut r = setup::EMPTY;
     for v in 0..64usize {
         let rows = rows_in(words, at + 8 * v);
         r.rows[v] = rows;

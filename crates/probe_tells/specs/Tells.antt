@@ -3,7 +3,7 @@ use mathlib.Core.Path.{_≡_}
 use mathlib.Core.List.{List}
 use Prim.Native.Nat.{ℕ, _≤_, _<_}
 use lib.ListN.{length}
-use Rattle.access.specs.Answers.{written}
+use Rattle.setup.specs.Calls.{written}
 
 -- xs stand at the front of the lent list where it has room for all of them; else no place is changed.
 pub record Front (xs entry exit : List ℕ) : Type 0 where

@@ -13,7 +13,7 @@ use Rattle.vertex_set.proofs.Sorted.{sorted-ordered}
 use Rattle.setup.specs.declared.Graph.{Graph}
 use Rattle.setup.specs.declared.Setup.{Setup}
 use Rattle.setup.specs.Setup.{Chosen}
-use Rattle.setup.specs.WellFormed.{WellFormed}
+use Rattle.formed.specs.WellFormed.{WellFormed}
 use Rattle.derivations.specs.Both.{ruleOf}
 use Rattle.derivations.proofs.Rules.{monotone}
 use Rattle.derivations.proofs.Both.{lawful}

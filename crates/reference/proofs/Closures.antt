@@ -8,7 +8,7 @@ use native.Mathlib.Nat.{lt-of-lt-of-le}
 use native.Mathlib.Numerals.{add-one}
 use native.Mathlib.Omega.{arith}
 use lib.Dec.{eqb}
-use lib.ListN.{length, List·getD-eq-default}
+use lib.ListN.{length}
 use borrow.Author.Tests.{eqb-true, eqb-false}
 use Rattle.vertex_set.specs.Set.{Member, Decides}
 use Rattle.vertex_set.proofs.Cases.{byTest, less-or, same-or}
@@ -18,29 +18,27 @@ use Rattle.setup.specs.declared.Rows.{Rows}
 use Rattle.setup.specs.declared.Graph.{Graph}
 use Rattle.setup.specs.declared.Setup.{Setup}
 use Rattle.setup.specs.Setup.{rowsAt, rowOf}
-use Rattle.setup.specs.WellFormed.{WellFormed}
+use Rattle.setup.proofs.Graphs.{colour-below}
+use Rattle.formed.specs.WellFormed.{WellFormed}
 use Rattle.derivations.specs.Derivation.{Closure}
 use Rattle.derivations.specs.Both.{ruleOf}
 use Rattle.derivations.specs.Admits.{Complete, Broken, Admits}
 use Rattle.derivations.proofs.Rules.{least}
 use Rattle.derivations.proofs.Both.{lawful}
 use Rattle.derivations.proofs.Admits.{step-admits}
-use Rattle.access.specs.Inner.{LowestColour, Passed}
-use Rattle.access.proofs.Colours.{some-complete}
-use Rattle.access.proofs.Passes.{PassedBelow, pass-none, pass-more, pass-same, Grown, grown-none, grown-more}
+use Rattle.closures.specs.Inner.{LowestColour, Passed}
+use Rattle.closures.proofs.Colours.{some-complete}
+use Rattle.closures.proofs.Passes.{PassedBelow, pass-none, pass-more, pass-same, Grown, grown-none, grown-more}
 use Rattle.bases.specs.Base.{Derives}
 use Rattle.reference.specs.Tests.{every}
 use Rattle.reference.specs.Closures.{isComplete, isBroken, colourOf, isAdded, passOf, passesOf, closureOf, derivesOf}
 use Rattle.reference.specs.Graphs.{GraphOf}
 use Rattle.reference.proofs.Tests.{by-decision, decide-not, decide-and, decide-or, lowest-of, decide-some, decide-every, decide-member, decide-within, decide-meeting, inserted-with}
 use Rattle.reference.proofs.Graphs.{few-colours, added-below, derived-below}
-use Rattle.reference.proofs.Missing.{missing, missing-most, missing-less, missing-none}
+use Rattle.vertex_set.specs.Missing.{missing}
+use Rattle.vertex_set.proofs.Missing.{missing-most, missing-less, missing-none}
 
 -- ---- the rows of one vertex
-
--- a colour is one of the eight
-colour-below : (rows : Rows) (c : ℕ) → length (rows .needs) ≤ 8 → (rowOf rows c ≡ 0 → ⊥) → c < 8
-colour-below rows c long d = ⊎-elim (λ l. l) (λ l. absurd (d (List·getD-eq-default (rows .needs) 0 (omega arith)))) (less-or c 8)
 
 decide-complete : (rows : Rows) (held c : ℕ) → Decides (Complete (Member held) (rowOf rows c)) (isComplete (rowOf rows c) held)
 unfolding isComplete
@@ -59,7 +57,7 @@ lowest-colour rows held long =
     record {
       most = h .most;
       complete = h .is;
-      lower = λ c k. (⊎-elim (λ l. absurd (h .none c l k)) (λ l. l) (less-or c (colourOf rows held)), colour-below rows c long (k .coloured));
+      lower = λ c k. (⊎-elim (λ l. absurd (h .none c l k)) (λ l. l) (less-or c (colourOf rows held)), colour-below rows 8 c long (k .coloured));
     }
 
 decide-broken : (rows : Rows) (lost c : ℕ) → Decides (Broken (Member lost) (rowOf rows c)) (isBroken (rowOf rows c) lost)
@@ -79,8 +77,8 @@ decide-added false rows held long = some-complete rows held (colourOf rows held)
 decide-added true rows held long =
     decide-iff
     (record {
-      to = λ p. record { colour = p .0 .0; coloured = p .0 .2; every = λ c d. p .1 c (colour-below rows c long d) d };
-      from = λ h. ((h .colour, colour-below rows (h .colour) long (h .coloured), h .coloured), λ c l d. h .every c d);
+      to = λ p. record { colour = p .0 .0; coloured = p .0 .2; every = λ c d. p .1 c (colour-below rows 8 c long d) d };
+      from = λ h. ((h .colour, colour-below rows 8 (h .colour) long (h .coloured), h .coloured), λ c l d. h .every c d);
     })
     (decide-and _ _
     (decide-some (λ c. rowOf rows c ≡ 0 → ⊥) (λ c. not (eqb (rowOf rows c) 0)) (λ c. decide-not _ (decide-eqb (rowOf rows c) 0)) 8)

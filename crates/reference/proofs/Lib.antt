@@ -3,7 +3,6 @@ pub mod Closures
 pub mod Graphs
 pub mod Marks
 pub mod Meaning
-pub mod Missing
 pub mod Scores
 pub mod Sets
 pub mod Tests

@@ -7,7 +7,7 @@ use Prim.Native.Nat.{ℕ, _-_, _^_}
 use Rattle.vertex_set.proofs.Subsets.{removed-proper}
 use Rattle.setup.specs.declared.Graph.{Graph}
 use Rattle.setup.specs.declared.Setup.{Setup}
-use Rattle.setup.specs.WellFormed.{WellFormed}
+use Rattle.formed.specs.WellFormed.{WellFormed}
 use Rattle.bases.specs.Base.{TargetSet, MinimalSet}
 use Rattle.bases.specs.Marks.{SmallerDerives, CountsAs, MarkedAs, Counts}
 use Rattle.reference.specs.Bases.{targetSetsOf, baseOf, markOf, marksFrom, countsOf, marksOf}

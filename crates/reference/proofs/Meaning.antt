@@ -7,7 +7,7 @@ use Prim.Native.Nat.{ℕ, _-_}
 use lib.ListN.{length}
 use Rattle.setup.specs.declared.Graph.{Graph}
 use Rattle.setup.specs.declared.Setup.{Setup}
-use Rattle.setup.specs.WellFormed.{WellFormed}
+use Rattle.formed.specs.WellFormed.{WellFormed}
 use Rattle.bases.specs.Score.{Score}
 use Rattle.bases.specs.Marks.{Repeated, Shut, Loose, Right, tally}
 use Rattle.reference.specs.Bases.{targetSetsOf, baseOf, scoreOf, marksFrom, countsOf, marksOf}

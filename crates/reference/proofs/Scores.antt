@@ -13,7 +13,7 @@ use Rattle.vertex_set.proofs.Cases.{less-or}
 use Rattle.vertex_set.proofs.Sums.{sum-within, sum-bound}
 use Rattle.setup.specs.declared.Graph.{Graph}
 use Rattle.setup.specs.declared.Setup.{Setup}
-use Rattle.setup.specs.WellFormed.{WellFormed}
+use Rattle.formed.specs.WellFormed.{WellFormed}
 use Rattle.bases.specs.Base.{TargetSet, MinimalSet, Base}
 use Rattle.bases.proofs.Formed.{points-small}
 use Rattle.bases.specs.Score.{pointsAt, sumOf, never, Score, ScoreOver}

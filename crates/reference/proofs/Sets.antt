@@ -19,7 +19,7 @@ use Rattle.vertex_set.proofs.Places.{in-removed, removed-within}
 use Rattle.vertex_set.proofs.Sorted.{listed-append, listed-map, listed-of-map, Sorted, sorted-append, sorted-map, sorted-change}
 use Rattle.setup.specs.declared.Setup.{Setup}
 use Rattle.setup.specs.Setup.{given, valueOf, vertexAt, Chosen}
-use Rattle.setup.specs.WellFormed.{WellFormed}
+use Rattle.formed.specs.WellFormed.{WellFormed}
 use Rattle.reference.specs.Bases.{isChosen, setsOfSize, setsUpTo, setsOf}
 use Rattle.reference.proofs.Graphs.{chosen-below}
 

@@ -12,20 +12,21 @@ use Rattle.vertex_set.proofs.Sets.{member-or}
 use Rattle.setup.specs.declared.Graph.{Graph}
 use Rattle.setup.specs.declared.Setup.{Setup}
 use Rattle.setup.specs.Setup.{rowsAt}
-use Rattle.setup.specs.WellFormed.{WellFormed}
+use Rattle.formed.specs.WellFormed.{WellFormed}
 use Rattle.derivations.specs.Access.{access, HasAccess}
 use Rattle.derivations.specs.Way.{LowestStep, Way}
 use Rattle.derivations.specs.Admits.{Admits}
 use Rattle.derivations.proofs.Rules.{least, monotone}
 use Rattle.derivations.proofs.Graphs.{access-lawful}
 use Rattle.derivations.proofs.Admits.{step-admits}
-use Rattle.access.proofs.Ways.{PassedOver, step-found, way-behind}
+use Rattle.ways.proofs.Ways.{PassedOver, step-found, way-behind}
 use Rattle.reference.specs.Tests.{isMember, withVertex}
 use Rattle.reference.specs.Closures.{colourOf, isAdded, derivesOf, vertexOf, stepsOf, wayOf}
 use Rattle.reference.specs.Graphs.{GraphOf}
 use Rattle.reference.proofs.Tests.{by-decision, decide-not, decide-and, LowestOf, lowest-of, decide-member, in-with, inserted-with}
 use Rattle.reference.proofs.Graphs.{few-colours, added-below, derived-below}
-use Rattle.reference.proofs.Missing.{missing, missing-most, missing-less, missing-none}
+use Rattle.vertex_set.specs.Missing.{missing}
+use Rattle.vertex_set.proofs.Missing.{missing-most, missing-less, missing-none}
 use Rattle.reference.proofs.Closures.{lowest-colour, decide-added, decide-derives}
 
 module _ (s : Setup) (g : Graph) (wf : WellFormed s) (h : GraphOf s g) where

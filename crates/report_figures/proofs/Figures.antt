@@ -16,7 +16,7 @@ use Rattle.setup.specs.declared.Vertex.{Vertex}
 use Rattle.setup.specs.declared.Graph.{Graph}
 use Rattle.setup.specs.declared.Setup.{Setup}
 use Rattle.setup.specs.Setup.{vertexAt, ChosenSet, WithoutRecovery}
-use Rattle.setup.specs.WellFormed.{WellFormed}
+use Rattle.formed.specs.WellFormed.{WellFormed}
 use Rattle.sheet_format.proofs.Tests.{and-parts, and-both, yes-of}
 use Rattle.bases.specs.Score.{Values}
 use Rattle.reference.specs.Bases.{scoreOf}

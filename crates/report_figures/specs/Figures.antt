@@ -8,7 +8,7 @@ use Rattle.vertex_set.specs.Set.{Member, Iff}
 use Rattle.setup.specs.declared.Graph.{Graph}
 use Rattle.setup.specs.declared.Setup.{Setup}
 use Rattle.setup.specs.Setup.{ChosenSet}
-use Rattle.setup.specs.WellFormed.{WellFormed}
+use Rattle.formed.specs.WellFormed.{WellFormed}
 use Rattle.report_scores.specs.Scores.{BaseTable, Scored}
 use Rattle.derivations.specs.Both.{ruleOf}
 use Rattle.reference.specs.Bases.{scoreOf}

@@ -1,7 +1,7 @@
 // The facts behind the report's rows, worked out once for the whole report.
 ghost use mathlib.Core.Path.{_≡_};
 ghost use lib.ListN.{length};
-ghost use Rattle.setup.specs.WellFormed.{WellFormed};
+ghost use Rattle.formed.specs.WellFormed.{WellFormed};
 ghost use Rattle.report_facts.specs.Facts.{HasNames, FactsOf, TablesOf};
 ghost use Rattle.report_figures.specs.Figures.{CanFill, BothScored, FindingsOf};
 use report_facts::Facts;

@@ -10,7 +10,7 @@ use lib.ListN.{length, take}
 use Rattle.vertex_set.specs.Set.{Member}
 use Rattle.vertex_set.proofs.Cases.{byTest}
 use Rattle.setup.specs.declared.Setup.{Setup}
-use Rattle.setup.specs.WellFormed.{WellFormed}
+use Rattle.formed.specs.WellFormed.{WellFormed}
 use Rattle.bases.specs.Base.{Base}
 use Rattle.reference.proofs.Unique.{base-unique}
 use Rattle.report_text.specs.Report.{isAccount}

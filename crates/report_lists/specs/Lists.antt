@@ -10,7 +10,7 @@ use Rattle.vertex_set.specs.Order.{sumOver}
 use Rattle.setup.specs.declared.Graph.{Graph}
 use Rattle.setup.specs.declared.Setup.{Setup}
 use Rattle.setup.specs.Setup.{ChosenSet}
-use Rattle.setup.specs.WellFormed.{WellFormed}
+use Rattle.formed.specs.WellFormed.{WellFormed}
 use Rattle.derivations.specs.Both.{ruleOf}
 use Rattle.report_text.specs.Rows.{textsOf, setRow}
 use Rattle.report_text.specs.Report.{nameIn, isAccount}

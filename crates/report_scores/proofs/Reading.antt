@@ -15,7 +15,7 @@ use Rattle.vertex_set.proofs.Sums.{sum-over-same}
 use Rattle.setup.specs.declared.Graph.{Graph}
 use Rattle.setup.specs.declared.Setup.{Setup}
 use Rattle.setup.specs.Setup.{ChosenSet}
-use Rattle.setup.specs.WellFormed.{WellFormed}
+use Rattle.formed.specs.WellFormed.{WellFormed}
 use Rattle.derivations.specs.Both.{ruleOf}
 use Rattle.families.specs.Family.{size, MinimalMembers}
 use Rattle.family_lists.specs.Lists.{ListOf, Writable, WroteSets, Summable, SumTables, LeastBy}

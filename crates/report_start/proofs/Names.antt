@@ -10,7 +10,7 @@ use lib.ListN.{length, getD, length-append, length-map}
 use lib.Dec.{leb}
 use borrow.Author.Tests.{leb-true}
 use Rattle.setup.specs.declared.Setup.{Setup}
-use Rattle.setup.specs.WellFormed.{WellFormed}
+use Rattle.formed.specs.WellFormed.{WellFormed}
 use Rattle.sheet_format.specs.declared.Reading.{Reading}
 use Rattle.sheet_format.specs.Fields.{isNameByte, isName}
 use Rattle.sheet_format.specs.Text.{all}

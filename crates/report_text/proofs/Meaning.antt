@@ -19,12 +19,11 @@ use Rattle.setup.specs.declared.Rows.{Rows}
 use Rattle.setup.specs.declared.Graph.{Graph}
 use Rattle.setup.specs.declared.Setup.{Setup}
 use Rattle.setup.specs.Setup.{vertexAt, rowsAt, rowOf, row, WithoutRecovery}
-use Rattle.setup.specs.WellFormed.{WellFormed}
-use Rattle.setup.specs.Parts.{RowsLess}
-use Rattle.setup.proofs.Edges.{LessBelow, less-all}
-use Rattle.setup.proofs.Whole.{places-all}
-use Rattle.setup.proofs.Vertices.{not-credential}
-use Rattle.sheet_format.proofs.Question12Edges.{graph-same}
+use Rattle.formed.specs.WellFormed.{WellFormed}
+use Rattle.setup.specs.Inner.{RowsLess}
+use Rattle.setup.proofs.Recovery.{LessBelow, less-all, places-all}
+use Rattle.formed.proofs.Vertices.{not-credential}
+use Rattle.setup.proofs.Graphs.{graph-same}
 use Rattle.bases.specs.Score.{Score}
 use Rattle.reference.specs.Bases.{scoreOf}
 use Rattle.reference.proofs.Tests.{decide-and, listed-those}

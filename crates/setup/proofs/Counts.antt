@@ -3,12 +3,12 @@
 use mathlib.Core.Path.{_≡_, refl, sym, ap, subst, _∙_}
 use mathlib.Core.Bool.{Bool, true, false}
 use mathlib.Core.List.{List, [], _∷_, _++_}
-use mathlib.Core.Logic.{_⊎_, inl, inr, ⊎-elim}
-use Prim.Native.Nat.{ℕ, _+_, _*_, _^_, _≤_, _<_}
+use mathlib.Core.Logic.{inl, inr, ⊎-elim}
+use Prim.Native.Nat.{ℕ, zero, suc, _+_, _*_, _^_, _≤_, _<_}
 use native.Mathlib.Nat.{add-zero, zero-add, add-assoc}
 use native.Mathlib.Numerals.{add-one}
 use native.Mathlib.Omega.{arith}
-use lib.ListN.{length, getD, take, List·getD-eq-default}
+use lib.ListN.{length, getD, set, take, List·getD-eq-default}
 use lib.Seq.{take-suc, take-all}
 use lib.Count.{ones, ones-cat}
 use lib.Bits.{bitOr, or-shifted-r}
@@ -30,6 +30,12 @@ total-append f (x ∷ xs) ys = ap (λ (n : ℕ). f x + n) (total-append f xs ys)
 pub total-more : {A : Type 0} (f : A → ℕ) (xs : List A) (i : ℕ) (d : A) → i < length xs → total f (take (i + 1) xs) ≡ total f (take i xs) + f (getD xs i d)
 total-more f xs i d h =
     rw (add-one i, take-suc xs i d h, total-append f (take i xs) (getD xs i d ∷ [])) (ap (λ (n : ℕ). total f (take i xs) + n) (add-zero (f (getD xs i d))))
+
+-- another element at one place
+pub total-set : {A : Type 0} (h : A → ℕ) (l : List A) (i : ℕ) (a d : A) → i < length l → total h (set l i a) + h (getD l i d) ≡ total h l + h a
+total-set h [] i a d b = absurd (omega arith)
+total-set h (x ∷ xs) zero a d b = omega arith
+total-set h (x ∷ xs) (suc i) a d b = let e = total-set h xs i a d (omega arith) in omega arith
 
 pub given-of : (x : Value) (n : ℕ) → x ≡ Of n → given x ≡ 1
 given-of x n e = ap given e

@@ -1,4 +1,3 @@
 pub mod Counts
-pub mod Vertices
-pub mod Edges
-pub mod Whole
+pub mod Graphs
+pub mod Recovery

@@ -1,7 +1,8 @@
--- What the calls on a setup have in common: the questions 12 to 15, and what a refusal answers.
+-- What the calls on a setup have in common: the questions 12 to 15, what a refusal answers, and how lent lists end.
 use mathlib.Core.Path.{_≡_}
-use mathlib.Core.List.{List, []}
+use mathlib.Core.List.{List, [], _++_}
 use Prim.Native.Nat.{ℕ, _<_}
+use lib.ListN.{length, drop}
 use Rattle.vertex_set.specs.Set.{Member}
 use Rattle.setup.specs.declared.Setup.{Setup}
 
@@ -13,3 +14,12 @@ pub record Refuses (q number : ℕ) (values : List ℕ) : Type 0 where
 -- Question 14: the set has only vertices of the setup.
 pub record Inside (s : Setup) (set : ℕ) : Type 0 where
   pub each : (v : ℕ) → Member set v → v < s .count
+
+-- xs stand in the first places of the lent list, and the places behind them are unchanged.
+abbrev pub written : List ℕ → List ℕ → List ℕ
+written xs entry = xs ++ drop (length xs) entry
+
+-- Both lent lists are as they were.
+pub record Untouched (entry exit entry′ exit′ : List ℕ) : Type 0 where
+  pub first : exit ≡ entry
+  pub second : exit′ ≡ entry′

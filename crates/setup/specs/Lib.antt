@@ -1,4 +1,3 @@
 pub mod Calls
-pub mod Parts
+pub mod Inner
 pub mod Setup
-pub mod WellFormed

@@ -3,7 +3,7 @@ use mathlib.Core.Path.{_≡_}
 use mathlib.Core.Bool.{Bool, true, false}
 use mathlib.Core.List.{List, [], _∷_}
 use Prim.Native.Nat.{ℕ, _+_, _<_}
-use lib.ListN.{length, getD}
+use lib.ListN.{length, getD, replicate}
 use lib.Count.{ones}
 use Rattle.vertex_set.specs.Set.{Member, Iff}
 use Rattle.setup.specs.declared.Kind.the-variants.{Credential}
@@ -36,6 +36,10 @@ row g v c = rowOf (rowsAt g v) c
 -- There is an edge of colour c from f to v: f is needed there.
 abbrev pub Edge : Graph → ℕ → ℕ → ℕ → Type 0
 Edge g f v c = Member (row g v c) f
+
+-- The graph without edges.
+unfoldable pub emptyGraph : Graph
+emptyGraph = record { rows = replicate 64 (record { needs = replicate 8 0 }) }
 
 -- The sum of f over a list.
 abbrev pub total {ℓ} : {A : Type ℓ} → (A → ℕ) → List A → ℕ

@@ -1,6 +1,4 @@
 // A sheet (document 01): what it says, or the first question whose answer is no; and its items' names.
-use setup::Graph;
-use setup::Rows;
 use setup::Setup;
 use sheet_format::Reading;
 use sheet_items::Items;
@@ -16,14 +14,11 @@ const MAX_BYTES: usize = 16384;
 fn refuse(number: u64, line: u64) -> Reading
     ensures { λ r. ⌜ r ≡ refused number line ⌝ }
 {
-    let graph = Graph {
-        rows: [Rows { needs: [0; 8] }; 64],
-    };
     let setup = Setup {
         count: 0,
         vertices: [sheet_rows::UNUSED; 64],
-        graph,
-        recovery: graph,
+        graph: setup::EMPTY,
+        recovery: setup::EMPTY,
     };
     Reading {
         number,

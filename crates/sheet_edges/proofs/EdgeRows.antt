@@ -14,9 +14,9 @@ use Rattle.vertex_set.specs.Set.{Member}
 use Rattle.vertex_set.proofs.Cases.{byTest}
 use Rattle.setup.specs.declared.Rows.{Rows}
 use Rattle.setup.specs.declared.Graph.{Graph}
-use Rattle.setup.specs.Setup.{rowsAt, row, Edge}
+use Rattle.setup.specs.Setup.{rowsAt, row, Edge, emptyGraph}
 use Rattle.sheet_format.specs.Text.{linesOf, fieldsOf, sameText}
-use Rattle.sheet_format.specs.Rows.{ItemRow, EdgeRow, Doc, Each, Known, SameEdge, numberIn, verticesOf, emptyGraph, withEdge, withEdges, recoveryRows, setupOf}
+use Rattle.sheet_format.specs.Rows.{ItemRow, EdgeRow, Doc, Each, Known, SameEdge, numberIn, verticesOf, withEdge, withEdges, recoveryRows, setupOf}
 use Rattle.sheet_format.specs.Questions.{question4, question5Edge, question7Edge, question8, question9, isKnown, isRepeated, edgeOf}
 use Rattle.sheet_format.specs.Read.{AmongEdges, ask, firstNo, edgeQuestions, accepted, refused, readLines}
 use Rattle.sheet_format.proofs.Tests.{and-parts, yes-of, no-of, text-decided, known-decided, single-decided}

@@ -11,10 +11,6 @@ ghost use Rattle.sheet_edges.specs.Edges.{withNeed, ReadsEdges};
 
 const MAX_EDGES: usize = 256;
 
-const EMPTY: Graph = Graph {
-    rows: [Rows { needs: [0; 8] }; 64],
-};
-
 pub struct Edges {
     pub number: u64,
     pub line: u64,
@@ -58,8 +54,8 @@ fn refuse(number: u64, line: u64) -> Edges
     Edges {
         number,
         line,
-        graph: EMPTY,
-        recovery: EMPTY,
+        graph: setup::EMPTY,
+        recovery: setup::EMPTY,
     }
 }
 
@@ -75,8 +71,8 @@ pub fn read_edges(
     requires { ⌜ (count ≤ length (now low)) × (count ≤ length (now high)) × (count ≤ 64) × (first ≤ 100) ⌝ }
     ensures { λ r. ⌜ ReadsEdges (now (s .entry)) start first (now (low .entry)) (now (high .entry)) count r ⌝ }
 {
-    let mut graph = EMPTY;
-    let mut recovery = EMPTY;
+    let mut graph = setup::EMPTY;
+    let mut recovery = setup::EMPTY;
     let mut edges: usize = 0;
     let mut at = start;
     while at < s.len() {

@@ -7,10 +7,10 @@ use Prim.Native.Nat.{ℕ}
 use lib.ListN.{replicate}
 use Rattle.setup.specs.declared.Kind.the-variants.{Credential, Account}
 use Rattle.setup.specs.declared.Value.the-variants.{Blank, Of}
-use Rattle.setup.specs.Setup.{unusedVertex}
+use Rattle.setup.specs.Setup.{unusedVertex, emptyGraph}
 use Rattle.sheet_format.specs.Text.{grow, linesOf, fieldsOf, isEmpty, sameText, all}
 use Rattle.sheet_format.specs.Fields.{isDigit, isNameByte, isName, isNumber, valueBehind, numberOf, isNumberTo, digitsIn, decimal, isKind, kindOf, isValue, valueOf}
-use Rattle.sheet_format.specs.Rows.{firstHeader, secondHeader, itemLines, edgeLines, render, startCount, lossCount, numberIn, verticesOf, emptyGraph, withEdge, withEdges, recoveryRows, setupOf}
+use Rattle.sheet_format.specs.Rows.{firstHeader, secondHeader, itemLines, edgeLines, render, startCount, lossCount, numberIn, verticesOf, withEdge, withEdges, recoveryRows, setupOf}
 use Rattle.sheet_format.specs.Questions.{question1, isTextByte, endsInLF, question2, question3, question10, noneEmpty, question4, question5Item, question5Edge, itemOf, edgeOf, isKnown, question6, question8, sameEdge, isRepeated, question9, question7Item, question7Edge}
 use Rattle.sheet_format.specs.Read.{itemQuestions, edgeQuestions, questionsOf, behind, firstNo, question11, unless, readLines, readSheet, accepted, refused}
 

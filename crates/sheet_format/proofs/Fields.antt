@@ -14,7 +14,7 @@ use Rattle.setup.specs.declared.Kind.{Kind}
 use Rattle.setup.specs.declared.Kind.the-variants.{Credential, Account}
 use Rattle.setup.specs.declared.Value.{Value}
 use Rattle.setup.specs.declared.Value.the-variants.{Blank, Of}
-use Rattle.setup.specs.WellFormed.{InRange}
+use Rattle.formed.specs.WellFormed.{InRange}
 use Rattle.sheet_format.specs.Text.{sameText, isEmpty, all}
 use Rattle.sheet_format.specs.Fields.{isDigit, isNameByte, isName, isNumber, numberOf, isNumberTo, decimal, kindText, isKind, kindOf, dash, isValue, valueOf, valueText}
 use Rattle.sheet_format.specs.Rows.{Each}

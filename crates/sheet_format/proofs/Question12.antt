@@ -1,7 +1,7 @@
 -- Question 12: a setup is well formed exactly when some accepted sheet yields it.
 -- Assumes nothing.
 use mathlib.Core.Path.{sym, ap, subst, _∙_}
-use Rattle.setup.specs.WellFormed.{WellFormed}
+use Rattle.formed.specs.WellFormed.{WellFormed}
 use Rattle.sheet_format.specs.Rows.{render}
 use Rattle.sheet_format.specs.Read.{accepted}
 use Rattle.sheet_format.specs.Meaning.{Question12}

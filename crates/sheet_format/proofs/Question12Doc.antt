@@ -17,7 +17,7 @@ use Rattle.vertex_set.proofs.Digits.{digit, digit-lt}
 use Rattle.vertex_set.proofs.Sets.{member-decided, bounded-by-members}
 use Rattle.setup.specs.declared.Setup.{Setup}
 use Rattle.setup.specs.Setup.{vertexAt, rowsAt, row, Edge, total, edgeCount}
-use Rattle.setup.specs.WellFormed.{WellFormed}
+use Rattle.formed.specs.WellFormed.{WellFormed}
 use Rattle.sheet_format.specs.Text.{sameText, all}
 use Rattle.sheet_format.specs.Fields.{isNameByte, isName}
 use Rattle.sheet_format.specs.Rows.{ItemRow, EdgeRow, Each, Apart, Known, SameName, SameEdge, numberIn}

@@ -3,41 +3,26 @@
 use mathlib.Core.Path.{_≡_, refl, sym, ap, subst, _∙_}
 use mathlib.Core.List.{List, [], _∷_, List·Memᴰ·head, List·Memᴰ·tail, List·Memᴰ·not-nil, List·Memᴰ·cases-cons}
 use mathlib.Core.Logic.{_⊎_, inl, inr, ⊎-elim}
-use Prim.Native.Nat.{ℕ, zero, suc, _+_, _^_, _≤_, _<_}
+use Prim.Native.Nat.{ℕ, _+_, _^_, _≤_, _<_}
 use native.Mathlib.Omega.{arith}
 use lib.ListN.{length, getD, set, replicate, length-set, length-replicate, getD-replicate, List·getD-eq-default}
-use lib.Seq.{getD-set-same, getD-set-other, ext-getD}
+use lib.Seq.{getD-set-same, getD-set-other}
 use lib.Bits.{bitOr}
 use lib.Count.{ones}
 use Rattle.vertex_set.specs.Set.{Member, Iff}
 use Rattle.vertex_set.proofs.Cases.{same-or, less-or}
-use Rattle.vertex_set.proofs.Sets.{none-in-zero, in-or, in-one, same-set, ones-or-one}
+use Rattle.vertex_set.proofs.Sets.{none-in-zero, in-or, in-one, ones-or-one}
 use Rattle.setup.specs.declared.Rows.{Rows}
 use Rattle.setup.specs.declared.Graph.{Graph}
-use Rattle.setup.specs.Setup.{rowsAt, rowOf, row, Edge, ShapedGraph, total, edgeCount}
-use Rattle.setup.proofs.Whole.{edge-place}
-use Rattle.sheet_format.specs.Rows.{ItemRow, EdgeRow, Each, numberIn, emptyGraph, withEdge, withEdges}
+use Rattle.setup.specs.Setup.{rowsAt, rowOf, row, Edge, ShapedGraph, total, edgeCount, emptyGraph}
+use Rattle.setup.proofs.Graphs.{edge-place}
+use Rattle.setup.proofs.Counts.{total-set}
+use Rattle.sheet_format.specs.Rows.{ItemRow, EdgeRow, Each, numberIn, withEdge, withEdges}
 use Rattle.sheet_format.proofs.Question12Lists.{In}
 
 -- eight empty rows
 abbrev emptyRows : Rows
 emptyRows = record { needs = replicate 8 0 }
-
--- ---- graphs with the same edges are one
-
-rows-same : (x y : Rows) → length (x .needs) ≡ 8 → length (y .needs) ≡ 8 → ((f c : ℕ) → Iff (Member (rowOf x c) f) (Member (rowOf y c) f)) → x ≡ y
-rows-same x y lx ly h =
-    let e : x .needs ≡ y .needs = ext-getD 0 (x .needs) (y .needs) (omega arith) (λ c l.
-    same-set _ _ (record { each = λ f m. h f c .to m }) (record { each = λ f m. h f c .from m })) in
-    λ i. record { needs = e i }
-
-pub graph-same : (g k : Graph) → ShapedGraph g → ShapedGraph k → ((f v c : ℕ) → Iff (Edge g f v c) (Edge k f v c)) → g ≡ k
-graph-same g k sg sk h =
-    let lg = sg .places in
-    let lk = sk .places in
-    let e : g .rows ≡ k .rows = ext-getD (record { needs = [] }) (g .rows) (k .rows) (omega arith) (λ v l.
-    rows-same (rowsAt g v) (rowsAt k v) (sg .colours v (omega arith)) (sk .colours v (omega arith)) (λ f c. h f v c)) in
-    λ i. record { rows = e i }
 
 -- ---- the graph without edges
 
@@ -64,11 +49,6 @@ unfolding emptyGraph edgeCount ones
 empty-count = refl
 
 -- ---- one edge more
-
-total-set : {A : Type 0} (h : A → ℕ) (l : List A) (i : ℕ) (a d : A) → i < length l → total h (set l i a) + h (getD l i d) ≡ total h l + h a
-total-set h [] i a d b = absurd (omega arith)
-total-set h (x ∷ xs) zero a d b = omega arith
-total-set h (x ∷ xs) (suc i) a d b = let e = total-set h xs i a d (omega arith) in omega arith
 
 module _ (g : Graph) (f v c : ℕ) (sh : ShapedGraph g) (lv : v < 64) (lc : c < 8) where
   new : Rows

@@ -15,12 +15,12 @@ use Rattle.vertex_set.proofs.Cases.{less-or}
 use Rattle.vertex_set.proofs.Sets.{member-decided}
 use Rattle.setup.specs.declared.Vertex.{Vertex}
 use Rattle.setup.specs.declared.Setup.{Setup}
-use Rattle.setup.specs.Setup.{unusedVertex, vertexAt, rowsAt, row, Edge, given, chosenCount}
-use Rattle.setup.specs.WellFormed.{WellFormed}
-use Rattle.setup.proofs.Whole.{edge-place, edge-colour}
-use Rattle.sheet_format.specs.Rows.{ItemRow, EdgeRow, Doc, Each, Known, ValidItem, ValidEdge, Valid, startCount, lossCount, numberIn, vertexOf, verticesOf, emptyGraph, withEdges, recoveryRows, setupOf}
+use Rattle.setup.specs.Setup.{unusedVertex, vertexAt, rowsAt, row, Edge, given, chosenCount, emptyGraph}
+use Rattle.formed.specs.WellFormed.{WellFormed}
+use Rattle.setup.proofs.Graphs.{edge-place, edge-colour, graph-same}
+use Rattle.sheet_format.specs.Rows.{ItemRow, EdgeRow, Doc, Each, Known, ValidItem, ValidEdge, Valid, startCount, lossCount, numberIn, vertexOf, verticesOf, withEdges, recoveryRows, setupOf}
 use Rattle.sheet_format.proofs.Question12Lists.{In, each-of}
-use Rattle.sheet_format.proofs.Question12Edges.{StatedEdge, Placed, graph-same, empty-shaped, edges-shaped}
+use Rattle.sheet_format.proofs.Question12Edges.{StatedEdge, Placed, empty-shaped, edges-shaped}
 use Rattle.sheet_format.proofs.Question12Items.{vertices-length, vertex-unused, vertices-total}
 use Rattle.sheet_format.proofs.Question12Yielded.{in-recovery, recovery-in, recovery-placed, graph-edges}
 use Rattle.sheet_format.proofs.Question12Text.{ShortEdge, text-length}

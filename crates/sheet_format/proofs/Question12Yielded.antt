@@ -9,9 +9,9 @@ use native.Mathlib.Omega.{arith}
 use lib.ListN.{length}
 use Rattle.vertex_set.specs.Set.{Iff}
 use Rattle.vertex_set.proofs.Cases.{byTest}
-use Rattle.setup.specs.Setup.{Edge, chosenCount, given}
-use Rattle.setup.specs.WellFormed.{ValidVertex, WellFormed}
-use Rattle.sheet_format.specs.Rows.{ItemRow, EdgeRow, Doc, Each, ValidItem, ValidEdge, Valid, startCount, lossCount, vertexOf, emptyGraph, withEdges, recoveryRows, setupOf}
+use Rattle.setup.specs.Setup.{Edge, chosenCount, given, emptyGraph}
+use Rattle.formed.specs.WellFormed.{ValidVertex, WellFormed}
+use Rattle.sheet_format.specs.Rows.{ItemRow, EdgeRow, Doc, Each, ValidItem, ValidEdge, Valid, startCount, lossCount, vertexOf, withEdges, recoveryRows, setupOf}
 use Rattle.sheet_format.proofs.Question12Lists.{In, each-of, of-each}
 use Rattle.sheet_format.proofs.Question12Edges.{StatedEdge, Placed, empty-shaped, empty-edges, empty-count, edges-shaped, edges-more, edges-count}
 use Rattle.sheet_format.proofs.Question12Items.{known-number, vertices-length, vertex-unused, vertex-used, vertices-total}

@@ -19,7 +19,8 @@ use Rattle.sheet_format.specs.Rows.{ItemRow, EdgeRow, Doc, Apart, Known,
 use Rattle.sheet_format.specs.Stated.{StandsAt, HasFields, Joins, Stated, StatedByRows, StatedUnique}
 use Rattle.sheet_format.proofs.Tests.{yes-of, no-of, text-decided}
 use Rattle.sheet_format.proofs.Question12Lists.{In, of-each}
-use Rattle.sheet_format.proofs.Question12Edges.{StatedEdge, graph-same}
+use Rattle.sheet_format.proofs.Question12Edges.{StatedEdge}
+use Rattle.setup.proofs.Graphs.{graph-same}
 use Rattle.sheet_format.proofs.Question12Items.{vertex-unused}
 use Rattle.sheet_format.proofs.Question12Yielded.{in-recovery, recovery-in, graph-edges, recovery-placed, placed, well-formed-of-valid}
 

@@ -8,10 +8,10 @@ use Prim.Native.Nat.{ℕ, suc, _≤_, _<_}
 use lib.ListN.{length, replicate}
 use Rattle.vertex_set.specs.Set.{Iff}
 use Rattle.setup.specs.declared.Setup.{Setup}
-use Rattle.setup.specs.Setup.{unusedVertex}
-use Rattle.setup.specs.WellFormed.{WellFormed}
+use Rattle.setup.specs.Setup.{unusedVertex, emptyGraph}
+use Rattle.formed.specs.WellFormed.{WellFormed}
 use Rattle.sheet_format.specs.Text.{linesOf}
-use Rattle.sheet_format.specs.Rows.{Doc, Each, Valid, render, emptyGraph, setupOf}
+use Rattle.sheet_format.specs.Rows.{Doc, Each, Valid, render, setupOf}
 use Rattle.sheet_format.specs.Questions.{question1, question2}
 use Rattle.sheet_format.specs.Read.{AtFirstHeader, Place, Asked, ask, noRows, questionsOf, behind, question11, accepted, refused, readSheet}
 

@@ -11,8 +11,8 @@ use Rattle.setup.specs.declared.Value.{Value}
 use Rattle.setup.specs.declared.Vertex.{Vertex}
 use Rattle.setup.specs.declared.Graph.{Graph}
 use Rattle.setup.specs.declared.Setup.{Setup}
-use Rattle.setup.specs.Setup.{unusedVertex, rowsAt, row, total, given}
-use Rattle.setup.specs.WellFormed.{InRange}
+use Rattle.setup.specs.Setup.{unusedVertex, rowsAt, row, emptyGraph, total, given}
+use Rattle.formed.specs.WellFormed.{InRange}
 use Rattle.sheet_format.specs.Text.{bytesOf, sameText}
 use Rattle.sheet_format.specs.Fields.{isName, decimal, kindText, valueText}
 
@@ -133,9 +133,6 @@ vertexOf x = record { kind = x .kind; start = x .start; loss = x .loss; rank = x
 -- 64 places, of which the last ones are not in use.
 unfoldable pub verticesOf : List ItemRow → List Vertex
 verticesOf xs = map vertexOf xs ++ replicate (64 - length xs) unusedVertex
-
-unfoldable pub emptyGraph : Graph
-emptyGraph = record { rows = replicate 64 (record { needs = replicate 8 0 }) }
 
 -- The graph with an edge of colour c from f to v: f is one of the needed items in v's row of that colour.
 unfoldable pub withEdge : Graph → ℕ → ℕ → ℕ → Graph

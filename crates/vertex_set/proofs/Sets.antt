@@ -36,6 +36,10 @@ pub none-in-zero : (i : ℕ) → Member 0 i → ⊥
 unfolding Member
 none-in-zero i m = let z = digit-zero i in omega arith
 
+-- a set with a member is not empty
+pub not-empty : (s i : ℕ) → Member s i → s ≡ 0 → ⊥
+not-empty s i m e = none-in-zero i (subst (λ (x : ℕ). Member x i) e m)
+
 -- a set that is not empty has a member
 pub some-member : (s : ℕ) → (s ≡ 0 → ⊥) → (i : ℕ) × Member s i
 unfolding Member

@@ -9,8 +9,7 @@ use lib.Bits.{bitAnd}
 use lib.Pow.{pow-pos}
 use Rattle.vertex_set.specs.Set.{Member, Within, ProperlyWithin}
 use Rattle.vertex_set.proofs.Cases.{byTest, less-or, same-or, lowest}
-use Rattle.vertex_set.proofs.Sets.{some-member, same-set, in-and, in-not, member-below}
-use Rattle.vertex_set.proofs.Sets.{within-refl, within-trans, within-le, within-decided, within-test}
+use Rattle.vertex_set.proofs.Sets.{some-member, same-set, in-and, in-not, member-below, within-refl, within-trans, within-le, within-decided, within-test}
 use Rattle.vertex_set.proofs.Places.{member-le, in-removed, removed-within}
 
 -- a proper subset lacks some member

@@ -11,7 +11,7 @@ use Rattle.vertex_set.specs.Set.{Member}
 use lib.Count.{ones}
 use Rattle.vertex_set.specs.Order.{Listed, Before, Ordered, sumOver}
 use Rattle.vertex_set.proofs.Sets.{member-below}
-use Rattle.setup.specs.WellFormed.{WellFormed}
+use Rattle.formed.specs.WellFormed.{WellFormed}
 use Rattle.setup.specs.Calls.{Inside}
 use Rattle.derivations.specs.Access.{Step, AccessFrom}
 use Rattle.derivations.specs.Way.{Way}

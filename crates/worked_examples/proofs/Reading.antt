@@ -1,10 +1,11 @@
 -- The sheets' bytes are accepted with the setups that the table has: the reader's definition, computed. So the setups are well formed.
 -- Assumes nothing.
 use mathlib.Core.Path.{refl}
-use Rattle.setup.specs.WellFormed.{WellFormed}
+use Rattle.formed.specs.WellFormed.{WellFormed}
 use Rattle.sheet_format.specs.Text.{grow, linesOf, fieldsOf, isEmpty, sameText, all}
 use Rattle.sheet_format.specs.Fields.{isDigit, isNameByte, isName, isNumber, valueBehind, numberOf, isNumberTo, isKind, kindOf, isValue, valueOf}
-use Rattle.sheet_format.specs.Rows.{firstHeader, secondHeader, startCount, lossCount, numberIn, verticesOf, emptyGraph, withEdge, withEdges, recoveryRows, setupOf}
+use Rattle.sheet_format.specs.Rows.{firstHeader, secondHeader, startCount, lossCount, numberIn, verticesOf, withEdge, withEdges, recoveryRows, setupOf}
+use Rattle.setup.specs.Setup.{emptyGraph}
 use Rattle.sheet_format.specs.Questions.{question1, isTextByte, endsInLF, question2, question3, question10, noneEmpty, question4, question5Item, question5Edge, itemOf, edgeOf, isKnown, question6, question8, sameEdge, isRepeated, question9, question7Item, question7Edge}
 use Rattle.sheet_format.specs.Read.{itemQuestions, edgeQuestions, questionsOf, behind, firstNo, question11, unless, readLines, readSheet}
 use Rattle.sheet_format.proofs.Question12.{question-12}

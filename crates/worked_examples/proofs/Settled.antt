@@ -11,7 +11,7 @@ use lib.ListN.{length}
 use Rattle.vertex_set.proofs.Cases.{less-or}
 use Rattle.vertex_set.specs.Set.{Member}
 use Rattle.setup.specs.declared.Setup.{Setup}
-use Rattle.setup.specs.WellFormed.{WellFormed}
+use Rattle.formed.specs.WellFormed.{WellFormed}
 use Rattle.setup.specs.Calls.{Inside}
 use Rattle.derivations.specs.Derivation.{Closure}
 use Rattle.derivations.specs.Access.{Step}

@@ -1,6 +1,6 @@
 use mathlib.Core.Logic.{inl, inr}
 use native.Mathlib.Omega.{arith}
-use Rattle.access.proofs.Ways.{taken-short, taken-room, way-taken-shut}
+use Rattle.access.proofs.Calls.{taken-short, taken-room, way-taken-shut}
 use borrow.Author.Needs.{needs}
 use Rattle.access.proofs.take_way.Statement.{statement}
 use Rattle.access.proofs.take_way.Tie as tie

@@ -1,6 +1,5 @@
 use mathlib.Core.Path.{sym, _∙_}
-use Rattle.answers.proofs.Calls.{fits-behind, both-fit}
-use Rattle.answers.proofs.Calls.{written-short, written-room, short-first, short-second}
+use Rattle.answers.proofs.Calls.{fits-behind, both-fit, written-short, written-room, short-first, short-second}
 use borrow.Author.Needs.{needs}
 use Rattle.answers.proofs.write_bases.Statement.{statement}
 use Rattle.answers.proofs.write_bases.Tie as tie

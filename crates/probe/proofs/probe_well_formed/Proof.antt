@@ -1,5 +1,5 @@
 use mathlib.Core.Path.{refl, sym, subst}
-use Rattle.setup.specs.WellFormed.{WellFormed}
+use Rattle.formed.specs.WellFormed.{WellFormed}
 use borrow.Author.Needs.{needs}
 use Rattle.probe.proofs.probe_well_formed.Statement.{statement}
 use Rattle.probe.proofs.probe_well_formed.Tie as tie

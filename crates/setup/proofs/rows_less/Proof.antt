@@ -6,7 +6,7 @@ use native.Mathlib.Omega.{arith}
 use borrow.Author.Count.{below-none}
 use mir.Val.{Fits}
 use mir.Syntax.{w64}
-use Rattle.setup.proofs.Edges.{LessBelow, less-more, less-all}
+use Rattle.setup.proofs.Recovery.{LessBelow, less-more, less-all}
 use Rattle.setup.proofs.rows_less.Statement.{statement}
 use Rattle.setup.proofs.rows_less.Tie as tie
 

@@ -4,7 +4,7 @@ use mathlib.Core.Path.{_≡_}
 use lib.ListN.{length, length-map}
 use native.Mathlib.Omega.{arith}
 use borrow.Author.Count.{below-none}
-use Rattle.setup.proofs.Whole.{LessPlaces, places-more, places-all}
+use Rattle.setup.proofs.Recovery.{LessPlaces, places-more, places-all}
 use Rattle.setup.proofs.without_recovery.Statement.{statement}
 use Rattle.setup.proofs.without_recovery.Tie as tie
 

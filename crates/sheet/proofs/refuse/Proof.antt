@@ -1,5 +1,6 @@
 use mathlib.Core.Path.{refl}
-use Rattle.sheet_format.specs.Rows.{setupOf, verticesOf, withEdges, recoveryRows, emptyGraph}
+use Rattle.sheet_format.specs.Rows.{setupOf, verticesOf, withEdges, recoveryRows}
+use Rattle.setup.specs.Setup.{emptyGraph}
 use Rattle.sheet.proofs.refuse.Statement.{statement}
 use Rattle.sheet.proofs.refuse.Tie as tie
 

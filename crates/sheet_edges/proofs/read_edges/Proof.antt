@@ -4,7 +4,7 @@ use Prim.Native.Nat.{_-_, _≤_, _<_}
 use native.Mathlib.Omega.{arith}
 use lib.ListN.{length, drop, length-drop}
 use Rattle.sheet_fields.proofs.Cutting.{until-le}
-use Rattle.sheet_format.specs.Rows.{emptyGraph}
+use Rattle.setup.specs.Setup.{emptyGraph}
 use Rattle.sheet_edges.proofs.EdgeRows.{Loop, no-edges, so-far-none, over, refused-row, repeated-row, full-row, taken-row}
 use Rattle.sheet_edges.proofs.read_edges.Statement.{statement}
 use Rattle.sheet_edges.proofs.read_edges.Tie as tie

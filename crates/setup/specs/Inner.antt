@@ -1,0 +1,12 @@
+-- What the inner function answers. Nothing of this has to be believed: the contracts of the calls do not cite it.
+use mathlib.Core.Path.{_≡_}
+use Prim.Native.Nat.{ℕ}
+use lib.ListN.{length}
+use Rattle.vertex_set.specs.Set.{Member, Iff}
+use Rattle.setup.specs.declared.Rows.{Rows}
+use Rattle.setup.specs.Setup.{rowOf}
+
+-- The rows r are the rows less the recovery rows, vertex by vertex.
+pub record RowsLess (rows recovery r : Rows) : Type 0 where
+  pub long : length (r .needs) ≡ 8
+  pub each : (f c : ℕ) → Iff (Member (rowOf r c) f) (Member (rowOf rows c) f × (Member (rowOf recovery c) f → ⊥))

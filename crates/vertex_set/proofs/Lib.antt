@@ -1,6 +1,7 @@
 pub mod Cases
 pub mod Decisions
 pub mod Digits
+pub mod Lists
 pub mod Places
 pub mod Sets
 pub mod Shifts

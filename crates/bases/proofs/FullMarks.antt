@@ -1,19 +1,19 @@
 -- Full marks are given exactly where they are due: the handed-in list has the base's sets, each once, and no other.
 -- Assumes nothing.
-use mathlib.Core.Path.{_≡_, refl, sym, ap, subst, _∙_}
+use mathlib.Core.Path.{_≡_, refl, sym, subst, _∙_}
 use mathlib.Core.Bool.{Bool}
 use mathlib.Core.List.{List, [], _∷_}
 use mathlib.Core.Logic.{_⊎_, inl, inr, ⊎-elim}
-use Prim.Native.Nat.{ℕ, suc, _≤_}
+use Prim.Native.Nat.{ℕ}
 use native.Mathlib.Omega.{arith}
 use lib.ListN.{length}
 use Rattle.vertex_set.specs.Set.{Iff}
-use Rattle.vertex_set.specs.Order.{Listed, Before, Ordered}
-use Rattle.vertex_set.proofs.Cases.{same-or}
+use Rattle.vertex_set.specs.Order.{Listed, Once}
+use Rattle.vertex_set.proofs.Lists.{once-le, once-all, ordered-once}
 use Rattle.setup.specs.declared.Graph.{Graph}
 use Rattle.setup.specs.declared.Setup.{Setup}
 use Rattle.bases.specs.Base.{MinimalSet}
-use Rattle.bases.specs.Marks.{Mark, Repeated, Shut, Loose, Right, MarkedAs, tally, Counts, Once, IsBaseOnce, Full}
+use Rattle.bases.specs.Marks.{Mark, Repeated, Shut, Loose, Right, MarkedAs, tally, Counts, IsBaseOnce, Full}
 
 -- ---- marks, one by one
 

@@ -1,6 +1,6 @@
 -- From masks to sets: what the family of a rising predicate says of the sets of chosen vertices that have it.
 -- Assumes nothing.
-use mathlib.Core.Path.{_≡_, subst}
+use mathlib.Core.Path.{subst}
 use mathlib.Core.List.{List}
 use Prim.Native.Nat.{ℕ, _^_, _≤_, _<_}
 use native.Mathlib.Omega.{arith}
@@ -8,8 +8,8 @@ use lib.Count.{ones}
 use Rattle.vertex_set.specs.Set.{Member, Within, Iff}
 use Rattle.vertex_set.specs.Order.{Listed, Smallest, ListsExactly}
 use Rattle.vertex_set.proofs.Decisions.{iff-trans}
-use Rattle.vertex_set.proofs.Sets.{within-le, within-trans}
-use Rattle.families.specs.Family.{In, Minimal, MinimalMembers}
+use Rattle.vertex_set.proofs.Sets.{within-le}
+use Rattle.families.specs.Family.{masks, In, Minimal, MinimalMembers}
 use Rattle.families.specs.Masks.{Picked, SetOfMask, MaskOf}
 use Rattle.families.specs.Exact.{FamilyOf}
 use Rattle.families.proofs.Masks.{spread, gather, set-of, set-unique, set-within, submask-subset, proper-subset, proper-submask, mask-exists}
@@ -29,7 +29,7 @@ pub record MaskFor (f : List ℕ) (chosen x : ℕ) : Type 0 where
 module _ (chosen : ℕ) (P : (ℕ → Type 0) → Type 0) (up : Rising P) (f : List ℕ)
     (fits : chosen < 2 ^ 64) (few : ones chosen ≤ 14) (e : FamilyOf chosen P f) where
   -- a mask is in the family if its set has P
-  by-set : (m x : ℕ) → m < 16384 → SetOfMask chosen m x → Iff (In f m) (P (Member x))
+  pub by-set : (m x : ℕ) → m < masks → SetOfMask chosen m x → Iff (In f m) (P (Member x))
   by-set m x l o =
       iff-trans (e .each m l)
       (record { to = up (Picked chosen m) (Member x) (λ v. o .each v .from); from = up (Member x) (Picked chosen m) (λ v. o .each v .to) })
@@ -41,11 +41,11 @@ module _ (chosen : ℕ) (P : (ℕ → Type 0) → Type 0) (up : Rising P) (f : L
       record { mask = gather 64 chosen x; is = o; member = by-set (gather 64 chosen x) x (o .room) (o .of (h .0)) .from (h .1) }
 
   -- and each mask in the family stands for such a set
-  pub set-for : (m x : ℕ) → m < 16384 → In f m → SetOfMask chosen m x → Has chosen P x
+  pub set-for : (m x : ℕ) → m < masks → In f m → SetOfMask chosen m x → Has chosen P x
   set-for m x l i o = (set-within chosen m x o, by-set m x l o .to i)
 
   -- a minimal mask stands for a smallest set
-  pub smallest-set : (m x : ℕ) → m < 16384 → Minimal f m → SetOfMask chosen m x → Smallest (Has chosen P) x
+  pub smallest-set : (m x : ℕ) → m < masks → Minimal f m → SetOfMask chosen m x → Smallest (Has chosen P) x
   smallest-set m x l h o =
       record {
         is = set-for m x l (h .is) o;

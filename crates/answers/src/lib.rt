@@ -5,11 +5,10 @@ ghost use Prim.Native.Nat.{_-_, _<_};
 ghost use Rattle.answers.specs.Answers.{basesNumber, basesValues, BasesCall, scoreNumber, scoreValues, riskNumber, riskValues, ScoreCall, marksNumber, marksValues, MarksCall};
 ghost use Rattle.answers.specs.Demand3.{Demand3};
 ghost use Rattle.answers.specs.Inner.{Asked, BasesTaken, MarksTaken};
+use families::WORDS;
 use scores::RecoverabilityScore;
 use scores::SecurityScore;
 use setup::Setup;
-
-const WORDS: usize = 256;
 
 pub enum BasesAnswer {
     Counts(usize, usize),

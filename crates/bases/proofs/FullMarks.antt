@@ -1,65 +1,19 @@
 -- Full marks are given exactly where they are due: the handed-in list has the base's sets, each once, and no other.
 -- Assumes nothing.
-use mathlib.Core.Path.{_≡_, refl, sym, ap, subst, _∙_}
+use mathlib.Core.Path.{_≡_, refl, sym, subst, _∙_}
 use mathlib.Core.Bool.{Bool}
 use mathlib.Core.List.{List, [], _∷_}
 use mathlib.Core.Logic.{_⊎_, inl, inr, ⊎-elim}
-use Prim.Native.Nat.{ℕ, suc, _≤_}
+use Prim.Native.Nat.{ℕ}
 use native.Mathlib.Omega.{arith}
 use lib.ListN.{length}
 use Rattle.vertex_set.specs.Set.{Iff}
-use Rattle.vertex_set.specs.Order.{Listed, Before, Ordered}
-use Rattle.vertex_set.proofs.Cases.{same-or}
+use Rattle.vertex_set.specs.Order.{Listed, Once}
+use Rattle.vertex_set.proofs.Lists.{once-le, once-all, ordered-once}
 use Rattle.setup.specs.declared.Graph.{Graph}
 use Rattle.setup.specs.declared.Setup.{Setup}
 use Rattle.bases.specs.Base.{MinimalSet}
-use Rattle.bases.specs.Marks.{Mark, Repeated, Shut, Loose, Right, MarkedAs, tally, Counts, Once, IsBaseOnce, Full}
-
--- ---- lists without repetition
-
-pub listed-or : (l : List ℕ) (x : ℕ) → Listed l x ⊎ (Listed l x → ⊥)
-listed-or [] x = inr (λ h. h)
-listed-or (y ∷ l) x = ⊎-elim (λ e. inl (inl e)) (λ n. ⊎-elim (λ h. inl (inr h)) (λ m. inr (⊎-elim n m)) (listed-or l x)) (same-or x y)
-
--- a list without one place at which x stands
-record Removed (l : List ℕ) (x : ℕ) : Type 0 where
-  rest : List ℕ
-  shorter : length l ≡ suc (length rest)
-  kept : (y : ℕ) → Listed l y → (y ≡ x) ⊎ Listed rest y
-
-remove : (l : List ℕ) (x : ℕ) → Listed l x → Removed l x
-remove [] x h = absurd h
-remove (y ∷ l) x (inl e) = record { rest = l; shorter = refl; kept = λ z. ⊎-elim (λ q. inl (q ∙ sym e)) (λ q. inr q) }
-remove (y ∷ l) x (inr h) =
-    let r = remove l x h in
-    record {
-      rest = y ∷ r .rest;
-      shorter = ap suc (r .shorter);
-      kept = λ z. ⊎-elim (λ q. inr (inl q)) (λ q. ⊎-elim (λ e. inl e) (λ k. inr (inr k)) (r .kept z q));
-    }
-
--- a list without repetition is no longer than one that has all of it
-pub once-le : (a b : List ℕ) → Once a → ((x : ℕ) → Listed a x → Listed b x) → length a ≤ length b
-once-le [] b o s = omega arith
-once-le (x ∷ a) b o s =
-    let r = remove b x (s x (inl refl)) in
-    let h = once-le a (r .rest) (o .1) (λ y i. ⊎-elim (λ e. absurd (o .0 (subst (Listed a) e i))) (λ k. k) (r .kept y (s y (inr i)))) in
-    let q = r .shorter in
-    omega arith
-
--- and where it is as long, it has all of that one
-pub once-all : (a b : List ℕ) → Once a → ((x : ℕ) → Listed a x → Listed b x) → length b ≤ length a → (x : ℕ) → Listed b x → Listed a x
-once-all a b o s l x i =
-    ⊎-elim (λ h. h) (λ n. absurd (let h = once-le (x ∷ a) b (n, o) (λ y. ⊎-elim (λ e. subst (Listed b) (sym e) i) (s y)) in omega arith)) (listed-or a x)
-
-pub ordered-once : (l : List ℕ) → Ordered l → Once l
-unfolding Before
-ordered-once [] o = tt
-ordered-once (x ∷ l) o = (λ h. not-self (o .0 x h), ordered-once l (o .1))
-  where
-    not-self : Before x x → ⊥
-    not-self (inl p) = omega arith
-    not-self (inr p) = let q = p .1 in omega arith
+use Rattle.bases.specs.Marks.{Mark, Repeated, Shut, Loose, Right, MarkedAs, tally, Counts, IsBaseOnce, Full}
 
 -- ---- marks, one by one
 

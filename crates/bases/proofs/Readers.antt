@@ -1,13 +1,13 @@
--- Copies of a table's parts, and the values of all vertices.
+-- A list filled from the front, and the values of all vertices.
 -- Assumes nothing.
 use mathlib.Core.Path.{_≡_, refl, sym, ap, subst, _∙_}
 use mathlib.Core.Bool.{Bool, true, false}
 use mathlib.Core.List.{List}
 use mathlib.Core.Logic.{_⊎_, ⊎-elim}
-use Prim.Native.Nat.{ℕ, _+_, _*_, _≤_, _<_}
+use Prim.Native.Nat.{ℕ, _+_, _≤_, _<_}
 use native.Mathlib.Omega.{arith}
-use lib.ListN.{length, getD, take, drop, set, length-set, length-take, length-drop, List·getD-eq-default}
-use lib.Seq.{getD-set-same, getD-set-other, getD-take, getD-drop, ext-getD}
+use lib.ListN.{length, getD, set, length-set, List·getD-eq-default}
+use lib.Seq.{getD-set-same, getD-set-other}
 use Rattle.vertex_set.proofs.Cases.{same-or, less-or}
 use Rattle.setup.specs.declared.Vertex.{Vertex}
 use Rattle.setup.specs.declared.Setup.{Setup}
@@ -33,17 +33,6 @@ filled-more g long n x out l b e =
           (λ q. getD-set-other out n i x 0 q ∙ b .each i (omega (arith, q)))
           (same-or i n);
     }
-
--- ---- a part of a table
-
-pub copied : (w out : List ℕ) (target : ℕ) → length w ≡ 16384 → target < 64 → FilledBelow (λ i. getD w (target * 256 + i) 0) 256 256 out
-    → out ≡ take 256 (drop (target * 256) w)
-copied w out target lw l b =
-    ext-getD 0 out (take 256 (drop (target * 256) w)) (b .words ∙ sym long)
-    (λ i k. let w′ = b .words in b .each i (omega arith) ∙ sym (getD-take 256 (drop (target * 256) w) i 0 (omega arith) ∙ getD-drop (target * 256) w i 0))
-  where
-    long : length (take 256 (drop (target * 256) w)) ≡ 256
-    long = rw (length-take 256 (drop (target * 256) w), length-drop (target * 256) w) (omega arith)
 
 -- ---- values
 

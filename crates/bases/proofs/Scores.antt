@@ -3,44 +3,45 @@
 use mathlib.Core.Path.{_≡_}
 use mathlib.Core.Bool.{Bool}
 use mathlib.Core.List.{List}
-use Prim.Native.Nat.{ℕ, _^_, _≤_, _<_}
+use Prim.Native.Nat.{ℕ, _≤_}
+use native.Mathlib.Nat.{le-trans}
 use native.Mathlib.Omega.{arith}
-use lib.Count.{ones}
-use Rattle.vertex_set.specs.Set.{Within}
+use Rattle.vertex_set.specs.Set.{Within, Iff}
+use Rattle.vertex_set.specs.Order.{Listed}
 use Rattle.vertex_set.proofs.Sums.{sum-over-within}
 use Rattle.setup.specs.declared.Graph.{Graph}
 use Rattle.setup.specs.declared.Setup.{Setup}
-use Rattle.setup.specs.Setup.{ChosenSet}
-use Rattle.derivations.specs.Both.{ruleOf}
-use Rattle.families.proofs.Masks.{spread, set-of, submask-subset}
-use Rattle.families.proofs.Exact.{minimal-within-mask}
-use Rattle.tables.specs.Table.{FamilyOf}
 use Rattle.bases.specs.Base.{TargetSet, MinimalSet, Base}
-use Rattle.bases.specs.Score.{pointsAt, sumOf, Score, ScoreOver}
-use Rattle.bases.proofs.Bridge.{mask-for, minimal-set}
+use Rattle.bases.specs.Score.{pointsAt, sumOf, LeastOver, Score, ScoreOver}
 
 between : (r a b : ℕ) → r ≤ a → a ≤ b → r ≡ b → r ≡ a
 between r a b p q e = omega arith
 
-module _ (loss : Bool) (s : Setup) (g : Graph) (target chosen : ℕ) (f : List ℕ)
-    (fits : chosen < 2 ^ 64) (few : ones chosen ≤ 14) (ch : ChosenSet loss s chosen) (fam : FamilyOf (ruleOf loss g) chosen target f) where
-  -- every set with a derivation has a minimal one within it, as its mask has
-  pub minimal-within : (x : ℕ) → TargetSet loss s g target x → (y : ℕ) × Within y x × MinimalSet loss s g target y
-  minimal-within x t =
-      let k = mask-for loss s g target chosen f fits few ch fam x t in
-      let h = minimal-within-mask f (k .mask) (k .room) (k .member) in
-      let y = spread 64 chosen (h .0) in
-      let o = set-of chosen (h .0) fits in
-      (y, submask-subset chosen (h .0) (k .mask) y x o (k .of) (h .2), minimal-set loss s g target chosen f fits few ch fam (h .0) y (h .1) (h .3) o)
-
-  pub score-over : (r : ℕ) → Score loss s g target r → (l : List ℕ) → Base loss s g target l → ScoreOver loss s l r
-  score-over r h l b =
-      record {
-        none = λ n. h .none (λ x t. let y = minimal-within x t in n (y .0) (b .whole (y .0) (y .2)));
-        some = λ x i. h .some x (b .sound x i .is);
-        least = λ x i. h .least x (b .sound x i .is);
+-- the least sum over some sets is that over all, if each of all has one of these with no larger sum
+pub least-over-some : (P Q : ℕ → Type 0) (sum : ℕ → ℕ) (r : ℕ) → ((x : ℕ) → Q x → P x) → ((x : ℕ) → P x → (y : ℕ) × Q y × (sum y ≤ sum x))
+    → Iff (LeastOver P sum r) (LeastOver Q sum r)
+least-over-some P Q sum r among under =
+    record {
+      to = λ h. record {
+        none = λ n. h .none (λ x p. let y = under x p in n (y .0) (y .1));
+        some = λ x q. h .some x (among x q);
+        least = λ x q. h .least x (among x q);
         reached = λ k.
-            let q = h .reached k in
-            let y = minimal-within (q .0) (q .1) in
-            (y .0, b .whole (y .0) (y .2), between r (sumOf loss s (y .0)) (sumOf loss s (q .0)) (h .least (y .0) (y .2 .is)) (sum-over-within (pointsAt loss s) (y .0) (q .0) (y .1)) (q .2));
-      }
+            let p = h .reached k in
+            let y = under (p .0) (p .1) in
+            (y .0, y .1, between r (sum (y .0)) (sum (p .0)) (h .least (y .0) (among (y .0) (y .1))) (y .2) (p .2));
+      };
+      from = λ h. record {
+        none = λ n. h .none (λ x q. n x (among x q));
+        some = λ x p. let y = under x p in h .some (y .0) (y .1);
+        least = λ x p. let y = under x p in le-trans (h .least (y .0) (y .1)) (y .2);
+        reached = λ k. let q = h .reached k in (q .0, among (q .0) (q .1), q .2);
+      };
+    }
+
+-- the score over all sets and over the base, if every set of the target has a minimal one within it
+pub score-base : (loss : Bool) (s : Setup) (g : Graph) (target r : ℕ) (l : List ℕ) → Base loss s g target l
+    → ((x : ℕ) → TargetSet loss s g target x → (y : ℕ) × Within y x × MinimalSet loss s g target y) → Iff (Score loss s g target r) (ScoreOver loss s l r)
+score-base loss s g target r l b under =
+    least-over-some (TargetSet loss s g target) (Listed l) (sumOf loss s) r (λ x i. b .sound x i .is)
+    (λ x t. let y = under x t in (y .0, b .whole (y .0) (y .2), sum-over-within (pointsAt loss s) (y .0) x (y .1)))

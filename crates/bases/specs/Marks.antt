@@ -6,7 +6,7 @@ use Prim.Native.Nat.{ℕ, _+_, _-_}
 use lib.Dec.{eqb}
 use lib.ListN.{length}
 use Rattle.vertex_set.specs.Set.{ProperlyWithin, Iff}
-use Rattle.vertex_set.specs.Order.{Listed}
+use Rattle.vertex_set.specs.Order.{Listed, Once}
 use Rattle.setup.specs.declared.Graph.{Graph}
 use Rattle.setup.specs.declared.Setup.{Setup}
 use Rattle.bases.specs.Base.{Derives, TargetSet, MinimalSet, Base}
@@ -65,11 +65,6 @@ pub record Counts (loss : Bool) (s : Setup) (g : Graph) (target : ℕ) (handed :
   pub isShut : shut ≡ tally Shut marks
   pub isLoose : loose ≡ tally Loose marks
   pub isMissing : missing ≡ length base - right
-
--- No element of the list stands in it twice.
-abbrev pub Once : List ℕ → Type 0
-Once [] = Unit {0}
-Once (x ∷ l) = (Listed l x → ⊥) × Once l
 
 -- Full marks are due: the handed-in list has the sets of the base, each once, and no other.
 pub record IsBaseOnce (loss : Bool) (s : Setup) (g : Graph) (target : ℕ) (handed : List ℕ) : Type 0 where

@@ -10,27 +10,22 @@ use Rattle.setup.specs.declared.Setup.{Setup}
 use Rattle.setup.specs.Setup.{ChosenSet}
 use Rattle.formed.specs.WellFormed.{WellFormed}
 use Rattle.derivations.specs.Both.{ruleOf}
-use Rattle.families.specs.Family.{MinimalMembers, size}
+use Rattle.families.specs.Family.{MinimalMembers, size, familyWords}
 use Rattle.families.specs.Exact.{OnChosen}
 use Rattle.family_lists.specs.Lists.{ListOf}
 use Rattle.tables.specs.Table.{FamilyOf}
 use Rattle.bases.specs.Base.{Base}
-
-pub record CanCopy (w : List ℕ) (target : ℕ) (out : List ℕ) : Type 0 where
-  pub table : length w ≡ 16384
-  pub vertex : target < 64
-  pub family : length out ≡ 256
 
 -- What base_family asks for.
 pub record CanList (loss : Bool) (s : Setup) (target chosen : ℕ) (out : List ℕ) : Type 0 where
   pub formed : WellFormed s
   pub vertex : target < 64
   pub isChosen : ChosenSet loss s chosen
-  pub words : length out ≡ 256
+  pub words : length out ≡ familyWords
 
 -- The family m has n members, and their sets in order are the target's base.
 pub record BaseFamily (loss : Bool) (s : Setup) (g : Graph) (target chosen : ℕ) (m : List ℕ) (n : ℕ) : Type 0 where
-  pub words : length m ≡ 256
+  pub words : length m ≡ familyWords
   pub few : ones chosen ≤ 14
   pub exact : OnChosen chosen m
   pub count : size m ≡ n

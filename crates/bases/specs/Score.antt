@@ -29,20 +29,21 @@ sumOf loss s x = sumOver (pointsAt loss s) x
 abbrev pub never : ℕ
 never = 2 ^ 62
 
+-- r is the least sum over the sets of which P holds: never exactly where there is none.
+pub record LeastOver (P : ℕ → Type 0) (sum : ℕ → ℕ) (r : ℕ) : Type 0 where
+  pub none : ((x : ℕ) → P x → ⊥) → r ≡ never
+  pub some : (x : ℕ) → P x → r < never
+  pub least : (x : ℕ) → P x → r ≤ sum x
+  pub reached : r < never → (x : ℕ) × P x × (r ≡ sum x)
+
 -- r is the security score of the target, or the recoverability score: never exactly where no set of initial (losable) vertices has a
 -- derivation of it, else the least sum over all sets that have one.
-pub record Score (loss : Bool) (s : Setup) (g : Graph) (target r : ℕ) : Type 0 where
-  pub none : ((x : ℕ) → TargetSet loss s g target x → ⊥) → r ≡ never
-  pub some : (x : ℕ) → TargetSet loss s g target x → r < never
-  pub least : (x : ℕ) → TargetSet loss s g target x → r ≤ sumOf loss s x
-  pub reached : r < never → (x : ℕ) × TargetSet loss s g target x × (r ≡ sumOf loss s x)
+abbrev pub Score : Bool → Setup → Graph → ℕ → ℕ → Type 0
+Score loss s g target r = LeastOver (TargetSet loss s g target) (sumOf loss s) r
 
 -- The same over a list: never where it is empty, else the least sum over its sets.
-pub record ScoreOver (loss : Bool) (s : Setup) (l : List ℕ) (r : ℕ) : Type 0 where
-  pub none : ((x : ℕ) → Listed l x → ⊥) → r ≡ never
-  pub some : (x : ℕ) → Listed l x → r < never
-  pub least : (x : ℕ) → Listed l x → r ≤ sumOf loss s x
-  pub reached : r < never → (x : ℕ) × Listed l x × (r ≡ sumOf loss s x)
+abbrev pub ScoreOver : Bool → Setup → List ℕ → ℕ → Type 0
+ScoreOver loss s l r = LeastOver (Listed l) (sumOf loss s) r
 
 -- r has the values of all vertices.
 pub record Values (loss : Bool) (s : Setup) (r : List ℕ) : Type 0 where

@@ -1,41 +1,30 @@
 // Bases and scores, read from a table of all subsets.
 ghost use mathlib.Core.Path.{_≡_};
-ghost use Prim.Native.Nat.{_*_, _<_};
-ghost use lib.ListN.{length, take, drop};
+ghost use Prim.Native.Nat.{_<_};
+ghost use lib.ListN.{length};
 ghost use Rattle.formed.specs.WellFormed.{WellFormed};
 ghost use Rattle.derivations.specs.Both.{ruleOf};
 ghost use Rattle.tables.specs.Table.{FamilyOf};
+ghost use Rattle.families.specs.Family.{familyWords};
 ghost use Rattle.bases.specs.Score.{points, Values, ScoreBoth};
-ghost use Rattle.bases.specs.Readers.{CanCopy, CanList, BaseFamily, BothFamilies};
+ghost use Rattle.bases.specs.Readers.{CanList, BaseFamily, BothFamilies};
+use families::WORDS;
 use setup::Graph;
 use setup::Setup;
 use setup::Value;
+use tables::TABLE;
 use vertex_set::VertexSet;
-
-const WORDS: usize = 256;
-
-const TABLE: usize = 16384;
-
-// The target's family, copied out of a table of all vertices.
-pub fn copy_family(w: &[u64], target: usize, out: &mut [u64])
-    requires { ⌜ CanCopy (now w) target (now out) ⌝ }
-    ensures { λ _. ⌜ now (out .exit) ≡ take 256 (drop (target * 256) (now (w .entry))) ⌝ }
-{
-    let from = target * WORDS;
-    for i in 0..WORDS {
-        out[i] = w[from + i];
-    }
-}
 
 // The family of the sets of chosen vertices from which the target has a derivation. The table of
 // all vertices is a local of this function alone.
 pub fn family_of(graph: Graph, chosen: VertexSet, loss: bool, target: usize, out: &mut [u64])
-    requires { ⌜ (target < 64) × (length (now out) ≡ 256) ⌝ }
-    ensures { λ _. ⌜ (length (now (out .exit)) ≡ 256) × FamilyOf (ruleOf loss graph) (chosen .0) target (now (out .exit)) ⌝ }
+    requires { ⌜ (target < 64) × (length (now out) ≡ familyWords) ⌝ }
+    ensures { λ _. ⌜ (length (now (out .exit)) ≡ familyWords) × FamilyOf (ruleOf loss graph) (chosen .0) target (now (out .exit)) ⌝ }
 {
     let mut w = [0u64; TABLE];
     tables::fill(graph, chosen, loss, &mut w);
-    copy_family(&w, target, out);
+    let from = target * WORDS;
+    words::copy_in(out, &w[from..from + WORDS]);
 }
 
 fn points_of(x: Value) -> u64
@@ -87,7 +76,7 @@ pub fn both_families(
     family: &mut [u64],
     minimal: &mut [u64],
 ) -> usize
-    requires { ⌜ CanList loss s target (chosen .0) (now family) × (length (now minimal) ≡ 256) ⌝ }
+    requires { ⌜ CanList loss s target (chosen .0) (now family) × (length (now minimal) ≡ familyWords) ⌝ }
     ensures { λ r. ⌜ BothFamilies loss s graph target (chosen .0) (now (family .exit)) (now (minimal .exit)) r ⌝ }
 {
     family_of(graph, chosen, loss, target, family);

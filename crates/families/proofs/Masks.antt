@@ -263,12 +263,19 @@ in-gather (suc k) c x (suc v) h =
       from = λ q. p .from (rw e (ih .from (a .to (q .0), b .to (q .1))));
     })
 
--- Every set of chosen vertices has a mask.
+-- Every set of chosen vertices has a mask,
 pub mask-of : (c x : ℕ) → c < 2 ^ 64 → Within x c → SetOfMask c (gather 64 c x) x
 mask-of c x h w =
     record {
       each = λ v. let g = in-gather 64 c x v h in record { to = λ i. g .from (i, w .each v i); from = λ p. g .to p .0 };
     }
+
+-- and where 14 at most are chosen, it is one of those of which families have a bit.
+pub mask-exists : (c x : ℕ) → c < 2 ^ 64 → ones c ≤ 14 → MaskOf c x (gather 64 c x)
+mask-exists c x h o =
+    let l = gather-lt 64 c x h in
+    let m = pow-mono {i = ones c} {j = 14} o in
+    record { of = mask-of c x h; exact = l; room = omega arith }
 
 -- ---- size and order
 

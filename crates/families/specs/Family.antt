@@ -5,6 +5,14 @@ use lib.ListN.{getD}
 use lib.Count.{ones}
 use Rattle.vertex_set.specs.Set.{Member, Within, ProperlyWithin, Iff}
 
+-- The words of a family,
+abbrev pub familyWords : ℕ
+familyWords = 256
+
+-- and the masks of which it has a bit.
+abbrev pub masks : ℕ
+masks = 16384
+
 -- The mask m is in the family f.
 unfoldable pub In : List ℕ → ℕ → Type 0
 In f m = Member (getD f (m / 64) 0) (m % 64)
@@ -16,7 +24,7 @@ size (w ∷ f) = ones w + size f
 
 -- A mask that has all of a member's bits is a member.
 pub record Monotone (f : List ℕ) : Type 0 where
-  pub up : (k m : ℕ) → k < 16384 → m < 16384 → Within k m → In f k → In f m
+  pub up : (k m : ℕ) → k < masks → m < masks → Within k m → In f k → In f m
 
 -- m is in the family, and no proper submask of it is.
 pub record Minimal (f : List ℕ) (m : ℕ) : Type 0 where
@@ -30,5 +38,5 @@ pub record Least (f : List ℕ) (m : ℕ) : Type 0 where
 
 -- g has the minimal members of the monotone family f; of any other, those that are least one step down.
 pub record MinimalMembers (f g : List ℕ) : Type 0 where
-  pub minimal : Monotone f → (m : ℕ) → m < 16384 → Iff (In g m) (Minimal f m)
-  pub least : (m : ℕ) → m < 16384 → Iff (In g m) (Least f m)
+  pub minimal : Monotone f → (m : ℕ) → m < masks → Iff (In g m) (Minimal f m)
+  pub least : (m : ℕ) → m < masks → Iff (In g m) (Least f m)

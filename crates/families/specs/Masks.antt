@@ -2,6 +2,7 @@
 use Prim.Native.Nat.{ℕ, _%_, _^_, _<_}
 use lib.Count.{ones}
 use Rattle.vertex_set.specs.Set.{Member, Within, Iff}
+use Rattle.families.specs.Family.{masks}
 
 -- How many chosen vertices are below v: the number of v among them, if it is chosen.
 unfoldable pub rank : ℕ → ℕ → ℕ
@@ -19,4 +20,4 @@ pub record SetOfMask (chosen m x : ℕ) : Type 0 where
 pub record MaskOf (chosen x r : ℕ) : Type 0 where
   pub of : Within x chosen → SetOfMask chosen r x
   pub exact : r < 2 ^ ones chosen
-  pub room : r < 16384
+  pub room : r < masks

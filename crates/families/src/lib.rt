@@ -4,29 +4,17 @@ ghost use mathlib.Core.Path.{_≡_};
 ghost use Prim.Native.Nat.{_≤_, _<_};
 ghost use lib.ListN.{length};
 ghost use lib.Count.{ones};
-ghost use Rattle.vertex_set.specs.Set.{Decides};
-ghost use Rattle.families.specs.Family.{In, size, MinimalMembers};
+ghost use Rattle.families.specs.Family.{familyWords, size, MinimalMembers};
 ghost use Rattle.families.specs.Masks.{MaskOf};
 ghost use Rattle.families.specs.Steps.{StepsInWord, StepsToWord, LeastWord};
 use vertex_set::VertexSet;
 
+// A family has 256 words of 64 bits, a bit for each of 2^14 masks.
 pub const WORDS: usize = 256;
-
-// Is the mask m in the family?
-pub fn has_mask(f: &[u64], m: usize) -> bool
-    ensures { λ r. ⌜ Decides (In (now (f .entry)) m) r ⌝ }
-{
-    let b = m / 64;
-    if b < f.len() {
-        (f[b] >> (m % 64)) % 2 == 1
-    } else {
-        false
-    }
-}
 
 // The number of the family's members.
 pub fn count_members(f: &[u64]) -> usize
-    requires { ⌜ length (now f) ≡ 256 ⌝ }
+    requires { ⌜ length (now f) ≡ familyWords ⌝ }
     ensures { λ r. ⌜ r ≡ size (now (f .entry)) ⌝ }
 {
     let mut n: usize = 0;
@@ -51,8 +39,8 @@ fn steps_in_word(x: u64) -> u64
 
 // The lanes of the words whose number is b without one of its bits.
 fn steps_to_word(f: &[u64], b: usize) -> u64
-    requires { ⌜ length (now f) ≡ 256 ⌝ }
-    requires { ⌜ b < 256 ⌝ }
+    requires { ⌜ length (now f) ≡ familyWords ⌝ }
+    requires { ⌜ b < familyWords ⌝ }
     ensures { λ r. ⌜ StepsToWord (now (f .entry)) b 8 r ⌝ }
 {
     let one: usize = 1;
@@ -68,8 +56,8 @@ fn steps_to_word(f: &[u64], b: usize) -> u64
 
 // The lanes of word b that are in the family, with nothing in it that has one bit fewer.
 fn least_word(f: &[u64], b: usize) -> u64
-    requires { ⌜ length (now f) ≡ 256 ⌝ }
-    requires { ⌜ b < 256 ⌝ }
+    requires { ⌜ length (now f) ≡ familyWords ⌝ }
+    requires { ⌜ b < familyWords ⌝ }
     ensures { λ r. ⌜ LeastWord (now (f .entry)) b r ⌝ }
 {
     let x = f[b];
@@ -80,8 +68,8 @@ fn least_word(f: &[u64], b: usize) -> u64
 
 // The family's minimal members, written to out. One step down is enough: the family is monotone.
 pub fn minimal_members(f: &[u64], out: &mut [u64])
-    requires { ⌜ length (now f) ≡ 256 ⌝ }
-    requires { ⌜ length (now out) ≡ 256 ⌝ }
+    requires { ⌜ length (now f) ≡ familyWords ⌝ }
+    requires { ⌜ length (now out) ≡ familyWords ⌝ }
     ensures { λ _. ⌜ MinimalMembers (now (f .entry)) (now (out .exit)) ⌝ }
 {
     for b in 0..WORDS {
@@ -92,7 +80,7 @@ pub fn minimal_members(f: &[u64], out: &mut [u64])
 // Keeps the family's minimal members alone. Each word is judged by itself and words of smaller numbers,
 // so the last one goes first and no copy is needed.
 pub fn keep_minimal(f: &mut [u64])
-    requires { ⌜ length (now f) ≡ 256 ⌝ }
+    requires { ⌜ length (now f) ≡ familyWords ⌝ }
     ensures { λ _. ⌜ MinimalMembers (now (f .entry)) (now (f .exit)) ⌝ }
 {
     let mut b = WORDS;

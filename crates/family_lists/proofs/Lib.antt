@@ -3,3 +3,4 @@ pub mod Order
 pub mod SetLists
 pub mod Sizes
 pub mod MinimalSets
+pub mod SetsOfFamily

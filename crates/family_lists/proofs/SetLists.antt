@@ -1,4 +1,4 @@
--- The list of a family's sets: it is right, it is the only one, and it has as many sets as the family has members.
+-- The list of a family's sets: it is right, and it has as many sets as the family has members.
 -- Assumes nothing.
 use mathlib.Core.Path.{_≡_, sym, ap, _∙_, subst}
 use mathlib.Core.List.{List, _++_, map, map-append}
@@ -11,12 +11,12 @@ use lib.ListN.{length, drop, length-map}
 use lib.Seq.{sets, sets-eq}
 use Rattle.vertex_set.specs.Order.{Listed, Before, sumOver}
 use Rattle.vertex_set.proofs.Sets.{member-below, within-le}
-use Rattle.vertex_set.proofs.Sorted.{listed-map, listed-of-map, map-same, sorted-map, sorted-ordered, ordered-same}
+use Rattle.vertex_set.proofs.Sorted.{listed-map, listed-of-map, map-same, sorted-map, sorted-ordered}
 use Rattle.vertex_set.proofs.Sums.{sum-same, sum-over-powers}
 use Rattle.families.specs.Family.{In, size}
 use Rattle.families.specs.Masks.{SetOfMask}
 use Rattle.families.specs.Exact.{OnChosen}
-use Rattle.families.proofs.Masks.{spread, set-of, set-unique, set-before, set-within}
+use Rattle.families.proofs.Masks.{spread, set-of, set-before, set-within}
 use Rattle.sums.specs.Sums.{sumAt, WeightsOf, SumsFit, SumTable}
 use Rattle.sums.proofs.Weights.{at-split}
 use Rattle.family_lists.specs.Lists.{ListOf, WroteSets}
@@ -61,16 +61,6 @@ length-masks-of f e w =
 
 pub length-sets-of : (c : ℕ) (f : List ℕ) → length f ≡ 256 → Words f → length (setsOf c f) ≡ size f
 length-sets-of c f e w = length-map (masksOf f) (spread 64 c) ∙ length-masks-of f e w
-
--- Two lists of the family's sets are equal.
-pub list-unique : (c : ℕ) (f l k : List ℕ) → ListOf c f l → ListOf c f k → l ≡ k
-list-unique c f l k p q = ordered-same l k (p .ordered) (q .ordered) (λ x. record { to = over l k p q x; from = over k l q p x })
-  where
-    over : (l k : List ℕ) → ListOf c f l → ListOf c f k → (x : ℕ) → Listed l x → Listed k x
-    over l k p q x h =
-        let a = p .sound x h in
-        let b = q .whole (a .0) (a .1) (a .2) in
-        subst (λ (y : ℕ). Listed k y) (set-unique c (a .0) (b .0) x (b .2) (a .3)) (b .1)
 
 -- ---- the loop over the sizes, with those from s on still to come
 

@@ -6,20 +6,20 @@ use lib.Count.{ones}
 use lib.ListN.{length, drop}
 use Rattle.vertex_set.specs.Set.{Member}
 use Rattle.vertex_set.specs.Order.{Listed, Ordered, sumOver}
-use Rattle.families.specs.Family.{In, size}
+use Rattle.families.specs.Family.{In, size, familyWords, masks}
 use Rattle.families.specs.Masks.{SetOfMask}
 use Rattle.families.specs.Exact.{OnChosen}
 use Rattle.family_lists.specs.Tables.{TablesFit, sumBy}
 
 -- l has the sets of the members of f, each once, fewer vertices first and then the smaller number.
 pub record ListOf (chosen : ℕ) (f l : List ℕ) : Type 0 where
-  pub sound : (x : ℕ) → Listed l x → (m : ℕ) × (m < 16384) × In f m × SetOfMask chosen m x
-  pub whole : (m : ℕ) → m < 16384 → In f m → (x : ℕ) × Listed l x × SetOfMask chosen m x
+  pub sound : (x : ℕ) → Listed l x → (m : ℕ) × (m < masks) × In f m × SetOfMask chosen m x
+  pub whole : (m : ℕ) → m < masks → In f m → (x : ℕ) × Listed l x × SetOfMask chosen m x
   pub ordered : Ordered l
 
 -- What write_sets asks for: a family of 256 words on at most 14 chosen vertices, and room for all its members.
 pub record Writable (chosen : ℕ) (f : List ℕ) (places : ℕ) : Type 0 where
-  pub words : length f ≡ 256
+  pub words : length f ≡ familyWords
   pub few : ones chosen ≤ 14
   pub exact : OnChosen chosen f
   pub room : size f ≤ places
@@ -41,24 +41,24 @@ pub record Summable (chosen : ℕ) (value : ℕ → ℕ) : Type 0 where
 pub record SumTables (chosen : ℕ) (value : ℕ → ℕ) (low high : List ℕ) : Type 0 where
   pub fit : TablesFit low high
   pub word : chosen < 2 ^ 64
-  pub below : (m : ℕ) → m < 16384 → sumBy low high m < 2 ^ 62
-  pub sum : (m x : ℕ) → m < 16384 → SetOfMask chosen m x → sumBy low high m ≡ sumOver value x
+  pub below : (m : ℕ) → m < masks → sumBy low high m < 2 ^ 62
+  pub sum : (m x : ℕ) → m < masks → SetOfMask chosen m x → sumBy low high m ≡ sumOver value x
 
 -- Some member of f stands for a set whose values sum up to r.
 pub record SumOfMember (chosen : ℕ) (f : List ℕ) (value : ℕ → ℕ) (r : ℕ) : Type 0 where
   pub mask : ℕ
   pub set : ℕ
-  pub below : mask < 16384
+  pub below : mask < masks
   pub is : In f mask
   pub of : SetOfMask chosen mask set
   pub sum : r ≡ sumOver value set
 
 -- r is the least sum of values over the sets of the members of f, and 2^62, which is above every such sum, where f is empty.
 pub record LeastSum (chosen : ℕ) (f : List ℕ) (value : ℕ → ℕ) (r : ℕ) : Type 0 where
-  pub never : ((m : ℕ) → m < 16384 → In f m → ⊥) → r ≡ 2 ^ 62
-  pub below : (m : ℕ) → m < 16384 → In f m → r < 2 ^ 62
-  pub reached : (m : ℕ) → m < 16384 → In f m → SumOfMember chosen f value r
-  pub least : (m x : ℕ) → m < 16384 → In f m → SetOfMask chosen m x → r ≤ sumOver value x
+  pub never : ((m : ℕ) → m < masks → In f m → ⊥) → r ≡ 2 ^ 62
+  pub below : (m : ℕ) → m < masks → In f m → r < 2 ^ 62
+  pub reached : (m : ℕ) → m < masks → In f m → SumOfMember chosen f value r
+  pub least : (m x : ℕ) → m < masks → In f m → SetOfMask chosen m x → r ≤ sumOver value x
 
 -- r is the least sum of values over the sets of the members of f, whatever values the two tables give the sums of.
 pub record LeastBy (f low high : List ℕ) (r : ℕ) : Type 0 where

@@ -10,7 +10,7 @@ use lib.Seq.{sets}
 use Rattle.vertex_set.specs.Set.{Member, Iff, Decides}
 use Rattle.vertex_set.proofs.Places.{places}
 use Rattle.vertex_set.proofs.Sorted.{only}
-use Rattle.families.specs.Family.{In}
+use Rattle.families.specs.Family.{In, familyWords, masks}
 
 -- The lanes whose numbers have k bits fewer than s.
 pub record Layer (k s r : ℕ) : Type 0 where
@@ -36,9 +36,9 @@ ofWords f (b ∷ bs) = masksIn b (getD f b 0) ++ ofWords f bs
 
 -- The first n numbers of the list are those of words in which all of the family's members are.
 pub record Occupied (f index : List ℕ) (n : ℕ) : Type 0 where
-  pub long : length index ≡ 256
-  pub most : n ≤ 256
-  pub below : (i : ℕ) → i < n → getD index i 0 < 256
+  pub long : length index ≡ familyWords
+  pub most : n ≤ familyWords
+  pub below : (i : ℕ) → i < n → getD index i 0 < familyWords
   pub all : ofWords f (take n index) ≡ rising 0 f
 
 -- At k stand the lanes that are in some word of the family whose number has k bits.
@@ -53,7 +53,7 @@ pub record HasSize (f : List ℕ) (s : ℕ) : Type 0 where
 
 -- r says whether the family of 256 words that is joined so, whichever it is, has a member of s bits.
 pub record SomeOfSize (joined : List ℕ) (s : ℕ) (r : Bool) : Type 0 where
-  pub each : (f : List ℕ) → length f ≡ 256 → Joined f joined → Decides (HasSize f s) r
+  pub each : (f : List ℕ) → length f ≡ familyWords → Joined f joined → Decides (HasSize f s) r
 
 -- Those of the masks that have s bits.
 abbrev pub ofSize : ℕ → List ℕ → List ℕ
@@ -72,7 +72,7 @@ sumBy low high m = getD high (m / 128) 0 + getD low (m % 128) 0
 pub record TablesFit (low high : List ℕ) : Type 0 where
   pub long-low : length low ≡ 128
   pub long-high : length high ≡ 128
-  pub fits : (m : ℕ) → m < 16384 → sumBy low high m < 2 ^ 64
+  pub fits : (m : ℕ) → m < masks → sumBy low high m < 2 ^ 64
 
 -- From `at` on stand the numbers xs, and r is the next place.
 pub record Wrote (entry : List ℕ) (at : ℕ) (xs after : List ℕ) (r : ℕ) : Type 0 where

@@ -5,7 +5,7 @@ ghost use mathlib.Core.List.{map};
 ghost use Prim.Native.Nat.{_+_, _≤_, _<_};
 ghost use lib.ListN.{length};
 ghost use lib.Count.{ones};
-ghost use Rattle.families.specs.Family.{size};
+ghost use Rattle.families.specs.Family.{size, familyWords};
 ghost use Rattle.family_lists.specs.Lists.{Writable, WroteSets};
 ghost use Rattle.family_lists.specs.Tables.{Layer, LanesOfSize, TablesFit, Wrote, masksIn, rising, Occupied, Joined, SomeOfSize, ofSize, bySize, sumBy};
 use families::WORDS;
@@ -43,7 +43,7 @@ fn lanes_of_size(b: usize, s: usize) -> u64
 
 // Writes the sums of the masks of word b in the lanes of y, from `at` on, and gives the next place.
 fn put_word(y: u64, b: usize, low: &[u64], high: &[u64], out: &mut [u64], at: usize) -> usize
-    requires { ⌜ b < 256 ⌝ }
+    requires { ⌜ b < familyWords ⌝ }
     requires { ⌜ TablesFit (now low) (now high) ⌝ }
     requires { ⌜ at + ones y ≤ length (now out) ⌝ }
     ensures { λ r. ⌜ Wrote (now (out .entry)) at (map (sumBy (now (low .entry)) (now (high .entry))) (masksIn b y)) (now (out .exit)) r ⌝ }
@@ -72,7 +72,7 @@ fn put_sized(
     out: &mut [u64],
     at: usize,
 ) -> usize
-    requires { ⌜ b < 256 ⌝ }
+    requires { ⌜ b < familyWords ⌝ }
     requires { ⌜ TablesFit (now low) (now high) ⌝ }
     requires { ⌜ at + length (ofSize s (masksIn b x)) ≤ length (now out) ⌝ }
     ensures { λ r. ⌜ Wrote (now (out .entry)) at (map (sumBy (now (low .entry)) (now (high .entry))) (ofSize s (masksIn b x))) (now (out .exit)) r ⌝ }
@@ -83,8 +83,8 @@ fn put_sized(
 
 // The numbers of the family's words that are not empty, written to index, and how many there are.
 fn occupied_words(f: &[u64], index: &mut [usize]) -> usize
-    requires { ⌜ length (now f) ≡ 256 ⌝ }
-    requires { ⌜ length (now index) ≡ 256 ⌝ }
+    requires { ⌜ length (now f) ≡ familyWords ⌝ }
+    requires { ⌜ length (now index) ≡ familyWords ⌝ }
     ensures { λ r. ⌜ Occupied (now (f .entry)) (now (index .exit)) r ⌝ }
 {
     let mut n: usize = 0;
@@ -109,7 +109,7 @@ fn put_size(
     out: &mut [u64],
     at: usize,
 ) -> usize
-    requires { ⌜ length (now f) ≡ 256 ⌝ }
+    requires { ⌜ length (now f) ≡ familyWords ⌝ }
     requires { ⌜ Occupied (now f) (now index) n ⌝ }
     requires { ⌜ TablesFit (now low) (now high) ⌝ }
     requires { ⌜ at + length (ofSize s (rising 0 (now f))) ≤ length (now out) ⌝ }
@@ -126,7 +126,7 @@ fn put_size(
 // At k the lanes that are in some word of the family whose number has k bits.
 // All members are in the first n words of index.
 fn joined_words(f: &[u64], index: &[usize], n: usize) -> [u64; 9]
-    requires { ⌜ length (now f) ≡ 256 ⌝ }
+    requires { ⌜ length (now f) ≡ familyWords ⌝ }
     requires { ⌜ Occupied (now f) (now index) n ⌝ }
     ensures { λ r. ⌜ Joined (now (f .entry)) r ⌝ }
 {
@@ -154,12 +154,12 @@ fn some_of_size(joined: [u64; 9], s: usize) -> bool
 
 // Does so for all of the family's members, fewer bits first. Sizes that no member has are passed over.
 fn put_all(f: &[u64], low: &[u64], high: &[u64], out: &mut [u64]) -> usize
-    requires { ⌜ length (now f) ≡ 256 ⌝ }
+    requires { ⌜ length (now f) ≡ familyWords ⌝ }
     requires { ⌜ TablesFit (now low) (now high) ⌝ }
     requires { ⌜ size (now f) ≤ length (now out) ⌝ }
     ensures { λ r. ⌜ Wrote (now (out .entry)) 0 (map (sumBy (now (low .entry)) (now (high .entry))) (bySize (rising 0 (now (f .entry))) 0 15)) (now (out .exit)) r ⌝ }
 {
-    let mut index = [0usize; 256];
+    let mut index = [0usize; WORDS];
     let n = occupied_words(f, &mut index);
     let joined = joined_words(f, &index, n);
     let mut next: usize = 0;

@@ -1,88 +1,60 @@
 -- The colours of a vertex are taken one after the other: what holds of some or of all of those taken.
 -- Assumes nothing.
 use mathlib.Core.Path.{_≡_, sym, subst}
-use mathlib.Core.Bool.{Bool, true, false}
+use mathlib.Core.Bool.{Bool, true, false, not}
 use mathlib.Core.List.{List}
-use mathlib.Core.Logic.{_⊎_, inl, inr, ⊎-elim}
+use mathlib.Core.Logic.{_⊎_, inl, ⊎-elim}
 use Prim.Native.Nat.{ℕ, _+_, _≤_, _<_}
 use native.Mathlib.Omega.{arith}
 use lib.Bits.{bitOr}
 use lib.ListN.{length}
 use Rattle.vertex_set.specs.Set.{Member, Iff}
-use Rattle.vertex_set.proofs.Cases.{same-or, false-true}
-use Rattle.vertex_set.proofs.Decisions.{iff-trans}
+use Rattle.vertex_set.proofs.Decisions.{iff-refl, iff-trans}
 use Rattle.vertex_set.proofs.Sets.{in-or, none-in-zero, not-empty, some-member}
 use Rattle.setup.specs.declared.Rows.{Rows}
 use Rattle.setup.specs.Setup.{rowOf}
 use Rattle.setup.proofs.Graphs.{colour-below}
 use Rattle.derivations.specs.Derivation.{Vertices}
-use Rattle.derivations.specs.Lockout.{SomeLost}
-use Rattle.derivations.specs.Admits.{Complete, Broken, Admits}
+use Rattle.derivations.specs.Admits.{Admits}
 use Rattle.derivations.proofs.Admits.{admits-coloured}
-use Rattle.words.specs.Words.{At, FamilyWhere}
+use Rattle.words.specs.Words.{At, FamilyWhere, Merged}
 use Rattle.words.proofs.Families.{family-as, full-word}
-use Rattle.lanes.specs.Lanes.{Lane, AllHeld, Takes, untakenWord, Coloured, Needed}
-
--- ---- places below n
-
-pub record SomeBelow (Q : ℕ → Type 0) (n : ℕ) : Type 0 where
-  pub place : ℕ
-  pub below : place < n
-  pub has : Q place
-
-pub record AllBelow (Q : ℕ → Type 0) (n : ℕ) : Type 0 where
-  pub each : (c : ℕ) → c < n → Q c
-
-module _ (Q : ℕ → Type 0) where
-  pub some-below-more : (n : ℕ) → Iff (SomeBelow Q n ⊎ Q n) (SomeBelow Q (n + 1))
-  some-below-more n =
-      record {
-        to = ⊎-elim (λ s. let l = s .below in record { place = s .place; below = omega arith; has = s .has })
-            (λ q. record { place = n; below = omega arith; has = q });
-        from = λ s. let l = s .below in ⊎-elim (λ e. inr (subst Q e (s .has)))
-            (λ d. inl (record { place = s .place; below = omega (arith, d); has = s .has })) (same-or (s .place) n);
-      }
-
-  pub all-below-more : (n : ℕ) → Iff (AllBelow Q n × Q n) (AllBelow Q (n + 1))
-  all-below-more n =
-      record {
-        to = λ p. record {
-          each = λ c l. ⊎-elim (λ e. subst Q (sym e) (p .1)) (λ d. p .0 .each c (omega (arith, d))) (same-or c n);
-        };
-        from = λ a. (record { each = λ c l. a .each c (omega arith) }, a .each n (omega arith));
-      }
+use Rattle.lanes.specs.Lanes.{Lane, Over, Colour, Takes, untakenWord, Coloured, Needed}
+use Rattle.lanes.proofs.Over.{merged-same, below-more}
 
 -- ---- all vertices that are needed
 
 pub record NeededBelow (rows : Rows) (s n : ℕ) : Type 0 where
   pub place : n ≤ 8
-  pub each : (v : ℕ) → Iff (Member s v) (SomeBelow (λ c. Member (rowOf rows c) v) n)
+  pub each : (v : ℕ) → Iff (Member s v) (Over true (λ c. c < n) (λ c. Member (rowOf rows c) v))
 
 module _ (rows : Rows) where
   pub needed-none : NeededBelow rows 0 0
+  unfolding Over
   needed-none =
       record {
         place = omega arith;
-        each = λ v. record { to = λ m. absurd (none-in-zero v m); from = λ s. let l = s .below in absurd (omega arith) };
+        each = λ v. record { to = λ m. absurd (none-in-zero v m); from = λ s. let l = s .is in absurd (omega arith) };
       }
 
   pub needed-more : (s n : ℕ) → n < 8 → NeededBelow rows s n → NeededBelow rows (bitOr s (rowOf rows n)) (n + 1)
+  unfolding Merged
   needed-more s n l h =
       record {
         place = omega arith;
         each = λ v. iff-trans (in-or s (rowOf rows n) v)
-            (iff-trans (record { to = ⊎-elim (λ m. inl (h .each v .to m)) (λ m. inr m); from = ⊎-elim (λ m. inl (h .each v .from m)) (λ m. inr m) })
-            (some-below-more (λ c. Member (rowOf rows c) v) n));
+            (iff-trans (merged-same true _ _ _ _ (h .each v) iff-refl) (below-more true (λ c. Member (rowOf rows c) v) n));
       }
 
   pub needed-done : (s n : ℕ) → length (rows .needs) ≡ 8 → 8 ≤ n → NeededBelow rows s n → Needed rows s
+  unfolding Over
   needed-done s n e l h =
       record {
         each = λ v. record {
           to = λ m. let b = h .each v .to m in record { colour = b .place; member = b .has };
           from = λ k. h .each v .from (record {
             place = k .colour;
-            below = colour-below rows n (k .colour) (omega arith) (not-empty (rowOf rows (k .colour)) v (k .member));
+            is = colour-below rows n (k .colour) (omega arith) (not-empty (rowOf rows (k .colour)) v (k .member));
             has = k .member;
           });
         };
@@ -90,57 +62,48 @@ module _ (rows : Rows) where
 
 -- ---- one colour
 
-module _ (w : List ℕ) (row : ℕ) (out : List ℕ) where
-  pub take-none : (loss : Bool) → length out ≡ 256 → row ≡ 0 → FamilyWhere (λ b i. Takes loss (At out b i) (Lane w b i) row) out
-  take-none false h e =
-      record { words = h; each = λ b i hb hi. record { to = λ a. inl a; from = ⊎-elim (λ a. a) (λ q. absurd (q .coloured e)) } }
-  take-none true h e =
-      record { words = h; each = λ b i hb hi. record { to = λ a. (a, λ n. absurd (n e)); from = λ p. p .0 } }
+-- a row that is no colour takes nothing, and gives nothing
+empty-taken : (loss : Bool) (was : Type 0) (P : Vertices) (row : ℕ) → row ≡ 0 → Iff was (Takes loss was P row)
+unfolding Merged Colour
+empty-taken false was P row e = record { to = λ a. inl a; from = ⊎-elim (λ a. a) (λ q. absurd (q .coloured e)) }
+empty-taken true was P row e = record { to = λ a. (a, λ n. absurd (n e)); from = λ p. p .0 }
 
-  module _ (part out′ : List ℕ) (n : row ≡ 0 → ⊥) where
-    pub take-whole : (loss : Bool) → loss ≡ false → FamilyWhere (λ b i. AllHeld (Lane w b i) row) part
-        → FamilyWhere (λ b i. At out b i ⊎ At part b i) out′ → FamilyWhere (λ b i. Takes loss (At out b i) (Lane w b i) row) out′
-    take-whole true q p l = absurd (false-true (sym q))
-    take-whole false q p l =
-        family-as out′ l (λ b i hb hi. record {
-          to = ⊎-elim (λ a. inl a) (λ a. inr (record { coloured = n; within = p .each b i hb hi .to a .each }));
-          from = ⊎-elim (λ a. inl a) (λ c. inr (p .each b i hb hi .from (record { each = c .within })));
-        })
+-- a colour is complete if all of it is held, and broken if some of it is lost
+colour-over : (loss : Bool) (P : Vertices) (row : ℕ) → (row ≡ 0 → ⊥) → Iff (Over loss (Member row) P) (Colour loss P row)
+unfolding Over Colour
+colour-over false P row n = record { to = λ a. record { coloured = n; within = a .each }; from = λ c. record { each = c .within } }
+colour-over true P row n =
+    record {
+      to = λ s _. record { vertex = s .place; member = s .is; gone = s .has };
+      from = λ c. let s = c n in record { place = s .vertex; is = s .member; has = s .gone };
+    }
 
-    pub take-cut : (loss : Bool) → loss ≡ true → FamilyWhere (λ b i. SomeLost (Lane w b i) row) part
-        → FamilyWhere (λ b i. At out b i × At part b i) out′ → FamilyWhere (λ b i. Takes loss (At out b i) (Lane w b i) row) out′
-    take-cut false q p l = absurd (false-true q)
-    take-cut true q p l =
-        family-as out′ l (λ b i hb hi. record {
-          to = λ a. (a .0, λ _. p .each b i hb hi .to (a .1));
-          from = λ a. (a .0, p .each b i hb hi .from (a .1 n));
-        })
+module _ (loss : Bool) (w : List ℕ) (row : ℕ) (out : List ℕ) where
+  pub take-none : length out ≡ 256 → row ≡ 0 → FamilyWhere (λ b i. Takes loss (At out b i) (Lane w b i) row) out
+  take-none h e = record { words = h; each = λ b i hb hi. empty-taken loss (At out b i) (Lane w b i) row e }
+
+  pub take-one : (part out′ : List ℕ) → (row ≡ 0 → ⊥) → FamilyWhere (λ b i. Over loss (Member row) (Lane w b i)) part
+      → FamilyWhere (λ b i. Merged (not loss) (At out b i) (At part b i)) out′ → FamilyWhere (λ b i. Takes loss (At out b i) (Lane w b i) row) out′
+  take-one part out′ n p l =
+      family-as out′ l (λ b i hb hi.
+      merged-same (not loss) _ _ _ _ iff-refl (iff-trans (p .each b i hb hi) (colour-over loss (Lane w b i) row n)))
 
 -- ---- all colours
 
 -- What the colours below n say: some is complete, or all are broken.
 abbrev Colours : Bool → Rows → Vertices → ℕ → Type 0
-Colours false rows held n = SomeBelow (λ c. Complete held (rowOf rows c)) n
-Colours true rows lost n = AllBelow (λ c. Broken lost (rowOf rows c)) n
-
-colours-more : (loss : Bool) (rows : Rows) (P : Vertices) (was : Type 0) (n : ℕ) → Iff was (Colours loss rows P n)
-    → Iff (Takes loss was P (rowOf rows n)) (Colours loss rows P (n + 1))
-colours-more false rows P was n o =
-    iff-trans (record { to = ⊎-elim (λ a. inl (o .to a)) (λ q. inr q); from = ⊎-elim (λ a. inl (o .from a)) (λ q. inr q) })
-    (some-below-more (λ c. Complete P (rowOf rows c)) n)
-colours-more true rows P was n o =
-    iff-trans (record { to = λ p. (o .to (p .0), p .1); from = λ p. (o .from (p .0), p .1) })
-    (all-below-more (λ c. Broken P (rowOf rows c)) n)
+Colours loss rows P n = Over (not loss) (λ c. c < n) (λ c. Colour loss P (rowOf rows c))
 
 -- of all eight colours, where one of them needs a vertex
 colours-all : (loss : Bool) (rows : Rows) (P : Vertices) (n v : ℕ) → length (rows .needs) ≡ 8 → 8 ≤ n → Coloured rows v
     → Iff (Colours loss rows P n) (Admits loss rows P)
+unfolding Over Colour
 colours-all false rows P n v e h k =
     record {
       to = λ s. record { colour = s .place; complete = s .has };
       from = λ a. record {
         place = a .colour;
-        below = colour-below rows n (a .colour) (omega arith) (a .complete .coloured);
+        is = colour-below rows n (a .colour) (omega arith) (a .complete .coloured);
         has = a .complete;
       };
     }
@@ -160,12 +123,13 @@ pub record Taken (w : List ℕ) (rows : Rows) (loss : Bool) (n : ℕ) (out : Lis
 
 module _ (w : List ℕ) (rows : Rows) where
   pub taken-none : (loss : Bool) (x : ℕ) (out : List ℕ) → x ≡ untakenWord loss → FamilyWhere (λ b i. Member x i) out → Taken w rows loss 0 out
+  unfolding Over
   taken-none false x out q l =
       record {
         place = omega arith;
         family = family-as out l (λ b i hb hi. record {
           to = λ m. absurd (not-empty _ i m q);
-          from = λ s. let k = s .below in absurd (omega arith);
+          from = λ s. let k = s .is in absurd (omega arith);
         });
       }
   taken-none true x out q l =
@@ -183,7 +147,9 @@ module _ (w : List ℕ) (rows : Rows) where
     taken-more out out′ h g l =
         record {
           place = omega arith;
-          family = family-as out′ l (λ b i hb hi. colours-more loss rows (Lane w b i) (At out b i) n (g .family .each b i hb hi));
+          family = family-as out′ l (λ b i hb hi.
+              iff-trans (merged-same (not loss) _ _ _ _ (g .family .each b i hb hi) iff-refl)
+              (below-more (not loss) (λ c. Colour loss (Lane w b i) (rowOf rows c)) n));
         }
 
     pub taken-done : (s : ℕ) (out : List ℕ) → length (rows .needs) ≡ 8 → 8 ≤ n → Needed rows s → (s ≡ 0 → ⊥) → Taken w rows loss n out

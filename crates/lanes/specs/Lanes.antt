@@ -1,7 +1,6 @@
 -- Lanes of a table: a table has a family for each vertex, and the bits at one place of all families are one set of vertices.
-use mathlib.Core.Bool.{Bool, true, false}
+use mathlib.Core.Bool.{Bool, true, false, not}
 use mathlib.Core.List.{List}
-use mathlib.Core.Logic.{_⊎_}
 use Prim.Native.Nat.{ℕ, _+_, _-_, _*_, _^_}
 use lib.ListN.{getD}
 use Rattle.vertex_set.specs.Set.{Member, Iff}
@@ -9,19 +8,40 @@ use Rattle.setup.specs.declared.Rows.{Rows}
 use Rattle.setup.specs.Setup.{rowOf}
 use Rattle.derivations.specs.Derivation.{Vertices}
 use Rattle.derivations.specs.Admits.{Complete, Broken}
+use Rattle.words.specs.Words.{Merged}
+use Rattle.families.specs.Family.{familyWords}
+
+-- The words of a table: those of a family for each of 64 vertices.
+abbrev pub tableWords : ℕ
+tableWords = 64 * familyWords
 
 -- The vertices in whose family bit i of word b is set: vertex v has the words from v * 256 on.
 unfoldable pub Lane : List ℕ → ℕ → ℕ → Vertices
-Lane w b i v = Member (getD w (v * 256 + b) 0) i
+Lane w b i v = Member (getD w (v * familyWords + b) 0) i
 
--- Every vertex of the set s is held.
-pub record AllHeld (held : Vertices) (s : ℕ) : Type 0 where
-  pub each : (v : ℕ) → Member s v → held v
+-- Q holds at all places of S,
+pub record AllOf (S Q : ℕ → Type 0) : Type 0 where
+  pub each : (v : ℕ) → S v → Q v
+
+-- or at some place of S.
+pub record SomeOf (S Q : ℕ → Type 0) : Type 0 where
+  pub place : ℕ
+  pub is : S place
+  pub has : Q place
+
+-- All or, with any, some.
+unfoldable pub Over : Bool → (ℕ → Type 0) → (ℕ → Type 0) → Type 0
+Over false S Q = AllOf S Q
+Over true S Q = SomeOf S Q
+
+-- What a row says of its vertex: it is complete or, with loss, it is broken.
+unfoldable pub Colour : Bool → Vertices → ℕ → Type 0
+Colour false held row = Complete held row
+Colour true lost row = Broken lost row
 
 -- What a family becomes by one colour: what it was or the colour is complete; with loss, what it was and the colour is broken.
 abbrev pub Takes : Bool → Type 0 → Vertices → ℕ → Type 0
-Takes false was held row = was ⊎ Complete held row
-Takes true was lost row = was × Broken lost row
+Takes loss was held row = Merged (not loss) was (Colour loss held row)
 
 -- The word before any colour is taken.
 abbrev pub untakenWord : Bool → ℕ

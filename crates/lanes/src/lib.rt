@@ -1,12 +1,13 @@
 // The lanes of a table: the bits at one place of all its families are one set of vertices. In which of them is a vertex opened, or lost?
 ghost use mathlib.Core.Path.{_≡_};
 ghost use lib.ListN.{length};
+ghost use Rattle.vertex_set.specs.Set.{Member};
 ghost use Rattle.words.specs.Words.{At, FamilyWhere};
-ghost use Rattle.derivations.specs.Lockout.{SomeLost};
 ghost use Rattle.derivations.specs.Admits.{Admits};
-ghost use Rattle.lanes.specs.Lanes.{Lane, AllHeld, Takes, untakenWord, Needed};
+ghost use Rattle.families.specs.Family.{familyWords};
+ghost use Rattle.lanes.specs.Lanes.{Lane, Over, Takes, untakenWord, Needed, tableWords};
+use families::WORDS;
 use setup::Rows;
-use words::WORDS;
 
 pub const COLOURS: usize = 8;
 
@@ -24,12 +25,12 @@ pub fn needed(rows: Rows) -> u64
     s
 }
 
-// The masks whose sets have every vertex of the row, which has one.
-fn all_of(w: &[u64], row: u64, out: &mut [u64])
+// The masks whose sets have every vertex of the row or, with any, some vertex. The row has one.
+fn scan(w: &[u64], row: u64, any: bool, out: &mut [u64])
     requires { ⌜ (row ≡ 0 → ⊥) ⌝ }
-    requires { ⌜ length (now w) ≡ 16384 ⌝ }
-    requires { ⌜ length (now out) ≡ 256 ⌝ }
-    ensures { λ _. ⌜ FamilyWhere (λ b i. AllHeld (Lane (now (w .entry)) b i) row) (now (out .exit)) ⌝ }
+    requires { ⌜ length (now w) ≡ tableWords ⌝ }
+    requires { ⌜ length (now out) ≡ familyWords ⌝ }
+    ensures { λ _. ⌜ FamilyWhere (λ b i. Over any (Member row) (Lane (now (w .entry)) b i)) (now (out .exit)) ⌝ }
 {
     let first = words::lowest(row);
     let at = first * WORDS;
@@ -38,26 +39,7 @@ fn all_of(w: &[u64], row: u64, out: &mut [u64])
     while left != 0 {
         let v = words::lowest(left);
         let a = v * WORDS;
-        words::and_in(out, &w[a..a + WORDS]);
-        left = words::without(left, v);
-    }
-}
-
-// The masks whose sets have some vertex of the row, which has one.
-fn any_of(w: &[u64], row: u64, out: &mut [u64])
-    requires { ⌜ (row ≡ 0 → ⊥) ⌝ }
-    requires { ⌜ length (now w) ≡ 16384 ⌝ }
-    requires { ⌜ length (now out) ≡ 256 ⌝ }
-    ensures { λ _. ⌜ FamilyWhere (λ b i. SomeLost (Lane (now (w .entry)) b i) row) (now (out .exit)) ⌝ }
-{
-    let first = words::lowest(row);
-    let at = first * WORDS;
-    words::copy_in(out, &w[at..at + WORDS]);
-    let mut left = words::without(row, first);
-    while left != 0 {
-        let v = words::lowest(left);
-        let a = v * WORDS;
-        words::or_in(out, &w[a..a + WORDS]);
+        words::merge_in(any, out, &w[a..a + WORDS]);
         left = words::without(left, v);
     }
 }
@@ -65,21 +47,16 @@ fn any_of(w: &[u64], row: u64, out: &mut [u64])
 // The family gains the masks whose sets have the whole row or, with loss, keeps those whose sets have a vertex of it. An empty row is
 // no colour: it gives no mask, and takes none away.
 fn take_colour(w: &[u64], row: u64, loss: bool, out: &mut [u64])
-    requires { ⌜ length (now w) ≡ 16384 ⌝ }
-    requires { ⌜ length (now out) ≡ 256 ⌝ }
+    requires { ⌜ length (now w) ≡ tableWords ⌝ }
+    requires { ⌜ length (now out) ≡ familyWords ⌝ }
     ensures { λ _. ⌜ FamilyWhere (λ b i. Takes loss (At (now (out .entry)) b i) (Lane (now (w .entry)) b i) row) (now (out .exit)) ⌝ }
 {
     if row == 0 {
         return;
     }
-    let mut part = [0u64; 256];
-    if loss {
-        any_of(w, row, &mut part);
-        words::and_in(out, &part);
-    } else {
-        all_of(w, row, &mut part);
-        words::or_in(out, &part);
-    }
+    let mut part = [0u64; WORDS];
+    scan(w, row, loss, &mut part);
+    words::merge_in(!loss, out, &part);
 }
 
 // Each word of a family before any colour is taken: gaining begins with no mask, keeping with all.
@@ -91,8 +68,8 @@ fn untaken(loss: bool) -> u64
 
 // The masks by whose sets a vertex with these rows is opened or, with loss, lost. A vertex that has no colour is neither.
 pub fn admitted(w: &[u64], rows: Rows, loss: bool, out: &mut [u64])
-    requires { ⌜ length (now w) ≡ 16384 ⌝ }
-    requires { ⌜ length (now out) ≡ 256 ⌝ }
+    requires { ⌜ length (now w) ≡ tableWords ⌝ }
+    requires { ⌜ length (now out) ≡ familyWords ⌝ }
     ensures { λ _. ⌜ FamilyWhere (λ b i. Admits loss rows (Lane (now (w .entry)) b i)) (now (out .exit)) ⌝ }
 {
     if needed(rows) == 0 {

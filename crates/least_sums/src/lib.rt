@@ -5,6 +5,7 @@ ghost use Prim.Native.Nat.{ℕ, _<_};
 ghost use lib.ListN.{length, getD};
 ghost use Rattle.family_lists.specs.Lists.{Summable, SumTables, LeastSum, LeastBy};
 ghost use Rattle.family_lists.specs.Tables.{TablesFit, masksIn, sumBy};
+ghost use Rattle.families.specs.Family.{familyWords};
 ghost use Rattle.least_sums.specs.Least.{leastOf};
 use families::WORDS;
 use vertex_set::VertexSet;
@@ -14,7 +15,7 @@ pub const NEVER: u64 = 0x4000_0000_0000_0000;
 
 // The least of `best` and the sums of the masks of word b in the lanes of y.
 fn least_in_word(y: u64, b: usize, low: &[u64], high: &[u64], best: u64) -> u64
-    requires { ⌜ b < 256 ⌝ }
+    requires { ⌜ b < familyWords ⌝ }
     requires { ⌜ TablesFit (now low) (now high) ⌝ }
     ensures { λ r. ⌜ r ≡ leastOf best (map (sumBy (now (low .entry)) (now (high .entry))) (masksIn b y)) ⌝ }
 {
@@ -36,7 +37,7 @@ fn least_in_word(y: u64, b: usize, low: &[u64], high: &[u64], best: u64) -> u64
 
 // The least sum over the family's members by two tables of sums, and NEVER where there is none.
 pub fn least_by(f: &[u64], low: &[u64], high: &[u64]) -> u64
-    requires { ⌜ length (now f) ≡ 256 ⌝ }
+    requires { ⌜ length (now f) ≡ familyWords ⌝ }
     requires { ⌜ TablesFit (now low) (now high) ⌝ }
     ensures { λ r. ⌜ LeastBy (now (f .entry)) (now (low .entry)) (now (high .entry)) r ⌝ }
 {
@@ -64,7 +65,7 @@ pub fn sum_tables(chosen: VertexSet, values: [u64; 64], low: &mut [u64], high: &
 
 // The least sum of values over the sets of the family's members, and NEVER where there is none.
 pub fn least_sum(f: &[u64], chosen: VertexSet, values: [u64; 64]) -> u64
-    requires { ⌜ length (now f) ≡ 256 ⌝ }
+    requires { ⌜ length (now f) ≡ familyWords ⌝ }
     requires { ⌜ Summable (chosen .0) (λ (v : ℕ). getD values v 0) ⌝ }
     ensures { λ r. ⌜ LeastSum (chosen .0) (now (f .entry)) (λ (v : ℕ). getD values v 0) r ⌝ }
 {

@@ -11,20 +11,18 @@ use lib.Count.{ones, ones-le}
 use lib.Dec.{eqb}
 use borrow.Author.Tests.{eqb-true}
 use lib.ListN.{length, take, drop, getD, set, replicate}
-use lib.Pow.{pow-mono}
 use lib.Seq.{take-all, getD-set-same, getD-set-other}
 use Rattle.vertex_set.specs.Set.{Member, Within, Iff}
-use Rattle.vertex_set.specs.Order.{Listed}
+use Rattle.vertex_set.specs.Order.{Listed, Once}
 use Rattle.vertex_set.proofs.Cases.{same-or, false-true}
 use Rattle.vertex_set.proofs.Sets.{none-in-zero, in-and, in-or, in-one, shifted-one}
 use Rattle.vertex_set.proofs.Sorted.{Sorted}
 use Rattle.families.specs.Family.{In, size}
 use Rattle.families.specs.Masks.{SetOfMask, MaskOf}
 use Rattle.families.proofs.Families.{size-drop, size-end}
-use Rattle.families.proofs.Masks.{spread, gather, set-of, set-unique, mask-unique, gather-lt, mask-of}
+use Rattle.families.proofs.Masks.{spread, gather, set-of, set-unique, mask-unique, mask-exists}
 use Rattle.family_lists.specs.Tables.{rising}
 use Rattle.family_lists.proofs.Order.{Words, listed-members, sorted-rising, length-rising}
-use Rattle.bases.specs.Marks.{Once}
 use Rattle.strays.specs.Strays.{HasSize}
 use Rattle.marking.specs.Counting.{Put, Earlier, MaskIn, Seen, meet}
 use Rattle.strays.proofs.Sizes.{size-same, size-map, size-of-list}
@@ -196,12 +194,6 @@ family-size f w =
 
 pub meet-size : (f g : List ℕ) → length f ≡ length g → Words f → HasSize (λ m. In f m × In g m) (size (meet f g))
 meet-size f g e w = size-same (In (meet f g)) (λ m. In f m × In g m) (λ m. in-meet f g m e) (family-size (meet f g) (words-meet f g e w))
-
-pub mask-exists : (chosen x : ℕ) → chosen < 2 ^ 64 → ones chosen ≤ 14 → MaskOf chosen x (gather 64 chosen x)
-mask-exists chosen x f o =
-    let l = gather-lt 64 chosen x f in
-    let m = pow-mono {i = ones chosen} {j = 14} o in
-    record { of = mask-of chosen x f; exact = l; room = omega arith }
 
 -- the sets of the masks that have S: those of the list that have P
 pub size-of-sets : (chosen : ℕ) (l : List ℕ) (S P : ℕ → Type 0) (r : ℕ) → chosen < 2 ^ 64 → ones chosen ≤ 14 → ((m : ℕ) → S m → MaskIn chosen l m)

@@ -12,18 +12,21 @@ use lib.ListN.{length}
 use Rattle.vertex_set.specs.Set.{Within, Iff}
 use Rattle.vertex_set.specs.Order.{Listed}
 use Rattle.vertex_set.proofs.Cases.{same-or, byTest}
+use Rattle.vertex_set.proofs.Decisions.{iff-trans}
+use Rattle.vertex_set.proofs.Lists.{listed-or}
 use Rattle.vertex_set.proofs.Sets.{within-decided}
 use Rattle.setup.specs.declared.Graph.{Graph}
 use Rattle.setup.specs.declared.Setup.{Setup}
+use Rattle.derivations.specs.Derivation.{Derivation}
+use Rattle.derivations.specs.Both.{ruleOf}
 use Rattle.families.specs.Family.{In, size}
 use Rattle.families.specs.Masks.{MaskOf}
 use Rattle.family_lists.proofs.Order.{Words}
-use Rattle.tables.proofs.Tables.{table-family-monotone}
+use Rattle.family_lists.proofs.SetsOfFamily as sets
+use Rattle.tables.proofs.Tables.{derivation-rising}
 use Rattle.bases.specs.Base.{TargetSet, MinimalSet}
 use Rattle.bases.specs.Marks.{Mark, Repeated, Shut, Loose, Right, SmallerDerives, CountsAs, MarkedAs, tally}
-use Rattle.bases.proofs.Bridge.{by-set, set-for, minimal-set, minimal-mask, MaskFor}
-use Rattle.bases.proofs.FullMarks.{listed-or}
-use Rattle.bases.proofs.Scores.{minimal-within}
+use Rattle.bases.proofs.Bridge.{target-has, minimal-smallest, minimal-within}
 use Rattle.strays.specs.Strays.{HasSize, StrayOf}
 use Rattle.marking.specs.Counting.{Seen, meet, CanMark}
 use Rattle.marking.specs.Marking.{Markable, MarkedAll}
@@ -176,25 +179,20 @@ module _ (loss : Bool) (s : Setup) (g : Graph) (target chosen : ℕ) (family min
 
   in-family : (k x : ℕ) → Within x chosen → MaskOf chosen x k → Iff (In family k) (TargetSet loss s g target x)
   in-family k x w o =
-      record {
-        to = λ h. set-for loss s g target chosen family (m .fits) (m .few) (m .isChosen) (m .isFamily) k x (o .room) h (o .of w);
-        from = λ t. m .isFamily .each k (o .room) .from (by-set loss g target chosen k x (o .of w) .from (t .derives));
-      }
+      let h = target-has loss s g target chosen (m .isChosen) x in
+      let i = sets.by-set chosen (λ held. Derivation (ruleOf loss g) held target) (derivation-rising loss g target) family (m .fits) (m .few) (m .isFamily) k x (o .room) (o .of w) in
+      record { to = λ k. h .from (w, i .to k); from = λ t. i .from (h .to t .1) }
 
   in-minimal : (k x : ℕ) → Within x chosen → MaskOf chosen x k → Iff (In minimal k) (MinimalSet loss s g target x)
   in-minimal k x w o =
-      let i = m .isMinimal .minimal (table-family-monotone loss g chosen target family (m .isFamily)) k (o .room) in
-      record {
-        to = λ h. minimal-set loss s g target chosen family (m .fits) (m .few) (m .isChosen) (m .isFamily) k x (o .room) (i .to h) (o .of w);
-        from = λ t.
-            let f : MaskFor family chosen x = record { mask = k; below = o .exact; room = o .room; member = in-family k x w o .from (t .is); of = o .of w } in
-            i .from (minimal-mask loss s g target chosen family (m .fits) (m .few) (m .isChosen) (m .isFamily) x t f);
-      }
+      let h = minimal-smallest loss s g target chosen (m .isChosen) x in
+      iff-trans (sets.in-minimal chosen (λ held. Derivation (ruleOf loss g) held target) (derivation-rising loss g target) family (m .fits) (m .few) (m .isFamily) minimal (m .isMinimal) k x w o)
+      (record { to = h .from; from = h .to })
 
   -- a set of the target that is not minimal has a proper subset that is
   smaller : (x : ℕ) → TargetSet loss s g target x → (MinimalSet loss s g target x → ⊥) → SmallerDerives loss g target x
   smaller x t n =
-      let y = minimal-within loss s g target chosen family (m .fits) (m .few) (m .isChosen) (m .isFamily) x t in
+      let y = minimal-within loss s g target chosen (m .isChosen) family (m .fits) (m .few) (m .isFamily) x t in
       record {
         subset = y .0;
         proper = record { within = y .1; other = λ e. n (subst (MinimalSet loss s g target) e (y .2)) };

@@ -7,15 +7,14 @@ use mathlib.Core.Logic.{inl, inr, ⊎-elim}
 use Prim.Native.Nat.{ℕ, _*_, _≤_, _<_, min}
 use native.Mathlib.Nat.{le-trans, min-le-left, min-le-right}
 use native.Mathlib.Omega.{arith}
-use Rattle.vertex_set.specs.Set.{Within}
 use Rattle.vertex_set.specs.Order.{Listed, sumOver}
 use Rattle.vertex_set.proofs.Cases.{less-or}
-use Rattle.vertex_set.proofs.Sums.{sum-within, sum-bound}
+use Rattle.vertex_set.proofs.Sums.{sum-bound}
 use Rattle.setup.specs.declared.Graph.{Graph}
 use Rattle.setup.specs.declared.Setup.{Setup}
 use Rattle.formed.specs.WellFormed.{WellFormed}
-use Rattle.bases.specs.Base.{TargetSet, MinimalSet, Base}
 use Rattle.bases.proofs.Formed.{points-small}
+use Rattle.bases.proofs.Scores.{score-base}
 use Rattle.bases.specs.Score.{pointsAt, sumOf, never, Score, ScoreOver}
 use Rattle.reference.specs.Bases.{baseOf, leastSum, scoreOf}
 use Rattle.reference.specs.Graphs.{GraphOf}
@@ -64,26 +63,9 @@ module _ (loss : Bool) (s : Setup) (wf : WellFormed s) where
   unfolding sumOver
   sum-small x = below-never (sumOf loss s x) (sum-bound (pointsAt loss s) 4000000000 64 x (λ v m. points-small loss s wf v))
 
-  sum-grows : (x y : ℕ) → Within x y → sumOf loss s x ≤ sumOf loss s y
-  unfolding sumOver
-  sum-grows x y w = sum-within (pointsAt loss s) 64 x y w
-
   module _ (g : Graph) (target : ℕ) (h : GraphOf s g) where
-    -- the least sum over a base is the score
-    pub base-score : (l : List ℕ) (r : ℕ) → Base loss s g target l → ScoreOver loss s l r → Score loss s g target r
-    base-score l r b o =
-        record {
-          none = λ n. o .none (λ x m. n x (b .sound x m .is));
-          some = λ x t. let y = under x t in o .some (y .0) (b .whole (y .0) (y .2));
-          least = λ x t. let y = under x t in le-trans (o .least (y .0) (b .whole (y .0) (y .2))) (sum-grows (y .0) x (y .1));
-          reached = λ k. let y = o .reached k in (y .0, b .sound (y .0) (y .1) .is, y .2);
-        }
-      where
-        under : (x : ℕ) → TargetSet loss s g target x → (y : ℕ) × Within y x × MinimalSet loss s g target y
-        under x t = minimal-within loss s g target wf h x t
-
     pub score-of : Score loss s g target (scoreOf loss s g target)
     unfolding scoreOf
     score-of =
-        base-score (baseOf loss s g target) (leastSum loss s (baseOf loss s g target)) (base-of loss s g target wf h)
-        (score-over loss s (baseOf loss s g target) (λ x m. sum-small x))
+        score-base loss s g target (leastSum loss s (baseOf loss s g target)) (baseOf loss s g target) (base-of loss s g target wf h)
+        (minimal-within loss s g target wf h) .from (score-over loss s (baseOf loss s g target) (λ x m. sum-small x))

@@ -8,12 +8,13 @@ use Prim.Native.Nat.{ℕ, _≤_, _<_}
 use native.Mathlib.Omega.{arith}
 use lib.ListN.{length}
 use Rattle.vertex_set.proofs.Cases.{less-or}
+use Rattle.vertex_set.proofs.Lists.{exactly-unique}
 use Rattle.vertex_set.proofs.Sets.{same-set}
-use Rattle.vertex_set.proofs.Sorted.{ordered-same}
 use Rattle.setup.specs.declared.Graph.{Graph}
 use Rattle.setup.specs.declared.Setup.{Setup}
 use Rattle.derivations.specs.Derivation.{Rule, Closure}
-use Rattle.bases.specs.Base.{Base}
+use Rattle.bases.specs.Base.{MinimalSet, Base}
+use Rattle.bases.proofs.Bridge.{base-exactly}
 use Rattle.bases.specs.Score.{never, Score}
 use Rattle.bases.specs.Marks.{Mark, Repeated, Shut, Loose, Right, CountsAs, MarkedAs, tally, Counts}
 
@@ -24,7 +25,7 @@ closure-unique rule set t u a b =
 module _ (loss : Bool) (s : Setup) (g : Graph) (target : ℕ) where
   pub base-unique : (l k : List ℕ) → Base loss s g target l → Base loss s g target k → l ≡ k
   base-unique l k a b =
-      ordered-same l k (a .ordered) (b .ordered) (λ x. record { to = λ m. b .whole x (a .sound x m); from = λ m. a .whole x (b .sound x m) })
+      exactly-unique (MinimalSet loss s g target) l k (base-exactly loss s g target l .to a) (base-exactly loss s g target k .to b)
 
   -- no score is above another
   score-le : (r q : ℕ) → Score loss s g target r → Score loss s g target q → q < never → r ≤ q

@@ -125,7 +125,7 @@ listing w chosen target k entry exit r e fits c kept h =
       each = λ loss s g formed ch t.
           let b = t .each target (c .vertex) in
           subst (Base loss s g target) (sym front)
-          (base-of loss s g target chosen (b .family) fits (c .few) ch (b .isFamily) (wordsAt w target) (b .isMinimal) (h .list)
+          (base-of loss s g target chosen ch (b .family) fits (c .few) (b .isFamily) (wordsAt w target) (b .isMinimal) (h .list)
           (subst (λ (n : ℕ). ListOf chosen (take n (drop (target * 256) w)) (h .list)) e (h .is)));
     }
   where
@@ -155,7 +155,7 @@ scored loss s g chosen values low high w exit out formed ch values-are sums t ke
             each = λ v l. record { family = wordsAt w v; isFamily = family v l; isMinimal = kept .each v l .minimal };
           });
       each = λ v l.
-          score-of loss s g v chosen (wordsAt w v) (sums .word) (few loss s chosen formed ch) ch (family v l) (getD out v 0) (pointsAt loss s)
+          score-of loss s g v chosen ch (wordsAt w v) (sums .word) (few loss s chosen formed ch) (family v l) (getD out v 0) (pointsAt loss s)
           (λ x. refl)
           (least-of-minimal chosen (wordsAt w v) (wordsAt exit v) (pointsAt loss s) (getD out v 0) (sums .word) (kept .each v l .minimal)
           (kept .each v l .least .each chosen (pointsAt loss s) points));

@@ -36,11 +36,6 @@ pub step-le : (n b : ℕ) → cappedStep n b ≤ 1000001
 unfolding cappedStep
 step-le n b = byTest (isDigit b) (λ e. rw e (omega arith)) (λ e. rw e (omega arith))
 
-pub value-ge : (n : ℕ) (s : List ℕ) → n ≤ valueBehind n s
-unfolding valueBehind
-value-ge n [] = omega arith
-value-ge n (b ∷ s) = let h = value-ge (n * 10 + (b - 48)) s in omega arith
-
 -- at the cap it stays
 step-stays : (b : ℕ) → cappedStep 1000001 b ≡ 1000001
 unfolding cappedStep

@@ -6,15 +6,16 @@ use mathlib.Core.List.{List}
 use Prim.Native.Nat.{ℕ, _+_, _*_, _/_, _%_, _<_}
 use native.Mathlib.Omega.{arith}
 use lib.ListN.{take, drop}
-use Rattle.vertex_set.specs.Set.{Within, Iff}
+use Rattle.vertex_set.specs.Set.{Iff}
 use Rattle.vertex_set.proofs.Decisions.{iff-trans}
 use Rattle.setup.specs.declared.Graph.{Graph}
-use Rattle.derivations.specs.Derivation.{Rule}
+use Rattle.derivations.specs.Derivation.{Rule, Derivation}
 use Rattle.derivations.specs.Both.{ruleOf}
 use Rattle.derivations.proofs.Rules.{Lawful, monotone}
 use Rattle.derivations.proofs.Both.{lawful}
 use Rattle.families.specs.Masks.{Picked}
-use Rattle.families.specs.Family.{In, Monotone}
+use Rattle.families.specs.Family.{In}
+use Rattle.families.proofs.Exact.{Rising}
 use Rattle.words.specs.Words.{At}
 use Rattle.lanes.specs.Lanes.{Lane}
 use Rattle.lanes.proofs.Scans.{part-lane}
@@ -45,17 +46,6 @@ unfolding In At Lane
 family-of r chosen v k w h e t =
     record { each = λ m hm. iff-trans (part-lane w v k (m / 64) (m % 64) (omega arith)) (t .each v m h hm) }
 
--- a mask within another picks no more
-pub picked-within : (chosen k m : ℕ) → Within k m → (v : ℕ) → Picked chosen k v → Picked chosen m v
-unfolding Picked
-picked-within chosen k m w v p = (p .0, w .each _ (p .1))
-
 -- more is derivable from more
-pub family-monotone : (r : Rule) (chosen v : ℕ) (f : List ℕ) → Lawful r → FamilyOf r chosen v f → Monotone f
-family-monotone r chosen v f law o =
-    record {
-      up = λ k m hk hm w i. o .each m hm .from (monotone r law (Picked chosen k) (Picked chosen m) (picked-within chosen k m w) v (o .each k hk .to i));
-    }
-
-pub table-family-monotone : (loss : Bool) (g : Graph) (chosen v : ℕ) (f : List ℕ) → FamilyOf (ruleOf loss g) chosen v f → Monotone f
-table-family-monotone loss g chosen v f = family-monotone (ruleOf loss g) chosen v f (lawful loss g)
+pub derivation-rising : (loss : Bool) (g : Graph) (v : ℕ) → Rising (λ held. Derivation (ruleOf loss g) held v)
+derivation-rising loss g v A B h d = monotone (ruleOf loss g) (lawful loss g) A B h v d

@@ -13,12 +13,13 @@ use Rattle.derivations.specs.Derivation.{Rule, Derivation}
 use Rattle.derivations.specs.Admits.{Admits}
 use Rattle.families.specs.Masks.{Picked}
 use Rattle.words.specs.Words.{room}
-use Rattle.lanes.specs.Lanes.{Lane, Needed}
+use Rattle.lanes.specs.Lanes.{Lane, Needed, tableWords}
+use Rattle.families.specs.Family.{familyWords}
 
 -- The table w has become e: the vertex v was added to each lane that admits it; r says whether one was new.
 pub record Stepped (loss : Bool) (rows : Rows) (v : ℕ) (w : List ℕ) (r : Bool) (e : List ℕ) : Type 0 where
-  pub words : length e ≡ 16384
-  pub each : (b i u : ℕ) → b < 256 → i < 64 → Iff (Lane e b i u) (Lane w b i u ⊎ ((u ≡ v) × Admits loss rows (Lane w b i)))
+  pub words : length e ≡ tableWords
+  pub each : (b i u : ℕ) → b < familyWords → i < 64 → Iff (Lane e b i u) (Lane w b i u ⊎ ((u ≡ v) × Admits loss rows (Lane w b i)))
   pub same : r ≡ false → e ≡ w
   pub more : r ≡ true → room e < room w
 
@@ -33,10 +34,10 @@ pub record Users (needs : List ℕ) (v r : ℕ) : Type 0 where
 
 -- Each lane of e has the vertices with a derivation from that lane of w.
 pub record Closed (r : Rule) (w e : List ℕ) : Type 0 where
-  pub words : length e ≡ 16384
-  pub each : (b i v : ℕ) → b < 256 → i < 64 → Iff (Lane e b i v) (Derivation r (Lane w b i) v)
+  pub words : length e ≡ tableWords
+  pub each : (b i v : ℕ) → b < familyWords → i < 64 → Iff (Lane e b i v) (Derivation r (Lane w b i) v)
 
 -- Each lane of e is the set that its mask stands for.
 pub record Started (chosen : ℕ) (e : List ℕ) : Type 0 where
-  pub words : length e ≡ 16384
-  pub each : (b i v : ℕ) → b < 256 → i < 64 → Iff (Lane e b i v) (Picked chosen (b * 64 + i) v)
+  pub words : length e ≡ tableWords
+  pub each : (b i v : ℕ) → b < familyWords → i < 64 → Iff (Lane e b i v) (Picked chosen (b * 64 + i) v)

@@ -5,21 +5,26 @@ ghost use lib.ListN.{length};
 ghost use Rattle.derivations.specs.Both.{ruleOf};
 ghost use Rattle.families.specs.Masks.{rank, Picked};
 ghost use Rattle.words.specs.Words.{FamilyWhere, VertexOf};
+ghost use Rattle.families.specs.Family.{familyWords};
+ghost use Rattle.lanes.specs.Lanes.{tableWords};
 ghost use Rattle.tables.specs.Table.{Table};
 ghost use Rattle.tables.specs.Steps.{Stepped, AllNeeded, Users, Closed, Started};
+use families::WORDS;
 use setup::Graph;
 use setup::Rows;
 use vertex_set::VERTICES;
 use vertex_set::VertexSet;
-use words::WORDS;
+
+// A table has the words of a family for each vertex.
+pub const TABLE: usize = VERTICES * WORDS;
 
 // The vertex v, which has these rows, is added to each lane that admits it. Was one new?
 fn step(w: &mut [u64], v: usize, rows: Rows, loss: bool) -> bool
-    requires { ⌜ length (now w) ≡ 16384 ⌝ }
+    requires { ⌜ length (now w) ≡ tableWords ⌝ }
     requires { ⌜ v < 64 ⌝ }
     ensures { λ r. ⌜ Stepped loss rows v (now (w .entry)) r (now (w .exit)) ⌝ }
 {
-    let mut gains = [0u64; 256];
+    let mut gains = [0u64; WORDS];
     lanes::admitted(w, rows, loss, &mut gains);
     let a = v * WORDS;
     words::join(&mut w[a..a + WORDS], &gains)
@@ -62,7 +67,7 @@ fn users(needs: &[u64], v: usize) -> u64
 }
 
 // The number of chosen vertices below v.
-fn rank_of(chosen: u64, v: usize) -> usize
+fn place_among(chosen: u64, v: usize) -> usize
     requires { ⌜ v < 64 ⌝ }
     ensures { λ r. ⌜ r ≡ rank chosen v ⌝ }
 {
@@ -72,12 +77,12 @@ fn rank_of(chosen: u64, v: usize) -> usize
 
 // The family of the masks that pick v.
 fn start_family(d: &mut [u64], chosen: VertexSet, v: usize)
-    requires { ⌜ length (now d) ≡ 256 ⌝ }
+    requires { ⌜ length (now d) ≡ familyWords ⌝ }
     requires { ⌜ v < 64 ⌝ }
     ensures { λ _. ⌜ FamilyWhere (λ b i. Picked (chosen .0) (b * 64 + i) v) (now (d .exit)) ⌝ }
 {
     if chosen.has(v) {
-        let k = rank_of(chosen.0, v);
+        let k = place_among(chosen.0, v);
         words::start_words(d, k);
     } else {
         words::set_all(d, 0);
@@ -86,7 +91,7 @@ fn start_family(d: &mut [u64], chosen: VertexSet, v: usize)
 
 // Each lane becomes the set that its mask stands for.
 fn start(chosen: VertexSet, w: &mut [u64])
-    requires { ⌜ length (now w) ≡ 16384 ⌝ }
+    requires { ⌜ length (now w) ≡ tableWords ⌝ }
     ensures { λ _. ⌜ Started (chosen .0) (now (w .exit)) ⌝ }
 {
     for v in 0..VERTICES {
@@ -97,7 +102,7 @@ fn start(chosen: VertexSet, w: &mut [u64])
 
 // Each lane grows to what is derivable from it. A vertex is looked at again when one that it needs has grown; they take turns.
 fn settle(graph: Graph, loss: bool, w: &mut [u64])
-    requires { ⌜ length (now w) ≡ 16384 ⌝ }
+    requires { ⌜ length (now w) ≡ tableWords ⌝ }
     ensures { λ _. ⌜ Closed (ruleOf loss graph) (now (w .entry)) (now (w .exit)) ⌝ }
 {
     let mut needs = [0u64; 64];
@@ -116,8 +121,8 @@ fn settle(graph: Graph, loss: bool, w: &mut [u64])
 
 // The table of the graph and the chosen vertices: which vertices are opened by which mask's set or, with loss, lost by its loss.
 pub fn fill(graph: Graph, chosen: VertexSet, loss: bool, w: &mut [u64])
-    requires { ⌜ length (now w) ≡ 16384 ⌝ }
-    ensures { λ _. ⌜ length (now (w .exit)) ≡ 16384 ⌝ }
+    requires { ⌜ length (now w) ≡ tableWords ⌝ }
+    ensures { λ _. ⌜ length (now (w .exit)) ≡ tableWords ⌝ }
     ensures { λ _. ⌜ Table (ruleOf loss graph) (chosen .0) (now (w .exit)) ⌝ }
 {
     start(chosen, w);

@@ -2,6 +2,7 @@ pub mod Cases
 pub mod Decisions
 pub mod Digits
 pub mod Missing
+pub mod Lists
 pub mod Places
 pub mod Sets
 pub mod Shifts

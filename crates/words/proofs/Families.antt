@@ -1,16 +1,15 @@
 -- Laws of families: what the word operations make of their bits.
 -- Assumes nothing.
 use mathlib.Core.Path.{sym, subst}
+use mathlib.Core.Bool.{Bool, true, false}
 use mathlib.Core.List.{List}
-use mathlib.Core.Logic.{_⊎_}
 use Prim.Native.Nat.{ℕ, _-_, _^_, _≤_, _<_}
 use native.Mathlib.Omega.{arith}
-use lib.Bits.{bitAnd, bitOr}
 use lib.ListN.{getD}
 use Rattle.vertex_set.specs.Set.{Member, Iff}
-use Rattle.vertex_set.proofs.Decisions.{iff-refl, iff-trans}
+use Rattle.vertex_set.proofs.Decisions.{iff-trans}
 use Rattle.vertex_set.proofs.Sets.{in-and, in-or, below-power}
-use Rattle.words.specs.Words.{At, FamilyWhere}
+use Rattle.words.specs.Words.{At, FamilyWhere, mergedWord, Merged}
 use Rattle.words.proofs.Words.{Mapped}
 
 -- ---- the same bits, said otherwise
@@ -33,16 +32,12 @@ mapped-family f P d₀ d n m h p =
       each = λ b i hb hi. subst (λ (x : ℕ). Iff (Member x i) (P b i)) (sym (m .done b (omega arith))) (p b i hb hi);
     }
 
-pub copy-family : (d₀ s d : List ℕ) (n : ℕ) → Mapped (λ b. getD s b 0) d₀ d n → 256 ≤ n → FamilyWhere (λ b i. At s b i) d
-unfolding At
-copy-family d₀ s d n m h = mapped-family _ _ d₀ d n m h (λ b i hb hi. iff-refl)
+in-merged : (any : Bool) (x y i : ℕ) → Iff (Member (mergedWord any x y) i) (Merged any (Member x i) (Member y i))
+unfolding mergedWord Merged
+in-merged false x y i = in-and x y i
+in-merged true x y i = in-or x y i
 
-pub and-family : (d₀ s d : List ℕ) (n : ℕ) → Mapped (λ b. bitAnd (getD d₀ b 0) (getD s b 0)) d₀ d n → 256 ≤ n
-    → FamilyWhere (λ b i. At d₀ b i × At s b i) d
+pub merge-family : (any : Bool) (d₀ s d : List ℕ) (n : ℕ) → Mapped (λ b. mergedWord any (getD d₀ b 0) (getD s b 0)) d₀ d n → 256 ≤ n
+    → FamilyWhere (λ b i. Merged any (At d₀ b i) (At s b i)) d
 unfolding At
-and-family d₀ s d n m h = mapped-family _ _ d₀ d n m h (λ b i hb hi. in-and (getD d₀ b 0) (getD s b 0) i)
-
-pub or-family : (d₀ s d : List ℕ) (n : ℕ) → Mapped (λ b. bitOr (getD d₀ b 0) (getD s b 0)) d₀ d n → 256 ≤ n
-    → FamilyWhere (λ b i. At d₀ b i ⊎ At s b i) d
-unfolding At
-or-family d₀ s d n m h = mapped-family _ _ d₀ d n m h (λ b i hb hi. in-or (getD d₀ b 0) (getD s b 0) i)
+merge-family any d₀ s d n m h = mapped-family _ _ d₀ d n m h (λ b i hb hi. in-merged any (getD d₀ b 0) (getD s b 0) i)

@@ -1,7 +1,7 @@
 -- A family is joined with another: either nothing is new and it stays as it is, or its words have less room to grow.
 -- Assumes nothing.
 use mathlib.Core.Path.{_≡_, sym, ap, _∙_, subst}
-use mathlib.Core.Bool.{not}
+use mathlib.Core.Bool.{true, not}
 use mathlib.Core.List.{List, [], _∷_, _++_}
 use mathlib.Core.Logic.{_⊎_, inl, inr, ⊎-elim}
 use Prim.Native.Nat.{ℕ, zero, suc, _+_, _-_, _^_, _≤_, _<_}
@@ -15,9 +15,9 @@ use borrow.Author.Tests.{eqb-true, eqb-false, not-true, not-false}
 use Rattle.vertex_set.specs.Set.{Within, Iff}
 use Rattle.vertex_set.proofs.Cases.{same-or}
 use Rattle.vertex_set.proofs.Sets.{in-or, within-test, within-le, same-set}
-use Rattle.words.specs.Words.{room, Joined}
+use Rattle.words.specs.Words.{mergedWord, Merged, room, Joined}
 use Rattle.words.proofs.Words.{Mapped, mapped-more}
-use Rattle.words.proofs.Families.{or-family}
+use Rattle.words.proofs.Families.{merge-family}
 
 -- ---- room
 
@@ -118,9 +118,10 @@ module _ (d₀ s : List ℕ) where
         }
 
   pub joined : (d : List ℕ) (n fresh : ℕ) → Joining d₀ s d n fresh → 256 ≤ n → Joined d₀ s (not (eqb fresh 0)) d
+  unfolding mergedWord Merged
   joined d n fresh j h =
       record {
-        family = or-family d₀ s d n (j .words) h;
+        family = merge-family true d₀ s d n (j .words) h;
         same = λ e. j .same (eqb-true _ _ (not-false _ e));
         more = λ e. j .more (eqb-false _ _ (not-true _ e));
       }

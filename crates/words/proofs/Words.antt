@@ -6,7 +6,7 @@ use mathlib.Core.Logic.{_⊎_, ⊎-elim}
 use Prim.Native.Nat.{ℕ, _+_, _≤_, _<_}
 use native.Mathlib.Omega.{arith}
 use lib.ListN.{length, getD, set, length-set}
-use lib.Seq.{getD-set-same, getD-set-other}
+use lib.Seq.{getD-set-same, getD-set-other, ext-getD}
 use Rattle.vertex_set.proofs.Cases.{same-or}
 
 -- The first n words of d are f's; the others are those of d₀ still.
@@ -28,3 +28,7 @@ module _ (f : ℕ → ℕ) (d₀ : List ℕ) where
             (same-or b n);
         left = λ b l. getD-set-other d n b x 0 (λ q. omega arith) ∙ m .left b (omega arith);
       }
+
+-- all words written: a list of the same length that has them
+pub mapped-copy : (d₀ s d : List ℕ) (n : ℕ) → length s ≡ 256 → Mapped (λ b. getD s b 0) d₀ d n → 256 ≤ n → d ≡ s
+mapped-copy d₀ s d n e m h = ext-getD 0 d s (m .words ∙ sym e) (λ b l. m .done b (let w = m .words in omega arith))

@@ -4,8 +4,10 @@ use mathlib.Core.Bool.{Bool, true, false}
 use mathlib.Core.List.{List, [], _∷_}
 use mathlib.Core.Logic.{_⊎_}
 use Prim.Native.Nat.{ℕ, _+_, _-_, _^_, _<_}
+use lib.Bits.{bitAnd, bitOr}
 use lib.ListN.{length, getD}
 use Rattle.vertex_set.specs.Set.{Member, Iff}
+use Rattle.families.specs.Family.{familyWords}
 
 -- Bit i of word b of a family.
 unfoldable pub At : List ℕ → ℕ → ℕ → Type 0
@@ -13,8 +15,18 @@ At f b i = Member (getD f b 0) i
 
 -- The family f has 256 words, and its bits are those of which P holds.
 pub record FamilyWhere (P : ℕ → ℕ → Type 0) (f : List ℕ) : Type 0 where
-  pub words : length f ≡ 256
-  pub each : (b i : ℕ) → b < 256 → i < 64 → Iff (At f b i) (P b i)
+  pub words : length f ≡ familyWords
+  pub each : (b i : ℕ) → b < familyWords → i < 64 → Iff (At f b i) (P b i)
+
+-- The bits of both words or, with any, of either.
+unfoldable pub mergedWord : Bool → ℕ → ℕ → ℕ
+mergedWord false x y = bitAnd x y
+mergedWord true x y = bitOr x y
+
+-- Both hold or, with any, one of them does.
+unfoldable pub Merged : Bool → Type 0 → Type 0 → Type 0
+Merged false P Q = P × Q
+Merged true P Q = P ⊎ Q
 
 -- How much the words can still grow, all together.
 unfoldable pub room : List ℕ → ℕ

@@ -1,18 +1,16 @@
 // Families of masks as words: bit i of word b is the mask b * 64 + i. The word operations on whole families, and sets of vertices
 // that are taken apart.
 ghost use mathlib.Core.Path.{_≡_};
-ghost use mathlib.Core.Logic.{_⊎_};
 ghost use Prim.Native.Nat.{_+_, _*_, _<_};
 ghost use lib.ListN.{length};
 ghost use Rattle.vertex_set.specs.Set.{Member};
-ghost use Rattle.words.specs.Words.{At, FamilyWhere, Joined, VertexOf, Without};
-
-// The words of a family: 2^14 masks.
-pub const WORDS: usize = 256;
+ghost use Rattle.families.specs.Family.{familyWords};
+ghost use Rattle.words.specs.Words.{At, FamilyWhere, Merged, mergedWord, Joined, VertexOf, Without};
+use families::WORDS;
 
 // Every word of the family becomes x.
 pub fn set_all(d: &mut [u64], x: u64)
-    requires { ⌜ length (now d) ≡ 256 ⌝ }
+    requires { ⌜ length (now d) ≡ familyWords ⌝ }
     ensures { λ _. ⌜ FamilyWhere (λ b i. Member x i) (now (d .exit)) ⌝ }
 {
     for b in 0..WORDS {
@@ -22,41 +20,37 @@ pub fn set_all(d: &mut [u64], x: u64)
 
 // The family becomes the other.
 pub fn copy_in(d: &mut [u64], s: &[u64])
-    requires { ⌜ length (now d) ≡ 256 ⌝ }
-    requires { ⌜ length (now s) ≡ 256 ⌝ }
-    ensures { λ _. ⌜ FamilyWhere (λ b i. At (now (s .entry)) b i) (now (d .exit)) ⌝ }
+    requires { ⌜ length (now d) ≡ familyWords ⌝ }
+    requires { ⌜ length (now s) ≡ familyWords ⌝ }
+    ensures { λ _. ⌜ now (d .exit) ≡ now (s .entry) ⌝ }
 {
     for b in 0..WORDS {
         d[b] = s[b];
     }
 }
 
-// The family keeps the masks that the other has.
-pub fn and_in(d: &mut [u64], s: &[u64])
-    requires { ⌜ length (now d) ≡ 256 ⌝ }
-    requires { ⌜ length (now s) ≡ 256 ⌝ }
-    ensures { λ _. ⌜ FamilyWhere (λ b i. At (now (d .entry)) b i × At (now (s .entry)) b i) (now (d .exit)) ⌝ }
+// The bits of both words or, with any, of either.
+fn merged(any: bool, x: u64, y: u64) -> u64
+    ensures { λ r. ⌜ r ≡ mergedWord any x y ⌝ }
 {
-    for b in 0..WORDS {
-        d[b] = d[b] & s[b];
-    }
+    if any { x | y } else { x & y }
 }
 
-// The family gains the masks that the other has.
-pub fn or_in(d: &mut [u64], s: &[u64])
-    requires { ⌜ length (now d) ≡ 256 ⌝ }
-    requires { ⌜ length (now s) ≡ 256 ⌝ }
-    ensures { λ _. ⌜ FamilyWhere (λ b i. At (now (d .entry)) b i ⊎ At (now (s .entry)) b i) (now (d .exit)) ⌝ }
+// The family keeps the masks that the other has or, with any, gains them.
+pub fn merge_in(any: bool, d: &mut [u64], s: &[u64])
+    requires { ⌜ length (now d) ≡ familyWords ⌝ }
+    requires { ⌜ length (now s) ≡ familyWords ⌝ }
+    ensures { λ _. ⌜ FamilyWhere (λ b i. Merged any (At (now (d .entry)) b i) (At (now (s .entry)) b i)) (now (d .exit)) ⌝ }
 {
     for b in 0..WORDS {
-        d[b] = d[b] | s[b];
+        d[b] = merged(any, d[b], s[b]);
     }
 }
 
 // The family gains the masks that the other has. Was one of them new?
 pub fn join(d: &mut [u64], s: &[u64]) -> bool
-    requires { ⌜ length (now d) ≡ 256 ⌝ }
-    requires { ⌜ length (now s) ≡ 256 ⌝ }
+    requires { ⌜ length (now d) ≡ familyWords ⌝ }
+    requires { ⌜ length (now s) ≡ familyWords ⌝ }
     ensures { λ r. ⌜ Joined (now (d .entry)) (now (s .entry)) r (now (d .exit)) ⌝ }
 {
     let mut fresh: u64 = 0;
@@ -81,7 +75,7 @@ const PATTERNS: [u64; 6] = [
 
 // The family becomes that of the masks that have the bit k.
 pub fn start_words(d: &mut [u64], k: usize)
-    requires { ⌜ length (now d) ≡ 256 ⌝ }
+    requires { ⌜ length (now d) ≡ familyWords ⌝ }
     requires { ⌜ k < 64 ⌝ }
     ensures { λ _. ⌜ FamilyWhere (λ b i. Member (b * 64 + i) k) (now (d .exit)) ⌝ }
 {

@@ -12,11 +12,11 @@ slice-aggregate-fill c = search needs
 fill-requires : tie.Need-fill-requires
 fill-requires c κs = search needs
 
-slice-aggregate-copy-family : tie.Need-slice-aggregate-copy-family
-slice-aggregate-copy-family c = search needs
+slice-aggregate-copy-in : tie.Need-slice-aggregate-copy-in
+slice-aggregate-copy-in c = search needs
 
-copy-family-requires : tie.Need-copy-family-requires
-copy-family-requires c κs = search needs
+copy-in-requires : tie.Need-copy-in-requires
+copy-in-requires c κs = search needs
 
 same-length : tie.Need-same-length
 same-length c = search needs
@@ -27,8 +27,8 @@ returns c =
     let f = k .before .before .before .before in
     let st = f .before .before .before in
     let a = st .args in (
-      k .copy-family .kept .1 .1 .0 ∙ st .pre .1,
-      subst (FamilyOf (ruleOf (a .loss) (a .graph)) (a .chosen .0) (a .target)) (sym (k .copy-family .ensures))
+      k .copy-in .kept .1 .1 .0 ∙ st .pre .1,
+      subst (FamilyOf (ruleOf (a .loss) (a .graph)) (a .chosen .0) (a .target)) (sym (k .copy-in .ensures))
           (family-of (ruleOf (a .loss) (a .graph)) (a .chosen .0) (a .target) 256 _ (st .pre .0) refl (f .fill .ensures .1)),
     )
 
@@ -38,7 +38,7 @@ family-of-spec =
     (tie.spec
     slice-aggregate-fill
     fill-requires
-    slice-aggregate-copy-family
-    copy-family-requires
+    slice-aggregate-copy-in
+    copy-in-requires
     same-length
     returns)

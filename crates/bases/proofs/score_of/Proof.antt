@@ -3,8 +3,8 @@ use native.Mathlib.Omega.{arith}
 use Rattle.vertex_set.proofs.Sums.{sum-over-same}
 use Rattle.family_lists.proofs.MinimalSets.{least-of-minimal}
 use Rattle.bases.specs.Score.{pointsAt}
-use Rattle.bases.proofs.Bridge.{score-of}
-use Rattle.bases.proofs.Scores.{score-over}
+use Rattle.bases.proofs.Bridge.{minimal-within, score-of}
+use Rattle.bases.proofs.Scores.{score-base}
 use Rattle.bases.proofs.Formed.{few, points-small}
 use borrow.Author.Needs.{needs}
 use Rattle.bases.proofs.score_of.Statement.{statement}
@@ -57,10 +57,14 @@ returns c =
     let a = st .args in
     let fits : h .chosen .result .0 < 2 ^ 64 = h .chosen .ok .1 .1 .0 .1 in
     let k = few (a .loss) (a .s) (h .chosen .result .0) (st .pre .0) (h .chosen .ensures) in
-    let r = score-of (a .loss) (a .s) (a .graph) (a .target) (h .chosen .result .0) _ fits k (h .chosen .ensures) (f .family-of .ensures .1) (c .least-sum .result) _
+    let r = score-of (a .loss) (a .s) (a .graph) (a .target) (h .chosen .result .0) (h .chosen .ensures) _ fits k (f .family-of .ensures .1) (c .least-sum .result) _
     (λ x. sum-over-same _ (pointsAt (a .loss) (a .s)) x (v .values-of .ensures .each))
     (least-of-minimal (h .chosen .result .0) _ _ _ (c .least-sum .result) fits (m .minimal-members .ensures) (c .least-sum .ensures)) in
-    record { all = r; base = score-over (a .loss) (a .s) (a .graph) (a .target) (h .chosen .result .0) _ fits k (h .chosen .ensures) (f .family-of .ensures .1) (c .least-sum .result) r }
+    record {
+      all = r;
+      base = λ l b. score-base (a .loss) (a .s) (a .graph) (a .target) (c .least-sum .result) l b
+          (minimal-within (a .loss) (a .s) (a .graph) (a .target) (h .chosen .result .0) (h .chosen .ensures) _ fits k (f .family-of .ensures .1)) .to r;
+    }
 
 pub score-of-spec : {M : Type 1} → statement M
 score-of-spec =

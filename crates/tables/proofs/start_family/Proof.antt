@@ -10,15 +10,15 @@ use Rattle.tables.proofs.start_family.Tie as tie
 has-requires : tie.Need-has-requires
 has-requires c κs = search needs
 
-rank-of-requires : tie.Need-rank-of-requires
-rank-of-requires c κs = search needs
+place-among-requires : tie.Need-place-among-requires
+place-among-requires c κs = search needs
 
 start-words-requires : tie.Need-start-words-requires
 start-words-requires c κs =
     let g = c .before .before .before .before .before in
     let v = g .args .v in
     let h : v < 64 = g .pre .1 in
-    let e = c .before .rank-of .ensures in
+    let e = c .before .place-among .ensures in
     let l = rank-le (g .args .chosen .0) v in
     (g .pre .0, omega arith)
 
@@ -32,7 +32,7 @@ returns : tie.Need-returns
 returns c =
     let r = c .before .before .before .before in
     let h = r .before .before in
-    picked-family (h .before .before .args .chosen .0) _ _ _ (h .has .ensures .yes (r .before .if1 .taken)) (r .rank-of .ensures) (c .before .before .start-words .ensures)
+    picked-family (h .before .before .args .chosen .0) _ _ _ (h .has .ensures .yes (r .before .if1 .taken)) (r .place-among .ensures) (c .before .before .start-words .ensures)
 
 same-length-2 : tie.Need-same-length-2
 same-length-2 c = search needs
@@ -48,7 +48,7 @@ start-family-spec =
     tie.close
     (tie.spec
     has-requires
-    rank-of-requires
+    place-among-requires
     start-words-requires
     set-all-requires
     same-length

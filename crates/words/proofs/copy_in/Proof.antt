@@ -4,8 +4,7 @@ use mathlib.Core.Path.{refl}
 use Prim.Native.Nat.{_-_}
 use lib.ListN.{getD}
 use borrow.Author.Needs.{needs}
-use Rattle.words.proofs.Words.{Mapped, mapped-more}
-use Rattle.words.proofs.Families.{copy-family}
+use Rattle.words.proofs.Words.{Mapped, mapped-more, mapped-copy}
 use Rattle.words.proofs.copy_in.Statement.{statement}
 use Rattle.words.proofs.copy_in.Tie as tie
 
@@ -43,7 +42,7 @@ same-length : tie.Need-same-length Inv-loop μ-loop
 same-length c = search needs
 
 returns : tie.Need-returns Inv-loop μ-loop
-returns c = copy-family _ _ _ _ (c .before .loop .inv) (c .loop-test .left)
+returns c = mapped-copy _ _ _ _ (search needs) (c .before .loop .inv) (c .loop-test .left)
 
 pub copy-in-spec : {M : Type 1} → statement M
 copy-in-spec =

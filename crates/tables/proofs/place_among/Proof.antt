@@ -1,4 +1,4 @@
--- `tables::rank_of` meets its contract: the ones of a remainder by 2^v are a rank.
+-- `tables::place_among` meets its contract: the ones of a remainder by 2^v are a rank.
 -- Assumes nothing.
 use Prim.Native.Nat.{_<_}
 use native.Mathlib.Omega.{arith}
@@ -6,8 +6,8 @@ use lib.Pow.{pow-pos}
 use borrow.Author.Needs.{needs}
 use Rattle.vertex_set.proofs.Sets.{shifted-one}
 use Rattle.tables.proofs.Starts.{rank-le, rank-counted}
-use Rattle.tables.proofs.rank_of.Statement.{statement}
-use Rattle.tables.proofs.rank_of.Tie as tie
+use Rattle.tables.proofs.place_among.Statement.{statement}
+use Rattle.tables.proofs.place_among.Tie as tie
 
 shl-result : tie.Need-shl-result
 shl-result c = search needs
@@ -25,5 +25,5 @@ cast-result c =
 returns : tie.Need-returns
 returns c = rank-counted (c .args .chosen) (c .args .v) (c .pre)
 
-pub rank-of-spec : {M : Type 1} → statement M
-rank-of-spec = tie.close (tie.spec shl-result rem-result cast-result returns)
+pub place-among-spec : {M : Type 1} → statement M
+place-among-spec = tie.close (tie.spec shl-result rem-result cast-result returns)

@@ -1,17 +1,17 @@
--- `lanes::all_of` meets its contract. The invariant: out is the family where all vertices passed are held.
+-- `lanes::scan` meets its contract. The invariant: out is the family where all vertices passed are held or, with any, some are.
 -- Assumes nothing.
 use Prim.Native.Nat.{_+_, _-_, _*_}
 use native.Mathlib.Omega.{arith}
 use borrow.Author.Needs.{needs}
-use Rattle.lanes.proofs.Scans.{Scan, AllPassed, all-first, all-more, all-done}
-use Rattle.lanes.proofs.all_of.Statement.{statement}
-use Rattle.lanes.proofs.all_of.Tie as tie
+use Rattle.lanes.proofs.Scans.{Scan, scan-first, scan-more, scan-done}
+use Rattle.lanes.proofs.scan.Statement.{statement}
+use Rattle.lanes.proofs.scan.Tie as tie
 
 abbrev Inv-loop : tie.InvT-loop
-Inv-loop w row out₀ first at left₀ out left = Scan AllPassed w row left out
+Inv-loop w row any out₀ first at left₀ out left = Scan any w row left out
 
 abbrev μ-loop : tie.MeasureT-loop
-μ-loop w row out₀ first at left₀ out left = left
+μ-loop w row any out₀ first at left₀ out left = left
 
 lowest-requires : tie.Need-lowest-requires Inv-loop μ-loop
 lowest-requires c κs = search needs
@@ -45,7 +45,7 @@ loop-holds c =
     let k = c .before .before .before in
     let l = k .before .before .before in
     let v = l .lowest .result in
-    all-first _ _ v _ (v * 256 + 256 - v * 256) _ (l .lowest .ensures .member) (c .without .ensures) (omega arith) (k .copy-in .ensures)
+    scan-first _ _ _ v _ (v * 256 + 256 - v * 256) _ (l .lowest .ensures .member) (c .without .ensures) (omega arith) (search needs) (k .copy-in .ensures)
 
 lowest-requires-2 : tie.Need-lowest-requires-2 Inv-loop μ-loop
 lowest-requires-2 c κs = search needs
@@ -53,23 +53,23 @@ lowest-requires-2 c κs = search needs
 mul-a : tie.Need-mul-a Inv-loop μ-loop
 mul-a c = search needs
 
-add-and-in : tie.Need-add-and-in Inv-loop μ-loop
-add-and-in c = search needs
+add-merge-in : tie.Need-add-merge-in Inv-loop μ-loop
+add-merge-in c = search needs
 
-mul-and-in : tie.Need-mul-and-in Inv-loop μ-loop
-mul-and-in c = search needs
+mul-merge-in : tie.Need-mul-merge-in Inv-loop μ-loop
+mul-merge-in c = search needs
 
-sub-and-in : tie.Need-sub-and-in Inv-loop μ-loop
-sub-and-in c = search needs
+sub-merge-in : tie.Need-sub-merge-in Inv-loop μ-loop
+sub-merge-in c = search needs
 
-part-and-in-start : tie.Need-part-and-in-start Inv-loop μ-loop
-part-and-in-start c = search needs
+part-merge-in-start : tie.Need-part-merge-in-start Inv-loop μ-loop
+part-merge-in-start c = search needs
 
-part-and-in-end : tie.Need-part-and-in-end Inv-loop μ-loop
-part-and-in-end c = search needs
+part-merge-in-end : tie.Need-part-merge-in-end Inv-loop μ-loop
+part-merge-in-end c = search needs
 
-and-in-requires : tie.Need-and-in-requires Inv-loop μ-loop
-and-in-requires c κs = search needs
+merge-in-requires : tie.Need-merge-in-requires Inv-loop μ-loop
+merge-in-requires c κs = search needs
 
 without-requires-2 : tie.Need-without-requires-2 Inv-loop μ-loop
 without-requires-2 c κs = search needs
@@ -82,16 +82,16 @@ loop-again c =
     let a = c .before .before .before in
     let l = a .before .before .before in
     let v = l .lowest2 .result in
-    all-more _ _ _ v _ (v * 256 + 256 - v * 256) _ _ (l .lowest2 .ensures .member) (c .without2 .ensures) (omega arith) (l .before .before .loop .inv) (a .and-in .ensures)
+    scan-more _ _ _ _ v _ (v * 256 + 256 - v * 256) _ _ (l .lowest2 .ensures .member) (c .without2 .ensures) (omega arith) (l .before .before .loop .inv) (a .merge-in .ensures)
 
 same-length : tie.Need-same-length Inv-loop μ-loop
 same-length c = search needs
 
 returns : tie.Need-returns Inv-loop μ-loop
-returns c = all-done _ _ _ _ (c .loop-test .left) (c .before .loop .inv)
+returns c = scan-done _ _ _ _ _ (c .loop-test .left) (c .before .loop .inv)
 
-pub all-of-spec : {M : Type 1} → statement M
-all-of-spec =
+pub scan-spec : {M : Type 1} → statement M
+scan-spec =
     tie.close
     (tie.spec
     Inv-loop
@@ -108,12 +108,12 @@ all-of-spec =
     loop-holds
     lowest-requires-2
     mul-a
-    add-and-in
-    mul-and-in
-    sub-and-in
-    part-and-in-start
-    part-and-in-end
-    and-in-requires
+    add-merge-in
+    mul-merge-in
+    sub-merge-in
+    part-merge-in-start
+    part-merge-in-end
+    merge-in-requires
     without-requires-2
     loop-less
     loop-again

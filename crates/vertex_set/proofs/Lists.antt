@@ -1,0 +1,63 @@
+-- Lists without repetition, and lists of exactly the sets of which a predicate holds.
+-- Assumes nothing.
+use mathlib.Core.Path.{_≡_, refl, sym, ap, subst, _∙_}
+use mathlib.Core.List.{List, [], _∷_}
+use mathlib.Core.Logic.{_⊎_, inl, inr, ⊎-elim}
+use Prim.Native.Nat.{ℕ, suc, _≤_}
+use native.Mathlib.Omega.{arith}
+use lib.ListN.{length}
+use Rattle.vertex_set.specs.Set.{Iff}
+use Rattle.vertex_set.specs.Order.{Listed, Once, Before, Ordered, ListsExactly}
+use Rattle.vertex_set.proofs.Cases.{same-or}
+use Rattle.vertex_set.proofs.Sorted.{not-before-self, ordered-same}
+
+pub listed-or : (l : List ℕ) (x : ℕ) → Listed l x ⊎ (Listed l x → ⊥)
+listed-or [] x = inr (λ h. h)
+listed-or (y ∷ l) x = ⊎-elim (λ e. inl (inl e)) (λ n. ⊎-elim (λ h. inl (inr h)) (λ m. inr (⊎-elim n m)) (listed-or l x)) (same-or x y)
+
+-- a list without one place at which x stands
+record Removed (l : List ℕ) (x : ℕ) : Type 0 where
+  rest : List ℕ
+  shorter : length l ≡ suc (length rest)
+  kept : (y : ℕ) → Listed l y → (y ≡ x) ⊎ Listed rest y
+
+remove : (l : List ℕ) (x : ℕ) → Listed l x → Removed l x
+remove [] x h = absurd h
+remove (y ∷ l) x (inl e) = record { rest = l; shorter = refl; kept = λ z. ⊎-elim (λ q. inl (q ∙ sym e)) (λ q. inr q) }
+remove (y ∷ l) x (inr h) =
+    let r = remove l x h in
+    record {
+      rest = y ∷ r .rest;
+      shorter = ap suc (r .shorter);
+      kept = λ z. ⊎-elim (λ q. inr (inl q)) (λ q. ⊎-elim (λ e. inl e) (λ k. inr (inr k)) (r .kept z q));
+    }
+
+-- a list without repetition is no longer than one that has all of it
+pub once-le : (a b : List ℕ) → Once a → ((x : ℕ) → Listed a x → Listed b x) → length a ≤ length b
+once-le [] b o s = omega arith
+once-le (x ∷ a) b o s =
+    let r = remove b x (s x (inl refl)) in
+    let h = once-le a (r .rest) (o .1) (λ y i. ⊎-elim (λ e. absurd (o .0 (subst (Listed a) e i))) (λ k. k) (r .kept y (s y (inr i)))) in
+    let q = r .shorter in
+    omega arith
+
+-- and where it is as long, it has all of that one
+pub once-all : (a b : List ℕ) → Once a → ((x : ℕ) → Listed a x → Listed b x) → length b ≤ length a → (x : ℕ) → Listed b x → Listed a x
+once-all a b o s l x i =
+    ⊎-elim (λ h. h) (λ n. absurd (let h = once-le (x ∷ a) b (n, o) (λ y. ⊎-elim (λ e. subst (Listed b) (sym e) i) (s y)) in omega arith)) (listed-or a x)
+
+pub ordered-once : (l : List ℕ) → Ordered l → Once l
+ordered-once [] o = tt
+ordered-once (x ∷ l) o = (λ h. not-before-self x (o .0 x h), ordered-once l (o .1))
+
+-- ---- the list of exactly the sets of which a predicate holds
+
+-- there is one such list only
+pub exactly-unique : (P : ℕ → Type 0) (l k : List ℕ) → ListsExactly P l → ListsExactly P k → l ≡ k
+exactly-unique P l k p q =
+    ordered-same l k (p .ordered) (q .ordered) (λ x. record { to = λ h. q .whole x (p .sound x h); from = λ h. p .whole x (q .sound x h) })
+
+-- and it lists what another predicate holds of, if both hold of the same sets
+pub exactly-same : (P Q : ℕ → Type 0) (l : List ℕ) → ((x : ℕ) → Iff (P x) (Q x)) → ListsExactly P l → ListsExactly Q l
+exactly-same P Q l i p =
+    record { sound = λ x h. i x .to (p .sound x h); whole = λ x h. p .whole x (i x .from h); ordered = p .ordered }

@@ -8,6 +8,7 @@ use native.Mathlib.Omega.{arith}
 use lib.Count.{ones}
 use lib.ListN.{List·getD-eq-default}
 use Rattle.vertex_set.proofs.Cases.{less-or}
+use Rattle.setup.specs.Bounds.{largest}
 use Rattle.setup.specs.declared.Value.{Value}
 use Rattle.setup.specs.declared.Value.the-variants.{Blank, Of}
 use Rattle.setup.specs.declared.Vertex.{Vertex}
@@ -20,7 +21,7 @@ pub few : (loss : Bool) (s : Setup) (chosen : ℕ) → WellFormed s → ChosenSe
 few false s chosen w c = let a = w .initial in let b = c .size in omega arith
 few true s chosen w c = let a = w .losable in let b = c .size in omega arith
 
-in-range : (x : Value) → InRange x → points x ≤ 1000000
+in-range : (x : Value) → InRange x → points x ≤ largest
 in-range Blank h = omega arith
 in-range (Of n) h = h
 
@@ -28,7 +29,7 @@ in-range (Of n) h = h
 outside : (s : Setup) → WellFormed s → (v : ℕ) → s .count ≤ v → vertexAt s v ≡ unusedVertex
 outside s w v l = ⊎-elim (λ k. w .unused v k l) (λ k. List·getD-eq-default (s .vertices) unusedVertex (let p = w .shaped .places in omega arith)) (less-or v 64)
 
-pub points-range : (loss : Bool) (s : Setup) → WellFormed s → (v : ℕ) → pointsAt loss s v ≤ 1000000
+pub points-range : (loss : Bool) (s : Setup) → WellFormed s → (v : ℕ) → pointsAt loss s v ≤ largest
 points-range loss s w v =
     ⊎-elim
     (λ l. in-range (valueOf loss (vertexAt s v)) (range loss (w .used v l)))

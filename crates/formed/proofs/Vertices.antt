@@ -8,6 +8,7 @@ use native.Mathlib.Nat.{not-le-of-lt}
 use lib.Dec.{leb, eqb}
 use Rattle.vertex_set.specs.Set.{Decides}
 use Rattle.vertex_set.proofs.Decisions.{decide-yes, decide-iff, decide-leb, decide-eqb}
+use Rattle.setup.specs.Bounds.{largest, highest}
 use Rattle.setup.specs.declared.Kind.{Kind}
 use Rattle.setup.specs.declared.Kind.the-variants.{Credential, Account}
 use Rattle.setup.specs.declared.Value.{Value}
@@ -20,8 +21,8 @@ use Rattle.formed.specs.Parts.{VertexFits}
 pub in-range-blank : (x : Value) → x ≡ Blank → Decides (InRange x) true
 in-range-blank x e = decide-yes (subst InRange (sym e) tt)
 
-pub in-range-of : (x : Value) (n : ℕ) → x ≡ Of n → Decides (InRange x) (leb n 1000000)
-in-range-of x n e = subst (λ (y : Value). Decides (InRange y) (leb n 1000000)) (sym e) (decide-leb n 1000000)
+pub in-range-of : (x : Value) (n : ℕ) → x ≡ Of n → Decides (InRange x) (leb n largest)
+in-range-of x n e = subst (λ (y : Value). Decides (InRange y) (leb n largest)) (sym e) (decide-leb n largest)
 
 pub not-blank : (x : Value) (n : ℕ) → x ≡ Of n → x ≡ Blank → ⊥
 not-blank x n p q = let z : _≡_ {A = ℕ} 0 1 = cc in omega arith
@@ -29,8 +30,8 @@ not-blank x n p q = let z : _≡_ {A = ℕ} 0 1 = cc in omega arith
 pub not-credential : (k : Kind) → k ≡ Account → k ≡ Credential → ⊥
 not-credential k p q = let z : _≡_ {A = ℕ} 0 1 = cc in omega arith
 
-pub valid-by-rank : (x : Vertex) → InRange (x .start) → InRange (x .loss) → Decides (ValidVertex x) (leb (x .rank) 9)
-valid-by-rank x p q = decide-iff (record { to = λ h. record { start = p; loss = q; rank = h }; from = λ h. h .rank }) (decide-leb (x .rank) 9)
+pub valid-by-rank : (x : Vertex) → InRange (x .start) → InRange (x .loss) → Decides (ValidVertex x) (leb (x .rank) highest)
+valid-by-rank x p q = decide-iff (record { to = λ h. record { start = p; loss = q; rank = h }; from = λ h. h .rank }) (decide-leb (x .rank) highest)
 
 pub unused-by-rank : (x : Vertex) → x .kind ≡ Credential → x .start ≡ Blank → x .loss ≡ Blank → Decides (x ≡ unusedVertex) (eqb (x .rank) 0)
 unused-by-rank x k p q =

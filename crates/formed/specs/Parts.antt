@@ -4,6 +4,7 @@ use mathlib.Core.Bool.{true, false}
 use Prim.Native.Nat.{ℕ, _≤_, _<_}
 use lib.ListN.{length}
 use Rattle.vertex_set.specs.Set.{Within, Member}
+use Rattle.setup.specs.Bounds.{mostEdges, mostChosen}
 use Rattle.setup.specs.declared.Vertex.{Vertex}
 use Rattle.setup.specs.declared.Rows.{Rows}
 use Rattle.setup.specs.declared.Setup.{Setup}
@@ -37,6 +38,6 @@ pub record PlacesFit (s : Setup) : Type 0 where
   pub each : (v : ℕ) → v < 64 → PlaceFits s v
 
 pub record CountsFit (s : Setup) : Type 0 where
-  pub edges : edgeCount (s .graph) ≤ 256
-  pub initial : chosenCount false s ≤ 14
-  pub losable : chosenCount true s ≤ 14
+  pub edges : edgeCount (s .graph) ≤ mostEdges
+  pub initial : chosenCount false s ≤ mostChosen
+  pub losable : chosenCount true s ≤ mostChosen

@@ -2,21 +2,22 @@
 use mathlib.Core.Path.{_≡_}
 use mathlib.Core.Bool.{true, false}
 use Prim.Native.Nat.{ℕ, _≤_, _<_}
+use Rattle.setup.specs.Bounds.{largest, highest, mostEdges, mostChosen}
 use Rattle.setup.specs.declared.Value.{Value}
 use Rattle.setup.specs.declared.Value.the-variants.{Blank, Of}
 use Rattle.setup.specs.declared.Vertex.{Vertex}
 use Rattle.setup.specs.declared.Setup.{Setup}
 use Rattle.setup.specs.Setup.{unusedVertex, vertexAt, Edge, edgeCount, chosenCount, Shaped}
 
--- A value is in range: a blank, or a number up to 1,000,000.
+-- A value is in range: a blank, or a number up to the largest.
 abbrev pub InRange : Value → Type 0
 InRange Blank = Unit {0}
-InRange (Of n) = n ≤ 1000000
+InRange (Of n) = n ≤ largest
 
 pub record ValidVertex (x : Vertex) : Type 0 where
   pub start : InRange (x .start)
   pub loss : InRange (x .loss)
-  pub rank : x .rank ≤ 9
+  pub rank : x .rank ≤ highest
 
 pub record WellFormed (s : Setup) : Type 0 where
   pub shaped : Shaped s
@@ -29,7 +30,7 @@ pub record WellFormed (s : Setup) : Type 0 where
   -- edges run between vertices of the setup, so that a place not in use has empty rows; a recovery edge stands in both graphs
   pub ends : (f v c : ℕ) → Edge (s .graph) f v c → (f < s .count) × (v < s .count)
   pub marked : (f v c : ℕ) → Edge (s .recovery) f v c → Edge (s .graph) f v c
-  -- at most 256 edges, 14 initial and 14 losable vertices
-  pub edges : edgeCount (s .graph) ≤ 256
-  pub initial : chosenCount false s ≤ 14
-  pub losable : chosenCount true s ≤ 14
+  -- the most edges, initial and losable vertices
+  pub edges : edgeCount (s .graph) ≤ mostEdges
+  pub initial : chosenCount false s ≤ mostChosen
+  pub losable : chosenCount true s ≤ mostChosen

@@ -16,20 +16,12 @@ use vertex_set::VertexSet;
 
 const VERTICES: usize = 64;
 
-pub const MAX_VALUE: u64 = 1_000_000;
-
-pub const MAX_RANK: u64 = 9;
-
-pub const MAX_EDGES: u32 = 256;
-
-pub const MAX_CHOSEN: u32 = 14;
-
 fn value_in_range(x: Value) -> bool
     ensures { λ r. ⌜ Decides (InRange x) r ⌝ }
 {
     match x {
         Value::Blank => true,
-        Value::Of(n) => n <= MAX_VALUE,
+        Value::Of(n) => n <= setup::MAX_VALUE,
     }
 }
 
@@ -49,7 +41,7 @@ fn valid_vertex(x: Vertex) -> bool
     let loss = x.loss;
     if value_in_range(start) {
         if value_in_range(loss) {
-            return x.rank <= MAX_RANK;
+            return x.rank <= setup::MAX_RANK;
         }
     }
     false
@@ -154,15 +146,15 @@ fn counts_fit(s: Setup) -> bool
     ensures { λ r. ⌜ Decides (CountsFit s) r ⌝ }
 {
     let graph = s.graph;
-    if MAX_EDGES < edge_count(graph) {
+    if setup::MAX_EDGES < edge_count(graph) {
         return false;
     }
     let initial = setup::chosen(s, false);
-    if MAX_CHOSEN < u64::count_ones(initial.0) {
+    if setup::MAX_CHOSEN < u64::count_ones(initial.0) {
         return false;
     }
     let losable = setup::chosen(s, true);
-    u64::count_ones(losable.0) <= MAX_CHOSEN
+    u64::count_ones(losable.0) <= setup::MAX_CHOSEN
 }
 
 // Question 12: is the setup one that some accepted sheet yields?

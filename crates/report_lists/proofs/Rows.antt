@@ -9,6 +9,7 @@ use native.Mathlib.Numerals.{add-one}
 use native.Mathlib.Omega.{arith}
 use lib.ListN.{length, getD, take, length-take}
 use lib.Seq.{drop-cons, getD-take}
+use Rattle.setup.specs.Bounds.{largest}
 use Rattle.vertex_set.specs.Order.{sumOver}
 use Rattle.vertex_set.proofs.Cases.{less-or}
 use Rattle.vertex_set.proofs.Sums.{sum-bound}
@@ -20,11 +21,11 @@ use Rattle.report_facts.specs.Parts.{Part}
 use Rattle.report_facts.proofs.Parts.{part-none, part-one, part-then, part-length, wrote-inside}
 use Rattle.report_lists.specs.Lists.{RowsReady, rowOf, rowsFrom, RowsWent}
 
-sum-small : (values : List ℕ) (x : ℕ) → ((v : ℕ) → getD values v 0 ≤ 1000000) → sumOver (λ (v : ℕ). getD values v 0) x < 100000000
+sum-small : (values : List ℕ) (x : ℕ) → ((v : ℕ) → getD values v 0 ≤ largest) → sumOver (λ (v : ℕ). getD values v 0) x < 100000000
 unfolding sumOver
-sum-small values x h = le-lt _ (sum-bound (λ (v : ℕ). getD values v 0) 1000000 64 x (λ v k. h v))
+sum-small values x h = le-lt _ (sum-bound (λ (v : ℕ). getD values v 0) largest 64 x (λ v k. h v))
   where
-    le-lt : (n : ℕ) → n ≤ 64 * 1000000 → n < 100000000
+    le-lt : (n : ℕ) → n ≤ 64 * largest → n < 100000000
     le-lt n k = omega arith
 
 module _ (sheet from to values list : List ℕ) (loss : Bool) (target i n row : ℕ) (h : RowsReady sheet from to values list target i n) (l : row < n) where

@@ -7,6 +7,7 @@ use lib.Count.{ones}
 use lib.ListN.{length, getD, take, drop}
 use Rattle.vertex_set.specs.Set.{Member, Iff}
 use Rattle.vertex_set.specs.Order.{sumOver}
+use Rattle.setup.specs.Bounds.{largest}
 use Rattle.setup.specs.declared.Graph.{Graph}
 use Rattle.setup.specs.declared.Setup.{Setup}
 use Rattle.setup.specs.Setup.{ChosenSet}
@@ -31,7 +32,7 @@ pub record RowsReady (sheet from to values list : List ℕ) (target i n : ℕ) :
   pub short : length (nameIn sheet target) ≤ 16
   pub sets : (j : ℕ) → j < n → SetReady sheet from to (getD list j 0)
   pub longValues : length values ≡ 64
-  pub small : (v : ℕ) → getD values v 0 ≤ 1000000
+  pub small : (v : ℕ) → getD values v 0 ≤ largest
   pub next : i ≤ n
   pub here : n ≤ length list
 

@@ -1,3 +1,4 @@
+pub mod Bounds
 pub mod Calls
 pub mod Inner
 pub mod Setup

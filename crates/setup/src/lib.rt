@@ -6,6 +6,16 @@ ghost use Rattle.setup.specs.Setup.{given, valueOf, ChosenSet, WithoutRe
 ghost use Rattle.setup.specs.Inner.{RowsLess};
 use vertex_set::VertexSet;
 
+// Document 01's bounds: the largest start or loss value, the highest rank, the most edges, and the
+// most initial (losable) vertices.
+pub const MAX_VALUE: u64 = 1_000_000;
+
+pub const MAX_RANK: u64 = 9;
+
+pub const MAX_EDGES: u32 = 256;
+
+pub const MAX_CHOSEN: u32 = 14;
+
 pub enum Kind {
     Credential,
     Account,

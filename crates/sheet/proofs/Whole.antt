@@ -9,6 +9,7 @@ use native.Mathlib.Numerals.{add-one}
 use native.Mathlib.Omega.{arith}
 use lib.ListN.{length, take, drop}
 use borrow.Author.Tests.{le-leb, lt-leb}
+use Rattle.setup.specs.Bounds.{mostBytes}
 use Rattle.vertex_set.proofs.Cases.{false-true}
 use Rattle.sheet_format.specs.declared.Reading.{Reading}
 use Rattle.sheet_format.specs.Text.{linesOf, all}
@@ -74,23 +75,23 @@ module _ (s : List ℕ) (items : Items) where
 
 -- ---- the whole
 
-pub too-long : (s : List ℕ) (r : Reading) → 16384 < length s → r ≡ refused 1 0 → r ≡ readSheet s
+pub too-long : (s : List ℕ) (r : Reading) → mostBytes < length s → r ≡ refused 1 0 → r ≡ readSheet s
 unfolding readSheet question1
-too-long s r h e = rw (lt-leb (length s) 16384 h) e
+too-long s r h e = rw (lt-leb (length s) mostBytes h) e
 
-pub no-text : (s : List ℕ) (r : Reading) → length s ≤ 16384 → question2 s ≡ false → r ≡ refused 2 0 → r ≡ readSheet s
+pub no-text : (s : List ℕ) (r : Reading) → length s ≤ mostBytes → question2 s ≡ false → r ≡ refused 2 0 → r ≡ readSheet s
 unfolding readSheet question1
-no-text s r h q e = rw (le-leb (length s) 16384 h, q) e
+no-text s r h q e = rw (le-leb (length s) mostBytes h, q) e
 
 some-text : (s : List ℕ) → question2 s ≡ true → 0 < length s
 unfolding question2 endsInLF all
 some-text [] q = absurd (false-true q)
 some-text (b ∷ s) q = omega arith
 
-module _ (s : List ℕ) (short : length s ≤ 16384) (text : question2 s ≡ true) (e : ℕ) (found : e ≡ 0 + until 10 s) where
+module _ (s : List ℕ) (short : length s ≤ mostBytes) (text : question2 s ≡ true) (e : ℕ) (found : e ≡ 0 + until 10 s) where
   lines : readSheet s ≡ readLines AtFirstHeader noRows 1 (take e s ∷ linesOf (drop (e + 1) s))
   unfolding readSheet question1
-  lines = rw (le-leb (length s) 16384 short, text) (ap (readLines AtFirstHeader noRows 1) (line-at s 0 e (some-text s text) found ∙ rw (sub-zero e)))
+  lines = rw (le-leb (length s) mostBytes short, text) (ap (readLines AtFirstHeader noRows 1) (line-at s 0 e (some-text s text) found ∙ rw (sub-zero e)))
 
   pub no-header : (r : Reading) → question3 firstHeader (take e s) ≡ false → r ≡ refused 3 1 → r ≡ readSheet s
   no-header r h q = q ∙ sym (lines ∙ header1-no noRows 1 (take e s) (linesOf (drop (e + 1) s)) h)

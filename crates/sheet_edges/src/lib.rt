@@ -9,7 +9,7 @@ ghost use lib.Dec.{eqb};
 ghost use Rattle.setup.specs.Setup.{rowOf};
 ghost use Rattle.sheet_edges.specs.Edges.{withNeed, ReadsEdges};
 
-const MAX_EDGES: usize = 256;
+const MAX_EDGES: usize = setup::MAX_EDGES as usize;
 
 pub struct Edges {
     pub number: u64,

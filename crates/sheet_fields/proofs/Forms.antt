@@ -9,11 +9,12 @@ use lib.ListN.{length, getD}
 use lib.Dec.{eqb, leb}
 use borrow.Author.Tests.{ne-eqb, eqb-true, le-leb, lt-leb, leb-true}
 use Rattle.vertex_set.proofs.Cases.{byTest, false-true}
+use Rattle.setup.specs.Bounds.{largest}
 use Rattle.setup.specs.declared.Kind.the-variants.{Credential, Account}
 use Rattle.setup.specs.declared.Value.the-variants.{Blank, Of}
 use Rattle.sheet_format.specs.Text.{sameText, all}
 use Rattle.sheet_format.specs.Fields.{isDigit, isNumber, numberOf, isNumberTo, isKind, kindOf, isValue, valueOf}
-use Rattle.sheet_fields.specs.Forms.{cappedNumber, ReadsKind, ReadsValue}
+use Rattle.sheet_fields.specs.Forms.{cappedNumber, ReadsKind, ReadsValue, tooLarge}
 
 -- ---- texts of one byte
 
@@ -48,20 +49,20 @@ kind-other f h n =
 -- ---- numbers
 
 -- a bound below the cap is tested on what the code has of the number
-pub number-to : (most : ℕ) (f : List ℕ) → most ≤ 1000000 → isNumberTo most f ≡ leb (cappedNumber f) most
+pub number-to : (most : ℕ) (f : List ℕ) → most ≤ largest → isNumberTo most f ≡ leb (cappedNumber f) most
 unfolding isNumberTo cappedNumber
 number-to most f h = byTest (isNumber f) yes-case no-case
   where
-    yes-case : isNumber f ≡ true → (isNumber f && leb (numberOf f) most) ≡ leb (cond (isNumber f) (min (numberOf f) 1000001) 1000001) most
+    yes-case : isNumber f ≡ true → (isNumber f && leb (numberOf f) most) ≡ leb (cond (isNumber f) (min (numberOf f) tooLarge) tooLarge) most
     yes-case e =
         rw e (byTest (leb (numberOf f) most)
-        (λ t. let l = leb-true (numberOf f) most t in t ∙ sym (le-leb (min (numberOf f) 1000001) most (omega arith)))
-        (λ t. let l = borrow.Author.Tests.leb-false (numberOf f) most t in t ∙ sym (lt-leb (min (numberOf f) 1000001) most (omega arith))))
+        (λ t. let l = leb-true (numberOf f) most t in t ∙ sym (le-leb (min (numberOf f) tooLarge) most (omega arith)))
+        (λ t. let l = borrow.Author.Tests.leb-false (numberOf f) most t in t ∙ sym (lt-leb (min (numberOf f) tooLarge) most (omega arith))))
 
-    no-case : isNumber f ≡ false → (isNumber f && leb (numberOf f) most) ≡ leb (cond (isNumber f) (min (numberOf f) 1000001) 1000001) most
-    no-case e = rw e (sym (lt-leb 1000001 most (omega arith)))
+    no-case : isNumber f ≡ false → (isNumber f && leb (numberOf f) most) ≡ leb (cond (isNumber f) (min (numberOf f) tooLarge) tooLarge) most
+    no-case e = rw e (sym (lt-leb tooLarge most (omega arith)))
 
-pub number-small : (f : List ℕ) → cappedNumber f < 1000001 → (isNumber f ≡ true) × (numberOf f ≡ cappedNumber f)
+pub number-small : (f : List ℕ) → cappedNumber f < tooLarge → (isNumber f ≡ true) × (numberOf f ≡ cappedNumber f)
 unfolding cappedNumber
 number-small f h =
     byTest (isNumber f)
@@ -76,28 +77,28 @@ not-dash (b ∷ f) h = byTest (eqb b 45) (λ e. absurd (false-true (rw (eqb-true
 
 -- ---- values
 
-pub value-number : (f : List ℕ) (n : ℕ) → n ≡ cappedNumber f → n < 1000001 → ReadsValue f (record { ok = true; value = Of n })
+pub value-number : (f : List ℕ) (n : ℕ) → n ≡ cappedNumber f → n < tooLarge → ReadsValue f (record { ok = true; value = Of n })
 unfolding isValue valueOf
 value-number f n q h =
     let s = number-small f (rw q at h) in
     let d = not-dash f (s .0) in
     record {
-      answer = rw d (sym (number-to 1000000 f (omega arith) ∙ le-leb (cappedNumber f) 1000000 (omega arith)));
+      answer = rw d (sym (number-to largest f (omega arith) ∙ le-leb (cappedNumber f) largest (omega arith)));
       value = λ k. rw (d, s .1) (ap Of q);
     }
 
-pub value-long : (f : List ℕ) (n : ℕ) → n ≡ cappedNumber f → 1000001 ≤ n → (length f ≡ 1 → ⊥) → ReadsValue f (record { ok = false; value = Blank })
+pub value-long : (f : List ℕ) (n : ℕ) → n ≡ cappedNumber f → tooLarge ≤ n → (length f ≡ 1 → ⊥) → ReadsValue f (record { ok = false; value = Blank })
 unfolding isValue
 value-long f n q h l =
     record {
-      answer = rw (not-one f 45 l) (sym (number-to 1000000 f (omega arith) ∙ lt-leb (cappedNumber f) 1000000 (omega arith)));
+      answer = rw (not-one f 45 l) (sym (number-to largest f (omega arith) ∙ lt-leb (cappedNumber f) largest (omega arith)));
       value = λ e. absurd (false-true e);
     }
 
-pub value-byte : (f : List ℕ) (n : ℕ) → n ≡ cappedNumber f → 1000001 ≤ n → length f ≡ 1 → ReadsValue f (record { ok = eqb (getD f 0 0) 45; value = Blank })
+pub value-byte : (f : List ℕ) (n : ℕ) → n ≡ cappedNumber f → tooLarge ≤ n → length f ≡ 1 → ReadsValue f (record { ok = eqb (getD f 0 0) 45; value = Blank })
 unfolding isValue valueOf
 value-byte f n q h l =
     record {
-      answer = rw (same-one f 45 l, number-to 1000000 f (omega arith), lt-leb (cappedNumber f) 1000000 (omega arith), or-false (eqb (getD f 0 0) 45));
+      answer = rw (same-one f 45 l, number-to largest f (omega arith), lt-leb (cappedNumber f) largest (omega arith), or-false (eqb (getD f 0 0) 45));
       value = λ e. rw (same-one f 45 l, e);
     }

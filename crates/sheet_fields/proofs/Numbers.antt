@@ -13,47 +13,47 @@ use borrow.Author.Tests.{eq-eqb, ne-eqb, le-leb, lt-leb}
 use Rattle.vertex_set.proofs.Cases.{byTest}
 use Rattle.sheet_format.specs.Text.{all, isEmpty}
 use Rattle.sheet_format.specs.Fields.{isDigit, isNumber, valueBehind, numberOf}
-use Rattle.sheet_fields.specs.Forms.{cappedNumber, cappedStep}
+use Rattle.sheet_fields.specs.Forms.{cappedNumber, cappedStep, tooLarge}
 
 -- What a loop over the digits s, behind the number n, comes to.
 unfoldable pub cappedRun : ℕ → List ℕ → ℕ
 cappedRun n [] = n
 cappedRun n (b ∷ s) = cappedRun (cappedStep n b) s
 
-pub step-low : (n b : ℕ) → b < 48 → cappedStep n b ≡ 1000001
+pub step-low : (n b : ℕ) → b < 48 → cappedStep n b ≡ tooLarge
 unfolding cappedStep isDigit
 step-low n b h = rw (lt-leb 48 b h)
 
-pub step-high : (n b : ℕ) → 57 < b → cappedStep n b ≡ 1000001
+pub step-high : (n b : ℕ) → 57 < b → cappedStep n b ≡ tooLarge
 unfolding cappedStep isDigit
 step-high n b h = let l : leb 48 b ≡ true = le-leb 48 b (omega arith) in rw (l, lt-leb b 57 h)
 
-pub step-digit : (n b : ℕ) → 48 ≤ b → b ≤ 57 → cappedStep n b ≡ min (n * 10 + (b - 48)) 1000001
+pub step-digit : (n b : ℕ) → 48 ≤ b → b ≤ 57 → cappedStep n b ≡ min (n * 10 + (b - 48)) tooLarge
 unfolding cappedStep isDigit
 step-digit n b h k = rw (le-leb 48 b h, le-leb b 57 k)
 
-pub step-le : (n b : ℕ) → cappedStep n b ≤ 1000001
+pub step-le : (n b : ℕ) → cappedStep n b ≤ tooLarge
 unfolding cappedStep
 step-le n b = byTest (isDigit b) (λ e. rw e (omega arith)) (λ e. rw e (omega arith))
 
 -- at the cap it stays
-step-stays : (b : ℕ) → cappedStep 1000001 b ≡ 1000001
+step-stays : (b : ℕ) → cappedStep tooLarge b ≡ tooLarge
 unfolding cappedStep
 step-stays b = byTest (isDigit b) (λ e. rw e (omega arith)) (λ e. rw e)
 
-run-stays : (s : List ℕ) → cappedRun 1000001 s ≡ 1000001
+run-stays : (s : List ℕ) → cappedRun tooLarge s ≡ tooLarge
 unfolding cappedRun
 run-stays [] = refl
 run-stays (b ∷ s) = rw (step-stays b) (run-stays s)
 
 -- the loop's value is the number's, up to the cap
-run-is : (s : List ℕ) (v : ℕ) → cappedRun (min v 1000001) s ≡ cond (all isDigit s) (min (valueBehind v s) 1000001) 1000001
+run-is : (s : List ℕ) (v : ℕ) → cappedRun (min v tooLarge) s ≡ cond (all isDigit s) (min (valueBehind v s) tooLarge) tooLarge
 unfolding cappedRun cappedStep all valueBehind
 run-is [] v = refl
 run-is (b ∷ s) v =
     byTest (isDigit b)
     (λ e.
-    let m : min (min v 1000001 * 10 + (b - 48)) 1000001 ≡ min (v * 10 + (b - 48)) 1000001 = omega arith in
+    let m : min (min v tooLarge * 10 + (b - 48)) tooLarge ≡ min (v * 10 + (b - 48)) tooLarge = omega arith in
     rw (e, m) (run-is s (v * 10 + (b - 48))))
     (λ e. rw e (run-stays s))
 
@@ -67,12 +67,12 @@ pub run-end : (n : ℕ) (s : List ℕ) (i : ℕ) → length s ≤ i → cappedRu
 unfolding cappedRun
 run-end n s i h = rw (drop-of-length-le s h)
 
-pub no-digits : (s : List ℕ) → length s ≡ 0 → cappedNumber s ≡ 1000001
+pub no-digits : (s : List ℕ) → length s ≡ 0 → cappedNumber s ≡ tooLarge
 unfolding cappedNumber isNumber
 no-digits [] h = refl
 no-digits (b ∷ s) h = absurd (omega arith)
 
-pub leading-zero : (s : List ℕ) → (length s ≡ 1 → ⊥) → getD s 0 0 ≡ 48 → cappedNumber s ≡ 1000001
+pub leading-zero : (s : List ℕ) → (length s ≡ 1 → ⊥) → getD s 0 0 ≡ 48 → cappedNumber s ≡ tooLarge
 unfolding cappedNumber isNumber isEmpty
 leading-zero [] h e = absurd (omega arith)
 leading-zero (b ∷ []) h e = absurd (h refl)

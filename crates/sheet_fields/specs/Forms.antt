@@ -3,17 +3,22 @@ use mathlib.Core.Path.{_≡_}
 use mathlib.Core.List.{List}
 use mathlib.Core.Bool.{true, cond}
 use Prim.Native.Nat.{ℕ, _+_, _-_, _*_, min}
+use Rattle.setup.specs.Bounds.{largest}
 use Rattle.sheet_format.specs.Fields.{isDigit, isNumber, numberOf, isKind, kindOf, isValue, valueOf}
 use Rattle.sheet_fields.specs.declared.KindField.{KindField}
 use Rattle.sheet_fields.specs.declared.ValueField.{ValueField}
 
--- A number's value, or 1,000,001 where it is larger or the field is no number.
+-- Above every number that a sheet may have.
+abbrev pub tooLarge : ℕ
+tooLarge = largest + 1
+
+-- A number's value, or `tooLarge` where it is larger or the field is no number.
 unfoldable pub cappedNumber : List ℕ → ℕ
-cappedNumber f = cond (isNumber f) (min (numberOf f) 1000001) 1000001
+cappedNumber f = cond (isNumber f) (min (numberOf f) tooLarge) tooLarge
 
 -- The same with one more digit behind a number n.
 unfoldable pub cappedStep : ℕ → ℕ → ℕ
-cappedStep n b = cond (isDigit b) (min (n * 10 + (b - 48)) 1000001) 1000001
+cappedStep n b = cond (isDigit b) (min (n * 10 + (b - 48)) tooLarge) tooLarge
 
 pub record ReadsKind (f : List ℕ) (r : KindField) : Type 0 where
   pub answer : r .ok ≡ isKind f

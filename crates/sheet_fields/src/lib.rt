@@ -6,7 +6,7 @@ ghost use Prim.Native.Nat.{_+_, _≤_};
 ghost use lib.ListN.{length, drop};
 ghost use Rattle.sheet_format.specs.Fields.{isNameByte, isName};
 ghost use Rattle.sheet_fields.specs.Parts.{until, endAt, CutsFour};
-ghost use Rattle.sheet_fields.specs.Forms.{cappedNumber, cappedStep, ReadsKind, ReadsValue};
+ghost use Rattle.sheet_fields.specs.Forms.{cappedNumber, cappedStep, ReadsKind, ReadsValue, tooLarge};
 ghost use Rattle.sheet_fields.specs.Keys.{packed, keyOf, ReadsName};
 
 pub const SPACE: u8 = 32;
@@ -16,7 +16,7 @@ pub const LF: u8 = 10;
 const DASH: u8 = 45;
 
 // Above the largest number that a sheet may have.
-const TOO_LARGE: u64 = 1_000_001;
+const TOO_LARGE: u64 = setup::MAX_VALUE + 1;
 
 // The longest name, and how many of its bytes one number of its key holds.
 const NAME_BYTES: usize = 16;
@@ -157,7 +157,7 @@ fn is_name(f: &[u8]) -> bool
 // The number n with one more digit behind it, kept from growing further once it is too large; too
 // large as well where b is no digit.
 fn with_digit(n: u64, b: u8) -> u64
-    requires { ⌜ n ≤ 1000001 ⌝ }
+    requires { ⌜ n ≤ tooLarge ⌝ }
     ensures { λ r. ⌜ r ≡ cappedStep n b ⌝ }
 {
     if b < b'0' {

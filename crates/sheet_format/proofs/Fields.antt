@@ -10,6 +10,7 @@ use lib.ListN.{length}
 use lib.Dec.{eqb, leb}
 use borrow.Author.Tests.{leb-true, le-leb, eqb-true, ne-eqb}
 use Rattle.vertex_set.proofs.Cases.{byTest, false-true}
+use Rattle.setup.specs.Bounds.{largest}
 use Rattle.setup.specs.declared.Kind.{Kind}
 use Rattle.setup.specs.declared.Kind.the-variants.{Credential, Account}
 use Rattle.setup.specs.declared.Value.{Value}
@@ -126,8 +127,8 @@ decimal-no-dash n h =
 
 pub value-yes : (x : Value) → InRange x → isValue (valueText x) ≡ true
 unfolding isValue
-value-yes Blank h = or-left (sameText dash dash) (isNumberTo 1000000 dash) (same-refl dash)
-value-yes (Of n) h = or-right (sameText (decimal n) dash) (isNumberTo 1000000 (decimal n)) (number-to 1000000 n (omega arith) h)
+value-yes Blank h = or-left (sameText dash dash) (isNumberTo largest dash) (same-refl dash)
+value-yes (Of n) h = or-right (sameText (decimal n) dash) (isNumberTo largest (decimal n)) (number-to largest n (omega arith) h)
 
 pub value-written : (x : Value) → InRange x → valueOf (valueText x) ≡ x
 unfolding valueOf
@@ -146,7 +147,7 @@ unfolding isValue valueOf
 value-read f e =
     byTest (sameText f dash)
     (λ d. value-as f Blank (rw d) tt (sym (text-decided f dash .yes d)))
-    (λ d. let n = to-number 1000000 f (omega arith) (subst (λ (t : Bool). t || isNumberTo 1000000 f ≡ true) d e) in
+    (λ d. let n = to-number largest f (omega arith) (subst (λ (t : Bool). t || isNumberTo largest f ≡ true) d e) in
     value-as f (Of (numberOf f)) (rw d) (n .bound) (n .text))
 
 pub value-plain : (x : Value) → InRange x → Plain (valueText x)

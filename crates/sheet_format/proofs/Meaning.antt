@@ -8,6 +8,7 @@ use Prim.Native.Nat.{ℕ, _≤_}
 use native.Mathlib.Omega.{arith}
 use lib.ListN.{length}
 use borrow.Author.Tests.{le-leb, leb-true}
+use Rattle.setup.specs.Bounds.{mostBytes}
 use Rattle.setup.specs.declared.Setup.{Setup}
 use Rattle.sheet_format.specs.declared.Reading.{Reading}
 use Rattle.sheet_format.specs.Text.{linesOf, all}
@@ -37,7 +38,7 @@ pub valid-read : (d : Doc) → Valid d → AllPassed (render d) (record { phase 
 unfolding question1
 valid-read d v =
     record {
-      yes1 = le-leb (length (render d)) 16384 (v .text);
+      yes1 = le-leb (length (render d)) mostBytes (v .text);
       yes2 = render-text d v;
       passed = rw (render-lines d v) (valid-passed d v);
     }
@@ -72,7 +73,7 @@ module _ (s : List ℕ) (q : Place) (h : AllPassed s q) (e : question11 (q .phas
         edges = from-rows .edges .edges;
         rows = from-rows .edges .rows;
         many = from-rows .edges .many;
-        text = subst (λ (t : List ℕ). length t ≤ 16384) text-rows (leb-true (length s) 16384 (h .yes1));
+        text = subst (λ (t : List ℕ). length t ≤ mostBytes) text-rows (leb-true (length s) mostBytes (h .yes1));
       }
 
 number-same : (q k q′ k′ : ℕ) (r : Reading) → r ≡ refused q k → r ≡ refused q′ k′ → (q ≡ q′) × (k ≡ k′)

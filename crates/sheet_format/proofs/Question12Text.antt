@@ -9,6 +9,7 @@ use lib.ListN.{length, length-append}
 use lib.Dec.{ltb}
 use borrow.Author.Tests.{lt-ltb}
 use Rattle.vertex_set.proofs.Cases.{byTest}
+use Rattle.setup.specs.Bounds.{mostBytes}
 use Rattle.setup.specs.declared.Kind.{Kind}
 use Rattle.setup.specs.declared.Kind.the-variants.{Credential, Account}
 use Rattle.setup.specs.declared.Value.{Value}
@@ -88,7 +89,7 @@ edges-text (e ∷ es) h =
     omega arith
 
 pub text-length : (d : Doc) → length (d .items) ≤ 64 → length (d .edges) ≤ 256 → Each (λ x. length (x .name) ≡ 2) (d .items) → Each ShortEdge (d .edges)
-    → length (render d) ≤ 16384
+    → length (render d) ≤ mostBytes
 unfolding render firstHeader secondHeader
 text-length d i e hi he =
     let p = items-text (d .items) hi in

@@ -8,6 +8,7 @@ use Prim.Native.Nat.{ℕ, suc, _+_, _≤_}
 use native.Mathlib.Omega.{arith}
 use lib.ListN.{length}
 use borrow.Author.Tests.{lt-leb, leb-false}
+use Rattle.setup.specs.Bounds.{mostBytes}
 use Rattle.vertex_set.proofs.Cases.{byTest}
 use Rattle.sheet_format.specs.Text.{linesOf}
 use Rattle.sheet_format.specs.Rows.{setupOf}
@@ -44,7 +45,7 @@ read-accepted s q h e = read-passed s q h ∙ ap (λ (t : Bool). cond t (accepte
 
 read-long : (s : List ℕ) (q k : ℕ) → TooLong s q k → readSheet s ≡ refused q k
 unfolding readSheet question1
-read-long s q k h = rw (lt-leb (length s) 16384 (h .long), h .number, h .line)
+read-long s q k h = rw (lt-leb (length s) mostBytes (h .long), h .number, h .line)
 
 read-no-text : (s : List ℕ) (q k : ℕ) → NoText s q k → readSheet s ≡ refused q k
 unfolding readSheet
@@ -109,4 +110,4 @@ unfolding question1
 ending s =
     byTest (question1 s)
     (λ a. byTest (question2 s) (end-lines s a) (λ b. refuses 2 0 (no-text (record { number = refl; line = refl; yes1 = a; no2 = b }))))
-    (λ a. refuses 1 0 (too-long (record { number = refl; line = refl; long = leb-false (length s) 16384 a })))
+    (λ a. refuses 1 0 (too-long (record { number = refl; line = refl; long = leb-false (length s) mostBytes a })))

@@ -4,6 +4,7 @@ use mathlib.Core.Bool.{Bool, false, cond, not, _&&_, _||_}
 use Prim.Native.Nat.{ℕ, zero, suc, _+_, _-_, _*_, _/_, _%_}
 use lib.ListN.{length}
 use lib.Dec.{eqb, leb, ltb}
+use Rattle.setup.specs.Bounds.{largest}
 use Rattle.setup.specs.declared.Kind.{Kind}
 use Rattle.setup.specs.declared.Kind.the-variants.{Credential, Account}
 use Rattle.setup.specs.declared.Value.{Value}
@@ -61,13 +62,13 @@ isKind f = sameText f (kindText Credential) || sameText f (kindText Account)
 unfoldable pub kindOf : List ℕ → Kind
 kindOf f = cond (sameText f (kindText Account)) Account Credential
 
--- ---- start and loss: 0 to 1,000,000, or `-`
+-- ---- start and loss: a number up to the largest, or `-`
 
 abbrev pub dash : List ℕ
 dash = bytesOf "-"
 
 unfoldable pub isValue : List ℕ → Bool
-isValue f = sameText f dash || isNumberTo 1000000 f
+isValue f = sameText f dash || isNumberTo largest f
 
 unfoldable pub valueOf : List ℕ → Value
 valueOf f = cond (sameText f dash) Blank (Of (numberOf f))

@@ -7,6 +7,7 @@ use mathlib.Core.Logic.{_⊎_}
 use Prim.Native.Nat.{ℕ, suc, _≤_, _<_}
 use lib.ListN.{length, replicate}
 use Rattle.vertex_set.specs.Set.{Iff}
+use Rattle.setup.specs.Bounds.{mostBytes}
 use Rattle.setup.specs.declared.Setup.{Setup}
 use Rattle.setup.specs.Setup.{unusedVertex, emptyGraph}
 use Rattle.formed.specs.WellFormed.{WellFormed}
@@ -54,11 +55,11 @@ pub record FirstNo (asked : List Asked) (q : ℕ) : Type 0 where
   pub order : asked ≡ before ++ (ask q false ∷ after)
   pub yeses : OnlyYeses before
 
--- 1, of the whole text: it has more than 16,384 bytes.
+-- 1, of the whole text: it has more than the most bytes.
 pub record TooLong (text : List ℕ) (q k : ℕ) : Type 0 where
   pub number : q ≡ 1
   pub line : k ≡ 0
-  pub long : 16384 < length text
+  pub long : mostBytes < length text
 
 -- 2, of the whole text: question 1 is a yes, and question 2 a no.
 pub record NoText (text : List ℕ) (q k : ℕ) : Type 0 where

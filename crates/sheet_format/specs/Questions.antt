@@ -4,6 +4,7 @@ use mathlib.Core.Bool.{Bool, true, false, not, _&&_, _||_}
 use Prim.Native.Nat.{ℕ, suc, _+_}
 use lib.ListN.{length, getD}
 use lib.Dec.{eqb, leb}
+use Rattle.setup.specs.Bounds.{mostEdges, mostChosen, mostBytes}
 use Rattle.setup.specs.Setup.{given}
 use Rattle.sheet_format.specs.Text.{isEmpty, sameText, all}
 use Rattle.sheet_format.specs.Fields.{isName, isNumberTo, numberOf, isKind, kindOf, isValue, valueOf}
@@ -13,7 +14,7 @@ use Rattle.sheet_format.specs.Rows.{ItemRow, EdgeRow, Doc, startCount, l
 
 -- 1: at most 16,384 bytes?
 unfoldable pub question1 : List ℕ → Bool
-question1 text = leb (length text) 16384
+question1 text = leb (length text) mostBytes
 
 -- LF, or a byte from 32 to 126.
 unfoldable pub isTextByte : ℕ → Bool
@@ -99,11 +100,11 @@ isRepeated (x ∷ xs) e = sameEdge x e || isRepeated xs e
 unfoldable pub question9 : Doc → EdgeRow → Bool
 question9 above e = not (isRepeated (above .edges) e)
 
--- 7: within the bounds with this row? 64 items, 14 starting and 14 losable ones
+-- 7: within the bounds with this row? 64 items, and the most starting and losable ones
 unfoldable pub question7Item : Doc → ItemRow → Bool
 question7Item above x =
-    leb (suc (length (above .items))) 64 && leb (startCount (above .items) + given (x .start)) 14 && leb (lossCount (above .items) + given (x .loss)) 14
+    leb (suc (length (above .items))) 64 && leb (startCount (above .items) + given (x .start)) mostChosen && leb (lossCount (above .items) + given (x .loss)) mostChosen
 
--- 7, of an edge: 256 edges
+-- 7, of an edge: the most edges
 unfoldable pub question7Edge : Doc → Bool
-question7Edge above = leb (suc (length (above .edges))) 256
+question7Edge above = leb (suc (length (above .edges))) mostEdges

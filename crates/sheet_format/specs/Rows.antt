@@ -6,6 +6,7 @@ use mathlib.Core.Logic.{_⊎_}
 use Prim.Native.Nat.{ℕ, suc, _-_, _^_, _≤_}
 use lib.ListN.{length, set, replicate}
 use lib.Bits.{bitOr}
+use Rattle.setup.specs.Bounds.{highest, mostEdges, mostChosen, mostBytes}
 use Rattle.setup.specs.declared.Kind.{Kind}
 use Rattle.setup.specs.declared.Value.{Value}
 use Rattle.setup.specs.declared.Vertex.{Vertex}
@@ -61,7 +62,7 @@ pub record ValidItem (x : ItemRow) : Type 0 where
   pub name : isName (x .name) ≡ true
   pub start : InRange (x .start)
   pub loss : InRange (x .loss)
-  pub rank : x .rank ≤ 9
+  pub rank : x .rank ≤ highest
 
 pub record ValidEdge (items : List ItemRow) (e : EdgeRow) : Type 0 where
   pub from : Known items (e .from)
@@ -113,12 +114,12 @@ pub record Valid (d : Doc) : Type 0 where
   pub most : length (d .items) ≤ 64
   pub items : Each ValidItem (d .items)
   pub names : Apart SameName (d .items)
-  pub starts : startCount (d .items) ≤ 14
-  pub losses : lossCount (d .items) ≤ 14
+  pub starts : startCount (d .items) ≤ mostChosen
+  pub losses : lossCount (d .items) ≤ mostChosen
   pub edges : Each (ValidEdge (d .items)) (d .edges)
   pub rows : Apart SameEdge (d .edges)
-  pub many : length (d .edges) ≤ 256
-  pub text : length (render d) ≤ 16384
+  pub many : length (d .edges) ≤ mostEdges
+  pub text : length (render d) ≤ mostBytes
 
 -- ---- the setup that they state
 

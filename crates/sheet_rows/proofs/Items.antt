@@ -9,6 +9,7 @@ use native.Mathlib.Omega.{arith}
 use lib.ListN.{take, drop}
 use lib.Dec.{eqb, leb}
 use borrow.Author.Tests.{ne-eqb, le-leb, leb-true}
+use Rattle.setup.specs.Bounds.{largest}
 use Rattle.vertex_set.proofs.Cases.{byTest}
 use Rattle.sheet_format.specs.Text.{fieldsOf}
 use Rattle.sheet_format.specs.Fields.{isName, numberOf}
@@ -19,7 +20,7 @@ use Rattle.sheet_fields.specs.declared.NameField.{NameField}
 use Rattle.sheet_fields.specs.declared.KindField.{KindField}
 use Rattle.sheet_fields.specs.declared.ValueField.{ValueField}
 use Rattle.sheet_fields.specs.Parts.{endAt, fourFields, CutsFour}
-use Rattle.sheet_fields.specs.Forms.{cappedNumber, ReadsKind, ReadsValue}
+use Rattle.sheet_fields.specs.Forms.{cappedNumber, ReadsKind, ReadsValue, tooLarge}
 use Rattle.sheet_fields.specs.Keys.{ReadsName}
 use Rattle.sheet_fields.proofs.Forms.{number-to, number-small}
 use Rattle.sheet_fields.proofs.Cutting.{Stepped, not-stepped}
@@ -39,10 +40,10 @@ unfolding firstNo
 fields-all k s l n a b c d = record { number = rw (a, b, c, le-leb n 9 d); vertex = λ z. refl }
 
 -- a small number is the field's own
-pub small-number : (most : ℕ) (f : List ℕ) (n : ℕ) → most ≤ 1000000 → n ≡ cappedNumber f → leb n most ≡ true → n ≡ numberOf f
+pub small-number : (most : ℕ) (f : List ℕ) (n : ℕ) → most ≤ largest → n ≡ cappedNumber f → leb n most ≡ true → n ≡ numberOf f
 small-number most f n h e t =
     let l = leb-true n most t in
-    e ∙ sym (number-small f (rw e at (let b : n < 1000001 = omega arith in b)) .1)
+    e ∙ sym (number-small f (rw e at (let b : n < tooLarge = omega arith in b)) .1)
 
 pub fields-read : (a b c d : List ℕ) (k : KindField) (s l : ValueField) (n : ℕ) (r : VertexFields)
     → ReadsKind a k → ReadsValue b s → ReadsValue c l → n ≡ cappedNumber d → JoinsFields k s l n r → ReadsFields (a ∷ b ∷ c ∷ d ∷ []) r

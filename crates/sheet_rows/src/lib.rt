@@ -17,15 +17,11 @@ ghost use Rattle.sheet_rows.specs.Table.{placeOf};
 ghost use Rattle.sheet_rows.specs.Lines.{JoinsFields, ReadsFields, ReadsVertex, JoinsItem, ReadsItem, TakesItem, JoinsEnds, ReadsEnds, ReadsEdge, TakesEdge};
 
 // Document 01's bounds.
-const MAX_RANK: u64 = 9;
-
 const MAX_COLOUR: u64 = 7;
 
 const MAX_ITEMS: usize = 64;
 
-const MAX_STARTS: usize = 14;
-
-const MAX_LOSSES: usize = 14;
+const MAX_CHOSEN: usize = setup::MAX_CHOSEN as usize;
 
 // A place not in use.
 pub const UNUSED: Vertex = Vertex {
@@ -96,7 +92,7 @@ fn join_fields(kind: KindField, start: ValueField, loss: ValueField, rank: u64) 
     if !loss.ok {
         return no_vertex(5);
     }
-    if rank <= MAX_RANK {
+    if rank <= setup::MAX_RANK {
         let kind = kind.kind;
         let start = start.value;
         let loss = loss.value;
@@ -236,10 +232,10 @@ fn has_room(count: usize, starts: usize, losses: usize) -> bool
     if MAX_ITEMS <= count {
         return false;
     }
-    if MAX_STARTS < starts {
+    if MAX_CHOSEN < starts {
         return false;
     }
-    losses <= MAX_LOSSES
+    losses <= MAX_CHOSEN
 }
 
 // An item row below `count` others, of which `starts` are starting and `losses` losable items.

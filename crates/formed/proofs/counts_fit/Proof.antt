@@ -1,6 +1,7 @@
 use Prim.Native.Nat.{_≤_}
 use lib.Count.{ones}
 use Rattle.vertex_set.specs.Set.{Iff}
+use Rattle.setup.specs.Bounds.{mostChosen}
 use Rattle.formed.specs.Parts.{CountsFit}
 use native.Mathlib.Omega.{arith}
 use Rattle.vertex_set.proofs.Decisions.{decide-no, decide-iff, decide-leb}
@@ -30,8 +31,8 @@ returns-3 c =
     let e = c .before .before .before .before .before .before .edge-count .ensures in
     let i = c .before .before .before .before .chosen .ensures .size in
     let k = ones (c .before .chosen2 .result .0) in
-    let fits : Iff (k ≤ 14) (CountsFit s) = record { to = λ h. record { edges = omega arith; initial = omega arith; losable = omega arith }; from = λ h. let l = h .losable in omega arith } in
-    decide-iff fits (decide-leb k 14)
+    let fits : Iff (k ≤ mostChosen) (CountsFit s) = record { to = λ h. record { edges = omega arith; initial = omega arith; losable = omega arith }; from = λ h. let l = h .losable in omega arith } in
+    decide-iff fits (decide-leb k mostChosen)
 
 pub counts-fit-spec : {M : Type 1} → statement M
 counts-fit-spec =

@@ -3,13 +3,13 @@ use mathlib.Core.Path.{_≡_, sym, _∙_}
 use Prim.Native.Nat.{_-_, _≤_}
 use native.Mathlib.Omega.{arith}
 use lib.ListN.{length, drop}
-use Rattle.sheet_fields.specs.Forms.{cappedNumber}
+use Rattle.sheet_fields.specs.Forms.{cappedNumber, tooLarge}
 use Rattle.sheet_fields.proofs.Numbers.{cappedRun, run-next, run-end, no-digits, leading-zero, number-run, step-le, zero-alone}
 use Rattle.sheet_fields.proofs.read_number.Statement.{statement}
 use Rattle.sheet_fields.proofs.read_number.Tie as tie
 
 abbrev Inv-loop : tie.InvT-loop
-Inv-loop f n₀ i₀ n i = (n ≤ 1000001) × (cappedNumber f ≡ cappedRun n (drop i f))
+Inv-loop f n₀ i₀ n i = (n ≤ tooLarge) × (cappedNumber f ≡ cappedRun n (drop i f))
 
 abbrev μ-loop : tie.MeasureT-loop
 μ-loop f n₀ i₀ n i = length f - i

@@ -34,6 +34,9 @@ bash tests/c/run.sh
 echo "test: the examples' reports"
 bash scripts/examples.sh
 
+echo "test: failures of input and output"
+python3 tests/io/failures.py
+
 echo "test: the brute force, in Rust"
 (cd tests && cargo test --release --quiet)
 

@@ -4,14 +4,13 @@ use mathlib.Core.List.{List}
 use Prim.Native.Nat.{ℕ, zero, suc, _+_, _≤_, _<_}
 use lib.IntN.{ℤ, pos, negsuc}
 use lib.Dec.{eqb}
-use lib.ListN.{length}
 use Rattle.io.specs.Counts.{Counts}
 use Rattle.streams.specs.declared.Moved.{Moved}
 use Rattle.streams.specs.declared.Moved.the-variants as moved
 use Rattle.streams.specs.declared.Input.{Input}
 use Rattle.streams.specs.declared.Input.the-variants as input
 
--- The error number of a call that a signal interrupted (EINTR), or of any other failure.
+-- What a failed call did, by its error number: 4 is EINTR, a signal that came in between.
 abbrev pub failedBy : ℤ → Moved
 failedBy (pos k) = cond (eqb k 4) moved.Interrupted moved.Failed
 failedBy (negsuc k) = moved.Failed
@@ -29,7 +28,7 @@ MovedOn done long moved.Nothing = Unit {0}
 MovedOn done long moved.Interrupted = Unit {0}
 MovedOn done long moved.Failed = Unit {0}
 
--- What was read lies at the buffer's start.
+-- What was read stands at the buffer's start; of a failed reading nothing is said.
 abbrev pub ReadInto : List ℕ → Input → Type 0
 ReadInto buf (input.Read n) = Counts n buf
 ReadInto buf input.Failed = Unit {0}

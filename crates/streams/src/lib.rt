@@ -27,10 +27,10 @@ pub enum Input {
 fn failed_by(error: i32) -> Moved
     ensures { λ r. ⌜ r ≡ failedBy error ⌝ }
 {
-    if error == libc::EINTR {
-        return Moved::Interrupted;
+    if error != libc::EINTR {
+        return Moved::Failed;
     }
-    Moved::Failed
+    Moved::Interrupted
 }
 
 // What a call did, by its answer and the error number beside it.

@@ -46,7 +46,7 @@ def picture(layers):
     width = max(len(name) for _, crates in layers for name, *_ in crates) + 2
     lines = []
     for heading, crates in reversed(layers):
-        lines += ["", f"    {heading}"] + [f"      {'.' if inner else ' '} {name:<{width}}{what}" for name, _, inner, what in crates]
+        lines += ["", f"    {heading}"] + [f"      {'.' if inner else ' '} {name:<{width}}{what}" for name, _, inner, what in reversed(crates)]
     return "\n".join(lines[1:]) + "\n"
 
 

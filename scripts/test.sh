@@ -15,6 +15,9 @@ rt fmt --check
 echo "test: contracts"
 python3 scripts/contracts.py
 
+echo "test: the map of the crates"
+python3 scripts/map.py
+
 echo "test: the index"
 python3 scripts/index.py
 
@@ -33,6 +36,9 @@ bash tests/c/run.sh
 
 echo "test: the examples' reports"
 bash scripts/examples.sh
+
+echo "test: failures of input and output"
+python3 tests/io/failures.py
 
 echo "test: the brute force, in Rust"
 (cd tests && cargo test --release --quiet)

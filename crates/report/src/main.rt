@@ -1,9 +1,11 @@
-// Prints the report of the sheet on standard input (document 01, "Report and portal").
+// Prints the report of the sheet on standard input (document 01, "Report and portal"). Where the
+// input fails nothing is printed, and where the output fails nothing behind the failure is.
+use streams::Input;
 
 // One byte more than a sheet may have tells that it is too long.
 const MOST: usize = 16385;
 
-// Prints the report of the sheet, in large parts.
+// Prints the report of the sheet, in large parts, as far as the output takes them.
 fn print_report(sheet: &[u8]) {
     let mut opening = [0u64; 16384];
     let mut lockout = [0u64; 16384];
@@ -22,13 +24,19 @@ fn print_report(sheet: &[u8]) {
             &mut list,
             &mut out,
         );
-        io::write_all(1, &out[..next.at]);
+        let written = streams::write_whole(1, &out[..next.at]);
+        if written < next.at {
+            os::fail(b"report: the report is cut off");
+            return;
+        }
         cursor = next.cursor;
     }
 }
 
 fn main() {
     let mut sheet = [0u8; MOST];
-    let n = io::read_full(0, &mut sheet);
-    print_report(&sheet[..n]);
+    match streams::read_whole(0, &mut sheet) {
+        Input::Read(n) => print_report(&sheet[..n]),
+        Input::Failed => os::fail(b"report: cannot read standard input"),
+    }
 }

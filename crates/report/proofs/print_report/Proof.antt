@@ -9,10 +9,10 @@ use Rattle.report.proofs.print_report.Statement.{statement}
 use Rattle.report.proofs.print_report.Tie as tie
 
 abbrev Inv-loop : tie.InvT-loop
-Inv-loop sheet opening lockout list₀ out₀ facts cursor₀ list out cursor = Printing sheet facts opening lockout list out cursor
+Inv-loop sheet opening lockout list₀ out₀ facts cursor₀ t11 list out cursor = Printing sheet facts opening lockout list out cursor
 
 abbrev μ-loop : tie.MeasureT-loop
-μ-loop sheet opening lockout list₀ out₀ facts cursor₀ list out cursor = stepsLeft (facts .count) cursor
+μ-loop sheet opening lockout list₀ out₀ facts cursor₀ t11 list out cursor = stepsLeft (facts .count) cursor
 
 large-buffer-requires : tie.Need-large-buffer-requires Inv-loop μ-loop
 large-buffer-requires c κs = search needs
@@ -52,20 +52,29 @@ fill-requires c κs = let l = c .before .before .before .before .before .before 
 array-share-prefix-out : tie.Need-array-share-prefix-out Inv-loop μ-loop
 array-share-prefix-out c = c .before .before .fill .ensures .inside
 
-slice-aggregate-write-all : tie.Need-slice-aggregate-write-all Inv-loop μ-loop
-slice-aggregate-write-all c = sym (length-take-le _ _ (c .before .before .before .fill .ensures .inside))
+slice-aggregate-write-whole : tie.Need-slice-aggregate-write-whole Inv-loop μ-loop
+slice-aggregate-write-whole c = sym (length-take-le _ _ (c .before .before .before .fill .ensures .inside))
 
-write-all-requires : tie.Need-write-all-requires Inv-loop μ-loop
-write-all-requires c κs = search needs
+write-whole-requires : tie.Need-write-whole-requires Inv-loop μ-loop
+write-whole-requires c κs = search needs
 
-loop-less : tie.Need-loop-less Inv-loop μ-loop
-loop-less c = c .before .before .before .before .fill .ensures .less (left-some _ _ (c .before .before .before .before .before .before .before .before .before .before .going .ensures .yes (search needs)))
+slice-aggregate-fail : tie.Need-slice-aggregate-fail Inv-loop μ-loop
+slice-aggregate-fail c = search needs
 
-loop-again : tie.Need-loop-again Inv-loop μ-loop
-loop-again c = let f = c .before .before .before .before .fill in printing-more _ _ _ _ _ _ _ _ _ _ (c .before .before .before .before .before .before .before .before .before .before .before .loop .inv) (f .ensures) (f .kept .1 .1 .1 .1 .1 .0) (f .kept .1 .1 .1 .1 .1 .1 .0)
+fail-requires : tie.Need-fail-requires Inv-loop μ-loop
+fail-requires c κs = search needs
 
 returns : tie.Need-returns Inv-loop μ-loop
 returns c = search needs
+
+loop-less : tie.Need-loop-less Inv-loop μ-loop
+loop-less c = let f = c .before .before .before .before .before .before in f .fill .ensures .less (left-some _ _ (f .before .before .before .before .before .before .going .ensures .yes (search needs)))
+
+loop-again : tie.Need-loop-again Inv-loop μ-loop
+loop-again c = let f = c .before .before .before .before .before .before in printing-more _ _ _ _ _ _ _ _ _ _ (f .before .before .before .before .before .before .before .loop .inv) (f .fill .ensures) (f .fill .kept .1 .1 .1 .1 .1 .0) (f .fill .kept .1 .1 .1 .1 .1 .1 .0)
+
+returns-2 : tie.Need-returns-2 Inv-loop μ-loop
+returns-2 c = search needs
 
 pub print-report-spec : {M : Type 1} → statement M
 print-report-spec =
@@ -85,8 +94,11 @@ print-report-spec =
     slice-aggregate-fill-4
     fill-requires
     array-share-prefix-out
-    slice-aggregate-write-all
-    write-all-requires
+    slice-aggregate-write-whole
+    write-whole-requires
+    slice-aggregate-fail
+    fail-requires
+    returns
     loop-less
     loop-again
-    returns)
+    returns-2)

@@ -29,9 +29,9 @@ fn all_broken(rows: Rows, lost: VertexSet) -> bool
 {
     let mut coloured = false;
     for c in 0..8usize {
-        let row = VertexSet(rows.needs[c]);
-        if row.0 != 0 {
-            if row.meets(lost) {
+        let needed = VertexSet(rows.needs[c]);
+        if needed.0 != 0 {
+            if needed.meets(lost) {
                 coloured = true;
             } else {
                 return false;

@@ -1,3 +1,4 @@
+pub mod Passes
 pub mod Sizes
 pub mod Strays
 pub mod Values

@@ -1,6 +1,7 @@
 //! Times the proved code beside the same algorithm in plain Rust, a brute force, and plain
 //! programs. `bench` prints tables and writes docs/PERFORMANCE.md with two charts; `bench quick`
-//! makes few rounds and writes the same files to build/bench/.
+//! makes few rounds and writes the same files to build/bench/. `bench marking` prints the table of
+//! marks alone.
 
 mod calls;
 mod chart;
@@ -64,8 +65,9 @@ fn main() -> ExitCode {
     match words[..] {
         [] => run(&FULL, "docs"),
         ["quick"] => run(&QUICK, "build/bench"),
+        ["marking"] => print_marking(),
         _ => {
-            eprintln!("usage: bench [quick]");
+            eprintln!("usage: bench [quick | marking]");
             return ExitCode::from(2);
         }
     }
@@ -91,8 +93,7 @@ fn run(rounds: &Rounds, folder: &str) {
     show(programs::tables_and_scores(&timed, &mut targets));
     show(programs::reports(&timed, &mut targets));
     show(calls::reading(rounds, &mut targets));
-    let antichain = kinds.iter().find(|kind| kind.name == "antichain of 3,432");
-    show(marking::marking(antichain.expect("a kind has that name"), rounds, &mut targets));
+    show(marking::marking(antichain(&kinds), rounds, &mut targets));
     let clingo = clingo::opening_lists(&kinds, &programs, rounds, &mut targets);
     clingo.into_iter().for_each(&mut show);
     show(programs::case_study(&root, &programs, rounds));
@@ -107,4 +108,17 @@ fn run(rounds: &Rounds, folder: &str) {
     println!("bench: {} seconds", start.elapsed().as_secs());
     let verdicts = format!("{}\n{reasons}", verdicts.text());
     document::write(&root.join(folder), &verdicts, &grids, &series);
+}
+
+/// The sheet on which sets are marked.
+fn antichain(kinds: &[kinds::Kind]) -> &kinds::Kind {
+    let found = kinds.iter().find(|kind| kind.name == "antichain of 3,432");
+    found.expect("a kind has that name")
+}
+
+fn print_marking() {
+    let kinds = kinds::all();
+    let mut targets = Vec::new();
+    let grid = marking::marking(antichain(&kinds), &FULL, &mut targets);
+    println!("{}\n{}", grid.text(), targets::grid(&targets).text());
 }

@@ -1,4 +1,5 @@
-//! Marks of many handed-in sets, against copying the list to a Vec and sorting it.
+//! Marks of many handed-in sets, against copying the list to a Vec and sorting it. What is sorted is
+//! shuffled before: a sort is a mere pass over a list that rises or falls.
 
 use crate::grid::{micros, ratio, with_commas, Grid};
 use crate::kinds::{tables, Kind};
@@ -12,8 +13,11 @@ use std::hint::black_box;
 
 const COUNTS: [usize; 4] = [1_000, 10_000, 100_000, 1_000_000];
 
-/// The sorting sees that such a list falls, and turns it round.
-const FALLING: &str = "falling";
+/// The orders in which the same strays are handed in.
+const SHUFFLED: &str = "strays, shuffled";
+const RISING: &str = "strays, rising";
+const ALL_BUT_LAST: &str = "strays, rising but for the last";
+const FALLING: &str = "strays, falling";
 
 /// A sheet's target with what its marks hang on.
 struct Asked<'a> {
@@ -67,26 +71,34 @@ impl Asked<'_> {
         marks
     }
 
-    /// Lists of n sets, by kinds.
+    /// Lists of n sets, by kinds. Of each order the strays are the same.
     fn lists(&self, n: usize) -> Vec<(&'static str, Vec<u64>)> {
         let mut rng = Rng::new(7);
-        let many = n as u64;
         let right = (0..n).map(|_| *rng.pick(&self.right)).collect();
         let subsets = (0..n).map(|_| self.set(rng.number() >> 50)).collect();
-        let strays = (0..n).map(|_| rng.number()).collect();
+        let shuffled: Vec<u64> = (0..n).map(|_| rng.number()).collect();
+        let mut rising = shuffled.clone();
+        rising.sort_unstable();
+        let mut all_but_last = rising.clone();
+        all_but_last.rotate_left(1);
+        let falling = rising.iter().rev().copied().collect();
+        let two = [u64::MAX - 1, u64::MAX].into_iter().cycle().take(n).collect();
         vec![
             ("right ones", right),
             ("subsets", subsets),
-            ("strays", strays),
-            ("one value", vec![self.right[0]; n]),
-            ("one stray", vec![u64::MAX; n]),
-            ("consecutive", (0..many).collect()),
-            (FALLING, (0..many).rev().map(|number| number + (1 << 40)).collect()),
+            (SHUFFLED, shuffled),
+            (RISING, rising),
+            (ALL_BUT_LAST, all_but_last),
+            (FALLING, falling),
+            ("strays, all equal", vec![u64::MAX; n]),
+            ("strays, two values in turn", two),
         ]
     }
 
-    /// Marking and sorting in turn.
+    /// Marking, and sorting the same sets shuffled, in turn.
     fn times(&self, handed: &[u64], rounds: usize) -> [f64; 2] {
+        let mut shuffled = handed.to_vec();
+        Rng::new(8).shuffle(&mut shuffled);
         in_turn(
             rounds,
             [
@@ -95,7 +107,7 @@ impl Asked<'_> {
                     black_box(proved::mark_access(words, self.kind.target, handed));
                 },
                 &mut || {
-                    let mut sorted = black_box(handed).to_vec();
+                    let mut sorted = black_box(&shuffled).to_vec();
                     sorted.sort_unstable();
                     black_box(sorted);
                 },
@@ -110,27 +122,37 @@ pub fn marking(kind: &Kind, rounds: &Rounds, targets: &mut Vec<Target>) -> Grid 
     let asked = Asked::new(kind);
     let names = asked.lists(1).into_iter().map(|(name, _)| name);
     let mut rows: Vec<Vec<String>> = names.map(|name| vec![name.to_string()]).collect();
-    let mut ratios = Vec::new();
+    let (mut times, mut ratios) = (Vec::new(), Vec::new());
     for n in COUNTS {
+        times.clear();
         ratios.clear();
         for ((name, handed), row) in asked.lists(n).into_iter().zip(&mut rows) {
             let marks = proved::mark_access(&kind.words, kind.target, &handed);
             assert_eq!(marks, asked.marks(&handed), "marks of {n} sets: {name}");
             let [marked, sorted] = asked.times(&handed, rounds.marking);
             row.extend([micros(marked), ratio(marked, sorted)]);
+            times.push((name.to_string(), marked));
             ratios.push((name.to_string(), marked / sorted));
         }
     }
     rows.into_iter().for_each(|row| grid.row(row));
     // What is left are those of a million.
-    let (falling, asked_for): (Vec<_>, Vec<_>) =
-        ratios.into_iter().partition(|(name, _)| name == FALLING);
-    targets.push(judged("marking a million sets / sorting them", &asked_for));
-    targets.push(judged("the same, falling ones (not asked for)", &falling).because(
-        "Sorting sees that the list falls, and turns it round in one pass; marking takes falling \
-         strays as any others, and about as long as for random ones.",
+    targets.push(judged(
+        "marking a million sets / sorting them",
+        "at most 10 times",
+        10.0,
+        &ratios,
     ));
+    let orders = by_order(&times);
+    targets.push(judged("the same strays in order / shuffled", "at most 1.5 times", 1.5, &orders));
     grid
+}
+
+/// The times of strays that are handed in in some order, by that of the same strays shuffled.
+fn by_order(times: &[(String, f64)]) -> Vec<(String, f64)> {
+    let of = |name| times.iter().find(|(other, _)| other == name).map_or(0.0, |(_, time)| *time);
+    let orders = [RISING, ALL_BUT_LAST, FALLING];
+    orders.map(|name| (name.to_string(), of(name) / of(SHUFFLED))).to_vec()
 }
 
 fn new_grid(sheet: &str) -> Grid {
@@ -141,16 +163,15 @@ fn new_grid(sheet: &str) -> Grid {
     let mut grid = Grid::new("Marking handed-in sets", &header);
     grid.note(&format!(
         "`mark_access` on the sheet \"{sheet}\", whose target has a list of 3,432 sets, for lists of a \
-         thousand sets to a million; and its time by that of `to_vec` and `sort_unstable`. Marks were \
-         compared with a count by a HashSet. The call fills its table first, which is most of the time \
-         of short lists. Sorting sees that a list rises, falls or has one value, and is then a mere \
-         pass over it. Subsets: any of the initial vertices. Strays: any numbers.",
+         thousand sets to a million; and its time by that of `to_vec` and `sort_unstable` on the same sets \
+         shuffled. Marks were compared with a count by a HashSet. The call fills its table first, which \
+         is most of the time of short lists. Subsets: any of the initial vertices. Strays: any numbers, \
+         the same in each order; of the list that rises but for the last, the last is the lowest.",
     ));
     grid
 }
 
-fn judged(what: &'static str, ratios: &[(String, f64)]) -> Target {
-    let (name, most) = largest(ratios);
-    let seen = format!("at most {most:.2} ({name})");
-    Target::measured(what, "at most 10 times", seen, most <= 10.0)
+fn judged(what: &'static str, bound: &'static str, most: f64, ratios: &[(String, f64)]) -> Target {
+    let (name, seen) = largest(ratios);
+    Target::measured(what, bound, format!("at most {seen:.2} ({name})"), seen <= most)
 }

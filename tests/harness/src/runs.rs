@@ -1,6 +1,7 @@
 //! What is compared: the gate's fixed part, and rounds of a seed for as long as one likes.
 
 use crate::compare::Difference;
+use crate::long_lists::compare_long_lists;
 use crate::program::Program;
 use crate::setups::{compare_setup, Depth, FEW, FULL, MANY, MOST};
 use crate::sheets::compare_sheet;
@@ -66,6 +67,7 @@ impl Run {
 
     /// The gate's part: the same inputs in every run with one seed.
     pub fn gate(&mut self, seed: u64) -> Outcome {
+        compare_long_lists(seed)?;
         for case in bounds::bounds() {
             self.counts.bounds += 1;
             self.sheet(&case, FEW, true)?;

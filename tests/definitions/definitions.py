@@ -90,6 +90,12 @@ def Listed(l, x):
     return x == l[0] or Listed(l[1:], x)
 
 
+def Once(l):
+    if not l:
+        return True
+    return not Listed(l[1:], l[0]) and Once(l[1:])
+
+
 def Before(a, b):
     return ones(a) < ones(b) or (ones(a) == ones(b) and a < b)
 
@@ -98,6 +104,19 @@ def Ordered(l):
     if not l:
         return True
     return all(implies(lambda: Listed(l[1:], y), lambda: Before(l[0], y)) for y in world.sets) and Ordered(l[1:])
+
+
+def ListsExactly(P, l):
+    sound = all(implies(lambda: Listed(l, x), lambda: P(x)) for x in world.sets)
+    whole = all(implies(lambda: P(x), lambda: Listed(l, x)) for x in world.sets)
+    ordered = Ordered(l)
+    return sound and whole and ordered
+
+
+def Smallest(P, x):
+    is_ = P(x)
+    none = all(implies(lambda: ProperlyWithin(y, x), lambda: not P(y)) for y in world.sets)
+    return is_ and none
 
 
 # ---- setup/Setup
@@ -353,22 +372,21 @@ def Base(loss, s, g, target, l):
 # ---- bases/Score
 
 
-def Score(loss, s, g, target, r):
-    sets = [x for x in world.sets if TargetSet(loss, s, g, target, x)]
+def LeastOver(P, sum, r):
+    sets = [x for x in world.sets if P(x)]
     none = implies(lambda: sets == [], lambda: r == never)
     some = all(r < never for x in sets)
-    least = all(r <= sumOf(loss, s, x) for x in sets)
-    reached = implies(lambda: r < never, lambda: any(r == sumOf(loss, s, x) for x in sets))
+    least = all(r <= sum(x) for x in sets)
+    reached = implies(lambda: r < never, lambda: any(r == sum(x) for x in sets))
     return none and some and least and reached
+
+
+def Score(loss, s, g, target, r):
+    return LeastOver(lambda x: TargetSet(loss, s, g, target, x), lambda x: sumOf(loss, s, x), r)
 
 
 def ScoreOver(loss, s, l, r):
-    sets = [x for x in world.sets if Listed(l, x)]
-    none = implies(lambda: sets == [], lambda: r == never)
-    some = all(r < never for x in sets)
-    least = all(r <= sumOf(loss, s, x) for x in sets)
-    reached = implies(lambda: r < never, lambda: any(r == sumOf(loss, s, x) for x in sets))
-    return none and some and least and reached
+    return LeastOver(lambda x: Listed(l, x), lambda x: sumOf(loss, s, x), r)
 
 
 def Values(loss, s, r):
@@ -433,12 +451,6 @@ def Counts(loss, s, g, target, handed, right, repeated, shut, loose, missing):
         for marks in lists_of_marks(loss, s, g, target, handed)
         for base in world.lists
     )
-
-
-def Once(l):
-    if not l:
-        return True
-    return not Listed(l[1:], l[0]) and Once(l[1:])
 
 
 def IsBaseOnce(loss, s, g, target, handed):

@@ -254,6 +254,13 @@ def of_parts(D):
         ("not values: 63 of them", lambda: D.Values(False, bench, [1, 1, 3] + [0] * 60), False),
         ("once: 4, 3", lambda: D.Once([4, 3]), True),
         ("not once: 4, 3, 4", lambda: D.Once([4, 3, 4]), False),
+        ("lists exactly: 1, 2", lambda: D.ListsExactly(lambda x: x in (2, 1), [1, 2]), True),
+        ("not lists exactly: one too many", lambda: D.ListsExactly(lambda x: x == 1, [1, 2]), False),
+        ("not lists exactly: one missing", lambda: D.ListsExactly(lambda x: x in (2, 1), [1]), False),
+        ("not lists exactly: in another order", lambda: D.ListsExactly(lambda x: x in (2, 1), [2, 1]), False),
+        ("smallest: 3 of 3 and 7", lambda: D.Smallest(lambda x: x in (3, 7), 3), True),
+        ("not smallest: 7 of 3 and 7", lambda: D.Smallest(lambda x: x in (3, 7), 7), False),
+        ("not smallest: without the property", lambda: D.Smallest(lambda x: x in (3, 7), 1), False),
         ("full: all zero", lambda: D.Full(0, 0, 0, 0), True),
     ]
 

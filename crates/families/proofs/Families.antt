@@ -1,21 +1,19 @@
 -- Laws of families: their words, and the number of their members.
 -- Assumes nothing.
 use mathlib.Core.Path.{_≡_, refl, sym, subst, _∙_}
-use mathlib.Core.Bool.{false}
 use mathlib.Core.Logic.{_⊎_, ⊎-elim}
 use mathlib.Core.List.{List}
 use Prim.Native.Nat.{ℕ, _+_, _-_, _/_, _%_, _^_, _≤_, _<_}
 use native.Mathlib.Numerals.{add-one}
 use native.Mathlib.Omega.{arith}
-use lib.Dec.{eqb}
 use lib.ListN.{length, getD, drop, set, List·getD-eq-default}
 use lib.Seq.{drop-cons, drop-length, getD-set-same, getD-set-other}
 use lib.Pow.{pow-add}
 use lib.Count.{ones}
-use Rattle.vertex_set.specs.Set.{Member, Decides, Iff}
-use Rattle.vertex_set.proofs.Cases.{false-true, less-or, same-or}
+use Rattle.vertex_set.specs.Set.{Member, Iff}
+use Rattle.vertex_set.proofs.Cases.{less-or, same-or}
 use Rattle.vertex_set.proofs.Decisions.{iff-refl}
-use Rattle.vertex_set.proofs.Sets.{none-in-zero, member-or, member-decided, member-below}
+use Rattle.vertex_set.proofs.Sets.{none-in-zero, member-or, member-below}
 use Rattle.vertex_set.proofs.Places.{member-le}
 use Rattle.vertex_set.proofs.Shifts.{in-low, in-high}
 use Rattle.vertex_set.proofs.Subsets.{proper-lacks, within-removed, removed-proper, proper-less}
@@ -23,10 +21,6 @@ use Rattle.families.specs.Family.{In, size, Monotone, Minimal, Least, Mi
 use Rattle.families.specs.Steps.{StepInWord, LeastLane, LeastWord}
 
 -- ---- one mask
-
-pub in-decided : (f : List ℕ) (m : ℕ) → Decides (In f m) (eqb (getD f (m / 64) 0 / 2 ^ (m % 64) % 2) 1)
-unfolding In
-in-decided f m = member-decided (getD f (m / 64) 0) (m % 64)
 
 pub in-or : (f : List ℕ) (m : ℕ) → In f m ⊎ (In f m → ⊥)
 unfolding In
@@ -36,9 +30,6 @@ in-or f m = member-or (getD f (m / 64) 0) (m % 64)
 pub none-beyond : (f : List ℕ) (m : ℕ) → length f ≤ m / 64 → In f m → ⊥
 unfolding In
 none-beyond f m h i = none-in-zero (m % 64) (subst (λ (w : ℕ). Member w (m % 64)) (List·getD-eq-default f 0 h) i)
-
-pub beyond-decided : (f : List ℕ) (m : ℕ) → length f ≤ m / 64 → Decides (In f m) false
-beyond-decided f m h = record { yes = λ e. absurd (false-true e); no = λ e i. none-beyond f m h i }
 
 -- ---- the number of members
 

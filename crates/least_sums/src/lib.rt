@@ -8,10 +8,8 @@ ghost use Rattle.family_lists.specs.Tables.{TablesFit, masksIn, sumBy};
 ghost use Rattle.families.specs.Family.{familyWords};
 ghost use Rattle.least_sums.specs.Least.{leastOf};
 use families::WORDS;
+use scores::NEVER;
 use vertex_set::VertexSet;
-
-// The least sum where there is no member: 2^62, above every sum.
-pub const NEVER: u64 = 0x4000_0000_0000_0000;
 
 // The least of `best` and the sums of the masks of word b in the lanes of y.
 fn least_in_word(y: u64, b: usize, low: &[u64], high: &[u64], best: u64) -> u64

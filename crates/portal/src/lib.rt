@@ -5,10 +5,9 @@ ghost use Rattle.portal.specs.Portal.{PortalCall};
 ghost use Rattle.portal.specs.Inner.{Codable, Coded};
 use answers::RiskAnswer;
 use answers::ScoreAnswer;
+use scores::NEVER;
 
-// 2^62: "never". A refusal is 2^62 plus its number.
-const NEVER: u64 = 0x4000_0000_0000_0000;
-
+// A refusal is 2^62, which is never, plus its number.
 fn code_score(answer: ScoreAnswer) -> u64
     requires { ⌜ Codable (scoreNumber answer) (scoreValues answer) ⌝ }
     ensures { λ r. ⌜ Coded (scoreNumber answer) (scoreValues answer) r ⌝ }

@@ -8,10 +8,9 @@ ghost use Rattle.family_lists.specs.Tables.{Wrote};
 ghost use Rattle.report_text.specs.Rows.{wayText, answerText, scoreText, setText};
 ghost use Rattle.report_text.specs.Report.{nameIn};
 ghost use Rattle.report_fields.specs.Writing.{NamePlace, NamePlaces, ended, plus};
+use scores::NEVER;
 
 const PLUS: u8 = 43;
-
-const NEVER: u64 = 0x4000_0000_0000_0000;
 
 fn put_byte(b: u8, out: &mut [u8], at: usize) -> usize
     requires { ⌜ at + 1 ≤ length (now out) ⌝ }

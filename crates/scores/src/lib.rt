@@ -2,6 +2,9 @@
 ghost use Prim.Native.Nat.{_≤_, _<_};
 ghost use Rattle.vertex_set.specs.Set.{Decides};
 
+// Never, the score of an account that no set opens: 2^62, above every sum.
+pub const NEVER: u64 = 0x4000_0000_0000_0000;
+
 // Document 01's score, document 003's security score. It is never added to, nor compared with, the
 // other kind.
 pub struct SecurityScore(pub u64);

@@ -12,15 +12,17 @@ use Rattle.sheet_format.specs.Text.{linesOf}
 use Rattle.derivations.specs.Both.{ruleOf}
 use Rattle.bases.specs.Score.{Values}
 use Rattle.reference.specs.Bases.{scoreOf}
-use Rattle.report_text.specs.Report.{nameIn, isAccount, isBackdoor, isIdle, isOutOfRank}
+use Rattle.sheet_format.specs.Names.{hasItem, nameOf}
+use Rattle.report_text.specs.Report.{isAccount, isBackdoor, isIdle, isOutOfRank}
 use Rattle.report_fields.specs.Writing.{NamePlace}
 use Rattle.report_scores.specs.Scores.{BaseTable}
 use Rattle.report_facts.specs.declared.Facts.{Facts}
 
--- The sheet has a line with a short name for each vertex of the setup.
+-- The sheet is accepted, and has a line with a short name for each vertex of the setup.
 pub record HasNames (sheet : List ℕ) (s : Setup) : Type 0 where
+  pub items : (v : ℕ) → v < s .count → hasItem sheet v ≡ true
   pub lines : s .count < length (linesOf sheet)
-  pub short : (v : ℕ) → v < s .count → length (nameIn sheet v) ≤ 16
+  pub short : (v : ℕ) → v < s .count → length (nameOf sheet v) ≤ 16
 
 -- The facts of the setup s, whose names stand in the sheet.
 pub record FactsOf (sheet : List ℕ) (s : Setup) (f : Facts) : Type 0 where
@@ -38,7 +40,7 @@ pub record FactsOf (sheet : List ℕ) (s : Setup) (f : Facts) : Type 0 where
   pub pairs : (v w : ℕ) → v < s .count → w < s .count → Iff (Member (getD (f .below) v 0) w) ((isAccount s w ≡ true) × (isOutOfRank s v w ≡ true))
   pub within : (v w : ℕ) → v < s .count → Member (getD (f .below) v 0) w → w < s .count
   pub names : (v : ℕ) → v < s .count → NamePlace sheet (f .from) (f .to) v
-  pub short : (v : ℕ) → v < s .count → length (nameIn sheet v) ≤ 16
+  pub short : (v : ℕ) → v < s .count → length (nameOf sheet v) ≤ 16
 
 -- The tables of bases with recovery.
 pub record TablesOf (s : Setup) (f : Facts) (opening lockout : List ℕ) : Type 0 where

@@ -18,7 +18,8 @@ use Rattle.reference.specs.Tests.{those, isMember}
 use Rattle.reference.proofs.Tests.{by-decision, decide-and, decide-member}
 use Rattle.findings.proofs.Unique.{decided-once}
 use Rattle.report_text.specs.Rows.{numbersFrom, textsOf, itemsOf, scoreRow, pairRow}
-use Rattle.report_text.specs.Report.{nameIn, isAccount, isBackdoor, isIdle, isOutOfRank, accountsOf, findingRow, pairRows}
+use Rattle.sheet_format.specs.Names.{nameOf}
+use Rattle.report_text.specs.Report.{isAccount, isBackdoor, isIdle, isOutOfRank, accountsOf, findingRow, pairRows}
 use Rattle.report_text.proofs.Items.{those-no}
 use Rattle.report_text.proofs.Lengths.{score-row-length}
 use Rattle.report_text.proofs.Numbers.{listed-numbers}
@@ -70,7 +71,7 @@ same-answer a b f d = decided-once b a (decide-true b) (decide-iff f d)
 
 -- A part is written where the text of v is the same for all setups that the facts are of.
 pub part-wrote : (text : (ℕ → List ℕ) → Setup → ℕ → List ℕ) (sheet : List ℕ) (f : Facts) (v : ℕ) (entry : List ℕ) (at : ℕ) (row exit : List ℕ) (r : ℕ)
-    → ((s : Setup) → FactsOf sheet s f → v < s .count → text (nameIn sheet) s v ≡ row) → at + length row ≤ length entry → Wrote entry at row exit r
+    → ((s : Setup) → FactsOf sheet s f → v < s .count → text (nameOf sheet) s v ≡ row) → at + length row ≤ length entry → Wrote entry at row exit r
     → WrotePart text sheet f v entry at exit r
 part-wrote text sheet f v entry at row exit r same room w =
     record {
@@ -79,7 +80,7 @@ part-wrote text sheet f v entry at row exit r same room w =
     }
 
 pub part-empty : (text : (ℕ → List ℕ) → Setup → ℕ → List ℕ) (sheet : List ℕ) (f : Facts) (v : ℕ) (entry : List ℕ) (at : ℕ)
-    → ((s : Setup) → FactsOf sheet s f → v < s .count → text (nameIn sheet) s v ≡ []) → PartReady sheet f v entry at
+    → ((s : Setup) → FactsOf sheet s f → v < s .count → text (nameOf sheet) s v ≡ []) → PartReady sheet f v entry at
     → WrotePart text sheet f v entry at entry at
 part-empty text sheet f v entry at same p =
     part-wrote text sheet f v entry at [] entry at same (omega (arith, p .room)) (record { exit = refl; next = omega arith })
@@ -91,18 +92,18 @@ module _ (sheet : List ℕ) (f : Facts) (v : ℕ) where
   no-account : (Member (f .accounts .0) v → ⊥) → (s : Setup) → FactsOf sheet s f → v < s .count → isAccount s v ≡ false
   no-account n s g h = byTest (isAccount s v) (λ e. absurd (n (g .accounts v h .from e))) (λ e. e)
 
-  pub no-score : (Member (f .accounts .0) v → ⊥) → (s : Setup) → FactsOf sheet s f → v < s .count → scoreAt (nameIn sheet) s v ≡ []
+  pub no-score : (Member (f .accounts .0) v → ⊥) → (s : Setup) → FactsOf sheet s f → v < s .count → scoreAt (nameOf sheet) s v ≡ []
   unfolding scoreAt
   no-score n s g h = rw (no-account n s g h)
 
-  pub no-pairs : (Member (f .accounts .0) v → ⊥) → (s : Setup) → FactsOf sheet s f → v < s .count → pairsAt (nameIn sheet) s v ≡ []
+  pub no-pairs : (Member (f .accounts .0) v → ⊥) → (s : Setup) → FactsOf sheet s f → v < s .count → pairsAt (nameOf sheet) s v ≡ []
   unfolding pairsAt
   no-pairs n s g h = rw (no-account n s g h)
 
   -- an account
   pub score-text : (back idle : Bool) → Member (f .accounts .0) v → Decides (Member (f .back .0) v) back → Decides (Member (f .idle .0) v) idle
       → (s : Setup) → FactsOf sheet s f → v < s .count
-      → scoreAt (nameIn sheet) s v ≡ scoreRow (nameIn sheet) v (getD (f .scores) v 0) (getD (f .risks) v 0) back idle
+      → scoreAt (nameOf sheet) s v ≡ scoreRow (nameOf sheet) v (getD (f .scores) v 0) (getD (f .risks) v 0) back idle
   unfolding scoreAt findingRow
   score-text back idle m b i s g h =
       rw (
@@ -126,22 +127,22 @@ module _ (sheet : List ℕ) (f : Facts) (v : ℕ) where
       (λ w l. by-decision (isMember x w) (decide-member x w) (λ e m. let q = g .within v w h m in absurd (omega arith)) (λ e n. e))
 
   pub pairs-text : Member (f .accounts .0) v → (s : Setup) → FactsOf sheet s f → v < s .count
-      → pairsAt (nameIn sheet) s v ≡ pairsWith (nameIn sheet) v (getD (f .below) v 0)
+      → pairsAt (nameOf sheet) s v ≡ pairsWith (nameOf sheet) v (getD (f .below) v 0)
   unfolding pairsAt pairRows pairsWith
-  pairs-text m s g h = rw (g .accounts v h .to m) (ap (textsOf (pairRow (nameIn sheet) v)) (below-list s g h))
+  pairs-text m s g h = rw (g .accounts v h .to m) (ap (textsOf (pairRow (nameOf sheet) v)) (below-list s g h))
 
   -- ---- what is asked for at the calls
   module _ (out : List ℕ) (at : ℕ) (p : PartReady sheet f v out at) where
     pub score-room : (back idle : Bool) → getD (f .scores) v 0 < 2 ^ 64 → getD (f .risks) v 0 < 2 ^ 64
-        → at + length (scoreRow (nameIn sheet) v (getD (f .scores) v 0) (getD (f .risks) v 0) back idle) ≤ length out
+        → at + length (scoreRow (nameOf sheet) v (getD (f .scores) v 0) (getD (f .risks) v 0) back idle) ≤ length out
     score-room back idle a b =
-        let l = score-row-length (nameIn sheet) v (getD (f .scores) v 0) (getD (f .risks) v 0) back idle a b (p .facts .short v (p .vertex)) in
+        let l = score-row-length (nameOf sheet) v (getD (f .scores) v 0) (getD (f .risks) v 0) back idle a b (p .facts .short v (p .vertex)) in
         omega (arith, p .room)
 
     pub below-names : NamePlaces sheet (f .from) (f .to) (getD (f .below) v 0)
     below-names = record { each = λ w m. p .facts .names w (p .facts .within v w (p .vertex) m) }
 
-    pub below-room : getD (f .below) v 0 < 2 ^ 64 → at + length (pairsWith (nameIn sheet) v (getD (f .below) v 0)) ≤ length out
+    pub below-room : getD (f .below) v 0 < 2 ^ 64 → at + length (pairsWith (nameOf sheet) v (getD (f .below) v 0)) ≤ length out
     below-room b =
-        let l = pairs-length (nameIn sheet) v (getD (f .below) v 0) b (p .facts .short v (p .vertex)) (λ w m. p .facts .short w (p .facts .within v w (p .vertex) m)) in
+        let l = pairs-length (nameOf sheet) v (getD (f .below) v 0) b (p .facts .short v (p .vertex)) (λ w m. p .facts .short w (p .facts .within v w (p .vertex) m)) in
         omega (arith, p .room)

@@ -7,7 +7,8 @@ use borrow.Author.Tests.{ne-eqb, eq-eqb}
 use Rattle.setup.specs.declared.Setup.{Setup}
 use Rattle.sheet_format.specs.declared.Reading.{Reading}
 use Rattle.sheet_format.specs.Read.{readSheet}
-use Rattle.report_text.specs.Report.{nameIn, reportAfter, reportOf}
+use Rattle.sheet_format.specs.Names.{nameOf}
+use Rattle.report_text.specs.Report.{reportAfter, reportOf}
 use Rattle.report_facts.specs.declared.Facts.{Facts}
 use Rattle.report_facts.specs.Facts.{FactsOf, TablesOf}
 use Rattle.report_steps.specs.declared.Cursor.{Cursor}
@@ -39,4 +40,4 @@ run-rest name s c [] e = sym (ap (restOf name s) e)
 run-rest name s c (p ∷ ps) r = ap (λ t. p ++ t) (run-rest name s (r .0) ps (r .2)) ∙ sym (r .1)
 
 pub whole-report : WholeReport
-whole-report sheet r opening lockout b parts run = run-rest (nameIn sheet) (readSheet sheet .setup) (r .cursor) parts run ∙ b .whole
+whole-report sheet r opening lockout b parts run = run-rest (nameOf sheet) (readSheet sheet .setup) (r .cursor) parts run ∙ b .whole

@@ -6,7 +6,7 @@ use mir.Val.{Fits}
 use mir.Syntax.{w64}
 use lib.ListN.{length, getD}
 use Rattle.report_text.specs.Rows.{scoreRow}
-use Rattle.report_text.specs.Report.{nameIn}
+use Rattle.sheet_format.specs.Names.{nameOf}
 use Rattle.report_facts.specs.Texts.{scoreAt}
 use Rattle.report_findings.proofs.Parts.{part-wrote, part-empty, no-score, score-text, score-room}
 use borrow.Author.Needs.{needs}
@@ -48,7 +48,7 @@ low-risk s = search needs
 
 -- There is room for the row, whatever was found.
 room : (s : tie.Start) (back idle : Bool)
-    → s .args .at + length (scoreRow (nameIn (s .args .sheet .now)) (s .args .v) (getD (s .args .t1 .scores) (s .args .v) 0) (getD (s .args .t1 .risks) (s .args .v) 0) back idle) ≤ length (s .args .out .now)
+    → s .args .at + length (scoreRow (nameOf (s .args .sheet .now)) (s .args .v) (getD (s .args .t1 .scores) (s .args .v) 0) (getD (s .args .t1 .risks) (s .args .v) 0) back idle) ≤ length (s .args .out .now)
 room s back idle =
     score-room (s .args .sheet .now) (s .args .t1) (s .args .v) (s .args .out .now) (s .args .at) (s .pre) back idle (low-score s .fits) (low-risk s .fits)
 

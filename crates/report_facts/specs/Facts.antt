@@ -5,6 +5,7 @@ use mathlib.Core.List.{List}
 use Prim.Native.Nat.{ℕ, _≤_, _<_}
 use lib.ListN.{length, getD}
 use Rattle.vertex_set.specs.Set.{Member, Iff}
+use Rattle.scores.specs.Lists.{securityAt, recoverabilityAt}
 use Rattle.setup.specs.declared.Setup.{Setup}
 use Rattle.setup.specs.Setup.{ChosenSet}
 use Rattle.setup.specs.WellFormed.{WellFormed}
@@ -33,8 +34,8 @@ pub record FactsOf (sheet : List ℕ) (s : Setup) (f : Facts) : Type 0 where
   pub losable : ChosenSet true s (f .losable .0)
   pub starts : Values false s (f .starts)
   pub losses : Values true s (f .losses)
-  pub scores : (v : ℕ) → v < s .count → getD (f .scores) v 0 ≡ scoreOf false s (s .graph) v
-  pub risks : (v : ℕ) → v < s .count → getD (f .risks) v 0 ≡ scoreOf true s (s .graph) v
+  pub scores : (v : ℕ) → v < s .count → securityAt (f .scores) v ≡ scoreOf false s (s .graph) v
+  pub risks : (v : ℕ) → v < s .count → recoverabilityAt (f .risks) v ≡ scoreOf true s (s .graph) v
   pub back : (v : ℕ) → v < s .count → Iff (Member (f .back .0) v) (isBackdoor s v ≡ true)
   pub idle : (v : ℕ) → v < s .count → Iff (Member (f .idle .0) v) (isIdle s v ≡ true)
   pub pairs : (v w : ℕ) → v < s .count → w < s .count → Iff (Member (getD (f .below) v 0) w) ((isAccount s w ≡ true) × (isOutOfRank s v w ≡ true))

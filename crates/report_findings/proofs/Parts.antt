@@ -10,8 +10,9 @@ use lib.ListN.{length, getD}
 use lib.Seq.{length-sets}
 use Rattle.vertex_set.specs.Set.{Member, Decides, Iff}
 use Rattle.vertex_set.specs.Order.{Listed}
-use Rattle.vertex_set.proofs.Cases.{byTest, false-true}
+use Rattle.vertex_set.proofs.Cases.{byTest}
 use Rattle.vertex_set.proofs.Decisions.{decide-iff}
+use Rattle.scores.specs.Lists.{securityAt, recoverabilityAt}
 use Rattle.setup.specs.declared.Setup.{Setup}
 use Rattle.family_lists.specs.Tables.{Wrote}
 use Rattle.reference.specs.Tests.{those, isMember}
@@ -19,8 +20,9 @@ use Rattle.reference.proofs.Tests.{by-decision, decide-and, decide-member}
 use Rattle.findings.proofs.Unique.{decided-once}
 use Rattle.report_text.specs.Rows.{numbersFrom, textsOf, itemsOf, scoreRow, pairRow}
 use Rattle.sheet_format.specs.Names.{nameOf}
-use Rattle.report_text.specs.Report.{isAccount, isBackdoor, isIdle, isOutOfRank, accountsOf, findingRow, pairRows}
+use Rattle.report_text.specs.Report.{isAccount, isBackdoor, isIdle, isOutOfRank, belowOf, accountsOf, findingRow, pairRows}
 use Rattle.report_text.proofs.Items.{those-no}
+use Rattle.report_text.proofs.Meaning.{decide-true}
 use Rattle.report_text.proofs.Lengths.{score-row-length}
 use Rattle.report_text.proofs.Numbers.{listed-numbers}
 use Rattle.report_fields.specs.Writing.{NamePlaces}
@@ -60,9 +62,6 @@ those-cut m k (suc n) (suc more) l h =
 
 -- ---- answers
 
-decide-true : (b : Bool) → Decides (b ≡ true) b
-decide-true b = record { yes = λ e. e; no = λ e t. false-true (sym e ∙ t) }
-
 -- A decision of what a test says is the test's answer.
 same-answer : {P : Type 0} (a b : Bool) → Iff P (b ≡ true) → Decides P a → b ≡ a
 same-answer a b f d = decided-once b a (decide-true b) (decide-iff f d)
@@ -101,12 +100,14 @@ module _ (sheet : List ℕ) (f : Facts) (v : ℕ) where
   no-pairs n s g h = rw (no-account n s g h)
 
   -- an account
-  pub score-text : (back idle : Bool) → Member (f .accounts .0) v → Decides (Member (f .back .0) v) back → Decides (Member (f .idle .0) v) idle
+  pub score-text : (score risk : ℕ) (back idle : Bool) → score ≡ securityAt (f .scores) v → risk ≡ recoverabilityAt (f .risks) v → Member (f .accounts .0) v → Decides (Member (f .back .0) v) back → Decides (Member (f .idle .0) v) idle
       → (s : Setup) → FactsOf sheet s f → v < s .count
-      → scoreAt (nameOf sheet) s v ≡ scoreRow (nameOf sheet) v (getD (f .scores) v 0) (getD (f .risks) v 0) back idle
+      → scoreAt (nameOf sheet) s v ≡ scoreRow (nameOf sheet) v score risk back idle
   unfolding scoreAt findingRow
-  score-text back idle m b i s g h =
+  score-text score risk back idle p q m b i s g h =
       rw (
+        p,
+        q,
         g .accounts v h .to m,
         ← (g .scores v h),
         ← (g .risks v h),
@@ -115,8 +116,8 @@ module _ (sheet : List ℕ) (f : Facts) (v : ℕ) where
       )
 
   -- the accounts that are out of rank with v above are the vertices of its set
-  below-list : (s : Setup) → FactsOf sheet s f → v < s .count → those (isOutOfRank s v) (accountsOf s) ≡ itemsOf (getD (f .below) v 0)
-  unfolding accountsOf itemsOf
+  below-list : (s : Setup) → FactsOf sheet s f → v < s .count → belowOf s v ≡ itemsOf (getD (f .below) v 0)
+  unfolding belowOf accountsOf itemsOf
   below-list s g h =
       let x : ℕ = getD (f .below) v 0 in
       those-those (isOutOfRank s v) (isAccount s) (isMember x) (numbersFrom 0 (s .count))
@@ -133,10 +134,10 @@ module _ (sheet : List ℕ) (f : Facts) (v : ℕ) where
 
   -- ---- what is asked for at the calls
   module _ (out : List ℕ) (at : ℕ) (p : PartReady sheet f v out at) where
-    pub score-room : (back idle : Bool) → getD (f .scores) v 0 < 2 ^ 64 → getD (f .risks) v 0 < 2 ^ 64
-        → at + length (scoreRow (nameOf sheet) v (getD (f .scores) v 0) (getD (f .risks) v 0) back idle) ≤ length out
-    score-room back idle a b =
-        let l = score-row-length (nameOf sheet) v (getD (f .scores) v 0) (getD (f .risks) v 0) back idle a b (p .facts .short v (p .vertex)) in
+    pub score-room : (score risk : ℕ) (back idle : Bool) → score < 2 ^ 64 → risk < 2 ^ 64
+        → at + length (scoreRow (nameOf sheet) v score risk back idle) ≤ length out
+    score-room score risk back idle a b =
+        let l = score-row-length (nameOf sheet) v score risk back idle a b (p .facts .short v (p .vertex)) in
         omega (arith, p .room)
 
     pub below-names : NamePlaces sheet (f .from) (f .to) (getD (f .below) v 0)

@@ -18,12 +18,14 @@ pub fn put_score_of(facts: Facts, v: usize, sheet: &[u8], out: &mut [u8], at: us
     if facts.accounts.has(v) {
         let score = facts.scores[v];
         let risk = facts.risks[v];
+        let score_number = score.number();
+        let risk_number = risk.number();
         let back = facts.back.has(v);
         let idle = facts.idle.has(v);
         let row = ScoreRow {
             target: v,
-            score,
-            risk,
+            score: score_number,
+            risk: risk_number,
             back,
             idle,
         };

@@ -78,9 +78,13 @@ findingRow name s v = scoreRow name v (scoreOf false s (s .graph) v) (scoreOf tr
 unfoldable pub scoreSection : (ℕ → List ℕ) → Setup → List ℕ
 scoreSection name s = scoreHeader ++ textsOf (findingRow name s) (accountsOf s)
 
+-- The accounts that are out of rank with v above, in item order.
+unfoldable pub belowOf : Setup → ℕ → List ℕ
+belowOf s v = those (isOutOfRank s v) (accountsOf s)
+
 -- The pairs that are out of rank with v above.
 unfoldable pub pairRows : (ℕ → List ℕ) → Setup → ℕ → List ℕ
-pairRows name s v = textsOf (pairRow name v) (those (isOutOfRank s v) (accountsOf s))
+pairRows name s v = textsOf (pairRow name v) (belowOf s v)
 
 unfoldable pub pairSection : (ℕ → List ℕ) → Setup → List ℕ
 pairSection name s = pairHeader ++ textsOf (pairRows name s) (accountsOf s)

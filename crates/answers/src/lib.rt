@@ -84,7 +84,8 @@ pub fn security_score(s: Setup, target: usize) -> ScoreAnswer
         if target < s.count {
             let graph = s.graph;
             let r = bases::score_of(s, graph, false, target);
-            return ScoreAnswer::Score(SecurityScore(r));
+            let score = SecurityScore::of(r);
+            return ScoreAnswer::Score(score);
         }
         return ScoreAnswer::Refused(13);
     }
@@ -99,7 +100,8 @@ pub fn recoverability_score(s: Setup, target: usize) -> RiskAnswer
         if target < s.count {
             let graph = s.graph;
             let r = bases::score_of(s, graph, true, target);
-            return RiskAnswer::Risk(RecoverabilityScore(r));
+            let risk = RecoverabilityScore::of(r);
+            return RiskAnswer::Risk(risk);
         }
         return RiskAnswer::Refused(13);
     }

@@ -21,7 +21,7 @@ fn security_in(s: Setup, graph: Graph, v: usize) -> SecurityScore
     ensures { λ r. ⌜ Score false s graph v (r .0) ⌝ }
 {
     let r = bases::score_of(s, graph, false, v);
-    SecurityScore(r)
+    SecurityScore::of(r)
 }
 
 // Its recoverability score there.
@@ -30,7 +30,7 @@ fn recoverability_in(s: Setup, graph: Graph, v: usize) -> RecoverabilityScore
     ensures { λ r. ⌜ Score true s graph v (r .0) ⌝ }
 {
     let r = bases::score_of(s, graph, true, v);
-    RecoverabilityScore(r)
+    RecoverabilityScore::of(r)
 }
 
 fn find_backdoor(s: Setup, v: usize) -> bool

@@ -13,7 +13,7 @@ fn code_score(answer: ScoreAnswer) -> u64
     ensures { λ r. ⌜ Coded (scoreNumber answer) (scoreValues answer) r ⌝ }
 {
     match answer {
-        ScoreAnswer::Score(score) => score.0,
+        ScoreAnswer::Score(score) => score.number(),
         ScoreAnswer::Refused(q) => NEVER + q,
     }
 }
@@ -23,7 +23,7 @@ fn code_risk(answer: RiskAnswer) -> u64
     ensures { λ r. ⌜ Coded (riskNumber answer) (riskValues answer) r ⌝ }
 {
     match answer {
-        RiskAnswer::Risk(risk) => risk.0,
+        RiskAnswer::Risk(risk) => risk.number(),
         RiskAnswer::Refused(q) => NEVER + q,
     }
 }

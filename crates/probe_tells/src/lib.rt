@@ -66,7 +66,8 @@ pub fn tell_score(answer: ScoreAnswer, values: &mut [u64]) -> u64
 {
     match answer {
         ScoreAnswer::Score(score) => {
-            tell(&[score.0], values);
+            let number = score.number();
+            tell(&[number], values);
             0
         }
         ScoreAnswer::Refused(q) => q,
@@ -78,7 +79,8 @@ pub fn tell_risk(answer: RiskAnswer, values: &mut [u64]) -> u64
 {
     match answer {
         RiskAnswer::Risk(risk) => {
-            tell(&[risk.0], values);
+            let number = risk.number();
+            tell(&[number], values);
             0
         }
         RiskAnswer::Refused(q) => q,

@@ -20,9 +20,9 @@ pub record Printing (sheet : List ℕ) (f : Facts) (opening lockout list out : L
   pub longList : length list ≡ 16384
   pub longOut : length out ≡ 65536
 
-pub printing-begun : (sheet opening lockout list out : List ℕ) (r : Report) → Begun sheet r opening lockout → length opening ≡ 16384 → length lockout ≡ 16384
+pub printing-begun : (sheet opening₀ lockout₀ opening lockout list out : List ℕ) (r : Report) → Begun sheet r opening₀ lockout₀ opening lockout → length opening ≡ 16384 → length lockout ≡ 16384
     → length list ≡ 16384 → length out ≡ 65536 → Printing sheet (r .facts) opening lockout list out (r .cursor)
-printing-begun sheet opening lockout list out r b lo ll l o =
+printing-begun sheet opening₀ lockout₀ opening lockout list out r b lo ll l o =
     record { going = record { setup = readSheet sheet .setup; here = b .here list l }; longOpening = lo; longLockout = ll; longList = l; longOut = o }
 
 pub printing-more : (sheet : List ℕ) (f : Facts) (opening lockout list out : List ℕ) (c : Cursor) (list′ out′ : List ℕ) (r : Step)

@@ -1,5 +1,7 @@
 // What the report's rows say of each vertex: the type, and what is meant by it. The values are worked
 // out once for the whole report.
+use scores::RecoverabilityScore;
+use scores::SecurityScore;
 use vertex_set::VertexSet;
 
 // By vertex number: values, scores, whether it is an account, and the places of the names. `below`
@@ -12,8 +14,8 @@ pub struct Facts {
     pub losable: VertexSet,
     pub starts: [u64; 64],
     pub losses: [u64; 64],
-    pub scores: [u64; 64],
-    pub risks: [u64; 64],
+    pub scores: [SecurityScore; 64],
+    pub risks: [RecoverabilityScore; 64],
     pub back: VertexSet,
     pub idle: VertexSet,
     pub below: [u64; 64],

@@ -6,7 +6,7 @@ ghost use lib.ListN.{length};
 ghost use Rattle.sheet_format.specs.Fields.{decimal};
 ghost use Rattle.family_lists.specs.Tables.{Wrote};
 ghost use Rattle.report_text.specs.Rows.{wayText, answerText, scoreText, setText};
-ghost use Rattle.report_text.specs.Report.{nameIn};
+ghost use Rattle.sheet_format.specs.Names.{nameOf};
 ghost use Rattle.report_fields.specs.Writing.{NamePlace, NamePlaces, ended, plus};
 use scores::NEVER;
 
@@ -99,8 +99,8 @@ fn put_name(
     at: usize,
 ) -> usize
     requires { ⌜ NamePlace (now sheet) (now from) (now to) v ⌝ }
-    requires { ⌜ at + length (nameIn (now sheet) v) ≤ length (now out) ⌝ }
-    ensures { λ r. ⌜ Wrote (now (out .entry)) at (nameIn (now (sheet .entry)) v) (now (out .exit)) r ⌝ }
+    requires { ⌜ at + length (nameOf (now sheet) v) ≤ length (now out) ⌝ }
+    ensures { λ r. ⌜ Wrote (now (out .entry)) at (nameOf (now (sheet .entry)) v) (now (out .exit)) r ⌝ }
 {
     let a = from[v];
     let e = to[v];
@@ -118,8 +118,8 @@ fn put_item(
     at: usize,
 ) -> usize
     requires { ⌜ NamePlace (now sheet) (now from) (now to) v ⌝ }
-    requires { ⌜ at + length (nameIn (now sheet) v ++ plus more) ≤ length (now out) ⌝ }
-    ensures { λ r. ⌜ Wrote (now (out .entry)) at (nameIn (now (sheet .entry)) v ++ plus more) (now (out .exit)) r ⌝ }
+    requires { ⌜ at + length (nameOf (now sheet) v ++ plus more) ≤ length (now out) ⌝ }
+    ensures { λ r. ⌜ Wrote (now (out .entry)) at (nameOf (now (sheet .entry)) v ++ plus more) (now (out .exit)) r ⌝ }
 {
     let next = put_name(v, sheet, from, to, out, at);
     if more {
@@ -131,8 +131,8 @@ fn put_item(
 // The names of the vertices of the set x, joined by `+`.
 fn put_items(x: u64, sheet: &[u8], from: &[usize], to: &[usize], out: &mut [u8], at: usize) -> usize
     requires { ⌜ NamePlaces (now sheet) (now from) (now to) x ⌝ }
-    requires { ⌜ at + length (setText (nameIn (now sheet)) x) ≤ length (now out) ⌝ }
-    ensures { λ r. ⌜ Wrote (now (out .entry)) at (setText (nameIn (now (sheet .entry))) x) (now (out .exit)) r ⌝ }
+    requires { ⌜ at + length (setText (nameOf (now sheet)) x) ≤ length (now out) ⌝ }
+    ensures { λ r. ⌜ Wrote (now (out .entry)) at (setText (nameOf (now (sheet .entry))) x) (now (out .exit)) r ⌝ }
 {
     let one: u64 = 1;
     let mut rest = x;
@@ -155,8 +155,8 @@ pub fn put_name_field(
     at: usize,
 ) -> usize
     requires { ⌜ NamePlace (now sheet) (now from) (now to) v ⌝ }
-    requires { ⌜ at + length (ended (nameIn (now sheet) v) end) ≤ length (now out) ⌝ }
-    ensures { λ r. ⌜ Wrote (now (out .entry)) at (ended (nameIn (now (sheet .entry)) v) end) (now (out .exit)) r ⌝ }
+    requires { ⌜ at + length (ended (nameOf (now sheet) v) end) ≤ length (now out) ⌝ }
+    ensures { λ r. ⌜ Wrote (now (out .entry)) at (ended (nameOf (now (sheet .entry)) v) end) (now (out .exit)) r ⌝ }
 {
     let next = put_name(v, sheet, from, to, out, at);
     put_byte(end, out, next)
@@ -172,8 +172,8 @@ pub fn put_set_field(
     at: usize,
 ) -> usize
     requires { ⌜ NamePlaces (now sheet) (now from) (now to) x ⌝ }
-    requires { ⌜ at + length (ended (setText (nameIn (now sheet)) x) end) ≤ length (now out) ⌝ }
-    ensures { λ r. ⌜ Wrote (now (out .entry)) at (ended (setText (nameIn (now (sheet .entry))) x) end) (now (out .exit)) r ⌝ }
+    requires { ⌜ at + length (ended (setText (nameOf (now sheet)) x) end) ≤ length (now out) ⌝ }
+    ensures { λ r. ⌜ Wrote (now (out .entry)) at (ended (setText (nameOf (now (sheet .entry))) x) end) (now (out .exit)) r ⌝ }
 {
     let next = put_items(x, sheet, from, to, out, at);
     put_byte(end, out, next)

@@ -12,6 +12,7 @@ use Rattle.vertex_set.specs.Set.{Iff, Decides}
 use Rattle.vertex_set.specs.declared.VertexSet.{VertexSet}
 use Rattle.vertex_set.proofs.Cases.{less-or, false-true}
 use Rattle.vertex_set.proofs.Decisions.{decide-ltb, decide-leb}
+use Rattle.scores.specs.Lists.{securityAt, recoverabilityAt}
 use Rattle.setup.specs.declared.Vertex.{Vertex}
 use Rattle.setup.specs.declared.Graph.{Graph}
 use Rattle.setup.specs.declared.Setup.{Setup}
@@ -24,7 +25,7 @@ use Rattle.reference.proofs.Graphs.{own-graph, graph-without}
 use Rattle.reference.proofs.Meaning.{score-is}
 use Rattle.report_text.specs.Report.{lessRecovery, isAccountKind, isAccount, isBackdoor, isIdle, isOutOfRank}
 use Rattle.report_text.proofs.Meaning.{less-unique}
-use Rattle.report_sets.specs.Sets.{AccountSet, LowerPlaces, Ranks, BelowAll}
+use Rattle.report_sets.specs.Sets.{AccountSet, WeakerSet, IdleSet, Ranks, BelowAll}
 use Rattle.report_scores.specs.Scores.{Scored}
 use Rattle.report_names.specs.declared.Names.{Names}
 use Rattle.report_names.specs.Places.{PlacesOf}
@@ -43,33 +44,33 @@ told P test d a b x y e f =
     }
 
 module _ (s : Setup) (w : WellFormed s) where
-  own-is : (loss : Bool) (table out : List ℕ) → Scored loss s (s .graph) table out → (v : ℕ) → v < 64 → getD out v 0 ≡ scoreOf loss s (s .graph) v
-  own-is loss table out h v l = score-is loss s (s .graph) v w (own-graph s w) (getD out v 0) (h .each v l)
+  own-is : (loss : Bool) (table : List ℕ) (score : ℕ → ℕ) → Scored loss s (s .graph) table score → (v : ℕ) → v < 64 → score v ≡ scoreOf loss s (s .graph) v
+  own-is loss table score h v l = score-is loss s (s .graph) v w (own-graph s w) (score v) (h .each v l)
 
-  without-is : (loss : Bool) (less : Graph) (table out : List ℕ) → WithoutRecovery s less → Scored loss s less table out
-      → (v : ℕ) → v < 64 → getD out v 0 ≡ scoreOf loss s (lessRecovery s) v
-  without-is loss less table out r h v l =
-      score-is loss s less v w (graph-without s less w r) (getD out v 0) (h .each v l) ∙ ap (λ (g : Graph). scoreOf loss s g v) (less-unique s less w r)
+  without-is : (loss : Bool) (less : Graph) (table : List ℕ) (score : ℕ → ℕ) → WithoutRecovery s less → Scored loss s less table score
+      → (v : ℕ) → v < 64 → score v ≡ scoreOf loss s (lessRecovery s) v
+  without-is loss less table score r h v l =
+      score-is loss s less v w (graph-without s less w r) (score v) (h .each v l) ∙ ap (λ (g : Graph). scoreOf loss s g v) (less-unique s less w r)
 
   -- the findings, from the scores with recovery (in the tables) and without
   pub findings-are : (less : Graph) (opening′ lockout′ opening lockout : List ℕ) (without own : Scores) (back idle : VertexSet) → WithoutRecovery s less
       → BothScored s less opening′ lockout′ without → BothScored s (s .graph) opening lockout own
-      → LowerPlaces true (own .scores) (without .scores) (back .0) → LowerPlaces false (own .risks) (without .risks) (idle .0)
+      → WeakerSet (own .scores) (without .scores) (back .0) → IdleSet (own .risks) (without .risks) (idle .0)
       → FindingsOf s opening lockout (record { scores = own .scores; risks = own .risks; back = back; idle = idle })
   unfolding isBackdoor isIdle
   findings-are less opening′ lockout′ opening lockout without own back idle r a b low most =
       record {
         opens = b .security .table;
         locks = b .recoverability .table;
-        scores = own-is false opening (own .scores) (b .security);
-        risks = own-is true lockout (own .risks) (b .recoverability);
+        scores = own-is false opening (λ (u : ℕ). securityAt (own .scores) u) (b .security);
+        risks = own-is true lockout (λ (u : ℕ). recoverabilityAt (own .risks) u) (b .recoverability);
         back = λ v l.
-            let t = told (λ m n. m < n) ltb decide-ltb (getD (own .scores) v 0) (getD (without .scores) v 0) (scoreOf false s (s .graph) v) (scoreOf false s (lessRecovery s) v)
-            (own-is false opening (own .scores) (b .security) v l) (without-is false less opening′ (without .scores) r (a .security) v l) in
+            let t = told (λ m n. m < n) ltb decide-ltb (securityAt (own .scores) v) (securityAt (without .scores) v) (scoreOf false s (s .graph) v) (scoreOf false s (lessRecovery s) v)
+            (own-is false opening (λ (u : ℕ). securityAt (own .scores) u) (b .security) v l) (without-is false less opening′ (λ (u : ℕ). securityAt (without .scores) u) r (a .security) v l) in
             record { to = λ m. t .to (low .each v .to m .1); from = λ e. low .each v .from (l, t .from e) };
         idle = λ v l.
-            let t = told (λ m n. m ≤ n) leb decide-leb (getD (own .risks) v 0) (getD (without .risks) v 0) (scoreOf true s (s .graph) v) (scoreOf true s (lessRecovery s) v)
-            (own-is true lockout (own .risks) (b .recoverability) v l) (without-is true less lockout′ (without .risks) r (a .recoverability) v l) in
+            let t = told (λ m n. m ≤ n) leb decide-leb (recoverabilityAt (own .risks) v) (recoverabilityAt (without .risks) v) (scoreOf true s (s .graph) v) (scoreOf true s (lessRecovery s) v)
+            (own-is true lockout (λ (u : ℕ). recoverabilityAt (own .risks) u) (b .recoverability) v l) (without-is true less lockout′ (λ (u : ℕ). recoverabilityAt (without .risks) u) r (a .recoverability) v l) in
             record { to = λ m. t .to (most .each v .to m .1); from = λ e. most .each v .from (l, t .from e) };
       }
 
@@ -116,10 +117,16 @@ module _ (s : Setup) (w : WellFormed s) where
       pairs = λ v u l k. record {
         to = λ m.
             let h = b .each v (in64 v l) .each u .to m in
-            (a .each u .to (h .1 .account) .1, and-both _ _ (rank v u l k .to (h .1 .rank)) (score v u l k .to (h .1 .score)));
+            (a .each u .to (h .1 .account) .1, and-both _ _ (rank v u l k .to (h .1 .above .ranks)) (score v u l k .to (h .1 .above .scores)));
         from = λ e.
             let h = and-parts _ _ (e .1) in
-            b .each v (in64 v l) .each u .from (in64 u k, record { account = a .each u .from (in64 u k, e .0); rank = rank v u l k .from (h .0); score = score v u l k .from (h .1) });
+            b .each v (in64 v l) .each u .from (
+              in64 u k,
+              record {
+                account = a .each u .from (in64 u k, e .0);
+                above = record { ranks = rank v u l k .from (h .0); scores = score v u l k .from (h .1) };
+              },
+            );
       };
       within = λ v u l m.
           let h = b .each v (in64 v l) .each u .to m in
@@ -138,7 +145,7 @@ module _ (s : Setup) (w : WellFormed s) where
           told (λ m n. m < n) ltb decide-ltb (getD ranks u 0) (getD ranks v 0) (vertexAt s u .rank) (vertexAt s v .rank) (r .each u (in64 u k)) (r .each v (in64 v l))
 
       score : (v u : ℕ) → v < s .count → u < s .count
-          → Iff (getD (findings .scores) v 0 ≤ getD (findings .scores) u 0) (leb (scoreOf false s (s .graph) v) (scoreOf false s (s .graph) u) ≡ true)
+          → Iff (securityAt (findings .scores) v ≤ securityAt (findings .scores) u) (leb (scoreOf false s (s .graph) v) (scoreOf false s (s .graph) u) ≡ true)
       score v u l k =
-          told (λ m n. m ≤ n) leb decide-leb (getD (findings .scores) v 0) (getD (findings .scores) u 0) (scoreOf false s (s .graph) v) (scoreOf false s (s .graph) u)
+          told (λ m n. m ≤ n) leb decide-leb (securityAt (findings .scores) v) (securityAt (findings .scores) u) (scoreOf false s (s .graph) v) (scoreOf false s (s .graph) u)
           (f .scores v (in64 v l)) (f .scores u (in64 u k))

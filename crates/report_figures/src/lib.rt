@@ -5,20 +5,22 @@ ghost use Rattle.formed.specs.WellFormed.{WellFormed};
 ghost use Rattle.report_facts.specs.Facts.{HasNames, FactsOf, TablesOf};
 ghost use Rattle.report_figures.specs.Figures.{CanFill, BothScored, FindingsOf};
 use report_facts::Facts;
+use scores::RecoverabilityScore;
+use scores::SecurityScore;
 use setup::Graph;
 use setup::Setup;
 use vertex_set::VertexSet;
 
 // The scores and risks of all vertices in one graph.
 struct Scores {
-    scores: [u64; 64],
-    risks: [u64; 64],
+    scores: [SecurityScore; 64],
+    risks: [RecoverabilityScore; 64],
 }
 
 // Those with recovery, and which vertices recovery weakens (a backdoor) or does not help (idle).
 struct Findings {
-    scores: [u64; 64],
-    risks: [u64; 64],
+    scores: [SecurityScore; 64],
+    risks: [RecoverabilityScore; 64],
     back: VertexSet,
     idle: VertexSet,
 }
@@ -28,10 +30,8 @@ fn scores_with(s: Setup, graph: Graph, opening: &mut [u64], lockout: &mut [u64])
     requires { ⌜ CanFill s (now opening) (now lockout) ⌝ }
     ensures { λ r. ⌜ BothScored s graph (now (opening .exit)) (now (lockout .exit)) r ⌝ }
 {
-    let mut scores = [0u64; 64];
-    let mut risks = [0u64; 64];
-    report_scores::scores_in(s, graph, false, opening, &mut scores);
-    report_scores::scores_in(s, graph, true, lockout, &mut risks);
+    let scores = report_scores::security_in(s, graph, opening);
+    let risks = report_scores::recoverability_in(s, graph, lockout);
     Scores { scores, risks }
 }
 
@@ -48,8 +48,8 @@ fn findings_of(s: Setup, opening: &mut [u64], lockout: &mut [u64]) -> Findings
     let risks = own.risks;
     let scores_without = without.scores;
     let risks_without = without.risks;
-    let back = report_sets::lower_places(true, scores, scores_without);
-    let idle = report_sets::lower_places(false, risks, risks_without);
+    let back = report_sets::weaker_places(scores, scores_without);
+    let idle = report_sets::idle_places(risks, risks_without);
     Findings {
         scores,
         risks,

@@ -10,16 +10,19 @@ use lib.ListN.{length, getD}
 use lib.Seq.{length-sets}
 use Rattle.vertex_set.specs.Set.{Member, Decides, Iff}
 use Rattle.vertex_set.specs.Order.{Listed}
-use Rattle.vertex_set.proofs.Cases.{byTest, false-true}
+use Rattle.vertex_set.proofs.Cases.{byTest}
 use Rattle.vertex_set.proofs.Decisions.{decide-iff}
+use Rattle.scores.specs.Lists.{securityAt, recoverabilityAt}
 use Rattle.setup.specs.declared.Setup.{Setup}
 use Rattle.family_lists.specs.Tables.{Wrote}
 use Rattle.reference.specs.Tests.{those, isMember}
 use Rattle.reference.proofs.Tests.{by-decision, decide-and, decide-member}
 use Rattle.findings.proofs.Unique.{decided-once}
 use Rattle.report_text.specs.Rows.{numbersFrom, textsOf, itemsOf, scoreRow, pairRow}
-use Rattle.report_text.specs.Report.{nameIn, isAccount, isBackdoor, isIdle, isOutOfRank, accountsOf, findingRow, pairRows}
+use Rattle.sheet_format.specs.Names.{nameOf}
+use Rattle.report_text.specs.Report.{isAccount, isBackdoor, isIdle, isOutOfRank, belowOf, accountsOf, findingRow, pairRows}
 use Rattle.report_text.proofs.Items.{those-no}
+use Rattle.report_text.proofs.Meaning.{decide-true}
 use Rattle.report_text.proofs.Lengths.{score-row-length}
 use Rattle.report_text.proofs.Numbers.{listed-numbers}
 use Rattle.report_fields.specs.Writing.{NamePlaces}
@@ -59,9 +62,6 @@ those-cut m k (suc n) (suc more) l h =
 
 -- ---- answers
 
-decide-true : (b : Bool) → Decides (b ≡ true) b
-decide-true b = record { yes = λ e. e; no = λ e t. false-true (sym e ∙ t) }
-
 -- A decision of what a test says is the test's answer.
 same-answer : {P : Type 0} (a b : Bool) → Iff P (b ≡ true) → Decides P a → b ≡ a
 same-answer a b f d = decided-once b a (decide-true b) (decide-iff f d)
@@ -70,7 +70,7 @@ same-answer a b f d = decided-once b a (decide-true b) (decide-iff f d)
 
 -- A part is written where the text of v is the same for all setups that the facts are of.
 pub part-wrote : (text : (ℕ → List ℕ) → Setup → ℕ → List ℕ) (sheet : List ℕ) (f : Facts) (v : ℕ) (entry : List ℕ) (at : ℕ) (row exit : List ℕ) (r : ℕ)
-    → ((s : Setup) → FactsOf sheet s f → v < s .count → text (nameIn sheet) s v ≡ row) → at + length row ≤ length entry → Wrote entry at row exit r
+    → ((s : Setup) → FactsOf sheet s f → v < s .count → text (nameOf sheet) s v ≡ row) → at + length row ≤ length entry → Wrote entry at row exit r
     → WrotePart text sheet f v entry at exit r
 part-wrote text sheet f v entry at row exit r same room w =
     record {
@@ -79,7 +79,7 @@ part-wrote text sheet f v entry at row exit r same room w =
     }
 
 pub part-empty : (text : (ℕ → List ℕ) → Setup → ℕ → List ℕ) (sheet : List ℕ) (f : Facts) (v : ℕ) (entry : List ℕ) (at : ℕ)
-    → ((s : Setup) → FactsOf sheet s f → v < s .count → text (nameIn sheet) s v ≡ []) → PartReady sheet f v entry at
+    → ((s : Setup) → FactsOf sheet s f → v < s .count → text (nameOf sheet) s v ≡ []) → PartReady sheet f v entry at
     → WrotePart text sheet f v entry at entry at
 part-empty text sheet f v entry at same p =
     part-wrote text sheet f v entry at [] entry at same (omega (arith, p .room)) (record { exit = refl; next = omega arith })
@@ -91,21 +91,23 @@ module _ (sheet : List ℕ) (f : Facts) (v : ℕ) where
   no-account : (Member (f .accounts .0) v → ⊥) → (s : Setup) → FactsOf sheet s f → v < s .count → isAccount s v ≡ false
   no-account n s g h = byTest (isAccount s v) (λ e. absurd (n (g .accounts v h .from e))) (λ e. e)
 
-  pub no-score : (Member (f .accounts .0) v → ⊥) → (s : Setup) → FactsOf sheet s f → v < s .count → scoreAt (nameIn sheet) s v ≡ []
+  pub no-score : (Member (f .accounts .0) v → ⊥) → (s : Setup) → FactsOf sheet s f → v < s .count → scoreAt (nameOf sheet) s v ≡ []
   unfolding scoreAt
   no-score n s g h = rw (no-account n s g h)
 
-  pub no-pairs : (Member (f .accounts .0) v → ⊥) → (s : Setup) → FactsOf sheet s f → v < s .count → pairsAt (nameIn sheet) s v ≡ []
+  pub no-pairs : (Member (f .accounts .0) v → ⊥) → (s : Setup) → FactsOf sheet s f → v < s .count → pairsAt (nameOf sheet) s v ≡ []
   unfolding pairsAt
   no-pairs n s g h = rw (no-account n s g h)
 
   -- an account
-  pub score-text : (back idle : Bool) → Member (f .accounts .0) v → Decides (Member (f .back .0) v) back → Decides (Member (f .idle .0) v) idle
+  pub score-text : (score risk : ℕ) (back idle : Bool) → score ≡ securityAt (f .scores) v → risk ≡ recoverabilityAt (f .risks) v → Member (f .accounts .0) v → Decides (Member (f .back .0) v) back → Decides (Member (f .idle .0) v) idle
       → (s : Setup) → FactsOf sheet s f → v < s .count
-      → scoreAt (nameIn sheet) s v ≡ scoreRow (nameIn sheet) v (getD (f .scores) v 0) (getD (f .risks) v 0) back idle
+      → scoreAt (nameOf sheet) s v ≡ scoreRow (nameOf sheet) v score risk back idle
   unfolding scoreAt findingRow
-  score-text back idle m b i s g h =
+  score-text score risk back idle p q m b i s g h =
       rw (
+        p,
+        q,
         g .accounts v h .to m,
         ← (g .scores v h),
         ← (g .risks v h),
@@ -114,8 +116,8 @@ module _ (sheet : List ℕ) (f : Facts) (v : ℕ) where
       )
 
   -- the accounts that are out of rank with v above are the vertices of its set
-  below-list : (s : Setup) → FactsOf sheet s f → v < s .count → those (isOutOfRank s v) (accountsOf s) ≡ itemsOf (getD (f .below) v 0)
-  unfolding accountsOf itemsOf
+  below-list : (s : Setup) → FactsOf sheet s f → v < s .count → belowOf s v ≡ itemsOf (getD (f .below) v 0)
+  unfolding belowOf accountsOf itemsOf
   below-list s g h =
       let x : ℕ = getD (f .below) v 0 in
       those-those (isOutOfRank s v) (isAccount s) (isMember x) (numbersFrom 0 (s .count))
@@ -126,22 +128,22 @@ module _ (sheet : List ℕ) (f : Facts) (v : ℕ) where
       (λ w l. by-decision (isMember x w) (decide-member x w) (λ e m. let q = g .within v w h m in absurd (omega arith)) (λ e n. e))
 
   pub pairs-text : Member (f .accounts .0) v → (s : Setup) → FactsOf sheet s f → v < s .count
-      → pairsAt (nameIn sheet) s v ≡ pairsWith (nameIn sheet) v (getD (f .below) v 0)
+      → pairsAt (nameOf sheet) s v ≡ pairsWith (nameOf sheet) v (getD (f .below) v 0)
   unfolding pairsAt pairRows pairsWith
-  pairs-text m s g h = rw (g .accounts v h .to m) (ap (textsOf (pairRow (nameIn sheet) v)) (below-list s g h))
+  pairs-text m s g h = rw (g .accounts v h .to m) (ap (textsOf (pairRow (nameOf sheet) v)) (below-list s g h))
 
   -- ---- what is asked for at the calls
   module _ (out : List ℕ) (at : ℕ) (p : PartReady sheet f v out at) where
-    pub score-room : (back idle : Bool) → getD (f .scores) v 0 < 2 ^ 64 → getD (f .risks) v 0 < 2 ^ 64
-        → at + length (scoreRow (nameIn sheet) v (getD (f .scores) v 0) (getD (f .risks) v 0) back idle) ≤ length out
-    score-room back idle a b =
-        let l = score-row-length (nameIn sheet) v (getD (f .scores) v 0) (getD (f .risks) v 0) back idle a b (p .facts .short v (p .vertex)) in
+    pub score-room : (score risk : ℕ) (back idle : Bool) → score < 2 ^ 64 → risk < 2 ^ 64
+        → at + length (scoreRow (nameOf sheet) v score risk back idle) ≤ length out
+    score-room score risk back idle a b =
+        let l = score-row-length (nameOf sheet) v score risk back idle a b (p .facts .short v (p .vertex)) in
         omega (arith, p .room)
 
     pub below-names : NamePlaces sheet (f .from) (f .to) (getD (f .below) v 0)
     below-names = record { each = λ w m. p .facts .names w (p .facts .within v w (p .vertex) m) }
 
-    pub below-room : getD (f .below) v 0 < 2 ^ 64 → at + length (pairsWith (nameIn sheet) v (getD (f .below) v 0)) ≤ length out
+    pub below-room : getD (f .below) v 0 < 2 ^ 64 → at + length (pairsWith (nameOf sheet) v (getD (f .below) v 0)) ≤ length out
     below-room b =
-        let l = pairs-length (nameIn sheet) v (getD (f .below) v 0) b (p .facts .short v (p .vertex)) (λ w m. p .facts .short w (p .facts .within v w (p .vertex) m)) in
+        let l = pairs-length (nameOf sheet) v (getD (f .below) v 0) b (p .facts .short v (p .vertex)) (λ w m. p .facts .short w (p .facts .within v w (p .vertex) m)) in
         omega (arith, p .room)

@@ -5,7 +5,7 @@ use lib.ListN.{length}
 use Rattle.setup.specs.declared.Setup.{Setup}
 use Rattle.family_lists.specs.Tables.{Wrote}
 use Rattle.report_text.specs.Rows.{textsOf, itemsOf, pairRow}
-use Rattle.report_text.specs.Report.{nameIn}
+use Rattle.sheet_format.specs.Names.{nameOf}
 use Rattle.report_facts.specs.declared.Facts.{Facts}
 use Rattle.report_facts.specs.Facts.{FactsOf}
 
@@ -19,7 +19,7 @@ pub record PartReady (sheet : List ℕ) (f : Facts) (v : ℕ) (out : List ℕ) (
 
 -- From `at` on stands the text of the vertex v, whichever setup the facts are of; r is the next place.
 pub record WrotePart (text : (ℕ → List ℕ) → Setup → ℕ → List ℕ) (sheet : List ℕ) (f : Facts) (v : ℕ) (entry : List ℕ) (at : ℕ) (exit : List ℕ) (r : ℕ) : Type 0 where
-  pub each : (s : Setup) → FactsOf sheet s f → v < s .count → Wrote entry at (text (nameIn sheet) s v) exit r
+  pub each : (s : Setup) → FactsOf sheet s f → v < s .count → Wrote entry at (text (nameOf sheet) s v) exit r
   pub inside : r ≤ length exit
 
 -- A pair with v above for each vertex of the set x, rising.

@@ -3,7 +3,7 @@
 ghost use Prim.Native.Nat.{_+_, _≤_};
 ghost use lib.ListN.{length};
 ghost use Rattle.family_lists.specs.Tables.{Wrote};
-ghost use Rattle.report_text.specs.Report.{nameIn};
+ghost use Rattle.sheet_format.specs.Names.{nameOf};
 ghost use Rattle.report_fields.specs.Writing.{NamePlace, NamePlaces};
 ghost use Rattle.report_facts.specs.Texts.{scoreAt, pairsAt};
 ghost use Rattle.report_findings.specs.Parts.{PartReady, WrotePart, pairsWith};
@@ -18,12 +18,14 @@ pub fn put_score_of(facts: Facts, v: usize, sheet: &[u8], out: &mut [u8], at: us
     if facts.accounts.has(v) {
         let score = facts.scores[v];
         let risk = facts.risks[v];
+        let score_number = score.number();
+        let risk_number = risk.number();
         let back = facts.back.has(v);
         let idle = facts.idle.has(v);
         let row = ScoreRow {
             target: v,
-            score,
-            risk,
+            score: score_number,
+            risk: risk_number,
             back,
             idle,
         };
@@ -46,8 +48,8 @@ fn put_pairs(
 ) -> usize
     requires { ⌜ NamePlace (now sheet) (now from) (now to) v ⌝ }
     requires { ⌜ NamePlaces (now sheet) (now from) (now to) x ⌝ }
-    requires { ⌜ at + length (pairsWith (nameIn (now sheet)) v x) ≤ length (now out) ⌝ }
-    ensures { λ r. ⌜ Wrote (now (out .entry)) at (pairsWith (nameIn (now (sheet .entry))) v x) (now (out .exit)) r ⌝ }
+    requires { ⌜ at + length (pairsWith (nameOf (now sheet)) v x) ≤ length (now out) ⌝ }
+    ensures { λ r. ⌜ Wrote (now (out .entry)) at (pairsWith (nameOf (now (sheet .entry))) v x) (now (out .exit)) r ⌝ }
 {
     let one: u64 = 1;
     let mut rest = x;

@@ -15,7 +15,7 @@ use Rattle.vertex_set.proofs.Cases.{less-or}
 use Rattle.vertex_set.proofs.Sums.{sum-bound}
 use Rattle.family_lists.specs.Tables.{Wrote}
 use Rattle.report_text.specs.Rows.{textsOf, setRow}
-use Rattle.report_text.specs.Report.{nameIn}
+use Rattle.sheet_format.specs.Names.{nameOf}
 use Rattle.report_text.proofs.Lengths.{set-row-length}
 use Rattle.report_facts.specs.Parts.{Part}
 use Rattle.report_facts.proofs.Parts.{part-none, part-one, part-then, part-length, wrote-inside}
@@ -32,13 +32,13 @@ module _ (sheet from to values list : List ℕ) (loss : Bool) (target i n row : 
   abbrev sum : ℕ
   sum = sumOver (λ (v : ℕ). getD values v 0) (getD list row 0)
 
-  row-length : getD list row 0 < 2 ^ 64 → length (setRow (nameIn sheet) loss target (getD list row 0) sum) ≤ 272
+  row-length : getD list row 0 < 2 ^ 64 → length (setRow (nameOf sheet) loss target (getD list row 0) sum) ≤ 272
   row-length b =
       let q = h .sets row l in
-      set-row-length (nameIn sheet) loss target (getD list row 0) sum b (q .few) (sum-small values (getD list row 0) (h .small)) (h .short) (q .short)
+      set-row-length (nameOf sheet) loss target (getD list row 0) sum b (q .few) (sum-small values (getD list row 0) (h .small)) (h .short) (q .short)
 
   -- where the longest row has room, so has this one
-  pub row-fits : (x out at : ℕ) → x ≡ sum → getD list row 0 < 2 ^ 64 → at + 272 ≤ out → at + length (setRow (nameIn sheet) loss target (getD list row 0) x) ≤ out
+  pub row-fits : (x out at : ℕ) → x ≡ sum → getD list row 0 < 2 ^ 64 → at + 272 ≤ out → at + length (setRow (nameOf sheet) loss target (getD list row 0) x) ≤ out
   row-fits x out at e b room = let r = row-length b in rw e (omega arith)
 
 -- The rows from i up to `row` stand.

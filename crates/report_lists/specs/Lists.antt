@@ -14,7 +14,8 @@ use Rattle.setup.specs.Setup.{ChosenSet}
 use Rattle.formed.specs.WellFormed.{WellFormed}
 use Rattle.derivations.specs.Both.{ruleOf}
 use Rattle.report_text.specs.Rows.{textsOf, setRow}
-use Rattle.report_text.specs.Report.{nameIn, isAccount}
+use Rattle.sheet_format.specs.Names.{nameOf}
+use Rattle.report_text.specs.Report.{isAccount}
 use Rattle.report_fields.specs.Writing.{NamePlace, NamePlaces}
 use Rattle.report_scores.specs.Scores.{BaseTable}
 use Rattle.report_facts.specs.Texts.{slotList}
@@ -24,12 +25,12 @@ use Rattle.report_facts.specs.Parts.{Part}
 pub record SetReady (sheet from to : List ℕ) (x : ℕ) : Type 0 where
   pub few : ones x ≤ 14
   pub names : NamePlaces sheet from to x
-  pub short : (v : ℕ) → Member x v → length (nameIn sheet v) ≤ 16
+  pub short : (v : ℕ) → Member x v → length (nameOf sheet v) ≤ 16
 
 -- The n sets of the list can be written, and row i comes next.
 pub record RowsReady (sheet from to values list : List ℕ) (target i n : ℕ) : Type 0 where
   pub name : NamePlace sheet from to target
-  pub short : length (nameIn sheet target) ≤ 16
+  pub short : length (nameOf sheet target) ≤ 16
   pub sets : (j : ℕ) → j < n → SetReady sheet from to (getD list j 0)
   pub longValues : length values ≡ 64
   pub small : (v : ℕ) → getD values v 0 ≤ largest

@@ -1,6 +1,7 @@
 -- The names of the items of a sheet, line by line.
 -- Assumes nothing.
 use mathlib.Core.Path.{_≡_, refl, sym, ap, _∙_, subst}
+use mathlib.Core.Bool.{true}
 use mathlib.Core.List.{List, [], _∷_, head-eq-of-cons-eq, tail-eq-of-cons-eq}
 use mathlib.Core.Logic.{⊎-elim}
 use Prim.Native.Nat.{ℕ, suc, _+_, _-_, _≤_, _<_}
@@ -12,10 +13,10 @@ use lib.ListN.{length, getD, set, take, drop, length-set, length-drop, length-ta
 use lib.Seq.{drop-cons, take-take, getD-set-same, getD-set-other}
 use Rattle.vertex_set.proofs.Cases.{byTest, less-or, same-or}
 use Rattle.sheet_format.specs.Text.{grow, linesOf, fieldsOf}
+use Rattle.sheet_format.specs.Names.{hasItem, nameOf}
 use Rattle.sheet_fields.specs.Parts.{until}
 use Rattle.sheet_fields.proofs.Cutting.{until-le}
 use Rattle.sheet_fields.proofs.Lines.{line-at, lines-over}
-use Rattle.report_text.specs.Report.{nameIn}
 use Rattle.report_fields.specs.Writing.{NamePlace}
 
 -- ---- the first field of a line
@@ -57,7 +58,7 @@ place-kept sheet from to v a e u n p =
     }
 
 place-new : (sheet from to : List ℕ) (v a e : ℕ) → v < length from → v < length to → a ≤ e → e ≤ length sheet
-    → take (e - a) (drop a sheet) ≡ nameIn sheet v → NamePlace sheet (set from v a) (set to v e) v
+    → take (e - a) (drop a sheet) ≡ nameOf sheet v → NamePlace sheet (set from v a) (set to v e) v
 place-new sheet from to v a e hf ht o i q =
     let lf = length-set from v a in
     let lt = length-set to v e in
@@ -90,10 +91,10 @@ module _ (sheet from to : List ℕ) (v at : ℕ) (n : NamesSoFar sheet from to v
   line-is : (stop : ℕ) → stop ≡ at + until 10 (drop at sheet) → getD (linesOf sheet) (suc v) [] ∷ drop (suc (suc v)) (linesOf sheet) ≡ take (stop - at) (drop at sheet) ∷ linesOf (drop (stop + 1) sheet)
   line-is stop e = sym (drop-cons (linesOf sheet) (suc v) [] h) ∙ n .lines ∙ line-at sheet at stop line-starts e
 
-  pub names-more : (stop k : ℕ) → v < 64 → stop ≡ at + until 10 (drop at sheet) → k ≡ 0 + until 32 (drop 0 (take (stop - at) (drop at sheet)))
+  pub names-more : (stop k : ℕ) → v < 64 → hasItem sheet v ≡ true → stop ≡ at + until 10 (drop at sheet) → k ≡ 0 + until 32 (drop 0 (take (stop - at) (drop at sheet)))
       → NamesSoFar sheet (set from v at) (set to v (at + k)) (v + 1) (stop + 1)
-  unfolding nameIn
-  names-more stop k small e q =
+  unfolding nameOf
+  names-more stop k small there e q =
       let s = line-starts in
       let b = line-stops stop e in
       let lo = b .0 in
@@ -104,8 +105,8 @@ module _ (sheet from to : List ℕ) (v at : ℕ) (n : NamesSoFar sheet from to v
       let i = line-is stop e in
       let same : getD (linesOf sheet) (suc v) [] ≡ line = head-eq-of-cons-eq i in
       let up : at + k - at ≡ until 32 line = omega arith in
-      let is : take (at + k - at) (drop at sheet) ≡ nameIn sheet v =
-      rw up (sym (take-take (until 32 line) (stop - at) (drop at sheet) (omega arith)) ∙ sym (first-field line) ∙ ap (λ (l : List ℕ). getD (fieldsOf l) 0 []) (sym same)) in
+      let is : take (at + k - at) (drop at sheet) ≡ nameOf sheet v =
+      rw (there, up) (sym (take-take (until 32 line) (stop - at) (drop at sheet) (omega arith)) ∙ sym (first-field line) ∙ ap (λ (l : List ℕ). getD (fieldsOf l) 0 []) (sym same)) in
       record {
         longFrom = length-set from v at ∙ n .longFrom;
         longTo = length-set to v (at + k) ∙ n .longTo;

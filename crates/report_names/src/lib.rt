@@ -1,8 +1,5 @@
 // Where the names of a sheet's items stand in it.
-ghost use Prim.Native.Nat.{_≤_, _<_};
-ghost use lib.ListN.{length};
-ghost use Rattle.sheet_format.specs.Text.{linesOf};
-ghost use Rattle.report_names.specs.Places.{PlacesOf};
+ghost use Rattle.report_names.specs.Places.{HasItems, PlacesOf};
 
 // The name of the vertex v stands from from[v] up to to[v].
 pub struct Names {
@@ -12,7 +9,7 @@ pub struct Names {
 
 // The names of the first `count` items: each is the first field of a line below the header.
 pub fn name_places(sheet: &[u8], count: usize) -> Names
-    requires { ⌜ (count ≤ 64) × (count < length (linesOf (now sheet))) ⌝ }
+    requires { ⌜ HasItems (now sheet) count ⌝ }
     ensures { λ r. ⌜ PlacesOf (now (sheet .entry)) count r ⌝ }
 {
     let mut from = [0usize; 64];

@@ -4,7 +4,7 @@ ghost use Prim.Native.Nat.{_+_, _≤_};
 ghost use lib.ListN.{length};
 ghost use Rattle.family_lists.specs.Tables.{Wrote};
 ghost use Rattle.report_text.specs.Rows.{setRow, scoreRow, pairRow, refusedRow};
-ghost use Rattle.report_text.specs.Report.{nameIn};
+ghost use Rattle.sheet_format.specs.Names.{nameOf};
 ghost use Rattle.report_fields.specs.Writing.{NamePlace, NamePlaces};
 
 const LF: u8 = 10;
@@ -30,8 +30,8 @@ pub fn put_set_row(
 ) -> usize
     requires { ⌜ NamePlace (now sheet) (now from) (now to) (row .target) ⌝ }
     requires { ⌜ NamePlaces (now sheet) (now from) (now to) (row .set) ⌝ }
-    requires { ⌜ at + length (setRow (nameIn (now sheet)) (row .loss) (row .target) (row .set) (row .sum)) ≤ length (now out) ⌝ }
-    ensures { λ r. ⌜ Wrote (now (out .entry)) at (setRow (nameIn (now (sheet .entry))) (row .loss) (row .target) (row .set) (row .sum)) (now (out .exit)) r ⌝ }
+    requires { ⌜ at + length (setRow (nameOf (now sheet)) (row .loss) (row .target) (row .set) (row .sum)) ≤ length (now out) ⌝ }
+    ensures { λ r. ⌜ Wrote (now (out .entry)) at (setRow (nameOf (now (sheet .entry))) (row .loss) (row .target) (row .set) (row .sum)) (now (out .exit)) r ⌝ }
 {
     let size = u64::count_ones(row.set) as u64;
     let mut next = report_fields::put_name_field(row.target, SPACE, sheet, from, to, out, at);
@@ -60,8 +60,8 @@ pub fn put_score_row(
     at: usize,
 ) -> usize
     requires { ⌜ NamePlace (now sheet) (now from) (now to) (row .target) ⌝ }
-    requires { ⌜ at + length (scoreRow (nameIn (now sheet)) (row .target) (row .score) (row .risk) (row .back) (row .idle)) ≤ length (now out) ⌝ }
-    ensures { λ r. ⌜ Wrote (now (out .entry)) at (scoreRow (nameIn (now (sheet .entry))) (row .target) (row .score) (row .risk) (row .back) (row .idle)) (now (out .exit)) r ⌝ }
+    requires { ⌜ at + length (scoreRow (nameOf (now sheet)) (row .target) (row .score) (row .risk) (row .back) (row .idle)) ≤ length (now out) ⌝ }
+    ensures { λ r. ⌜ Wrote (now (out .entry)) at (scoreRow (nameOf (now (sheet .entry))) (row .target) (row .score) (row .risk) (row .back) (row .idle)) (now (out .exit)) r ⌝ }
 {
     let mut next = report_fields::put_name_field(row.target, SPACE, sheet, from, to, out, at);
     next = report_fields::put_score(row.score, SPACE, out, next);
@@ -82,8 +82,8 @@ pub fn put_pair_row(
 ) -> usize
     requires { ⌜ NamePlace (now sheet) (now from) (now to) v ⌝ }
     requires { ⌜ NamePlace (now sheet) (now from) (now to) w ⌝ }
-    requires { ⌜ at + length (pairRow (nameIn (now sheet)) v w) ≤ length (now out) ⌝ }
-    ensures { λ r. ⌜ Wrote (now (out .entry)) at (pairRow (nameIn (now (sheet .entry))) v w) (now (out .exit)) r ⌝ }
+    requires { ⌜ at + length (pairRow (nameOf (now sheet)) v w) ≤ length (now out) ⌝ }
+    ensures { λ r. ⌜ Wrote (now (out .entry)) at (pairRow (nameOf (now (sheet .entry))) v w) (now (out .exit)) r ⌝ }
 {
     let next = report_fields::put_name_field(v, SPACE, sheet, from, to, out, at);
     report_fields::put_name_field(w, LF, sheet, from, to, out, next)

@@ -145,10 +145,9 @@ chosen-unique loss s a b p q =
 
 pub scored : (loss : Bool) (s : Setup) (g : Graph) (chosen : ℕ) (values low high w exit out : List ℕ) → WellFormed s → ChosenSet loss s chosen
     → Values loss s values → SumTables chosen (λ (v : ℕ). getD values v 0) low high → Table (ruleOf loss g) chosen w
-    → KeptAll w low high exit out → Scored loss s g exit out
+    → KeptAll w low high exit out → Scored loss s g exit (λ (v : ℕ). getD out v 0)
 scored loss s g chosen values low high w exit out formed ch values-are sums t kept =
     record {
-      long = kept .long;
       table = λ c h. subst (λ (k : ℕ). BaseTable (ruleOf loss g) k exit) (chosen-unique loss s chosen c ch h)
           (record {
             words = kept .words;

@@ -17,11 +17,10 @@ use Rattle.tables.specs.Table.{FamilyOf}
 use Rattle.bases.specs.Base.{Base}
 use Rattle.bases.specs.Score.{Score}
 
--- What scores_in asks for.
-pub record CanScore (s : Setup) (w out : List ℕ) : Type 0 where
+-- What the functions that read all scores ask for: room for a table.
+pub record CanScore (s : Setup) (w : List ℕ) : Type 0 where
   pub formed : WellFormed s
   pub words : length w ≡ 16384
-  pub places : length out ≡ 64
 
 -- The words of the vertex v in a table.
 abbrev pub wordsAt : List ℕ → ℕ → List ℕ
@@ -38,11 +37,14 @@ pub record BaseTable (r : Rule) (chosen : ℕ) (w : List ℕ) : Type 0 where
   pub words : length w ≡ 16384
   pub each : (v : ℕ) → v < 64 → BaseAt r chosen v (wordsAt w v)
 
--- w is the table of bases of the graph and the chosen vertices, and out has the score of each vertex.
-pub record Scored (loss : Bool) (s : Setup) (g : Graph) (w out : List ℕ) : Type 0 where
-  pub long : length out ≡ 64
+-- w is the table of bases of the graph and the chosen vertices, and `score` gives the score of each vertex.
+pub record Scored (loss : Bool) (s : Setup) (g : Graph) (w : List ℕ) (score : ℕ → ℕ) : Type 0 where
   pub table : (chosen : ℕ) → ChosenSet loss s chosen → BaseTable (ruleOf loss g) chosen w
-  pub each : (v : ℕ) → v < 64 → Score loss s g v (getD out v 0)
+  pub each : (v : ℕ) → v < 64 → Score loss s g v (score v)
+
+-- `score` gives the numbers of the list, in order.
+pub record Numbers (numbers : List ℕ) (score : ℕ → ℕ) : Type 0 where
+  pub each : (v : ℕ) → v < 64 → score v ≡ getD numbers v 0
 
 -- What list_from asks for: the table of bases of some graph, and room for every list.
 pub record CanRead (w : List ℕ) (chosen target : ℕ) (out : List ℕ) : Type 0 where

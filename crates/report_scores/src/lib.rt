@@ -1,12 +1,16 @@
 // What the report needs of a table of closures: it is filled once and cut down to the minimal sets, and
 // then every vertex's score and list are read from it.
+ghost use mathlib.Core.Bool.{true, false};
 ghost use mathlib.Core.Path.{_≡_};
 ghost use Prim.Native.Nat.{ℕ, _<_};
 ghost use lib.ListN.{length, getD};
 ghost use Rattle.vertex_set.specs.Order.{sumOver};
+ghost use Rattle.scores.specs.Lists.{securityAt, recoverabilityAt};
 ghost use Rattle.family_lists.specs.Tables.{TablesFit};
-ghost use Rattle.report_scores.specs.Scores.{CanScore, Scored, CanRead, Listing, Summands, KeptAt, KeptAll};
+ghost use Rattle.report_scores.specs.Scores.{CanScore, Scored, Numbers, CanRead, Listing, Summands, KeptAt, KeptAll};
 use families::WORDS;
+use scores::RecoverabilityScore;
+use scores::SecurityScore;
 use setup::Graph;
 use setup::Setup;
 use vertex_set::VertexSet;
@@ -64,9 +68,10 @@ fn keep_bases(w: &mut [u64], low: &[u64], high: &[u64], out: &mut [u64])
 // Fills the table of the graph and the initial vertices or, with loss, the losable ones, and makes it
 // the table of their bases; out gets the scores of all vertices. The graph is the setup's, or that
 // without recovery.
-pub fn scores_in(s: Setup, graph: Graph, loss: bool, w: &mut [u64], out: &mut [u64])
-    requires { ⌜ CanScore s (now w) (now out) ⌝ }
-    ensures { λ _. ⌜ Scored loss s graph (now (w .exit)) (now (out .exit)) ⌝ }
+fn scores_in(s: Setup, graph: Graph, loss: bool, w: &mut [u64], out: &mut [u64])
+    requires { ⌜ CanScore s (now w) ⌝ }
+    requires { ⌜ length (now out) ≡ 64 ⌝ }
+    ensures { λ _. ⌜ Scored loss s graph (now (w .exit)) (λ (v : ℕ). getD (now (out .exit)) v 0) ⌝ }
 {
     let chosen = setup::chosen(s, loss);
     let values = bases::values_of(s, loss);
@@ -75,4 +80,48 @@ pub fn scores_in(s: Setup, graph: Graph, loss: bool, w: &mut [u64], out: &mut [u
     least_sums::sum_tables(chosen, values, &mut low, &mut high);
     tables::fill(graph, chosen, loss, w);
     keep_bases(w, &low, &high, out);
+}
+
+// The numbers as security scores.
+fn security_of(numbers: [u64; 64]) -> [SecurityScore; 64]
+    ensures { λ r. ⌜ Numbers numbers (λ (v : ℕ). securityAt r v) ⌝ }
+{
+    let none = SecurityScore::of(0);
+    let mut r = [none; 64];
+    for v in 0..64usize {
+        r[v] = SecurityScore::of(numbers[v]);
+    }
+    r
+}
+
+// The numbers as recoverability scores.
+fn recoverability_of(numbers: [u64; 64]) -> [RecoverabilityScore; 64]
+    ensures { λ r. ⌜ Numbers numbers (λ (v : ℕ). recoverabilityAt r v) ⌝ }
+{
+    let none = RecoverabilityScore::of(0);
+    let mut r = [none; 64];
+    for v in 0..64usize {
+        r[v] = RecoverabilityScore::of(numbers[v]);
+    }
+    r
+}
+
+// The security scores of all vertices in the graph; w becomes the table of their opening sets.
+pub fn security_in(s: Setup, graph: Graph, w: &mut [u64]) -> [SecurityScore; 64]
+    requires { ⌜ CanScore s (now w) ⌝ }
+    ensures { λ r. ⌜ Scored false s graph (now (w .exit)) (λ (v : ℕ). securityAt r v) ⌝ }
+{
+    let mut numbers = [0u64; 64];
+    scores_in(s, graph, false, w, &mut numbers);
+    security_of(numbers)
+}
+
+// The recoverability scores of all vertices in the graph; w becomes the table of their lockout sets.
+pub fn recoverability_in(s: Setup, graph: Graph, w: &mut [u64]) -> [RecoverabilityScore; 64]
+    requires { ⌜ CanScore s (now w) ⌝ }
+    ensures { λ r. ⌜ Scored true s graph (now (w .exit)) (λ (v : ℕ). recoverabilityAt r v) ⌝ }
+{
+    let mut numbers = [0u64; 64];
+    scores_in(s, graph, true, w, &mut numbers);
+    recoverability_of(numbers)
 }

@@ -1,18 +1,21 @@
 -- Sets of the vertices that have a property, gathered from the lowest vertex on.
 -- Assumes nothing.
 use mathlib.Core.Path.{_≡_, sym, subst, _∙_}
-use mathlib.Core.Bool.{true, false}
+use mathlib.Core.Bool.{Bool, false}
 use mathlib.Core.List.{List}
 use mathlib.Core.Logic.{inl, inr, ⊎-elim}
 use Prim.Native.Nat.{ℕ, _+_, _≤_, _<_}
 use native.Mathlib.Omega.{arith}
 use lib.Bits.{bitAnd}
-use lib.ListN.{length, getD, set, length-set, replicate, getD-replicate}
+use lib.ListN.{length, getD, set, length-set}
 use lib.Seq.{getD-set-same, getD-set-other}
-use Rattle.vertex_set.specs.Set.{Inserted}
+use Rattle.vertex_set.specs.Set.{Inserted, Decides}
 use Rattle.vertex_set.proofs.Cases.{same-or}
 use Rattle.vertex_set.proofs.Sets.{none-in-zero, in-and}
-use Rattle.report_sets.specs.Sets.{Passing, LowerPlaces, BelowOne}
+use Rattle.vertex_set.proofs.Decisions.{decide-no, decide-iff}
+use Rattle.scores.specs.declared.SecurityScore.{SecurityScore}
+use Rattle.scores.specs.Lists.{securityAt}
+use Rattle.report_sets.specs.Sets.{Passing, Above, BelowOne}
 
 pub passing-none : (P : ℕ → Type 0) → Passing P 0 0
 passing-none P = record { each = λ i. record { to = λ m. absurd (none-in-zero i m); from = λ p. absurd (let l = p .0 in omega arith) } }
@@ -43,28 +46,24 @@ module _ (P : ℕ → Type 0) (v r : ℕ) (b : Passing P v r) where
 
 -- ---- out of rank
 
+pub not-above : (rank other score than : ℕ) → rank ≤ other → Decides (Above rank other score than) false
+not-above rank other score than h = decide-no (λ a. let l = a .ranks in omega arith)
+
+-- where the ranks are so, the scores decide
+pub above-by : (rank other score than : ℕ) (b : Bool) → other < rank → Decides (score ≤ than) b → Decides (Above rank other score than) b
+above-by rank other score than b l = decide-iff (record { to = λ h. record { ranks = l; scores = h }; from = λ a. a .scores })
+
 -- the accounts among the vertices of a lower rank and no lower score
-pub below-one : (accounts : ℕ) (ranks scores : List ℕ) (v lower strong : ℕ) → LowerPlaces true ranks (replicate 64 (getD ranks v 0)) lower
-    → LowerPlaces false (replicate 64 (getD scores v 0)) scores strong → BelowOne accounts ranks scores v (bitAnd (bitAnd accounts lower) strong)
-below-one accounts ranks scores v lower strong a b =
+pub below-one : (accounts : ℕ) (ranks : List ℕ) (scores : List SecurityScore) (v r : ℕ)
+    → Passing (λ w. Above (getD ranks v 0) (getD ranks w 0) (securityAt scores v) (securityAt scores w)) 64 r → BelowOne accounts ranks scores v (bitAnd accounts r)
+below-one accounts ranks scores v r a =
     record {
       each = λ w. record {
         to = λ m.
-            let h = in-and (bitAnd accounts lower) strong w .to m in
-            let k = in-and accounts lower w .to (h .0) in
-            let p = a .each w .to (k .1) in
-            let q = b .each w .to (h .1) in
-            let e = getD-replicate 64 w (getD ranks v 0) 0 (p .0) in
-            let f = getD-replicate 64 w (getD scores v 0) 0 (p .0) in
-            (p .0, record { account = k .0; rank = subst (λ (x : ℕ). getD ranks w 0 < x) e (p .1); score = subst (λ (x : ℕ). x ≤ getD scores w 0) f (q .1) });
-        from = λ h.
-            let o = h .1 in
-            let e = getD-replicate 64 w (getD ranks v 0) 0 (h .0) in
-            let f = getD-replicate 64 w (getD scores v 0) 0 (h .0) in
-            in-and (bitAnd accounts lower) strong w .from (
-              in-and accounts lower w .from (o .account, a .each w .from (h .0, subst (λ (x : ℕ). getD ranks w 0 < x) (sym e) (o .rank))),
-              b .each w .from (h .0, subst (λ (x : ℕ). x ≤ getD scores w 0) (sym f) (o .score)),
-            );
+            let h = in-and accounts r w .to m in
+            let p = a .each w .to (h .1) in
+            (p .0, record { account = h .0; above = p .1 });
+        from = λ h. in-and accounts r w .from (h .1 .account, a .each w .from (h .0, h .1 .above));
       };
     }
 

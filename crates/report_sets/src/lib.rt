@@ -3,7 +3,9 @@ ghost use mathlib.Core.Path.{_≡_};
 ghost use Prim.Native.Nat.{_<_};
 ghost use Rattle.vertex_set.specs.Set.{Decides};
 ghost use Rattle.report_text.specs.Report.{isAccountKind};
-ghost use Rattle.report_sets.specs.Sets.{AccountSet, Lower, LowerPlaces, Ranks, BelowOne, BelowAll};
+ghost use Rattle.report_sets.specs.Sets.{AccountSet, WeakerSet, IdleSet, Ranks, Above, BelowOne, BelowAll};
+use scores::RecoverabilityScore;
+use scores::SecurityScore;
 use setup::Kind;
 use setup::Setup;
 use vertex_set::VertexSet;
@@ -44,40 +46,69 @@ pub fn ranks_of(s: Setup) -> [u64; 64]
     r
 }
 
-fn is_lower(strict: bool, a: u64, b: u64) -> bool
-    ensures { λ r. ⌜ Decides (Lower strict a b) r ⌝ }
-{
-    if strict { a < b } else { a <= b }
-}
-
-// The vertices at which a is below b or, where not strict, at most b.
-pub fn lower_places(strict: bool, a: [u64; 64], b: [u64; 64]) -> VertexSet
-    ensures { λ r. ⌜ LowerPlaces strict a b (r .0) ⌝ }
+// The vertices whose score is below that without recovery: their recovery is a backdoor.
+pub fn weaker_places(scores: [SecurityScore; 64], without: [SecurityScore; 64]) -> VertexSet
+    ensures { λ r. ⌜ WeakerSet scores without (r .0) ⌝ }
 {
     let mut r = VertexSet(0);
     for v in 0..64usize {
-        if is_lower(strict, a[v], b[v]) {
+        let score = scores[v];
+        let other = without[v];
+        if score.below(other) {
             r = r.insert(v);
         }
     }
     r
 }
 
+// The vertices whose risk is at most that without recovery: their recovery is idle.
+pub fn idle_places(
+    risks: [RecoverabilityScore; 64],
+    without: [RecoverabilityScore; 64],
+) -> VertexSet
+    ensures { λ r. ⌜ IdleSet risks without (r .0) ⌝ }
+{
+    let mut r = VertexSet(0);
+    for v in 0..64usize {
+        let risk = risks[v];
+        let other = without[v];
+        if risk.at_most(other) {
+            r = r.insert(v);
+        }
+    }
+    r
+}
+
+// Is the rank above the other one, and the score at most the other one?
+fn is_above(rank: u64, other: u64, score: SecurityScore, than: SecurityScore) -> bool
+    ensures { λ r. ⌜ Decides (Above rank other (score .0) (than .0)) r ⌝ }
+{
+    if other < rank {
+        return score.at_most(than);
+    }
+    false
+}
+
 // The accounts that are out of rank with v above: their rank is below that of v, and their score is
 // not below that of v.
-fn below_one(accounts: VertexSet, ranks: [u64; 64], scores: [u64; 64], v: usize) -> u64
+fn below_one(accounts: VertexSet, ranks: [u64; 64], scores: [SecurityScore; 64], v: usize) -> u64
     requires { ⌜ v < 64 ⌝ }
     ensures { λ r. ⌜ BelowOne (accounts .0) ranks scores v r ⌝ }
 {
-    let rank = [ranks[v]; 64];
-    let score = [scores[v]; 64];
-    let lower = lower_places(true, ranks, rank);
-    let strong = lower_places(false, score, scores);
-    accounts.0 & lower.0 & strong.0
+    let rank = ranks[v];
+    let score = scores[v];
+    let mut r = VertexSet(0);
+    for w in 0..64usize {
+        let than = scores[w];
+        if is_above(rank, ranks[w], score, than) {
+            r = r.insert(w);
+        }
+    }
+    accounts.0 & r.0
 }
 
 // The same for each vertex.
-pub fn below_all(accounts: VertexSet, ranks: [u64; 64], scores: [u64; 64]) -> [u64; 64]
+pub fn below_all(accounts: VertexSet, ranks: [u64; 64], scores: [SecurityScore; 64]) -> [u64; 64]
     ensures { λ r. ⌜ BelowAll (accounts .0) ranks scores r ⌝ }
 {
     let mut r = [0u64; 64];

@@ -1,6 +1,6 @@
 -- An accepted sheet has a short name for each vertex, and its setup is well formed.
 -- Assumes nothing.
-use mathlib.Core.Path.{_≡_, ap, _∙_}
+use mathlib.Core.Path.{_≡_, refl, sym, ap, _∙_}
 use mathlib.Core.Bool.{true, _&&_}
 use mathlib.Core.List.{List, [], _∷_, map}
 use mathlib.Core.Logic.{⊎-elim}
@@ -15,14 +15,13 @@ use Rattle.sheet_format.specs.declared.Reading.{Reading}
 use Rattle.sheet_format.specs.Fields.{isNameByte, isName}
 use Rattle.sheet_format.specs.Text.{all}
 use Rattle.sheet_format.specs.Rows.{ItemRow, Doc, Each, ValidItem, Valid, render, secondHeader, setupOf}
-use Rattle.sheet_format.specs.Read.{readSheet}
+use Rattle.sheet_format.specs.Read.{readSheet, accepted}
 use Rattle.sheet_format.proofs.Tests.{and-parts}
 use Rattle.sheet_format.proofs.Documents.{docLines}
 use Rattle.sheet_format.proofs.Rows.{itemLine, edgeLine}
-use Rattle.sheet_format.proofs.Meaning.{render-lines, valid-of-accepted, accepted-or-refused}
+use Rattle.sheet_format.proofs.Meaning.{render-lines, accepted-of-valid, valid-of-accepted, accepted-or-refused}
 use Rattle.sheet_format.proofs.Question12.{question-12}
-use Rattle.sheet.proofs.Names.{row-name}
-use Rattle.report_text.specs.Report.{nameIn}
+use Rattle.sheet.proofs.Names.{item-there, names-of-rows}
 use Rattle.report_facts.specs.Facts.{HasNames}
 
 -- What an accepted sheet yields.
@@ -46,11 +45,12 @@ doc-lines d =
     omega arith
 
 doc-names : (d : Doc) → Valid d → HasNames (render d) (setupOf d)
-unfolding setupOf nameIn
+unfolding setupOf
 doc-names d v =
     record {
+      items = λ i h. item-there (render d) i (accepted (setupOf d)) (sym (accepted-of-valid d v)) refl h;
       lines = rw (render-lines d v) (doc-lines d);
-      short = λ i h. rw (render-lines d v, row-name (d .items) ([] ∷ secondHeader ∷ map edgeLine (d .edges)) i (v .items) h) (each-short (d .items) i (v .items) h);
+      short = λ i h. rw (names-of-rows d v i h) (each-short (d .items) i (v .items) h);
     }
 
 names-by : (text : List ℕ) (s : Setup) (d : Doc) → Valid d → text ≡ render d → s ≡ setupOf d → HasNames text s

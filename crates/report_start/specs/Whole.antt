@@ -5,16 +5,19 @@ use Prim.Native.Nat.{ℕ}
 use lib.ListN.{length}
 use Rattle.setup.specs.declared.Setup.{Setup}
 use Rattle.sheet_format.specs.Read.{readSheet}
-use Rattle.report_text.specs.Report.{nameIn, reportOf}
+use Rattle.sheet_format.specs.Names.{nameOf}
+use Rattle.report_text.specs.Report.{reportOf}
 use Rattle.report_steps.specs.declared.Cursor.{Cursor}
 use Rattle.report_steps.specs.declared.Cursor.the-variants as cursor
 use Rattle.report_steps.specs.Rest.{restOf}
 use Rattle.report_steps.specs.Steps.{At}
 use Rattle.report_start.specs.declared.Report.{Report}
 
--- At the first place the whole report of the sheet is left, whatever the list for a target's sets holds.
-pub record Begun (sheet : List ℕ) (r : Report) (opening lockout : List ℕ) : Type 0 where
-  pub whole : restOf (nameIn sheet) (readSheet sheet .setup) (r .cursor) ≡ reportOf sheet
+-- At the first place the whole report of the sheet is left, whatever the list for a target's sets holds. A refused sheet leaves the two lent
+-- tables as they were; an accepted one leaves the tables of bases there, which are part of what is known at that place.
+pub record Begun (sheet : List ℕ) (r : Report) (opening₀ lockout₀ opening lockout : List ℕ) : Type 0 where
+  pub kept : (readSheet sheet .number ≡ 0 → ⊥) → (opening ≡ opening₀) × (lockout ≡ lockout₀)
+  pub whole : restOf (nameOf sheet) (readSheet sheet .setup) (r .cursor) ≡ reportOf sheet
   pub here : (list : List ℕ) → length list ≡ 16384 → At sheet (readSheet sheet .setup) (r .facts) opening lockout list (r .cursor)
 
 -- The parts that are written from the place c on up to the end, each by a `fill` from one place to the next (its contract is `Filled`).
@@ -29,5 +32,5 @@ inOne (p ∷ ps) = p ++ inOne ps
 
 -- What the steps write, one after the other, is the report's text, all of it and nothing else.
 abbrev pub WholeReport : Type 0
-WholeReport = (sheet : List ℕ) (r : Report) (opening lockout : List ℕ) → Begun sheet r opening lockout → (parts : List (List ℕ))
-    → Run (nameIn sheet) (readSheet sheet .setup) (r .cursor) parts → inOne parts ≡ reportOf sheet
+WholeReport = (sheet : List ℕ) (r : Report) (opening₀ lockout₀ opening lockout : List ℕ) → Begun sheet r opening₀ lockout₀ opening lockout → (parts : List (List ℕ))
+    → Run (nameOf sheet) (readSheet sheet .setup) (r .cursor) parts → inOne parts ≡ reportOf sheet

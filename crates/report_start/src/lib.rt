@@ -4,6 +4,8 @@ ghost use lib.ListN.{length};
 ghost use Rattle.report_start.specs.Whole.{Begun};
 use report_facts::Facts;
 use report_steps::Cursor;
+use scores::RecoverabilityScore;
+use scores::SecurityScore;
 use vertex_set::VertexSet;
 
 // The place where the report begins, and the facts that its rows tell.
@@ -15,6 +17,8 @@ pub struct Report {
 // A refused sheet has no facts; its report does not ask for any.
 fn no_facts() -> Facts {
     let none = VertexSet(0);
+    let score = SecurityScore::of(0);
+    let risk = RecoverabilityScore::of(0);
     Facts {
         count: 0,
         accounts: none,
@@ -22,8 +26,8 @@ fn no_facts() -> Facts {
         losable: none,
         starts: [0; 64],
         losses: [0; 64],
-        scores: [0; 64],
-        risks: [0; 64],
+        scores: [score; 64],
+        risks: [risk; 64],
         back: none,
         idle: none,
         below: [0; 64],
@@ -33,10 +37,10 @@ fn no_facts() -> Facts {
 }
 
 // Reads the sheet, and works out what its report needs. The tables of closures are left in `opening`
-// and `lockout`.
+// and `lockout`; a refused sheet leaves both as they were.
 pub fn begin(sheet: &[u8], opening: &mut [u64], lockout: &mut [u64]) -> Report
     requires { ⌜ (length (now opening) ≡ 16384) × (length (now lockout) ≡ 16384) ⌝ }
-    ensures { λ r. ⌜ Begun (now (sheet .entry)) r (now (opening .exit)) (now (lockout .exit)) ⌝ }
+    ensures { λ r. ⌜ Begun (now (sheet .entry)) r (now (opening .entry)) (now (lockout .entry)) (now (opening .exit)) (now (lockout .exit)) ⌝ }
 {
     let reading = sheet::read_sheet(sheet);
     let number = reading.number;

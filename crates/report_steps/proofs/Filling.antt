@@ -8,7 +8,7 @@ use lib.ListN.{length, take}
 use lib.Seq.{sets-eq, take-append-seam}
 use Rattle.setup.specs.declared.Setup.{Setup}
 use Rattle.family_lists.specs.Tables.{Wrote}
-use Rattle.report_text.specs.Report.{nameIn}
+use Rattle.sheet_format.specs.Names.{nameOf}
 use Rattle.report_facts.specs.declared.Facts.{Facts}
 use Rattle.report_facts.specs.Parts.{Part}
 use Rattle.report_facts.proofs.Parts.{part-none, part-then, part-length, wrote-length}
@@ -20,7 +20,7 @@ use Rattle.report_steps.specs.Steps.{At, Going, stepsLeft, Went, Filled}
 
 -- Steps were taken from the place c₀ to the place c.
 pub record Filling (sheet : List ℕ) (f : Facts) (opening lockout list₀ : List ℕ) (c₀ : Cursor) (out₀ : List ℕ) (at₀ : ℕ) (list out : List ℕ) (c : Cursor) (at : ℕ) : Type 0 where
-  pub part : (s : Setup) → At sheet s f opening lockout list₀ c₀ → Part out₀ at₀ (restOf (nameIn sheet) s c₀) (restOf (nameIn sheet) s c) out at
+  pub part : (s : Setup) → At sheet s f opening lockout list₀ c₀ → Part out₀ at₀ (restOf (nameOf sheet) s c₀) (restOf (nameOf sheet) s c) out at
   pub here : (s : Setup) → At sheet s f opening lockout list₀ c₀ → At sheet s f opening lockout list c
   pub going : Going sheet f opening lockout list c
   pub inside : at ≤ length out
@@ -84,7 +84,7 @@ filled sheet f opening lockout list c entry list₀ out₀ first list′ out d a
     record {
       part = λ s a.
           let p = part-then entry 0 _ _ out₀ (first .at) (w .part s a) _ out at (v .part s (w .here s a)) in
-          p .split ∙ ap (λ y. y ++ restOf (nameIn sheet) s d) (sym (front entry (p .part) out at (p .wrote) (p .inside)));
+          p .split ∙ ap (λ y. y ++ restOf (nameOf sheet) s d) (sym (front entry (p .part) out at (p .wrote) (p .inside)));
       here = λ s a. v .here s (w .here s a);
       inside = v .inside;
       less = λ z. let l = w .less z in let m = v .less in omega arith;

@@ -21,7 +21,8 @@ use Rattle.bases.specs.Score.{Values}
 use Rattle.bases.proofs.Formed.{few, points-range}
 use Rattle.reference.proofs.Graphs.{chosen-below}
 use Rattle.report_text.specs.Rows.{textsOf, setRow}
-use Rattle.report_text.specs.Report.{nameIn, isAccount, baseRow}
+use Rattle.sheet_format.specs.Names.{nameOf}
+use Rattle.report_text.specs.Report.{isAccount, baseRow}
 use Rattle.report_text.proofs.Meaning.{report-meaning}
 use Rattle.report_facts.specs.declared.Facts.{Facts}
 use Rattle.report_facts.specs.Facts.{FactsOf}
@@ -121,7 +122,7 @@ rows-same name s k values list n i v e = rw e (texts-same _ _ (row-same name s (
 
 module _ (sheet : List ℕ) (f : Facts) (list : List ℕ) (k i n : ℕ) (values : List ℕ) (v : ValuesBy (slotLoss k) f values)
     (entry : List ℕ) (at : ℕ) (exit : List ℕ) (r : RowsStep) where
-  pub list-went : at + 4096 ≤ length entry → RowsWent (nameIn sheet) (slotLoss k) (k / 2) values list i n entry at exit (r .row) (r .at)
+  pub list-went : at + 4096 ≤ length entry → RowsWent (nameOf sheet) (slotLoss k) (k / 2) values list i n entry at exit (r .row) (r .at)
       → ListWent sheet f list k i n entry at exit r
   list-went room w =
       record {
@@ -130,9 +131,9 @@ module _ (sheet : List ℕ) (f : Facts) (list : List ℕ) (k i n : ℕ) (values 
             let p = w .part in
             record {
               part = p .part;
-              split = rows-next (nameIn sheet) s k i (r .row) (p .part)
-                  (sym (rows-same (nameIn sheet) s k values list n i vs (h .here)) ∙ p .split ∙
-                  ap (λ t. p .part ++ t) (rows-same (nameIn sheet) s k values list n (r .row) vs (h .here)));
+              split = rows-next (nameOf sheet) s k i (r .row) (p .part)
+                  (sym (rows-same (nameOf sheet) s k values list n i vs (h .here)) ∙ p .split ∙
+                  ap (λ t. p .part ++ t) (rows-same (nameOf sheet) s k values list n (r .row) vs (h .here)));
               wrote = p .wrote;
               inside = p .inside;
             };

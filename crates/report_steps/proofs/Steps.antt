@@ -14,7 +14,7 @@ use Rattle.setup.specs.declared.Setup.{Setup}
 use Rattle.bases.proofs.Formed.{few}
 use Rattle.family_lists.specs.Tables.{Wrote}
 use Rattle.report_text.specs.Rows.{listHeader, scoreHeader, pairHeader, refusedRow}
-use Rattle.report_text.specs.Report.{nameIn}
+use Rattle.sheet_format.specs.Names.{nameOf}
 use Rattle.report_text.proofs.Lengths.{refused-row-length}
 use Rattle.report_facts.specs.declared.Facts.{Facts}
 use Rattle.report_facts.specs.Facts.{FactsOf, TablesOf}
@@ -99,8 +99,8 @@ module _ (sheet : List ℕ) (f : Facts) (opening lockout list : List ℕ) (k i n
         part = λ s a.
             let h = a .0 in
             let e = h .facts .isCount in
-            let q = list-done (nameIn sheet) s list k i n (h .next) b (h .most) (h .room) (h .here) ∙ list-next (nameIn sheet) s (suc k) (omega arith) in
-            rw (q, add-one k) (part-none entry at (rowsFrom (nameIn sheet) s (suc k) 0) (omega arith));
+            let q = list-done (nameOf sheet) s list k i n (h .next) b (h .most) (h .room) (h .here) ∙ list-next (nameOf sheet) s (suc k) (omega arith) in
+            rw (q, add-one k) (part-none entry at (rowsFrom (nameOf sheet) s (suc k) 0) (omega arith));
         here = λ s a.
             let h = a .0 in
             let e = h .facts .isCount in
@@ -118,8 +118,8 @@ module _ (sheet : List ℕ) (f : Facts) (opening lockout list : List ℕ) (k i n
             let e = h .facts .isCount in
             let u = h .number in
             let v : suc k ≡ 2 * s .count = omega arith in
-            let q = list-done (nameIn sheet) s list k i n (h .next) b (h .most) (h .room) (h .here) ∙ ap (listsFrom (nameIn sheet) s) v ∙ lists-end (nameIn sheet) s in
-            part-one entry at _ text _ exit r (q ∙ ap (λ y. y ++ scoresFrom (nameIn sheet) s 0) (sym t)) w (wrote-inside entry at text exit r w room);
+            let q = list-done (nameOf sheet) s list k i n (h .next) b (h .most) (h .room) (h .here) ∙ ap (listsFrom (nameOf sheet) s) v ∙ lists-end (nameOf sheet) s in
+            part-one entry at _ text _ exit r (q ∙ ap (λ y. y ++ scoresFrom (nameOf sheet) s 0) (sym t)) w (wrote-inside entry at text exit r w room);
         here = λ s a. (a .0 .facts, omega arith);
         less = λ z.
             let h = g .here .0 in
@@ -142,7 +142,7 @@ module _ (sheet : List ℕ) (f : Facts) (v : ℕ) (entry : List ℕ) (at : ℕ) 
         part = λ s h m.
             let e = h .isCount in
             let below : v < s .count = omega arith in
-            rw (add-one v) (part-one entry at _ (scoreAt (nameIn sheet) s v) _ exit r (score-next (nameIn sheet) s v below) (w .each s h below) (w .inside));
+            rw (add-one v) (part-one entry at _ (scoreAt (nameOf sheet) s v) _ exit r (score-next (nameOf sheet) s v below) (w .each s h below) (w .inside));
         more = λ b. refl;
         last = λ b. absurd (omega arith);
       }
@@ -154,7 +154,7 @@ module _ (sheet : List ℕ) (f : Facts) (v : ℕ) (entry : List ℕ) (at : ℕ) 
         part = λ s h m.
             let e = h .isCount in
             let q : v ≡ s .count = omega arith in
-            part-one entry at _ text _ exit r (ap (scoresFrom (nameIn sheet) s) q ∙ scores-end (nameIn sheet) s ∙ ap (λ y. y ++ pairsFrom (nameIn sheet) s 0) (sym t)) w
+            part-one entry at _ text _ exit r (ap (scoresFrom (nameOf sheet) s) q ∙ scores-end (nameOf sheet) s ∙ ap (λ y. y ++ pairsFrom (nameOf sheet) s 0) (sym t)) w
             (wrote-inside entry at text exit r w room);
         more = λ b. absurd (omega arith);
         last = λ b. refl;
@@ -167,7 +167,7 @@ module _ (sheet : List ℕ) (f : Facts) (v : ℕ) (entry : List ℕ) (at : ℕ) 
         part = λ s h m.
             let e = h .isCount in
             let below : v < s .count = omega arith in
-            rw (add-one v) (part-one entry at _ (pairsAt (nameIn sheet) s v) _ exit r (pairs-next (nameIn sheet) s v below) (w .each s h below) (w .inside));
+            rw (add-one v) (part-one entry at _ (pairsAt (nameOf sheet) s v) _ exit r (pairs-next (nameOf sheet) s v below) (w .each s h below) (w .inside));
         more = λ b. refl;
         last = λ b. absurd (omega arith);
       }
@@ -178,7 +178,7 @@ module _ (sheet : List ℕ) (f : Facts) (v : ℕ) (entry : List ℕ) (at : ℕ) 
         part = λ s h m.
             let e = h .isCount in
             let q : v ≡ s .count = omega arith in
-            rw (q, pairs-end (nameIn sheet) s) (part-none entry at [] (omega arith));
+            rw (q, pairs-end (nameOf sheet) s) (part-none entry at [] (omega arith));
         more = λ b. absurd (omega arith);
         last = λ b. refl;
       }
@@ -239,7 +239,7 @@ module _ (sheet : List ℕ) (f : Facts) (opening lockout list : List ℕ) (entry
         part = λ s a.
             let z = a .0 .formed .some in
             part-one entry at _ text _ exit r
-            (start-next (nameIn sheet) s ∙ ap (λ y. listHeader ++ y) (list-next (nameIn sheet) s 0 (omega arith)) ∙ ap (λ y. y ++ rowsFrom (nameIn sheet) s 0 0) (sym t)) w
+            (start-next (nameOf sheet) s ∙ ap (λ y. listHeader ++ y) (list-next (nameOf sheet) s 0 (omega arith)) ∙ ap (λ y. y ++ rowsFrom (nameOf sheet) s 0 0) (sym t)) w
             (wrote-inside entry at text exit r w room);
         here = λ s a. let z = a .0 .formed .some in (loaded-here sheet s f opening lockout 0 m list′ (a .0) (a .1) (omega arith) d, a .1);
         less = λ z. let q = d .most in omega arith;

@@ -6,7 +6,7 @@ use Prim.Native.Nat.{ℕ, _+_, _-_, _*_, _^_, _≤_, _<_}
 use lib.ListN.{length, take}
 use Rattle.setup.specs.declared.Setup.{Setup}
 use Rattle.bases.specs.Score.{Values}
-use Rattle.report_text.specs.Report.{nameIn}
+use Rattle.sheet_format.specs.Names.{nameOf}
 use Rattle.report_facts.specs.declared.Facts.{Facts}
 use Rattle.report_facts.specs.Facts.{FactsOf, TablesOf}
 use Rattle.report_facts.specs.Texts.{slotList}
@@ -34,7 +34,7 @@ pub record ListGoing (sheet : List ℕ) (f : Facts) (list : List ℕ) (k i n : �
   pub here : ListAt sheet setup f list k i n
 
 pub record ListWent (sheet : List ℕ) (f : Facts) (list : List ℕ) (k i n : ℕ) (entry : List ℕ) (at : ℕ) (exit : List ℕ) (r : RowsStep) : Type 0 where
-  pub each : (s : Setup) → ListAt sheet s f list k i n → Part entry at (rowsFrom (nameIn sheet) s k i) (rowsFrom (nameIn sheet) s k (r .row)) exit (r .at)
+  pub each : (s : Setup) → ListAt sheet s f list k i n → Part entry at (rowsFrom (nameOf sheet) s k i) (rowsFrom (nameOf sheet) s k (r .row)) exit (r .at)
   pub most : r .row ≤ n
   pub more : i < n → i < r .row
 
@@ -62,7 +62,7 @@ stepsLeft count cursor.End = 0
 
 -- A step was taken: a part of what was left of the report at c stands from `at` on, and the rest is what is left at the new cursor.
 pub record Went (sheet : List ℕ) (f : Facts) (opening lockout list : List ℕ) (c : Cursor) (entry : List ℕ) (at : ℕ) (list′ exit : List ℕ) (r : Step) : Type 0 where
-  pub part : (s : Setup) → At sheet s f opening lockout list c → Part entry at (restOf (nameIn sheet) s c) (restOf (nameIn sheet) s (r .cursor)) exit (r .at)
+  pub part : (s : Setup) → At sheet s f opening lockout list c → Part entry at (restOf (nameOf sheet) s c) (restOf (nameOf sheet) s (r .cursor)) exit (r .at)
   pub here : (s : Setup) → At sheet s f opening lockout list c → At sheet s f opening lockout list′ (r .cursor)
   pub less : 0 < stepsLeft (f .count) c → stepsLeft (f .count) (r .cursor) < stepsLeft (f .count) c
 
@@ -74,18 +74,18 @@ pub record SectionGoing (sheet : List ℕ) (f : Facts) (v : ℕ) (out : List ℕ
   pub room : at + 4096 ≤ length out
 
 pub record ScoresWent (sheet : List ℕ) (f : Facts) (v : ℕ) (entry : List ℕ) (at : ℕ) (exit : List ℕ) (r : Step) : Type 0 where
-  pub part : (s : Setup) → FactsOf sheet s f → v ≤ s .count → Part entry at (scoresFrom (nameIn sheet) s v) (restOf (nameIn sheet) s (r .cursor)) exit (r .at)
+  pub part : (s : Setup) → FactsOf sheet s f → v ≤ s .count → Part entry at (scoresFrom (nameOf sheet) s v) (restOf (nameOf sheet) s (r .cursor)) exit (r .at)
   pub more : v < f .count → r .cursor ≡ cursor.Scores (v + 1)
   pub last : f .count ≤ v → r .cursor ≡ cursor.Pairs 0
 
 pub record PairsWent (sheet : List ℕ) (f : Facts) (v : ℕ) (entry : List ℕ) (at : ℕ) (exit : List ℕ) (r : Step) : Type 0 where
-  pub part : (s : Setup) → FactsOf sheet s f → v ≤ s .count → Part entry at (pairsFrom (nameIn sheet) s v) (restOf (nameIn sheet) s (r .cursor)) exit (r .at)
+  pub part : (s : Setup) → FactsOf sheet s f → v ≤ s .count → Part entry at (pairsFrom (nameOf sheet) s v) (restOf (nameOf sheet) s (r .cursor)) exit (r .at)
   pub more : v < f .count → r .cursor ≡ cursor.Pairs (v + 1)
   pub last : f .count ≤ v → r .cursor ≡ cursor.End
 
 -- The first bytes of `out` are the next part of the report, and what is left of it is left at the new cursor.
 pub record Filled (sheet : List ℕ) (f : Facts) (opening lockout list : List ℕ) (c : Cursor) (list′ out : List ℕ) (r : Step) : Type 0 where
-  pub part : (s : Setup) → At sheet s f opening lockout list c → restOf (nameIn sheet) s c ≡ take (r .at) out ++ restOf (nameIn sheet) s (r .cursor)
+  pub part : (s : Setup) → At sheet s f opening lockout list c → restOf (nameOf sheet) s c ≡ take (r .at) out ++ restOf (nameOf sheet) s (r .cursor)
   pub here : (s : Setup) → At sheet s f opening lockout list c → At sheet s f opening lockout list′ (r .cursor)
   pub inside : r .at ≤ length out
   pub less : 0 < stepsLeft (f .count) c → stepsLeft (f .count) (r .cursor) < stepsLeft (f .count) c

@@ -15,7 +15,8 @@ use Rattle.reference.specs.Tests.{lowest, some, every, those, isListed, isMembe
 use Rattle.reference.specs.Closures.{isComplete, isBroken, colourOf, isAdded, passOf, passesOf, closureOf, derivesOf}
 use Rattle.reference.specs.Bases.{isChosen, setsOfSize, setsUpTo, setsOf, targetSetsOf, isMinimal, baseOf, leastSum, scoreOf}
 use Rattle.report_text.specs.Rows.{numbersFrom, textsOf, wayText, answerText, scoreText, itemsOf, joined, setText, setRow, scoreRow, pairRow, refusedRow, listHeader, scoreHeader, pairHeader}
-use Rattle.report_text.specs.Report.{rowLess, rowsLess, lessRecovery, isAccount, accountsOf, isBackdoor, isIdle, isOutOfRank, baseRow, targetRows, listSection, findingRow, scoreSection, pairRows, pairSection, acceptedReport, nameIn, reportAfter, reportOf}
+use Rattle.sheet_format.specs.Names.{hasItem, nameOf}
+use Rattle.report_text.specs.Report.{rowLess, rowsLess, lessRecovery, isAccount, accountsOf, isBackdoor, isIdle, isOutOfRank, belowOf, baseRow, targetRows, listSection, findingRow, scoreSection, pairRows, pairSection, acceptedReport, reportAfter, reportOf}
 
 -- Document 01's sheet.
 --   name kind start loss rank
@@ -176,5 +177,5 @@ pub printed : (reportOf documentSheet ≡ documentReport)
     × (reportOf orderedSheet ≡ orderedReport)
     × (reportOf unreachableSheet ≡ unreachableReport)
     × (reportOf leadingSheet ≡ leadingReport)
-unfolding grow linesOf fieldsOf isEmpty sameText all isDigit isNameByte isName isNumber valueBehind numberOf isNumberTo digitsIn decimal isKind kindOf isValue valueOf firstHeader secondHeader startCount lossCount numberIn verticesOf emptyGraph withEdge withEdges recoveryRows setupOf question1 isTextByte endsInLF question2 question3 question10 noneEmpty question4 question5Item question5Edge itemOf edgeOf isKnown question6 question8 sameEdge isRepeated question9 question7Item question7Edge itemQuestions edgeQuestions questionsOf behind firstNo question11 unless readLines readSheet lowest some every those isListed isMember isWithin isMeeting withVertex isComplete isBroken colourOf isAdded passOf passesOf closureOf derivesOf isChosen setsOfSize setsUpTo setsOf targetSetsOf isMinimal baseOf leastSum scoreOf numbersFrom textsOf wayText answerText scoreText itemsOf joined setText setRow scoreRow pairRow refusedRow listHeader scoreHeader pairHeader rowLess rowsLess lessRecovery isAccount accountsOf isBackdoor isIdle isOutOfRank baseRow targetRows listSection findingRow scoreSection pairRows pairSection acceptedReport nameIn reportAfter reportOf sumOver ones
+unfolding grow linesOf fieldsOf isEmpty sameText all isDigit isNameByte isName isNumber valueBehind numberOf isNumberTo digitsIn decimal isKind kindOf isValue valueOf firstHeader secondHeader startCount lossCount numberIn verticesOf emptyGraph withEdge withEdges recoveryRows setupOf question1 isTextByte endsInLF question2 question3 question10 noneEmpty question4 question5Item question5Edge itemOf edgeOf isKnown question6 question8 sameEdge isRepeated question9 question7Item question7Edge itemQuestions edgeQuestions questionsOf behind firstNo question11 unless readLines readSheet lowest some every those isListed isMember isWithin isMeeting withVertex isComplete isBroken colourOf isAdded passOf passesOf closureOf derivesOf isChosen setsOfSize setsUpTo setsOf targetSetsOf isMinimal baseOf leastSum scoreOf numbersFrom textsOf wayText answerText scoreText itemsOf joined setText setRow scoreRow pairRow refusedRow listHeader scoreHeader pairHeader rowLess rowsLess lessRecovery isAccount accountsOf isBackdoor isIdle isOutOfRank belowOf baseRow targetRows listSection findingRow scoreSection pairRows pairSection acceptedReport hasItem nameOf reportAfter reportOf sumOver ones
 printed = (refl, refl, refl, refl, refl)

@@ -2,17 +2,17 @@
 -- Assumes nothing.
 use mathlib.Core.Path.{_≡_, refl, sym, ap, _∙_, subst}
 use mathlib.Core.Bool.{Bool, true, false}
-use mathlib.Core.List.{[]}
+use mathlib.Core.List.{List, [], _∷_}
 use Prim.Native.Nat.{ℕ, _+_, _^_, _<_}
-use native.Mathlib.Nat.{not-le-of-lt}
 use native.Mathlib.Omega.{arith}
 use lib.Dec.{leb, ltb}
-use borrow.Author.Tests.{ltb-true, ltb-false}
 use Rattle.vertex_set.specs.Set.{Member, Iff, Decides}
 use Rattle.vertex_set.specs.Order.{Listed}
-use Rattle.vertex_set.proofs.Decisions.{decide-yes, decide-no, decide-iff, decide-leb}
+use Rattle.vertex_set.proofs.Decisions.{decide-yes, decide-no, decide-iff, decide-leb, decide-ltb}
+use Rattle.vertex_set.proofs.Cases.{false-true}
 use Rattle.vertex_set.proofs.Sets.{bounded-by-members}
-use Rattle.vertex_set.proofs.Places.{places, listed-places}
+use Rattle.vertex_set.proofs.Places.{places, listed-places, sorted-places}
+use Rattle.vertex_set.proofs.Sorted.{Sorted}
 use Rattle.setup.specs.declared.Kind.{Kind}
 use Rattle.setup.specs.declared.Kind.the-variants.{Credential, Account}
 use Rattle.setup.specs.declared.Rows.{Rows}
@@ -26,15 +26,15 @@ use Rattle.formed.proofs.Vertices.{not-credential}
 use Rattle.setup.proofs.Graphs.{graph-same}
 use Rattle.bases.specs.Score.{Score}
 use Rattle.reference.specs.Bases.{scoreOf}
-use Rattle.reference.proofs.Tests.{decide-and, listed-those}
+use Rattle.reference.proofs.Tests.{decide-and, listed-those, sorted-those}
 use Rattle.reference.proofs.Graphs.{own-graph, graph-without}
 use Rattle.reference.proofs.Meaning.{meaning}
 use Rattle.findings.specs.Findings.{Compared, FindsBackdoor, FindsIneffective, FindsInconsistent}
 use Rattle.report_text.specs.Rows.{numbersFrom, itemsOf}
-use Rattle.report_text.specs.Report.{rowLess, rowsLess, lessRecovery, isAccountKind, isAccount, accountsOf, isBackdoor, isIdle, isOutOfRank}
-use Rattle.report_text.specs.Meaning.{ReportMeaning}
+use Rattle.report_text.specs.Report.{rowLess, rowsLess, lessRecovery, isAccountKind, isAccount, accountsOf, isBackdoor, isIdle, isOutOfRank, belowOf}
+use Rattle.report_text.specs.Meaning.{Rising, ReportMeaning}
 use Rattle.report_text.proofs.Items.{items-places}
-use Rattle.report_text.proofs.Numbers.{length-numbers, at-numbers, listed-numbers}
+use Rattle.report_text.proofs.Numbers.{length-numbers, at-numbers, listed-numbers, sorted-numbers}
 
 -- ---- the graph without recovery
 
@@ -102,15 +102,37 @@ listed-accounts s v =
       from = λ h. let b = h .0 in i .from (n .from (omega arith, omega arith), h .1);
     }
 
+-- ---- order
+
+-- A test decides that it says yes.
+pub decide-true : (b : Bool) → Decides (b ≡ true) b
+decide-true b = record { yes = λ e. e; no = λ e t. false-true (sym e ∙ t) }
+
+rises : (l : List ℕ) → Sorted _<_ l → Rising l
+rises [] h = h
+rises (v ∷ l) h = (h .0, rises l (h .1))
+
+sorted-accounts : (s : Setup) → Sorted _<_ (accountsOf s)
+unfolding accountsOf
+sorted-accounts s = sorted-those _<_ (isAccount s) (numbersFrom 0 (s .count)) (sorted-numbers 0 (s .count))
+
+sorted-below : (s : Setup) (v : ℕ) → Sorted _<_ (belowOf s v)
+unfolding belowOf
+sorted-below s v = sorted-those _<_ (isOutOfRank s v) (accountsOf s) (sorted-accounts s)
+
+listed-below : (s : Setup) (v w : ℕ) → Iff (Listed (belowOf s v) w) (Listed (accountsOf s) w × (isOutOfRank s v w ≡ true))
+unfolding belowOf
+listed-below s v w = listed-those (λ u. isOutOfRank s v u ≡ true) (isOutOfRank s v) (accountsOf s) (λ u m. decide-true (isOutOfRank s v u)) w
+
 -- ---- items
+
+sorted-items : (x : ℕ) → Sorted _<_ (itemsOf x)
+sorted-items x = rw (items-places x) (sorted-places 64 x)
 
 listed-items : (x v : ℕ) → Iff (Listed (itemsOf x) v) (Member x v × (v < 64))
 listed-items x v = rw (items-places x) (listed-places 64 x v)
 
 -- ---- findings
-
-decide-ltb : (a b : ℕ) → Decides (a < b) (ltb a b)
-decide-ltb a b = record { yes = ltb-true a b; no = λ e h. not-le-of-lt h (ltb-false a b e) }
 
 module _ (s : Setup) (w : WellFormed s) where
   own : (loss : Bool) (v : ℕ) → Score loss s (s .graph) v (scoreOf loss s (s .graph) v)
@@ -167,11 +189,15 @@ pub report-meaning : (s : Setup) → WellFormed s → ReportMeaning s
 report-meaning s w =
     record {
       accounts = listed-accounts s;
+      inOrder = rises (accountsOf s) (sorted-accounts s);
       base = λ loss v. meaning s (s .graph) w (own-graph s w) .base loss v;
       items = listed-items;
+      itemsRise = λ x. rises (itemsOf x) (sorted-items x);
       score = own s w;
       less = less-recovery s w;
       back = finds-backdoor s w;
       idle = finds-idle s w;
       pair = finds-pair s w;
+      below = listed-below s;
+      belowRise = λ v. rises (belowOf s v) (sorted-below s v);
     }

@@ -9,6 +9,7 @@ use lib.ListN.{length, getD}
 use Rattle.vertex_set.specs.Set.{Iff}
 use Rattle.vertex_set.specs.Order.{Listed}
 use Rattle.vertex_set.proofs.Cases.{same-or}
+use Rattle.vertex_set.proofs.Sorted.{Sorted}
 use Rattle.report_text.specs.Rows.{numbersFrom}
 
 pub length-numbers : {A : Type 0} (f : ℕ → A) (k n : ℕ) → length (map f (numbersFrom k n)) ≡ n
@@ -31,3 +32,8 @@ listed-numbers k (suc n) v =
       to = ⊎-elim (λ e. (omega arith, omega arith)) (λ m. let h = ih .to m in let a = h .0 in let b = h .1 in (omega arith, omega arith));
       from = λ h. let a = h .0 in let b = h .1 in ⊎-elim inl (λ n. inr (ih .from (omega arith, omega arith))) (same-or v k);
     }
+
+pub sorted-numbers : (k n : ℕ) → Sorted _<_ (numbersFrom k n)
+unfolding numbersFrom
+sorted-numbers k zero = tt
+sorted-numbers k (suc n) = (λ v m. listed-numbers (suc k) n v .to m .0, sorted-numbers (suc k) n)

@@ -1,10 +1,9 @@
 -- The report's text for the bytes of a sheet (document 01, "Report and portal").
 use mathlib.Core.Bool.{Bool, true, false, cond, _&&_}
 use mathlib.Core.List.{List, [], _∷_, _++_, map}
-use Prim.Native.Nat.{ℕ, suc, _-_, _^_}
+use Prim.Native.Nat.{ℕ, _-_, _^_}
 use lib.Bits.{bitAnd}
 use lib.Dec.{eqb, ltb, leb}
-use lib.ListN.{getD}
 use Rattle.setup.specs.declared.Kind.{Kind}
 use Rattle.setup.specs.declared.Kind.the-variants.{Credential, Account}
 use Rattle.setup.specs.declared.Rows.{Rows}
@@ -12,8 +11,8 @@ use Rattle.setup.specs.declared.Graph.{Graph}
 use Rattle.setup.specs.declared.Setup.{Setup}
 use Rattle.setup.specs.Setup.{vertexAt, rowsAt, rowOf}
 use Rattle.sheet_format.specs.declared.Reading.{Reading}
-use Rattle.sheet_format.specs.Text.{linesOf, fieldsOf}
 use Rattle.sheet_format.specs.Read.{readSheet}
+use Rattle.sheet_format.specs.Names.{nameOf}
 use Rattle.bases.specs.Score.{sumOf}
 use Rattle.reference.specs.Tests.{those}
 use Rattle.reference.specs.Bases.{baseOf, scoreOf}
@@ -79,9 +78,13 @@ findingRow name s v = scoreRow name v (scoreOf false s (s .graph) v) (scoreOf tr
 unfoldable pub scoreSection : (ℕ → List ℕ) → Setup → List ℕ
 scoreSection name s = scoreHeader ++ textsOf (findingRow name s) (accountsOf s)
 
+-- The accounts that are out of rank with v above, in item order.
+unfoldable pub belowOf : Setup → ℕ → List ℕ
+belowOf s v = those (isOutOfRank s v) (accountsOf s)
+
 -- The pairs that are out of rank with v above.
 unfoldable pub pairRows : (ℕ → List ℕ) → Setup → ℕ → List ℕ
-pairRows name s v = textsOf (pairRow name v) (those (isOutOfRank s v) (accountsOf s))
+pairRows name s v = textsOf (pairRow name v) (belowOf s v)
 
 unfoldable pub pairSection : (ℕ → List ℕ) → Setup → List ℕ
 pairSection name s = pairHeader ++ textsOf (pairRows name s) (accountsOf s)
@@ -92,12 +95,8 @@ pairSection name s = pairHeader ++ textsOf (pairRows name s) (accountsOf s)
 unfoldable pub acceptedReport : (ℕ → List ℕ) → Setup → List ℕ
 acceptedReport name s = listSection name s ++ (10 ∷ (scoreSection name s ++ (10 ∷ pairSection name s)))
 
--- The name of the vertex v: the first field of the line of item v, which stands behind the header and the v items above it.
-unfoldable pub nameIn : List ℕ → ℕ → List ℕ
-nameIn sheet v = getD (fieldsOf (getD (linesOf sheet) (suc v) [])) 0 []
-
 unfoldable pub reportAfter : List ℕ → Reading → List ℕ
-reportAfter sheet r = cond (eqb (r .number) 0) (acceptedReport (nameIn sheet) (r .setup)) (refusedRow (r .number) (r .line))
+reportAfter sheet r = cond (eqb (r .number) 0) (acceptedReport (nameOf sheet) (r .setup)) (refusedRow (r .number) (r .line))
 
 -- The report for the bytes of a sheet.
 unfoldable pub reportOf : List ℕ → List ℕ

@@ -29,7 +29,7 @@ begin-requires c κs = search needs
 loop-holds : tie.Need-loop-holds Inv-loop μ-loop
 loop-holds c =
     let b = c .before .before .before in
-    printing-begun _ _ _ _ _ (b .begin .result) (b .begin .ensures) (search needs) (search needs) (search needs) (search needs)
+    printing-begun _ _ _ _ _ _ _ (b .begin .result) (b .begin .ensures) (search needs) (search needs) (search needs) (search needs)
 
 going-requires : tie.Need-going-requires Inv-loop μ-loop
 going-requires c κs = search needs

@@ -2,7 +2,7 @@
 use native.Mathlib.Omega.{arith}
 use mathlib.Core.List.{[], _∷_, append-nil}
 use lib.ListN.{length-append}
-use Rattle.report_text.specs.Report.{nameIn}
+use Rattle.sheet_format.specs.Names.{nameOf}
 use Rattle.report_fields.specs.Writing.{plus}
 use Rattle.report_fields.proofs.Writing.{wrote-then, room-then}
 use borrow.Author.Needs.{needs}
@@ -12,7 +12,7 @@ use Rattle.report_fields.proofs.put_item.Tie as tie
 put-name-requires : tie.Need-put-name-requires
 put-name-requires c κs =
     let s = c .before .before .before .before .before in
-    (s .pre .0, omega (arith, length-append (nameIn (s .args .sheet .now) (s .args .v)) (plus (s .args .more)), s .pre .1))
+    (s .pre .0, omega (arith, length-append (nameOf (s .args .sheet .now) (s .args .v)) (plus (s .args .more)), s .pre .1))
 
 put-byte-requires : tie.Need-put-byte-requires
 put-byte-requires c κs =
@@ -29,7 +29,7 @@ same-length-2 : tie.Need-same-length-2
 same-length-2 c = search needs
 
 returns-2 : tie.Need-returns-2
-returns-2 c = rw (c .if1 .left, append-nil (nameIn (c .before .before .before .before .before .before .before .before .before .args .sheet .now) (c .before .before .before .before .before .before .before .before .before .args .v))) (c .before .before .before .put-name .ensures)
+returns-2 c = rw (c .if1 .left, append-nil (nameOf (c .before .before .before .before .before .before .before .before .before .args .sheet .now) (c .before .before .before .before .before .before .before .before .before .args .v))) (c .before .before .before .put-name .ensures)
 
 pub put-item-spec : {M : Type 1} → statement M
 put-item-spec =

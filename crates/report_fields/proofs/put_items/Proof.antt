@@ -5,13 +5,13 @@ use borrow.Author.Needs.{needs}
 use Prim.Native.Nat.{ℕ, _-_, _*_, _%_, _^_}
 use native.Mathlib.Omega.{arith}
 use Rattle.vertex_set.proofs.Places.{Lowest, lowest}
-use Rattle.report_text.specs.Report.{nameIn}
+use Rattle.sheet_format.specs.Names.{nameOf}
 use Rattle.report_fields.proofs.Items.{ItemsWriting, items-none, items-room, items-more, items-end}
 use Rattle.report_fields.proofs.put_items.Statement.{statement}
 use Rattle.report_fields.proofs.put_items.Tie as tie
 
 abbrev Inv-loop : tie.InvT-loop
-Inv-loop x sheet from to out₀ at one rest₀ next₀ out rest next = ItemsWriting (nameIn sheet) x out₀ at out rest next
+Inv-loop x sheet from to out₀ at one rest₀ next₀ out rest next = ItemsWriting (nameOf sheet) x out₀ at out rest next
 
 abbrev μ-loop : tie.MeasureT-loop
 μ-loop x sheet from to out₀ at one rest₀ next₀ out rest next = rest

@@ -2,7 +2,7 @@
 use native.Mathlib.Omega.{arith}
 use mathlib.Core.List.{[], _∷_}
 use lib.ListN.{length-append}
-use Rattle.report_text.specs.Report.{nameIn}
+use Rattle.sheet_format.specs.Names.{nameOf}
 use Rattle.report_fields.proofs.Writing.{wrote-then, room-then}
 use borrow.Author.Needs.{needs}
 use Rattle.report_fields.proofs.put_name_field.Statement.{statement}
@@ -11,7 +11,7 @@ use Rattle.report_fields.proofs.put_name_field.Tie as tie
 put-name-requires : tie.Need-put-name-requires
 put-name-requires c κs =
     let s = c .before .before .before .before .before in
-    (s .pre .0, omega (arith, length-append (nameIn (s .args .sheet .now) (s .args .v)) (s .args .end ∷ []), s .pre .1))
+    (s .pre .0, omega (arith, length-append (nameOf (s .args .sheet .now) (s .args .v)) (s .args .end ∷ []), s .pre .1))
 
 put-byte-requires : tie.Need-put-byte-requires
 put-byte-requires c κs = room-then _ _ _ _ _ (c .before .before .before .put-name .ensures) (c .before .before .before .before .before .before .before .before .before .args .end ∷ []) (c .before .before .before .before .before .before .before .before .before .pre .1)

@@ -3,7 +3,7 @@ use native.Mathlib.Omega.{arith}
 use mathlib.Core.List.{[], _∷_}
 use lib.ListN.{length-append}
 use Rattle.report_text.specs.Rows.{setText}
-use Rattle.report_text.specs.Report.{nameIn}
+use Rattle.sheet_format.specs.Names.{nameOf}
 use Rattle.report_fields.proofs.Writing.{wrote-then, room-then}
 use borrow.Author.Needs.{needs}
 use Rattle.report_fields.proofs.put_set_field.Statement.{statement}
@@ -12,7 +12,7 @@ use Rattle.report_fields.proofs.put_set_field.Tie as tie
 put-items-requires : tie.Need-put-items-requires
 put-items-requires c κs =
     let s = c .before .before .before .before .before in
-    (s .pre .0, omega (arith, length-append (setText (nameIn (s .args .sheet .now)) (s .args .x)) (s .args .end ∷ []), s .pre .1))
+    (s .pre .0, omega (arith, length-append (setText (nameOf (s .args .sheet .now)) (s .args .x)) (s .args .end ∷ []), s .pre .1))
 
 put-byte-requires : tie.Need-put-byte-requires
 put-byte-requires c κs = room-then _ _ _ _ _ (c .before .before .before .put-items .ensures) (c .before .before .before .before .before .before .before .before .before .args .end ∷ []) (c .before .before .before .before .before .before .before .before .before .pre .1)

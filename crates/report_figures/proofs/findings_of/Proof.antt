@@ -12,11 +12,11 @@ scores-with-requires c κs = search needs
 scores-with-requires-2 : tie.Need-scores-with-requires-2
 scores-with-requires-2 c κs = search needs
 
-lower-places-requires : tie.Need-lower-places-requires
-lower-places-requires c κs = search needs
+weaker-places-requires : tie.Need-weaker-places-requires
+weaker-places-requires c κs = search needs
 
-lower-places-requires-2 : tie.Need-lower-places-requires-2
-lower-places-requires-2 c κs = search needs
+idle-places-requires : tie.Need-idle-places-requires
+idle-places-requires c κs = search needs
 
 same-length : tie.Need-same-length
 same-length c = search needs
@@ -30,8 +30,8 @@ returns c =
     let j = k .before .before .before .before .before .before .before in
     let a = j .before .before .before .before .before .before .before in
     findings-are (a .args .s) (a .pre .formed) (j .before .before .before .without-recovery .result) _ _ _ _ (j .scores-with .result) (k .scores-with2 .result)
-    (c .before .lower-places .result) (c .lower-places2 .result) (j .before .before .before .without-recovery .ensures) (j .scores-with .ensures) (k .scores-with2 .ensures)
-    (c .before .lower-places .ensures) (c .lower-places2 .ensures)
+    (c .before .weaker-places .result) (c .idle-places .result) (j .before .before .before .without-recovery .ensures) (j .scores-with .ensures) (k .scores-with2 .ensures)
+    (c .before .weaker-places .ensures) (c .idle-places .ensures)
 
 pub findings-of-spec : {M : Type 1} → statement M
 findings-of-spec =
@@ -40,8 +40,8 @@ findings-of-spec =
     without-recovery-requires
     scores-with-requires
     scores-with-requires-2
-    lower-places-requires
-    lower-places-requires-2
+    weaker-places-requires
+    idle-places-requires
     same-length
     same-length-2
     returns)

@@ -5,13 +5,13 @@ use borrow.Author.Needs.{needs}
 use Prim.Native.Nat.{ℕ, _-_, _*_, _%_, _^_}
 use native.Mathlib.Omega.{arith}
 use Rattle.vertex_set.proofs.Places.{Lowest, lowest}
-use Rattle.report_text.specs.Report.{nameIn}
+use Rattle.sheet_format.specs.Names.{nameOf}
 use Rattle.report_findings.proofs.Pairs.{PairsWriting, pairs-none, pairs-room, pairs-more, pairs-end}
 use Rattle.report_findings.proofs.put_pairs.Statement.{statement}
 use Rattle.report_findings.proofs.put_pairs.Tie as tie
 
 abbrev Inv-loop : tie.InvT-loop
-Inv-loop v x sheet from to out₀ at one rest₀ next₀ out rest next = PairsWriting (nameIn sheet) v x out₀ at out rest next
+Inv-loop v x sheet from to out₀ at one rest₀ next₀ out rest next = PairsWriting (nameOf sheet) v x out₀ at out rest next
 
 abbrev μ-loop : tie.MeasureT-loop
 μ-loop v x sheet from to out₀ at one rest₀ next₀ out rest next = rest

@@ -4,7 +4,7 @@ use Prim.Native.Nat.{_+_, _≤_}
 use mir.Val.{Fits}
 use mir.Syntax.{w64}
 use lib.ListN.{length, getD}
-use Rattle.report_text.specs.Report.{nameIn}
+use Rattle.sheet_format.specs.Names.{nameOf}
 use Rattle.report_facts.specs.Texts.{pairsAt}
 use Rattle.report_findings.specs.Parts.{pairsWith}
 use Rattle.report_findings.proofs.Parts.{part-wrote, part-empty, no-pairs, pairs-text, below-names, below-room}
@@ -32,7 +32,7 @@ low-below s = search needs
 
 -- There is room for all pairs.
 room : (s : tie.Start)
-    → s .args .at + length (pairsWith (nameIn (s .args .sheet .now)) (s .args .v) (getD (s .args .t1 .below) (s .args .v) 0)) ≤ length (s .args .out .now)
+    → s .args .at + length (pairsWith (nameOf (s .args .sheet .now)) (s .args .v) (getD (s .args .t1 .below) (s .args .v) 0)) ≤ length (s .args .out .now)
 room s = below-room (s .args .sheet .now) (s .args .t1) (s .args .v) (s .args .out .now) (s .args .at) (s .pre) (low-below s .fits)
 
 slice-aggregate-put-pairs : tie.Need-slice-aggregate-put-pairs

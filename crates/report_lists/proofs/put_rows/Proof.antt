@@ -1,14 +1,14 @@
 use borrow.Author.Needs.{needs}
 use native.Mathlib.Omega.{arith}
 use Prim.Native.Nat.{_-_}
-use Rattle.report_text.specs.Report.{nameIn}
+use Rattle.sheet_format.specs.Names.{nameOf}
 use Rattle.report_facts.proofs.Parts.{part-length}
 use Rattle.report_lists.proofs.Rows.{row-fits, RowsWriting, rows-none, rows-more, rows-end, rows-full}
 use Rattle.report_lists.proofs.put_rows.Statement.{statement}
 use Rattle.report_lists.proofs.put_rows.Tie as tie
 
 abbrev Inv-loop : tie.InvT-loop
-Inv-loop loss target list i n values sheet from to out₀ at row₀ next₀ out row next = RowsWriting (nameIn sheet) loss target values list i n out₀ at out row next
+Inv-loop loss target list i n values sheet from to out₀ at row₀ next₀ out row next = RowsWriting (nameOf sheet) loss target values list i n out₀ at out row next
 
 abbrev μ-loop : tie.MeasureT-loop
 μ-loop loss target list i n values sheet from to out₀ at row₀ next₀ out row next = n - row

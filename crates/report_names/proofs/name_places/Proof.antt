@@ -1,7 +1,10 @@
 use Rattle.sheet_fields.proofs.Cutting.{until-le}
 use borrow.Author.Needs.{needs}
+use mathlib.Core.Path.{_≡_}
+use mathlib.Core.Bool.{true}
 use Prim.Native.Nat.{suc, _-_, _≤_, _<_}
 use Rattle.sheet_format.specs.Text.{linesOf}
+use Rattle.sheet_format.specs.Names.{hasItem}
 use native.Mathlib.Omega.{arith}
 use lib.ListN.{length, take, drop, length-take}
 use Rattle.report_names.proofs.Places.{NamesSoFar, names-none, line-stops, names-more}
@@ -22,14 +25,17 @@ add-at c = let u = until-le 10 (c .before .before .args .sheet .now) in omega (a
 
 loop-holds : tie.Need-loop-holds Inv-loop μ-loop
 loop-holds c =
-    let u = c .before .before .pre .1 in
+    let u = c .before .before .pre .lines in
     (omega arith, names-none _ _ _ _ (search needs) (search needs) (omega arith) (c .find .ensures))
 
 find-requires-2 : tie.Need-find-requires-2 Inv-loop μ-loop
 find-requires-2 c κs = search needs
 
 more : (c : tie.In-loop Inv-loop μ-loop) → suc (c .before .loop .v) < length (linesOf (c .before .before .before .before .args .sheet .now))
-more c = let u = c .before .before .before .before .pre .1 in omega arith
+more c = let u = c .before .before .before .before .pre .lines in omega arith
+
+there : (c : tie.In-loop Inv-loop μ-loop) → hasItem (c .before .before .before .before .args .sheet .now) (c .before .loop .v) ≡ true
+there c = c .before .before .before .before .pre .items (c .before .loop .v) (omega arith)
 
 bounds : (c : tie.After-find2 Inv-loop μ-loop) → (c .before .before .loop .at ≤ c .find2 .result) × (c .find2 .result ≤ length (c .before .before .before .before .before .args .sheet .now))
 bounds c = line-stops _ _ _ _ _ (c .before .before .loop .inv .1) (more (c .before)) _ (c .find2 .ensures)
@@ -80,7 +86,7 @@ loop-less : tie.Need-loop-less Inv-loop μ-loop
 loop-less c = search needs
 
 loop-again : tie.Need-loop-again Inv-loop μ-loop
-loop-again c = (search needs, names-more _ _ _ _ _ (c .before .before .before .before .loop .inv .1) (more (c .before .before .before)) _ _ (search needs) (c .before .before .find2 .ensures) (c .find3 .ensures))
+loop-again c = (search needs, names-more _ _ _ _ _ (c .before .before .before .before .loop .inv .1) (more (c .before .before .before)) _ _ (search needs) (there (c .before .before .before)) (c .before .before .find2 .ensures) (c .find3 .ensures))
 
 returns : tie.Need-returns Inv-loop μ-loop
 returns c =

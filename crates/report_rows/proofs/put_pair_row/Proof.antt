@@ -4,14 +4,14 @@ use mathlib.Core.Path.{refl}
 use Prim.Native.Nat.{ℕ}
 use native.Mathlib.Omega.{arith}
 use Rattle.report_text.specs.Rows.{pairRow}
-use Rattle.report_text.specs.Report.{nameIn}
+use Rattle.sheet_format.specs.Names.{nameOf}
 use Rattle.report_rows.proofs.Lines.{line-none, field-room, field-more, last-room, last-end}
 use borrow.Author.Needs.{needs}
 use Rattle.report_rows.proofs.put_pair_row.Statement.{statement}
 use Rattle.report_rows.proofs.put_pair_row.Tie as tie
 
 abbrev fields : tie.Start → List (List ℕ)
-fields s = nameIn (s .args .sheet .now) (s .args .v) ∷ nameIn (s .args .sheet .now) (s .args .w) ∷ []
+fields s = nameOf (s .args .sheet .now) (s .args .v) ∷ nameOf (s .args .sheet .now) (s .args .w) ∷ []
 
 put-name-field-requires : tie.Need-put-name-field-requires
 unfolding pairRow

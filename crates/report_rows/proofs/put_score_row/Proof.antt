@@ -3,7 +3,7 @@ use mathlib.Core.List.{List, [], _∷_}
 use mathlib.Core.Path.{refl}
 use Prim.Native.Nat.{ℕ}
 use native.Mathlib.Omega.{arith}
-use Rattle.report_text.specs.Report.{nameIn}
+use Rattle.sheet_format.specs.Names.{nameOf}
 use Rattle.report_rows.proofs.Lines.{line-none, field-room, field-more, last-room, last-end}
 use Rattle.report_text.specs.Rows.{scoreText, answerText, scoreRow}
 use borrow.Author.Needs.{needs}
@@ -11,7 +11,7 @@ use Rattle.report_rows.proofs.put_score_row.Statement.{statement}
 use Rattle.report_rows.proofs.put_score_row.Tie as tie
 
 abbrev fields : tie.Start → List (List ℕ)
-fields s = nameIn (s .args .sheet .now) (s .args .row .target) ∷ scoreText (s .args .row .score) ∷ scoreText (s .args .row .risk) ∷ answerText (s .args .row .back) ∷ answerText (s .args .row .idle) ∷ []
+fields s = nameOf (s .args .sheet .now) (s .args .row .target) ∷ scoreText (s .args .row .score) ∷ scoreText (s .args .row .risk) ∷ answerText (s .args .row .back) ∷ answerText (s .args .row .idle) ∷ []
 
 put-name-field-requires : tie.Need-put-name-field-requires
 unfolding scoreRow

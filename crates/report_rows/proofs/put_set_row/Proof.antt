@@ -4,7 +4,7 @@ use mathlib.Core.List.{List, [], _∷_}
 use mathlib.Core.Path.{refl}
 use Prim.Native.Nat.{ℕ}
 use native.Mathlib.Omega.{arith}
-use Rattle.report_text.specs.Report.{nameIn}
+use Rattle.sheet_format.specs.Names.{nameOf}
 use Rattle.report_rows.proofs.Lines.{line-none, field-room, field-more, last-room, last-end}
 use Rattle.sheet_format.specs.Fields.{decimal}
 use Rattle.report_text.specs.Rows.{wayText, setText, setRow}
@@ -13,7 +13,7 @@ use Rattle.report_rows.proofs.put_set_row.Statement.{statement}
 use Rattle.report_rows.proofs.put_set_row.Tie as tie
 
 abbrev fields : tie.Start → List (List ℕ)
-fields s = nameIn (s .args .sheet .now) (s .args .row .target) ∷ wayText (s .args .row .loss) ∷ decimal (ones (s .args .row .set)) ∷ decimal (s .args .row .sum) ∷ setText (nameIn (s .args .sheet .now)) (s .args .row .set) ∷ []
+fields s = nameOf (s .args .sheet .now) (s .args .row .target) ∷ wayText (s .args .row .loss) ∷ decimal (ones (s .args .row .set)) ∷ decimal (s .args .row .sum) ∷ setText (nameOf (s .args .sheet .now)) (s .args .row .set) ∷ []
 
 cast-size : tie.Need-cast-size
 cast-size c = let h = ones-le 64 (c .before .before .before .before .before .args .row .set) (search needs) in omega arith

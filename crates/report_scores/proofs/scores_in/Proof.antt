@@ -22,7 +22,7 @@ sum-tables-requires c κs =
     let v = c .before .before in
     let h = v .before in
     let s = h .before .before .before in
-    (summable (s .args .loss) (s .args .s) (h .chosen .result .0) _ (s .pre .formed) (h .chosen .ensures) (v .values-of .ensures), (search needs, search needs))
+    (summable (s .args .loss) (s .args .s) (h .chosen .result .0) _ (s .pre .0 .formed) (h .chosen .ensures) (v .values-of .ensures), (search needs, search needs))
 
 fill-requires : tie.Need-fill-requires
 fill-requires c κs = search needs
@@ -50,7 +50,7 @@ returns c =
     let v = t .before .before .before in
     let h = v .before in
     let s = h .before .before .before in
-    scored (s .args .loss) (s .args .s) (s .args .graph) (h .chosen .result .0) _ _ _ _ _ _ (s .pre .formed) (h .chosen .ensures) (v .values-of .ensures)
+    scored (s .args .loss) (s .args .s) (s .args .graph) (h .chosen .result .0) _ _ _ _ _ _ (s .pre .0 .formed) (h .chosen .ensures) (v .values-of .ensures)
     (t .sum-tables .ensures) (f .fill .ensures .1) (r .keep-bases .ensures)
 
 pub scores-in-spec : {M : Type 1} → statement M

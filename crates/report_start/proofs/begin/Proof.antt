@@ -41,7 +41,7 @@ returns-2 c =
     let e = c .before .before .before .before .before .before .before .before in
     let r = e .before .read-sheet in
     let f = c .before .before .before .before .facts-of .ensures in
-    begun-accepted _ (r .result) (r .ensures) _ _ _ (e .if1 .left) (f .0) (f .1)
+    begun-accepted _ (r .result) (r .ensures) _ _ _ _ _ (e .if1 .left) (f .0) (f .1)
 
 pub begin-spec : {M : Type 1} → statement M
 begin-spec =

@@ -11,7 +11,7 @@ use borrow.Rule.Slice.PartMut.{putMid}
 use Rattle.setup.specs.declared.Setup.{Setup}
 use Rattle.formed.specs.WellFormed.{WellFormed}
 use Rattle.setup.specs.Calls.{Refuses}
-use Rattle.families.specs.Family.{size}
+use Rattle.families.specs.Inner.Family.{size}
 use Rattle.bases.specs.Score.{ScoreBoth}
 use Rattle.answers.specs.Answers.{BasesWritten, BasesCall, ScoreCall, MarksCall}
 use Rattle.answers.specs.Inner.{BasesTaken, MarksTaken}

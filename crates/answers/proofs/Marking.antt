@@ -6,8 +6,8 @@ use mathlib.Core.List.{List}
 use Prim.Native.Nat.{ℕ, _-_, _^_, _<_}
 use Rattle.setup.specs.declared.Setup.{Setup}
 use Rattle.setup.specs.Setup.{ChosenSet}
-use Rattle.bases.specs.Readers.{BothFamilies}
-use Rattle.marking.specs.Marking.{MarkedAll}
+use Rattle.bases.specs.Inner.Readers.{BothFamilies}
+use Rattle.marking.specs.Inner.Marking.{MarkedAll}
 use Rattle.answers.specs.Inner.{MarksTaken}
 use Rattle.answers.specs.declared.Marks.{Marks}
 

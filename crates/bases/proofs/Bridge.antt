@@ -19,19 +19,19 @@ use Rattle.setup.specs.Setup.{ChosenSet}
 use Rattle.formed.specs.WellFormed.{WellFormed}
 use Rattle.derivations.specs.Derivation.{Derivation}
 use Rattle.derivations.specs.Both.{ruleOf}
-use Rattle.families.specs.Family.{familyWords, masks, In, MinimalMembers, size}
-use Rattle.families.specs.Masks.{SetOfMask}
-use Rattle.families.specs.Exact.{OnChosen}
-use Rattle.family_lists.specs.Lists.{ListOf, LeastSum}
+use Rattle.families.specs.Inner.Family.{familyWords, masks, In, MinimalMembers, size}
+use Rattle.families.specs.Inner.Masks.{SetOfMask}
+use Rattle.families.specs.Inner.Exact.{OnChosen}
+use Rattle.family_lists.specs.Inner.Lists.{ListOf, LeastSum}
 use Rattle.families.proofs.Families.{in-or}
 use Rattle.families.proofs.Masks.{spread, set-of}
 use Rattle.families.proofs.Exact.{minimal-on-chosen}
 use Rattle.family_lists.proofs.Order.{Words}
 use Rattle.family_lists.proofs.SetLists.{setsOf, list-of, length-sets-of}
 use Rattle.family_lists.proofs.SetsOfFamily.{Has, MaskFor, mask-for, set-for, smallest-within, list-smallest}
-use Rattle.tables.specs.Table.{FamilyOf}
+use Rattle.tables.specs.Inner.Table.{FamilyOf}
 use Rattle.tables.proofs.Tables.{derivation-rising}
-use Rattle.bases.specs.Readers.{BothFamilies}
+use Rattle.bases.specs.Inner.Readers.{BothFamilies}
 use Rattle.bases.proofs.Formed.{few}
 use Rattle.bases.specs.Base.{TargetSet, MinimalSet, Base}
 use Rattle.bases.specs.Score.{sumOf, never, Score}

@@ -1,4 +1,4 @@
 pub mod Base
 pub mod Marks
-pub mod Readers
 pub mod Score
+pub mod Inner

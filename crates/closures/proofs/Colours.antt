@@ -15,7 +15,7 @@ use Rattle.setup.specs.declared.Rows.{Rows}
 use Rattle.setup.specs.Setup.{rowOf}
 use Rattle.setup.proofs.Graphs.{colour-below}
 use Rattle.derivations.specs.Derivation.{Vertices}
-use Rattle.derivations.specs.Admits.{Complete, Broken, SomeComplete, AllBroken}
+use Rattle.derivations.specs.Inner.Admits.{Complete, Broken, SomeComplete, AllBroken}
 use Rattle.closures.specs.Inner.{LowestColour}
 
 -- ---- the lowest complete colour

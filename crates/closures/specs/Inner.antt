@@ -7,7 +7,7 @@ use Rattle.setup.specs.declared.Graph.{Graph}
 use Rattle.setup.specs.Setup.{rowOf, rowsAt}
 use Rattle.derivations.specs.Derivation.{Vertices, Derivation}
 use Rattle.derivations.specs.Both.{ruleOf}
-use Rattle.derivations.specs.Admits.{Complete, Admits}
+use Rattle.derivations.specs.Inner.Admits.{Complete, Admits}
 
 -- r is the lowest complete colour; 8 where there is none.
 pub record LowestColour (rows : Rows) (held : Vertices) (r : ℕ) : Type 0 where

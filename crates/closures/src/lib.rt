@@ -2,7 +2,7 @@
 ghost use Rattle.vertex_set.specs.Set.{Member, Decides};
 ghost use Rattle.derivations.specs.Derivation.{Closure};
 ghost use Rattle.derivations.specs.Both.{ruleOf};
-ghost use Rattle.derivations.specs.Admits.{AllBroken, Admits};
+ghost use Rattle.derivations.specs.Inner.Admits.{AllBroken, Admits};
 ghost use Rattle.closures.specs.Inner.{LowestColour, Passed};
 use setup::Graph;
 use setup::Rows;

@@ -11,7 +11,7 @@ use Rattle.setup.specs.Setup.{rowOf, rowsAt}
 use Rattle.setup.proofs.Graphs.{coloured-place}
 use Rattle.derivations.specs.Derivation.{Vertices, Derivation}
 use Rattle.derivations.specs.Both.{ruleOf}
-use Rattle.derivations.specs.Admits.{Admits}
+use Rattle.derivations.specs.Inner.Admits.{Admits}
 use Rattle.derivations.proofs.Rules.{Sub, closed}
 use Rattle.derivations.proofs.Both.{lawful}
 

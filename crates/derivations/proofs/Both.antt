@@ -3,7 +3,7 @@
 use mathlib.Core.Bool.{Bool, true, false}
 use Rattle.setup.specs.declared.Graph.{Graph}
 use Rattle.derivations.specs.Both.{ruleOf}
-use Rattle.derivations.specs.Laws.{Laws}
+use Rattle.derivations.specs.Inner.Laws.{Laws}
 use Rattle.derivations.proofs.Rules.{Lawful, held, monotone, union, twice, least}
 use Rattle.derivations.proofs.Graphs.{access-lawful, lockout-lawful}
 

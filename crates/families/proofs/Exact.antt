@@ -13,9 +13,9 @@ use Rattle.vertex_set.proofs.Cases.{less-or}
 use Rattle.vertex_set.proofs.Sets.{member-below, within-le}
 use Rattle.vertex_set.proofs.Shifts.{in-low}
 use Rattle.vertex_set.proofs.Subsets.{minimal-below}
-use Rattle.families.specs.Family.{In, Monotone, Minimal, MinimalMembers}
-use Rattle.families.specs.Masks.{rank, Picked}
-use Rattle.families.specs.Exact.{OnChosen, FamilyOf}
+use Rattle.families.specs.Inner.Family.{In, Monotone, Minimal, MinimalMembers}
+use Rattle.families.specs.Inner.Masks.{rank, Picked}
+use Rattle.families.specs.Inner.Exact.{OnChosen, FamilyOf}
 use Rattle.families.proofs.Families.{in-or, minimal-least}
 
 -- P keeps holding as the set grows.

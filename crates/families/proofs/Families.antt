@@ -17,8 +17,8 @@ use Rattle.vertex_set.proofs.Sets.{none-in-zero, member-or, member-below}
 use Rattle.vertex_set.proofs.Places.{member-le}
 use Rattle.vertex_set.proofs.Shifts.{in-low, in-high}
 use Rattle.vertex_set.proofs.Subsets.{proper-lacks, within-removed, removed-proper, proper-less}
-use Rattle.families.specs.Family.{In, size, Monotone, Minimal, Least, MinimalMembers}
-use Rattle.families.specs.Steps.{StepInWord, LeastLane, LeastWord}
+use Rattle.families.specs.Inner.Family.{In, size, Monotone, Minimal, Least, MinimalMembers}
+use Rattle.families.specs.Inner.Steps.{StepInWord, LeastLane, LeastWord}
 
 -- ---- one mask
 

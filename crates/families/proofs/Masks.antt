@@ -16,7 +16,7 @@ use Rattle.vertex_set.proofs.Digits.{digit, digit-lt, digit-first, digit-suc}
 use Rattle.vertex_set.proofs.Sets.{member-below, none-in-zero, same-set}
 use Rattle.vertex_set.proofs.Places.{in-first, in-later, places, places-odd, places-even, places-none, lowest}
 use Rattle.vertex_set.proofs.Shifts.{low-first, low-half}
-use Rattle.families.specs.Masks.{rank, Picked, SetOfMask, MaskOf}
+use Rattle.families.specs.Inner.Masks.{rank, Picked, SetOfMask, MaskOf}
 
 -- ---- ranks, by halves
 

@@ -16,7 +16,7 @@ use Rattle.vertex_set.proofs.Digits.{digit}
 use Rattle.vertex_set.proofs.Sets.{in-and, in-or, in-not, member-below, none-in-zero, shifted-one}
 use Rattle.vertex_set.proofs.Places.{member-le}
 use Rattle.vertex_set.proofs.Shifts.{in-low, in-shifted, all, all-at}
-use Rattle.families.specs.Steps.{StepsInWord, StepsToWord, LeastWord}
+use Rattle.families.specs.Inner.Steps.{StepsInWord, StepsToWord, LeastWord}
 
 -- ---- within a word
 

@@ -4,9 +4,9 @@ ghost use mathlib.Core.Path.{_≡_};
 ghost use Prim.Native.Nat.{_≤_, _<_};
 ghost use lib.ListN.{length};
 ghost use lib.Count.{ones};
-ghost use Rattle.families.specs.Family.{familyWords, size, MinimalMembers};
-ghost use Rattle.families.specs.Masks.{MaskOf};
-ghost use Rattle.families.specs.Steps.{StepsInWord, StepsToWord, LeastWord};
+ghost use Rattle.families.specs.Inner.Family.{familyWords, size, MinimalMembers};
+ghost use Rattle.families.specs.Inner.Masks.{MaskOf};
+ghost use Rattle.families.specs.Inner.Steps.{StepsInWord, StepsToWord, LeastWord};
 use vertex_set::VertexSet;
 
 // A family has 256 words of 64 bits, a bit for each of 2^14 masks.

@@ -20,7 +20,7 @@ use Rattle.vertex_set.proofs.Sets.{none-in-zero}
 use Rattle.vertex_set.proofs.Places.{places, places-none, places-and, listed-places, length-places, isIn, lowest}
 use Rattle.vertex_set.proofs.Shifts.{all, all-at}
 use Rattle.vertex_set.proofs.Sorted.{map-same, only-append, only-map, only-same}
-use Rattle.family_lists.specs.Tables.{Layer, LanesOfSize, masksIn, rising, ofWords, Occupied, ofSize, sumBy, TablesFit, Wrote}
+use Rattle.family_lists.specs.Inner.Tables.{Layer, LanesOfSize, masksIn, rising, ofWords, Occupied, ofSize, sumBy, TablesFit, Wrote}
 
 -- ---- the lanes of a size
 

@@ -6,10 +6,10 @@ use native.Mathlib.Nat.{le-trans}
 use Rattle.vertex_set.specs.Set.{Within}
 use Rattle.vertex_set.specs.Order.{sumOver}
 use Rattle.vertex_set.proofs.Sums.{sum-within}
-use Rattle.families.specs.Family.{In, MinimalMembers}
+use Rattle.families.specs.Inner.Family.{In, MinimalMembers}
 use Rattle.families.proofs.Masks.{spread, set-of, submask-subset}
 use Rattle.families.proofs.Exact.{above-minimal}
-use Rattle.family_lists.specs.Lists.{LeastSum}
+use Rattle.family_lists.specs.Inner.Lists.{LeastSum}
 
 -- The least sum over the minimal members is the least over all members.
 pub least-of-minimal : (c : ℕ) (f g : List ℕ) (value : ℕ → ℕ) (r : ℕ) → c < 2 ^ 64 → MinimalMembers f g → LeastSum c g value r → LeastSum c f value r

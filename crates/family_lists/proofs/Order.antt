@@ -15,9 +15,9 @@ use Rattle.vertex_set.proofs.Cases.{same-or, less-or}
 use Rattle.vertex_set.proofs.Sets.{none-in-zero}
 use Rattle.vertex_set.proofs.Places.{places, listed-places, sorted-places}
 use Rattle.vertex_set.proofs.Sorted.{listed-append, listed-map, listed-of-map, listed-only, Sorted, sorted-append, sorted-map, sorted-only, sorted-change}
-use Rattle.families.specs.Family.{In, size}
+use Rattle.families.specs.Inner.Family.{In, size}
 use Rattle.families.proofs.Families.{none-beyond}
-use Rattle.family_lists.specs.Tables.{masksIn, rising, ofSize, bySize}
+use Rattle.family_lists.specs.Inner.Tables.{masksIn, rising, ofSize, bySize}
 use Rattle.family_lists.proofs.Lists.{length-masks}
 
 -- ---- in rising order

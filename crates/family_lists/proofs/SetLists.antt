@@ -13,14 +13,14 @@ use Rattle.vertex_set.specs.Order.{Listed, Before, sumOver}
 use Rattle.vertex_set.proofs.Sets.{member-below, within-le}
 use Rattle.vertex_set.proofs.Sorted.{listed-map, listed-of-map, map-same, sorted-map, sorted-ordered}
 use Rattle.vertex_set.proofs.Sums.{sum-same, sum-over-powers}
-use Rattle.families.specs.Family.{In, size}
-use Rattle.families.specs.Masks.{SetOfMask}
-use Rattle.families.specs.Exact.{OnChosen}
+use Rattle.families.specs.Inner.Family.{In, size}
+use Rattle.families.specs.Inner.Masks.{SetOfMask}
+use Rattle.families.specs.Inner.Exact.{OnChosen}
 use Rattle.families.proofs.Masks.{spread, set-of, set-before, set-within}
-use Rattle.sums.specs.Sums.{sumAt, WeightsOf, SumsFit, SumTable}
+use Rattle.sums.specs.Inner.Sums.{sumAt, WeightsOf, SumsFit, SumTable}
 use Rattle.sums.proofs.Weights.{at-split}
-use Rattle.family_lists.specs.Lists.{ListOf, WroteSets}
-use Rattle.family_lists.specs.Tables.{TablesFit, Wrote, sumBy, rising, ofSize, bySize}
+use Rattle.family_lists.specs.Inner.Lists.{ListOf, WroteSets}
+use Rattle.family_lists.specs.Inner.Tables.{TablesFit, Wrote, sumBy, rising, ofSize, bySize}
 use Rattle.family_lists.proofs.Lists.{Writing, writing-room, writing-part, writing-end}
 use Rattle.family_lists.proofs.Order.{listed-members, sorted-rising, Words, length-rising, member-small, listed-by-size, sorted-by-size, length-by-size}
 

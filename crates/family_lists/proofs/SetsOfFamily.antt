@@ -9,12 +9,12 @@ use Rattle.vertex_set.specs.Set.{Member, Within, Iff}
 use Rattle.vertex_set.specs.Order.{Listed, Smallest, ListsExactly}
 use Rattle.vertex_set.proofs.Decisions.{iff-trans}
 use Rattle.vertex_set.proofs.Sets.{within-le}
-use Rattle.families.specs.Family.{masks, In, Minimal, MinimalMembers}
-use Rattle.families.specs.Masks.{Picked, SetOfMask, MaskOf}
-use Rattle.families.specs.Exact.{FamilyOf}
+use Rattle.families.specs.Inner.Family.{masks, In, Minimal, MinimalMembers}
+use Rattle.families.specs.Inner.Masks.{Picked, SetOfMask, MaskOf}
+use Rattle.families.specs.Inner.Exact.{FamilyOf}
 use Rattle.families.proofs.Masks.{spread, gather, set-of, set-unique, set-within, submask-subset, proper-subset, proper-submask, mask-exists}
 use Rattle.families.proofs.Exact.{Rising, family-monotone, minimal-within-mask}
-use Rattle.family_lists.specs.Lists.{ListOf}
+use Rattle.family_lists.specs.Inner.Lists.{ListOf}
 
 -- The set x lies within the chosen vertices, and P holds of it.
 abbrev pub Has : ℕ → ((ℕ → Type 0) → Type 0) → ℕ → Type 0

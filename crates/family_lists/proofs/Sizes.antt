@@ -15,8 +15,8 @@ use Rattle.vertex_set.specs.Order.{Listed}
 use Rattle.vertex_set.proofs.Cases.{same-or, false-true}
 use Rattle.vertex_set.proofs.Sets.{none-in-zero, member-below, in-or, meets-test, meets-not}
 use Rattle.vertex_set.proofs.Sorted.{listed-append}
-use Rattle.families.specs.Family.{In}
-use Rattle.family_lists.specs.Tables.{Layer, masksIn, rising, ofWords, Occupied, Joined, SomeOfSize, ofSize, Wrote}
+use Rattle.families.specs.Inner.Family.{In}
+use Rattle.family_lists.specs.Inner.Tables.{Layer, masksIn, rising, ofWords, Occupied, Joined, SomeOfSize, ofSize, Wrote}
 use Rattle.family_lists.proofs.Lists.{mask-ones}
 use Rattle.family_lists.proofs.Order.{listed-masks, listed-members, listed-of-size, member-small}
 

@@ -9,7 +9,7 @@ use Rattle.vertex_set.proofs.Sets.{member-below, none-in-zero}
 use Rattle.vertex_set.proofs.Decisions.{decide-iff}
 use Rattle.setup.specs.declared.Rows.{Rows}
 use Rattle.setup.specs.Setup.{rowOf}
-use Rattle.formed.specs.Parts.{RowsFit, EdgesFit}
+use Rattle.formed.specs.Inner.Parts.{RowsFit, EdgesFit}
 
 -- Where a place is in use, its rows lie within the vertices of the setup; the bound of 64 is the set's own.
 pub edges-used : (count v bound : ℕ) (rows recovery : Rows) (r : Bool) → v < count → Below count bound → ((c : ℕ) → rowOf rows c < 2 ^ 64)

@@ -16,7 +16,7 @@ use Rattle.setup.specs.declared.Value.the-variants.{Blank, Of}
 use Rattle.setup.specs.declared.Vertex.{Vertex}
 use Rattle.setup.specs.Setup.{unusedVertex}
 use Rattle.formed.specs.WellFormed.{InRange, ValidVertex}
-use Rattle.formed.specs.Parts.{VertexFits}
+use Rattle.formed.specs.Inner.Parts.{VertexFits}
 
 pub in-range-blank : (x : Value) → x ≡ Blank → Decides (InRange x) true
 in-range-blank x e = decide-yes (subst InRange (sym e) tt)

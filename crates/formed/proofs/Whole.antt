@@ -11,7 +11,7 @@ use Rattle.setup.specs.declared.Setup.{Setup}
 use Rattle.setup.specs.Setup.{rowsAt}
 use Rattle.setup.proofs.Graphs.{edge-place, edge-colour}
 use Rattle.formed.specs.WellFormed.{WellFormed}
-use Rattle.formed.specs.Parts.{PlacesFit, CountsFit}
+use Rattle.formed.specs.Inner.Parts.{PlacesFit, CountsFit}
 
 pub places-of : (s : Setup) → WellFormed s → PlacesFit s
 places-of s w =

@@ -1,2 +1,2 @@
-pub mod Parts
 pub mod WellFormed
+pub mod Inner

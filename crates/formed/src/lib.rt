@@ -5,7 +5,7 @@ ghost use lib.Count.{ones};
 ghost use Rattle.vertex_set.specs.Set.{Decides};
 ghost use Rattle.setup.specs.Setup.{edgeCount, unusedVertex, total};
 ghost use Rattle.formed.specs.WellFormed.{InRange, ValidVertex, WellFormed};
-ghost use Rattle.formed.specs.Parts.{VertexFits, RowsFit, EdgesFit, PlacesFit, CountsFit};
+ghost use Rattle.formed.specs.Inner.Parts.{VertexFits, RowsFit, EdgesFit, PlacesFit, CountsFit};
 use setup::Graph;
 use setup::Kind;
 use setup::Rows;

@@ -15,11 +15,11 @@ use Rattle.setup.specs.declared.Rows.{Rows}
 use Rattle.setup.specs.Setup.{rowOf}
 use Rattle.setup.proofs.Graphs.{colour-below}
 use Rattle.derivations.specs.Derivation.{Vertices}
-use Rattle.derivations.specs.Admits.{Admits}
+use Rattle.derivations.specs.Inner.Admits.{Admits}
 use Rattle.derivations.proofs.Admits.{admits-coloured}
-use Rattle.words.specs.Words.{At, FamilyWhere, Merged}
+use Rattle.words.specs.Inner.Words.{At, FamilyWhere, Merged}
 use Rattle.words.proofs.Families.{family-as, full-word}
-use Rattle.lanes.specs.Lanes.{Lane, Over, Colour, Takes, untakenWord, Coloured, Needed}
+use Rattle.lanes.specs.Inner.Lanes.{Lane, Over, Colour, Takes, untakenWord, Coloured, Needed}
 use Rattle.lanes.proofs.Over.{merged-same, below-more}
 
 -- ---- all vertices that are needed

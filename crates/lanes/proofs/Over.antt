@@ -8,8 +8,8 @@ use native.Mathlib.Omega.{arith}
 use Rattle.vertex_set.specs.Set.{Iff}
 use Rattle.vertex_set.proofs.Cases.{same-or}
 use Rattle.vertex_set.proofs.Decisions.{iff-trans}
-use Rattle.words.specs.Words.{Merged}
-use Rattle.lanes.specs.Lanes.{Over}
+use Rattle.words.specs.Inner.Words.{Merged}
+use Rattle.lanes.specs.Inner.Lanes.{Over}
 
 -- either part said otherwise
 pub merged-same : (any : Bool) (P Q P′ Q′ : Type 0) → Iff P P′ → Iff Q Q′ → Iff (Merged any P Q) (Merged any P′ Q′)

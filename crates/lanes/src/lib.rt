@@ -2,10 +2,10 @@
 ghost use mathlib.Core.Path.{_≡_};
 ghost use lib.ListN.{length};
 ghost use Rattle.vertex_set.specs.Set.{Member};
-ghost use Rattle.words.specs.Words.{At, FamilyWhere};
-ghost use Rattle.derivations.specs.Admits.{Admits};
-ghost use Rattle.families.specs.Family.{familyWords};
-ghost use Rattle.lanes.specs.Lanes.{Lane, Over, Takes, untakenWord, Needed, tableWords};
+ghost use Rattle.words.specs.Inner.Words.{At, FamilyWhere};
+ghost use Rattle.derivations.specs.Inner.Admits.{Admits};
+ghost use Rattle.families.specs.Inner.Family.{familyWords};
+ghost use Rattle.lanes.specs.Inner.Lanes.{Lane, Over, Takes, untakenWord, Needed, tableWords};
 use families::WORDS;
 use setup::Rows;
 

@@ -12,12 +12,12 @@ use Rattle.vertex_set.proofs.Cases.{less-or}
 use Rattle.vertex_set.proofs.Places.{places, places-none, lowest}
 use Rattle.vertex_set.proofs.Sorted.{listed-map, listed-of-map}
 use Rattle.vertex_set.proofs.Sums.{sum-bound}
-use Rattle.families.specs.Family.{In}
+use Rattle.families.specs.Inner.Family.{In}
 use Rattle.families.proofs.Masks.{spread, set-of, set-within}
-use Rattle.family_lists.specs.Lists.{Summable, SumTables, SumOfMember, LeastSum, LeastBy}
-use Rattle.sums.specs.Sums.{sumAt, WeightsOf, SumsFit, SumTable}
-use Rattle.family_lists.specs.Tables.{sumBy, masksIn, rising}
-use Rattle.least_sums.specs.Least.{leastOf}
+use Rattle.family_lists.specs.Inner.Lists.{Summable, SumTables, SumOfMember, LeastSum, LeastBy}
+use Rattle.sums.specs.Inner.Sums.{sumAt, WeightsOf, SumsFit, SumTable}
+use Rattle.family_lists.specs.Inner.Tables.{sumBy, masksIn, rising}
+use Rattle.least_sums.specs.Inner.Least.{leastOf}
 use Rattle.family_lists.proofs.Lists.{rising-drop, rising-end}
 use Rattle.family_lists.proofs.Order.{listed-members, member-small}
 use Rattle.family_lists.proofs.SetLists.{tables-sum, tables-fit}

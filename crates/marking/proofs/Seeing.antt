@@ -17,14 +17,14 @@ use Rattle.vertex_set.specs.Order.{Listed, Once}
 use Rattle.vertex_set.proofs.Cases.{same-or, false-true}
 use Rattle.vertex_set.proofs.Sets.{none-in-zero, in-and, in-or, in-one, shifted-one}
 use Rattle.vertex_set.proofs.Sorted.{Sorted}
-use Rattle.families.specs.Family.{In, size}
-use Rattle.families.specs.Masks.{SetOfMask, MaskOf}
+use Rattle.families.specs.Inner.Family.{In, size}
+use Rattle.families.specs.Inner.Masks.{SetOfMask, MaskOf}
 use Rattle.families.proofs.Families.{size-drop, size-end}
 use Rattle.families.proofs.Masks.{spread, gather, set-of, set-unique, mask-unique, mask-exists}
-use Rattle.family_lists.specs.Tables.{rising}
+use Rattle.family_lists.specs.Inner.Tables.{rising}
 use Rattle.family_lists.proofs.Order.{Words, listed-members, sorted-rising, length-rising}
-use Rattle.strays.specs.Strays.{HasSize}
-use Rattle.marking.specs.Counting.{Put, Earlier, MaskIn, Seen, meet}
+use Rattle.strays.specs.Inner.Strays.{HasSize}
+use Rattle.marking.specs.Inner.Counting.{Put, Earlier, MaskIn, Seen, meet}
 use Rattle.strays.proofs.Sizes.{size-same, size-map, size-of-list}
 use Rattle.strays.proofs.Values.{listed-next}
 

@@ -19,17 +19,17 @@ use Rattle.setup.specs.declared.Graph.{Graph}
 use Rattle.setup.specs.declared.Setup.{Setup}
 use Rattle.derivations.specs.Derivation.{Derivation}
 use Rattle.derivations.specs.Both.{ruleOf}
-use Rattle.families.specs.Family.{In, size}
-use Rattle.families.specs.Masks.{MaskOf}
+use Rattle.families.specs.Inner.Family.{In, size}
+use Rattle.families.specs.Inner.Masks.{MaskOf}
 use Rattle.family_lists.proofs.Order.{Words}
 use Rattle.family_lists.proofs.SetsOfFamily as sets
 use Rattle.tables.proofs.Tables.{derivation-rising}
 use Rattle.bases.specs.Base.{TargetSet, MinimalSet}
 use Rattle.bases.specs.Marks.{Mark, Repeated, Shut, Loose, Right, SmallerDerives, CountsAs, MarkedAs, tally}
 use Rattle.bases.proofs.Bridge.{target-has, minimal-smallest, minimal-within}
-use Rattle.strays.specs.Strays.{HasSize, StrayOf}
-use Rattle.marking.specs.Counting.{Seen, meet, CanMark}
-use Rattle.marking.specs.Marking.{Markable, MarkedAll}
+use Rattle.strays.specs.Inner.Strays.{HasSize, StrayOf}
+use Rattle.marking.specs.Inner.Counting.{Seen, meet, CanMark}
+use Rattle.marking.specs.Inner.Marking.{Markable, MarkedAll}
 use Rattle.marking.proofs.Seeing.{family-size, meet-size, size-of-sets}
 use Rattle.strays.proofs.Sizes.{size-none, size-same, size-more, size-join, size-le, size-unique, size-listed}
 use Rattle.strays.proofs.Values.{place-of}

@@ -7,12 +7,12 @@ use Prim.Native.Nat.{ℕ, _+_, _≤_, _<_}
 use native.Mathlib.Omega.{arith}
 use lib.ListN.{length, set, drop-of-length-le, length-set}
 use lib.Seq.{sets-eq, length-sets}
-use Rattle.family_lists.specs.Tables.{Wrote}
+use Rattle.family_lists.specs.Inner.Tables.{Wrote}
 use Rattle.sheet_format.specs.declared.Reading.{Reading}
 use Rattle.sheet_format.specs.Read.{readSheet}
 use Rattle.sheet_format.specs.Names.{hasItem, nameOf, nameStart}
 use Rattle.sheet_names.specs.declared.Span.{Span}
-use Rattle.sheet_names.specs.Span.{spanOf}
+use Rattle.sheet_names.specs.Inner.Span.{spanOf}
 use Rattle.sheet.proofs.Names.{start-none, RowThere, span-start}
 use Rattle.probe_setup.specs.Words.{wordsOf}
 use Rattle.probe_setup.specs.Inner.{WroteAll}

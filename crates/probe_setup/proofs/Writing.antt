@@ -7,7 +7,7 @@ use native.Mathlib.Numerals.{add-one}
 use native.Mathlib.Omega.{arith}
 use lib.ListN.{length, getD, set, drop, length-set, length-append}
 use lib.Seq.{paste, paste-zero, paste-suc, sets-eq, take-length, drop-length, drop-cons, length-sets}
-use Rattle.family_lists.specs.Tables.{Wrote}
+use Rattle.family_lists.specs.Inner.Tables.{Wrote}
 use Rattle.family_lists.proofs.Lists.{Writing, writing-none, writing-part, writing-end, wrote-one}
 use Rattle.probe_setup.specs.Words.{flat}
 use Rattle.probe_setup.specs.Inner.{WroteAll}

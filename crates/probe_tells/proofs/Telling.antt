@@ -9,7 +9,7 @@ use native.Mathlib.Omega.{arith}
 use mir.Val.{boolByte}
 use lib.ListN.{length, drop}
 use lib.Seq.{sets-eq}
-use Rattle.family_lists.specs.Tables.{Wrote}
+use Rattle.family_lists.specs.Inner.Tables.{Wrote}
 use Rattle.findings.specs.Answers.{yesNo}
 use Rattle.probe_tells.specs.Tells.{Front, Tells}
 

@@ -22,7 +22,7 @@ use Rattle.setup.proofs.Graphs.{colour-below}
 use Rattle.formed.specs.WellFormed.{WellFormed}
 use Rattle.derivations.specs.Derivation.{Closure}
 use Rattle.derivations.specs.Both.{ruleOf}
-use Rattle.derivations.specs.Admits.{Complete, Broken, Admits}
+use Rattle.derivations.specs.Inner.Admits.{Complete, Broken, Admits}
 use Rattle.derivations.proofs.Rules.{least}
 use Rattle.derivations.proofs.Both.{lawful}
 use Rattle.derivations.proofs.Admits.{step-admits}
@@ -35,7 +35,7 @@ use Rattle.reference.specs.Closures.{isComplete, isBroken, colourOf, isA
 use Rattle.reference.specs.Graphs.{GraphOf}
 use Rattle.reference.proofs.Tests.{by-decision, decide-not, decide-and, decide-or, lowest-of, decide-some, decide-every, decide-member, decide-within, decide-meeting, inserted-with}
 use Rattle.reference.proofs.Graphs.{few-colours, added-below, derived-below}
-use Rattle.vertex_set.specs.Missing.{missing}
+use Rattle.vertex_set.specs.Inner.Missing.{missing}
 use Rattle.vertex_set.proofs.Missing.{missing-most, missing-less, missing-none}
 
 -- ---- the rows of one vertex

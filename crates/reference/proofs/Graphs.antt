@@ -16,7 +16,7 @@ use Rattle.setup.specs.Setup.{rowsAt, row, given, valueOf, vertexAt, unusedVert
 use Rattle.formed.specs.WellFormed.{WellFormed}
 use Rattle.derivations.specs.Derivation.{Vertices, Derivation}
 use Rattle.derivations.specs.Both.{ruleOf}
-use Rattle.derivations.specs.Admits.{Admits}
+use Rattle.derivations.specs.Inner.Admits.{Admits}
 use Rattle.derivations.proofs.Rules.{least}
 use Rattle.derivations.proofs.Both.{lawful}
 use Rattle.derivations.proofs.Admits.{step-admits, admits-coloured}

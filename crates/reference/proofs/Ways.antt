@@ -15,7 +15,7 @@ use Rattle.setup.specs.Setup.{rowsAt}
 use Rattle.formed.specs.WellFormed.{WellFormed}
 use Rattle.derivations.specs.Access.{access, HasAccess}
 use Rattle.derivations.specs.Way.{LowestStep, Way}
-use Rattle.derivations.specs.Admits.{Admits}
+use Rattle.derivations.specs.Inner.Admits.{Admits}
 use Rattle.derivations.proofs.Rules.{least, monotone}
 use Rattle.derivations.proofs.Graphs.{access-lawful}
 use Rattle.derivations.proofs.Admits.{step-admits}
@@ -25,7 +25,7 @@ use Rattle.reference.specs.Closures.{colourOf, isAdded, derivesOf, verte
 use Rattle.reference.specs.Graphs.{GraphOf}
 use Rattle.reference.proofs.Tests.{by-decision, decide-not, decide-and, LowestOf, lowest-of, decide-member, in-with, inserted-with}
 use Rattle.reference.proofs.Graphs.{few-colours, added-below, derived-below}
-use Rattle.vertex_set.specs.Missing.{missing}
+use Rattle.vertex_set.specs.Inner.Missing.{missing}
 use Rattle.vertex_set.proofs.Missing.{missing-most, missing-less, missing-none}
 use Rattle.reference.proofs.Closures.{lowest-colour, decide-added, decide-derives}
 

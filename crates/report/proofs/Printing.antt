@@ -8,7 +8,7 @@ use Rattle.sheet_format.specs.Read.{readSheet}
 use Rattle.report_facts.specs.declared.Facts.{Facts}
 use Rattle.report_steps.specs.declared.Cursor.{Cursor}
 use Rattle.report_steps.specs.declared.Step.{Step}
-use Rattle.report_steps.specs.Steps.{Going, Filled}
+use Rattle.report_steps.specs.Inner.Steps.{Going, Filled}
 use Rattle.report_start.specs.declared.Report.{Report}
 use Rattle.report_start.specs.Whole.{Begun}
 

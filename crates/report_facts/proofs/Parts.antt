@@ -6,9 +6,9 @@ use Prim.Native.Nat.{ℕ, _+_, _≤_}
 use native.Mathlib.Omega.{arith}
 use lib.ListN.{length}
 use lib.Seq.{length-sets}
-use Rattle.family_lists.specs.Tables.{Wrote}
+use Rattle.family_lists.specs.Inner.Tables.{Wrote}
 use Rattle.report_fields.proofs.Writing.{wrote-then}
-use Rattle.report_facts.specs.Parts.{Part}
+use Rattle.report_facts.specs.Inner.Parts.{Part}
 
 pub wrote-none : (entry : List ℕ) (at : ℕ) → Wrote entry at [] entry at
 wrote-none entry at = record { exit = refl; next = omega arith }

@@ -1,3 +1,2 @@
-pub mod Facts
 pub mod Texts
-pub mod Parts
+pub mod Inner

@@ -14,11 +14,11 @@ use Rattle.vertex_set.specs.Set.{Within}
 use Rattle.vertex_set.proofs.Cases.{same-or}
 use Rattle.vertex_set.proofs.Sets.{within-refl, within-trans}
 use Rattle.vertex_set.proofs.Places.{places, places-none, lowest, removed-within}
-use Rattle.family_lists.specs.Tables.{Wrote}
+use Rattle.family_lists.specs.Inner.Tables.{Wrote}
 use Rattle.family_lists.proofs.Lists.{Writing, writing-none, writing-part, writing-room, writing-end}
 use Rattle.report_text.specs.Rows.{joined, setText}
 use Rattle.report_text.proofs.Items.{namesOf, set-text}
-use Rattle.report_fields.specs.Writing.{plus}
+use Rattle.report_fields.specs.Inner.Writing.{plus}
 
 -- the first name, with a `+` where another follows
 joined-first : (name : ℕ → List ℕ) (v s : ℕ) → s < 2 ^ 64

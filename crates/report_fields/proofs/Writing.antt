@@ -11,7 +11,7 @@ use lib.ListN.{length, getD, set, drop, length-append}
 use lib.Seq.{drop-cons, drop-length, length-sets}
 use borrow.Author.Tests.{lt-ltb, le-ltb}
 use Rattle.vertex_set.proofs.Cases.{less-or}
-use Rattle.family_lists.specs.Tables.{Wrote}
+use Rattle.family_lists.specs.Inner.Tables.{Wrote}
 use Rattle.family_lists.proofs.Lists.{Writing, writing-none, writing-part, writing-end, wrote-one}
 use Rattle.sheet_format.specs.Fields.{digitsIn, decimal}
 

@@ -4,10 +4,10 @@ ghost use mathlib.Core.List.{[], _∷_, _++_};
 ghost use Prim.Native.Nat.{_+_, _≤_, _<_};
 ghost use lib.ListN.{length};
 ghost use Rattle.sheet_format.specs.Fields.{decimal};
-ghost use Rattle.family_lists.specs.Tables.{Wrote};
+ghost use Rattle.family_lists.specs.Inner.Tables.{Wrote};
 ghost use Rattle.report_text.specs.Rows.{wayText, answerText, scoreText, setText};
 ghost use Rattle.sheet_format.specs.Names.{nameOf};
-ghost use Rattle.report_fields.specs.Writing.{NamePlace, NamePlaces, ended, plus};
+ghost use Rattle.report_fields.specs.Inner.Writing.{NamePlace, NamePlaces, ended, plus};
 use scores::NEVER;
 
 const PLUS: u8 = 43;

@@ -12,7 +12,7 @@ use Rattle.vertex_set.specs.Set.{Iff, Decides}
 use Rattle.vertex_set.specs.declared.VertexSet.{VertexSet}
 use Rattle.vertex_set.proofs.Cases.{less-or, false-true}
 use Rattle.vertex_set.proofs.Decisions.{decide-ltb, decide-leb}
-use Rattle.scores.specs.Lists.{securityAt, recoverabilityAt}
+use Rattle.scores.specs.Inner.Lists.{securityAt, recoverabilityAt}
 use Rattle.setup.specs.declared.Vertex.{Vertex}
 use Rattle.setup.specs.declared.Graph.{Graph}
 use Rattle.setup.specs.declared.Setup.{Setup}
@@ -25,15 +25,15 @@ use Rattle.reference.proofs.Graphs.{own-graph, graph-without}
 use Rattle.reference.proofs.Meaning.{score-is}
 use Rattle.report_text.specs.Report.{lessRecovery, isAccountKind, isAccount, isBackdoor, isIdle, isOutOfRank}
 use Rattle.report_text.proofs.Meaning.{less-unique}
-use Rattle.report_sets.specs.Sets.{AccountSet, WeakerSet, IdleSet, Ranks, BelowAll}
-use Rattle.report_scores.specs.Scores.{Scored}
+use Rattle.report_sets.specs.Inner.Sets.{AccountSet, WeakerSet, IdleSet, Ranks, BelowAll}
+use Rattle.report_scores.specs.Inner.Scores.{Scored}
 use Rattle.report_names.specs.declared.Names.{Names}
-use Rattle.report_names.specs.Places.{PlacesOf}
+use Rattle.report_names.specs.Inner.Places.{PlacesOf}
 use Rattle.report_facts.specs.declared.Facts.{Facts}
-use Rattle.report_facts.specs.Facts.{HasNames, FactsOf, TablesOf}
+use Rattle.report_facts.specs.Inner.Facts.{HasNames, FactsOf, TablesOf}
 use Rattle.report_figures.specs.declared.Scores.{Scores}
 use Rattle.report_figures.specs.declared.Findings.{Findings}
-use Rattle.report_figures.specs.Figures.{BothScored, FindingsOf}
+use Rattle.report_figures.specs.Inner.Figures.{BothScored, FindingsOf}
 
 -- the test on two numbers that are given otherwise
 told : (P : ℕ → ℕ → Type 0) (test : ℕ → ℕ → Bool) → ((a b : ℕ) → Decides (P a b) (test a b)) → (a b x y : ℕ) → a ≡ x → b ≡ y → Iff (P a b) (test x y ≡ true)

@@ -2,8 +2,8 @@
 ghost use mathlib.Core.Path.{_≡_};
 ghost use lib.ListN.{length};
 ghost use Rattle.formed.specs.WellFormed.{WellFormed};
-ghost use Rattle.report_facts.specs.Facts.{HasNames, FactsOf, TablesOf};
-ghost use Rattle.report_figures.specs.Figures.{CanFill, BothScored, FindingsOf};
+ghost use Rattle.report_facts.specs.Inner.Facts.{HasNames, FactsOf, TablesOf};
+ghost use Rattle.report_figures.specs.Inner.Figures.{CanFill, BothScored, FindingsOf};
 use report_facts::Facts;
 use scores::RecoverabilityScore;
 use scores::SecurityScore;

@@ -11,12 +11,12 @@ use Rattle.vertex_set.specs.Set.{Member, Within}
 use Rattle.vertex_set.specs.Order.{Listed}
 use Rattle.vertex_set.proofs.Sets.{within-refl, within-trans}
 use Rattle.vertex_set.proofs.Places.{places, places-none, lowest, removed-within, length-places, listed-places}
-use Rattle.family_lists.specs.Tables.{Wrote}
+use Rattle.family_lists.specs.Inner.Tables.{Wrote}
 use Rattle.family_lists.proofs.Lists.{Writing, writing-none, writing-part, writing-room, writing-end}
 use Rattle.report_text.specs.Rows.{textsOf, pairRow}
 use Rattle.report_text.proofs.Items.{items-places}
 use Rattle.report_text.proofs.Lengths.{pair-row-short}
-use Rattle.report_findings.specs.Parts.{pairsWith}
+use Rattle.report_findings.specs.Inner.Parts.{pairsWith}
 
 -- The pairs of v with the vertices of s.
 abbrev rowsOf : (ℕ → List ℕ) → ℕ → ℕ → List ℕ

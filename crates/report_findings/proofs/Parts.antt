@@ -12,9 +12,9 @@ use Rattle.vertex_set.specs.Set.{Member, Decides, Iff}
 use Rattle.vertex_set.specs.Order.{Listed}
 use Rattle.vertex_set.proofs.Cases.{byTest}
 use Rattle.vertex_set.proofs.Decisions.{decide-iff}
-use Rattle.scores.specs.Lists.{securityAt, recoverabilityAt}
+use Rattle.scores.specs.Inner.Lists.{securityAt, recoverabilityAt}
 use Rattle.setup.specs.declared.Setup.{Setup}
-use Rattle.family_lists.specs.Tables.{Wrote}
+use Rattle.family_lists.specs.Inner.Tables.{Wrote}
 use Rattle.reference.specs.Tests.{those, isMember}
 use Rattle.reference.proofs.Tests.{by-decision, decide-and, decide-member}
 use Rattle.findings.proofs.Unique.{decided-once}
@@ -25,11 +25,11 @@ use Rattle.report_text.proofs.Items.{those-no}
 use Rattle.report_text.proofs.Meaning.{decide-true}
 use Rattle.report_text.proofs.Lengths.{score-row-length}
 use Rattle.report_text.proofs.Numbers.{listed-numbers}
-use Rattle.report_fields.specs.Writing.{NamePlaces}
+use Rattle.report_fields.specs.Inner.Writing.{NamePlaces}
 use Rattle.report_facts.specs.declared.Facts.{Facts}
-use Rattle.report_facts.specs.Facts.{FactsOf}
+use Rattle.report_facts.specs.Inner.Facts.{FactsOf}
 use Rattle.report_facts.specs.Texts.{scoreAt, pairsAt}
-use Rattle.report_findings.specs.Parts.{PartReady, WrotePart, pairsWith}
+use Rattle.report_findings.specs.Inner.Parts.{PartReady, WrotePart, pairsWith}
 use Rattle.report_findings.proofs.Pairs.{pairs-length}
 
 -- ---- those of the numbers

@@ -2,11 +2,11 @@
 // out of rank.
 ghost use Prim.Native.Nat.{_+_, _≤_};
 ghost use lib.ListN.{length};
-ghost use Rattle.family_lists.specs.Tables.{Wrote};
+ghost use Rattle.family_lists.specs.Inner.Tables.{Wrote};
 ghost use Rattle.sheet_format.specs.Names.{nameOf};
-ghost use Rattle.report_fields.specs.Writing.{NamePlace, NamePlaces};
+ghost use Rattle.report_fields.specs.Inner.Writing.{NamePlace, NamePlaces};
 ghost use Rattle.report_facts.specs.Texts.{scoreAt, pairsAt};
-ghost use Rattle.report_findings.specs.Parts.{PartReady, WrotePart, pairsWith};
+ghost use Rattle.report_findings.specs.Inner.Parts.{PartReady, WrotePart, pairsWith};
 use report_facts::Facts;
 use report_rows::ScoreRow;
 

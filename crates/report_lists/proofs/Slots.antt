@@ -15,9 +15,9 @@ use Rattle.bases.specs.Base.{Base}
 use Rattle.reference.proofs.Unique.{base-unique}
 use Rattle.report_text.specs.Report.{isAccount}
 use Rattle.report_text.proofs.Meaning.{report-meaning}
-use Rattle.report_scores.specs.Scores.{Listing}
+use Rattle.report_scores.specs.Inner.Scores.{Listing}
 use Rattle.report_facts.specs.Texts.{slotLoss, slotList}
-use Rattle.report_lists.specs.Lists.{Loaded}
+use Rattle.report_lists.specs.Inner.Lists.{Loaded}
 
 pub slot-lockout : (k : ℕ) → k % 2 ≡ 1 → slotLoss k ≡ true
 slot-lockout k e = rw e refl

@@ -2,7 +2,7 @@
 ghost use Prim.Native.Nat.{_≤_};
 ghost use lib.ListN.{length};
 ghost use Rattle.sheet_format.specs.Names.{nameOf};
-ghost use Rattle.report_lists.specs.Lists.{RowsReady, RowsWent, CanLoad, Loaded};
+ghost use Rattle.report_lists.specs.Inner.Lists.{RowsReady, RowsWent, CanLoad, Loaded};
 use report_rows::SetRow;
 use vertex_set::VertexSet;
 

@@ -14,10 +14,10 @@ use lib.Seq.{drop-cons, take-take, getD-set-same, getD-set-other}
 use Rattle.vertex_set.proofs.Cases.{byTest, less-or, same-or}
 use Rattle.sheet_format.specs.Text.{grow, linesOf, fieldsOf}
 use Rattle.sheet_format.specs.Names.{hasItem, nameOf}
-use Rattle.sheet_fields.specs.Parts.{until}
+use Rattle.sheet_fields.specs.Inner.Parts.{until}
 use Rattle.sheet_fields.proofs.Cutting.{until-le}
 use Rattle.sheet_fields.proofs.Lines.{line-at, lines-over}
-use Rattle.report_fields.specs.Writing.{NamePlace}
+use Rattle.report_fields.specs.Inner.Writing.{NamePlace}
 
 -- ---- the first field of a line
 

@@ -1,5 +1,5 @@
 // Where the names of a sheet's items stand in it.
-ghost use Rattle.report_names.specs.Places.{HasItems, PlacesOf};
+ghost use Rattle.report_names.specs.Inner.Places.{HasItems, PlacesOf};
 
 // The name of the vertex v stands from from[v] up to to[v].
 pub struct Names {

@@ -2,10 +2,10 @@
 // on and gives the next place; every other byte stays as it was.
 ghost use Prim.Native.Nat.{_+_, _≤_};
 ghost use lib.ListN.{length};
-ghost use Rattle.family_lists.specs.Tables.{Wrote};
+ghost use Rattle.family_lists.specs.Inner.Tables.{Wrote};
 ghost use Rattle.report_text.specs.Rows.{setRow, scoreRow, pairRow, refusedRow};
 ghost use Rattle.sheet_format.specs.Names.{nameOf};
-ghost use Rattle.report_fields.specs.Writing.{NamePlace, NamePlaces};
+ghost use Rattle.report_fields.specs.Inner.Writing.{NamePlace, NamePlaces};
 
 const LF: u8 = 10;
 

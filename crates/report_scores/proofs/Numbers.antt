@@ -12,7 +12,7 @@ use Rattle.vertex_set.proofs.Cases.{same-or}
 use Rattle.setup.specs.declared.Graph.{Graph}
 use Rattle.setup.specs.declared.Setup.{Setup}
 use Rattle.bases.specs.Score.{Score}
-use Rattle.report_scores.specs.Scores.{Scored, Numbers}
+use Rattle.report_scores.specs.Inner.Scores.{Scored, Numbers}
 
 -- r has 64 scores, and the first n of them have these numbers; d stands behind its end.
 pub record NumbersBelow {A : Type 0} (number : A → ℕ) (d : A) (numbers : List ℕ) (n : ℕ) (r : List A) : Type 0 where

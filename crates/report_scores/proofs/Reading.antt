@@ -17,18 +17,18 @@ use Rattle.setup.specs.declared.Setup.{Setup}
 use Rattle.setup.specs.Setup.{ChosenSet}
 use Rattle.formed.specs.WellFormed.{WellFormed}
 use Rattle.derivations.specs.Both.{ruleOf}
-use Rattle.families.specs.Family.{size, MinimalMembers}
-use Rattle.family_lists.specs.Lists.{ListOf, Writable, WroteSets, Summable, SumTables, LeastBy}
+use Rattle.families.specs.Inner.Family.{size, MinimalMembers}
+use Rattle.family_lists.specs.Inner.Lists.{ListOf, Writable, WroteSets, Summable, SumTables, LeastBy}
 use Rattle.family_lists.proofs.Order.{Words, size-bound}
 use Rattle.family_lists.proofs.MinimalSets.{least-of-minimal}
-use Rattle.tables.specs.Table.{Table, FamilyOf}
+use Rattle.tables.specs.Inner.Table.{Table, FamilyOf}
 use Rattle.tables.proofs.Parts.{put-length, put-other}
 use Rattle.tables.proofs.Tables.{family-of}
 use Rattle.bases.specs.Base.{Base}
 use Rattle.bases.specs.Score.{pointsAt, Values}
 use Rattle.bases.proofs.Formed.{few, points-small}
 use Rattle.bases.proofs.Bridge.{on-chosen, base-of, score-of}
-use Rattle.report_scores.specs.Scores.{wordsAt, BaseTable, Scored, CanRead, Listing, Kept, KeptAt, KeptAll}
+use Rattle.report_scores.specs.Inner.Scores.{wordsAt, BaseTable, Scored, CanRead, Listing, Kept, KeptAt, KeptAll}
 
 -- ---- the words of a vertex
 

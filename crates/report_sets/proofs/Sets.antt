@@ -14,8 +14,8 @@ use Rattle.vertex_set.proofs.Cases.{same-or}
 use Rattle.vertex_set.proofs.Sets.{none-in-zero, in-and}
 use Rattle.vertex_set.proofs.Decisions.{decide-no, decide-iff}
 use Rattle.scores.specs.declared.SecurityScore.{SecurityScore}
-use Rattle.scores.specs.Lists.{securityAt}
-use Rattle.report_sets.specs.Sets.{Passing, Above, BelowOne}
+use Rattle.scores.specs.Inner.Lists.{securityAt}
+use Rattle.report_sets.specs.Inner.Sets.{Passing, Above, BelowOne}
 
 pub passing-none : (P : ℕ → Type 0) → Passing P 0 0
 passing-none P = record { each = λ i. record { to = λ m. absurd (none-in-zero i m); from = λ p. absurd (let l = p .0 in omega arith) } }

@@ -3,7 +3,7 @@ ghost use mathlib.Core.Path.{_≡_};
 ghost use Prim.Native.Nat.{_<_};
 ghost use Rattle.vertex_set.specs.Set.{Decides};
 ghost use Rattle.report_text.specs.Report.{isAccountKind};
-ghost use Rattle.report_sets.specs.Sets.{AccountSet, WeakerSet, IdleSet, Ranks, Above, BelowOne, BelowAll};
+ghost use Rattle.report_sets.specs.Inner.Sets.{AccountSet, WeakerSet, IdleSet, Ranks, Above, BelowOne, BelowAll};
 use scores::RecoverabilityScore;
 use scores::SecurityScore;
 use setup::Kind;

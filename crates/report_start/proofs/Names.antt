@@ -22,7 +22,7 @@ use Rattle.sheet_format.proofs.Rows.{itemLine, edgeLine}
 use Rattle.sheet_format.proofs.Meaning.{render-lines, accepted-of-valid, valid-of-accepted, accepted-or-refused}
 use Rattle.sheet_format.proofs.Question12.{question-12}
 use Rattle.sheet.proofs.Names.{item-there, names-of-rows}
-use Rattle.report_facts.specs.Facts.{HasNames}
+use Rattle.report_facts.specs.Inner.Facts.{HasNames}
 
 -- What an accepted sheet yields.
 pub record Yields (text : List ℕ) (s : Setup) : Type 0 where

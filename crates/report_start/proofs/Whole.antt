@@ -10,7 +10,7 @@ use Rattle.sheet_format.specs.Read.{readSheet}
 use Rattle.sheet_format.specs.Names.{nameOf}
 use Rattle.report_text.specs.Report.{reportAfter, reportOf}
 use Rattle.report_facts.specs.declared.Facts.{Facts}
-use Rattle.report_facts.specs.Facts.{FactsOf, TablesOf}
+use Rattle.report_facts.specs.Inner.Facts.{FactsOf, TablesOf}
 use Rattle.report_steps.specs.declared.Cursor.{Cursor}
 use Rattle.report_steps.specs.declared.Cursor.the-variants as cursor
 use Rattle.report_steps.specs.Rest.{restOf}

@@ -10,7 +10,7 @@ use Rattle.report_text.specs.Report.{reportOf}
 use Rattle.report_steps.specs.declared.Cursor.{Cursor}
 use Rattle.report_steps.specs.declared.Cursor.the-variants as cursor
 use Rattle.report_steps.specs.Rest.{restOf}
-use Rattle.report_steps.specs.Steps.{At}
+use Rattle.report_steps.specs.Inner.Steps.{At}
 use Rattle.report_start.specs.declared.Report.{Report}
 
 -- At the first place the whole report of the sheet is left, whatever the list for a target's sets holds. A refused sheet leaves the two lent

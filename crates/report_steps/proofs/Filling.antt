@@ -7,16 +7,16 @@ use native.Mathlib.Omega.{arith}
 use lib.ListN.{length, take}
 use lib.Seq.{sets-eq, take-append-seam}
 use Rattle.setup.specs.declared.Setup.{Setup}
-use Rattle.family_lists.specs.Tables.{Wrote}
+use Rattle.family_lists.specs.Inner.Tables.{Wrote}
 use Rattle.sheet_format.specs.Names.{nameOf}
 use Rattle.report_facts.specs.declared.Facts.{Facts}
-use Rattle.report_facts.specs.Parts.{Part}
+use Rattle.report_facts.specs.Inner.Parts.{Part}
 use Rattle.report_facts.proofs.Parts.{part-none, part-then, part-length, wrote-length}
 use Rattle.report_steps.specs.declared.Cursor.{Cursor}
 use Rattle.report_steps.specs.declared.Cursor.the-variants as cursor
 use Rattle.report_steps.specs.declared.Step.{Step}
 use Rattle.report_steps.specs.Rest.{restOf}
-use Rattle.report_steps.specs.Steps.{At, Going, stepsLeft, Went, Filled}
+use Rattle.report_steps.specs.Inner.Steps.{At, Going, stepsLeft, Went, Filled}
 
 -- Steps were taken from the place c₀ to the place c.
 pub record Filling (sheet : List ℕ) (f : Facts) (opening lockout list₀ : List ℕ) (c₀ : Cursor) (out₀ : List ℕ) (at₀ : ℕ) (list out : List ℕ) (c : Cursor) (at : ℕ) : Type 0 where

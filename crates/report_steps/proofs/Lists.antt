@@ -25,13 +25,13 @@ use Rattle.sheet_format.specs.Names.{nameOf}
 use Rattle.report_text.specs.Report.{isAccount, baseRow}
 use Rattle.report_text.proofs.Meaning.{report-meaning}
 use Rattle.report_facts.specs.declared.Facts.{Facts}
-use Rattle.report_facts.specs.Facts.{FactsOf}
+use Rattle.report_facts.specs.Inner.Facts.{FactsOf}
 use Rattle.report_facts.specs.Texts.{slotLoss, slotList, slotRow}
 use Rattle.report_lists.specs.declared.RowsStep.{RowsStep}
-use Rattle.report_lists.specs.Lists.{SetReady, RowsReady, rowOf, RowsWent}
+use Rattle.report_lists.specs.Inner.Lists.{SetReady, RowsReady, rowOf, RowsWent}
 use Rattle.report_lists.specs.Lists as lists
 use Rattle.report_steps.specs.Rest.{rowsFrom}
-use Rattle.report_steps.specs.Steps.{ValuesBy, ListGoing, ListWent}
+use Rattle.report_steps.specs.Inner.Steps.{ValuesBy, ListGoing, ListWent}
 use Rattle.report_steps.proofs.Rest.{rows-next}
 
 -- ---- the values that are added up

@@ -12,22 +12,22 @@ use Rattle.vertex_set.specs.Set.{Decides}
 use Rattle.vertex_set.proofs.Cases.{less-or, false-true}
 use Rattle.setup.specs.declared.Setup.{Setup}
 use Rattle.bases.proofs.Formed.{few}
-use Rattle.family_lists.specs.Tables.{Wrote}
+use Rattle.family_lists.specs.Inner.Tables.{Wrote}
 use Rattle.report_text.specs.Rows.{listHeader, scoreHeader, pairHeader, refusedRow}
 use Rattle.sheet_format.specs.Names.{nameOf}
 use Rattle.report_text.proofs.Lengths.{refused-row-length}
 use Rattle.report_facts.specs.declared.Facts.{Facts}
-use Rattle.report_facts.specs.Facts.{FactsOf, TablesOf}
+use Rattle.report_facts.specs.Inner.Facts.{FactsOf, TablesOf}
 use Rattle.report_facts.specs.Texts.{slotList, scoreAt, pairsAt}
 use Rattle.report_facts.proofs.Parts.{part-none, part-one, wrote-inside}
-use Rattle.report_findings.specs.Parts.{PartReady, WrotePart}
+use Rattle.report_findings.specs.Inner.Parts.{PartReady, WrotePart}
 use Rattle.report_lists.specs.declared.RowsStep.{RowsStep}
-use Rattle.report_lists.specs.Lists.{CanLoad, Loaded}
+use Rattle.report_lists.specs.Inner.Lists.{CanLoad, Loaded}
 use Rattle.report_steps.specs.declared.Cursor.{Cursor}
 use Rattle.report_steps.specs.declared.Cursor.the-variants as cursor
 use Rattle.report_steps.specs.declared.Step.{Step}
 use Rattle.report_steps.specs.Rest.{rowsFrom, listsFrom, scoresFrom, pairsFrom}
-use Rattle.report_steps.specs.Steps.{ListAt, ListWent, At, Going, stepsLeft, Went, SectionGoing, ScoresWent, PairsWent}
+use Rattle.report_steps.specs.Inner.Steps.{ListAt, ListWent, At, Going, stepsLeft, Went, SectionGoing, ScoresWent, PairsWent}
 use Rattle.report_steps.proofs.Rest.{start-next, list-next, lists-end, rows-end, score-next, scores-end, pairs-next, pairs-end}
 
 -- ---- at which place a step is taken

@@ -1,2 +1,2 @@
 pub mod Rest
-pub mod Steps
+pub mod Inner

@@ -4,7 +4,7 @@ ghost use mathlib.Core.Path.{_≡_};
 ghost use Prim.Native.Nat.{_+_, _≤_, _<_};
 ghost use lib.ListN.{length};
 ghost use Rattle.vertex_set.specs.Set.{Decides};
-ghost use Rattle.report_steps.specs.Steps.{ValuesBy, ListGoing, ListWent, Going, Went, SectionGoing, ScoresWent, PairsWent, Filled};
+ghost use Rattle.report_steps.specs.Inner.Steps.{ValuesBy, ListGoing, ListWent, Going, Went, SectionGoing, ScoresWent, PairsWent, Filled};
 use report_facts::Facts;
 use report_lists::RowsStep;
 

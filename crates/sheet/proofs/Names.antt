@@ -24,10 +24,10 @@ use Rattle.sheet_format.proofs.Rows.{itemLine, edgeLine}
 use Rattle.sheet_format.proofs.Documents.{docLines, doc-joined, item-back}
 use Rattle.sheet_format.proofs.Meaning.{render-lines, accepted-of-valid, valid-of-accepted, accepted-or-refused}
 use Rattle.sheet_format.proofs.Stated.{stands-below}
-use Rattle.sheet_fields.specs.Parts.{until}
+use Rattle.sheet_fields.specs.Inner.Parts.{until}
 use Rattle.sheet_fields.proofs.Cutting.{until-le}
 use Rattle.sheet_names.specs.declared.Span.{Span}
-use Rattle.sheet_names.specs.Span.{spanOf}
+use Rattle.sheet_names.specs.Inner.Span.{spanOf}
 use Rattle.sheet_names.proofs.Starts.{first-field, field-length, row-inside}
 
 -- ---- is there such an item?

@@ -16,14 +16,14 @@ use Rattle.sheet_format.specs.Text.{linesOf, all}
 use Rattle.sheet_format.specs.Rows.{firstHeader, secondHeader}
 use Rattle.sheet_format.specs.Questions.{question1, question2, question3, endsInLF}
 use Rattle.sheet_format.specs.Read.{AtFirstHeader, AmongItems, AtSecondHeader, AmongEdges, noRows, question11, refused, readLines, readSheet}
-use Rattle.sheet_fields.specs.Parts.{until}
+use Rattle.sheet_fields.specs.Inner.Parts.{until}
 use Rattle.sheet_items.specs.declared.Items.{Items}
 use Rattle.sheet_edges.specs.declared.Edges.{Edges}
-use Rattle.sheet_items.specs.Items.{ItemsTaken, ReadsItems}
-use Rattle.sheet_edges.specs.Edges.{ReadsEdges}
+use Rattle.sheet_items.specs.Inner.Items.{ItemsTaken, ReadsItems}
+use Rattle.sheet_edges.specs.Inner.Edges.{ReadsEdges}
 use Rattle.sheet_fields.proofs.Lines.{line-at, lines-over}
 use Rattle.sheet_lines.proofs.Reading.{header1-no, header1-yes, header2-no, header2-yes, over-no}
-use Rattle.sheet.specs.Rest.{ReadsRest}
+use Rattle.sheet.specs.Inner.Rest.{ReadsRest}
 
 -- ---- behind the item rows
 

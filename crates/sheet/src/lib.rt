@@ -6,8 +6,8 @@ ghost use mathlib.Core.Path.{_≡_};
 ghost use Prim.Native.Nat.{_+_};
 ghost use Rattle.sheet_format.specs.Read.{refused, readSheet};
 ghost use Rattle.sheet_format.specs.Names.{nameOf, nameStart};
-ghost use Rattle.sheet_items.specs.Items.{InBounds};
-ghost use Rattle.sheet.specs.Rest.{ReadsRest};
+ghost use Rattle.sheet_items.specs.Inner.Items.{InBounds};
+ghost use Rattle.sheet.specs.Inner.Rest.{ReadsRest};
 
 const MAX_BYTES: usize = 16384;
 

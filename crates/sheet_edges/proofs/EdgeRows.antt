@@ -23,13 +23,13 @@ use Rattle.sheet_format.proofs.Tests.{and-parts, yes-of, no-of, text-decided, k
 use Rattle.sheet_format.proofs.Lists.{each-append}
 use Rattle.sheet_format.proofs.Question12Lists.{each-of, of-each}
 use Rattle.sheet_format.proofs.Question12Edges.{empty-shaped, empty-edges, StatedEdge, Placed, edges-more}
-use Rattle.sheet_fields.specs.Parts.{until}
+use Rattle.sheet_fields.specs.Inner.Parts.{until}
 use Rattle.sheet_rows.specs.declared.TakenEdge.{TakenEdge}
-use Rattle.sheet_rows.specs.Table.{Table}
-use Rattle.sheet_rows.specs.Lines.{TakesEdge}
+use Rattle.sheet_rows.specs.Inner.Table.{Table}
+use Rattle.sheet_rows.specs.Inner.Lines.{TakesEdge}
 use Rattle.sheet_rows.proofs.Asks.{answer-yes, answer-no, all-yes, one-yes, no-first, yes-first}
 use Rattle.sheet_edges.specs.declared.Edges.{Edges}
-use Rattle.sheet_edges.specs.Edges.{withNeed, ReadsEdges}
+use Rattle.sheet_edges.specs.Inner.Edges.{withNeed, ReadsEdges}
 use Rattle.sheet_fields.proofs.Lines.{line-at, lines-over}
 use Rattle.sheet_lines.proofs.Reading.{edge-no, edge-yes, over-yes}
 

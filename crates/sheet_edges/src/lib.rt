@@ -7,7 +7,7 @@ ghost use Prim.Native.Nat.{_/_, _%_, _^_, _≤_, _<_};
 ghost use lib.ListN.{length};
 ghost use lib.Dec.{eqb};
 ghost use Rattle.setup.specs.Setup.{rowOf};
-ghost use Rattle.sheet_edges.specs.Edges.{withNeed, ReadsEdges};
+ghost use Rattle.sheet_edges.specs.Inner.Edges.{withNeed, ReadsEdges};
 
 const MAX_EDGES: usize = setup::MAX_EDGES as usize;
 

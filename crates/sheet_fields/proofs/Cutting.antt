@@ -14,7 +14,7 @@ use borrow.Author.Tests.{ne-eqb, ltb-true, ltb-false, lt-ltb, le-ltb}
 use Rattle.vertex_set.proofs.Cases.{byTest, false-true, less-or}
 use Rattle.sheet_format.specs.Text.{grow, fieldsOf, isEmpty}
 use Rattle.sheet_format.specs.Questions.{noneEmpty, question4}
-use Rattle.sheet_fields.specs.Parts.{until, moreFollow, endAt, CutsFour}
+use Rattle.sheet_fields.specs.Inner.Parts.{until, moreFollow, endAt, CutsFour}
 
 -- ---- the first field, and the others
 

@@ -14,7 +14,7 @@ use Rattle.setup.specs.declared.Kind.the-variants.{Credential, Account}
 use Rattle.setup.specs.declared.Value.the-variants.{Blank, Of}
 use Rattle.sheet_format.specs.Text.{sameText, all}
 use Rattle.sheet_format.specs.Fields.{isDigit, isNumber, numberOf, isNumberTo, isKind, kindOf, isValue, valueOf}
-use Rattle.sheet_fields.specs.Forms.{cappedNumber, ReadsKind, ReadsValue, tooLarge}
+use Rattle.sheet_fields.specs.Inner.Forms.{cappedNumber, ReadsKind, ReadsValue, tooLarge}
 
 -- ---- texts of one byte
 

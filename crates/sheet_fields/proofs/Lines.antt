@@ -10,7 +10,7 @@ use lib.Seq.{drop-drop}
 use lib.Dec.{eqb}
 use Rattle.vertex_set.proofs.Cases.{byTest}
 use Rattle.sheet_format.specs.Text.{grow, linesOf}
-use Rattle.sheet_fields.specs.Parts.{until}
+use Rattle.sheet_fields.specs.Inner.Parts.{until}
 
 pub lines-cons : (s : List ℕ) → 0 < length s → linesOf s ≡ take (until 10 s) s ∷ linesOf (drop (suc (until 10 s)) s)
 unfolding linesOf grow until

@@ -13,7 +13,7 @@ use borrow.Author.Tests.{eq-eqb, ne-eqb, le-leb, lt-leb}
 use Rattle.vertex_set.proofs.Cases.{byTest}
 use Rattle.sheet_format.specs.Text.{all, isEmpty}
 use Rattle.sheet_format.specs.Fields.{isDigit, isNumber, valueBehind, numberOf}
-use Rattle.sheet_fields.specs.Forms.{cappedNumber, cappedStep, tooLarge}
+use Rattle.sheet_fields.specs.Inner.Forms.{cappedNumber, cappedStep, tooLarge}
 
 -- What a loop over the digits s, behind the number n, comes to.
 unfoldable pub cappedRun : ℕ → List ℕ → ℕ

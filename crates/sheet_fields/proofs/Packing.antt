@@ -9,7 +9,7 @@ use lib.ListN.{length, getD, take, drop, take-append-drop, drop-of-length-le, le
 use lib.Seq.{drop-cons, getD-drop, take-all}
 use Rattle.sheet_format.specs.Rows.{Each}
 use Rattle.sheet_fields.specs.declared.Key.{Key}
-use Rattle.sheet_fields.specs.Keys.{packed, keyOf}
+use Rattle.sheet_fields.specs.Inner.Keys.{packed, keyOf}
 
 -- Every element is a byte.
 abbrev pub Bytes : List ℕ → Type 0

@@ -9,7 +9,7 @@ use lib.ListN.{length, getD, drop, drop-of-length-le}
 use lib.Seq.{drop-cons}
 use borrow.Author.Tests.{eq-eqb, ne-eqb}
 use Rattle.sheet_format.specs.Text.{all}
-use Rattle.sheet_fields.specs.Parts.{until}
+use Rattle.sheet_fields.specs.Inner.Parts.{until}
 
 -- ---- looking for a byte
 

@@ -5,9 +5,9 @@ ghost use mathlib.Core.Path.{_≡_};
 ghost use Prim.Native.Nat.{_+_, _≤_};
 ghost use lib.ListN.{length, drop};
 ghost use Rattle.sheet_format.specs.Fields.{isNameByte, isName};
-ghost use Rattle.sheet_fields.specs.Parts.{until, endAt, CutsFour};
-ghost use Rattle.sheet_fields.specs.Forms.{cappedNumber, cappedStep, ReadsKind, ReadsValue, tooLarge};
-ghost use Rattle.sheet_fields.specs.Keys.{packed, keyOf, ReadsName};
+ghost use Rattle.sheet_fields.specs.Inner.Parts.{until, endAt, CutsFour};
+ghost use Rattle.sheet_fields.specs.Inner.Forms.{cappedNumber, cappedStep, ReadsKind, ReadsValue, tooLarge};
+ghost use Rattle.sheet_fields.specs.Inner.Keys.{packed, keyOf, ReadsName};
 
 pub const SPACE: u8 = 32;
 

@@ -19,14 +19,14 @@ use Rattle.sheet_format.specs.Questions.{question4, question5Item, itemOf}
 use Rattle.sheet_format.specs.Read.{AmongItems, AtSecondHeader, firstNo, noRows, itemQuestions, refused, readLines, question11}
 use Rattle.sheet_format.proofs.Lists.{each-append}
 use Rattle.sheet_fields.specs.declared.Key.{Key}
-use Rattle.sheet_fields.specs.Parts.{until}
+use Rattle.sheet_fields.specs.Inner.Parts.{until}
 use Rattle.sheet_rows.specs.declared.TakenItem.{TakenItem}
-use Rattle.sheet_rows.specs.Table.{lowOf, highOf, WellNamed, Table}
-use Rattle.sheet_rows.specs.Lines.{TakesItem}
+use Rattle.sheet_rows.specs.Inner.Table.{lowOf, highOf, WellNamed, Table}
+use Rattle.sheet_rows.specs.Inner.Lines.{TakesItem}
 use Rattle.sheet_rows.proofs.Asks.{all-yes}
 use Rattle.sheet_rows.proofs.Taking.{item-name}
 use Rattle.sheet_items.specs.declared.Items.{Items}
-use Rattle.sheet_items.specs.Items.{ReadsItems}
+use Rattle.sheet_items.specs.Inner.Items.{ReadsItems}
 use Rattle.sheet_fields.proofs.Lines.{line-at, lines-over}
 use Rattle.sheet_lines.proofs.Reading.{empty-no, empty-yes, item-no, item-yes, over-no}
 

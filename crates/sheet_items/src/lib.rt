@@ -1,7 +1,7 @@
 // All item rows of a sheet.
 use setup::Vertex;
 ghost use mathlib.Core.Path.{_≡_};
-ghost use Rattle.sheet_items.specs.Items.{ReadsItems};
+ghost use Rattle.sheet_items.specs.Inner.Items.{ReadsItems};
 
 // What the first lines come to: all up to the second header.
 pub struct Items {

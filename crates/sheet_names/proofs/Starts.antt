@@ -12,11 +12,11 @@ use Rattle.vertex_set.proofs.Cases.{less-or}
 use Rattle.sheet_format.specs.Text.{linesOf, fieldsOf}
 use Rattle.sheet_format.specs.Questions.{field}
 use Rattle.sheet_format.specs.Names.{lineStart, rowOfItem}
-use Rattle.sheet_fields.specs.Parts.{until}
+use Rattle.sheet_fields.specs.Inner.Parts.{until}
 use Rattle.sheet_fields.proofs.Cutting.{until-le, fields-more, fields-last}
 use Rattle.sheet_fields.proofs.Lines.{lines-cons, line-at, lines-over}
 use Rattle.sheet_names.specs.declared.Span.{Span}
-use Rattle.sheet_names.specs.Span.{spanOf}
+use Rattle.sheet_names.specs.Inner.Span.{spanOf}
 
 start-none : (k : ℕ) → lineStart [] k ≡ 0
 unfolding lineStart

@@ -12,12 +12,12 @@ use Rattle.sheet_format.specs.Questions.{question4, question5Edge, edgeOf}
 use Rattle.sheet_format.specs.Read.{ask, firstNo}
 use Rattle.sheet_fields.specs.declared.Cut.{Cut}
 use Rattle.sheet_fields.specs.declared.NameField.{NameField}
-use Rattle.sheet_fields.specs.Parts.{fourFields, CutsFour}
-use Rattle.sheet_fields.specs.Forms.{cappedNumber}
-use Rattle.sheet_fields.specs.Keys.{ReadsName}
+use Rattle.sheet_fields.specs.Inner.Parts.{fourFields, CutsFour}
+use Rattle.sheet_fields.specs.Inner.Forms.{cappedNumber}
+use Rattle.sheet_fields.specs.Inner.Keys.{ReadsName}
 use Rattle.sheet_fields.proofs.Forms.{number-to}
 use Rattle.sheet_rows.specs.declared.EdgeLine.{EdgeLine}
-use Rattle.sheet_rows.specs.Lines.{JoinsEnds, ReadsEnds, ReadsEdge}
+use Rattle.sheet_rows.specs.Inner.Lines.{JoinsEnds, ReadsEnds, ReadsEdge}
 use Rattle.sheet_rows.proofs.Asks.{answer-yes, answer-no, one-yes}
 use Rattle.sheet_rows.proofs.Items.{small-number}
 

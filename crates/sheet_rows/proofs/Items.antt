@@ -19,14 +19,14 @@ use Rattle.sheet_fields.specs.declared.Cut.{Cut}
 use Rattle.sheet_fields.specs.declared.NameField.{NameField}
 use Rattle.sheet_fields.specs.declared.KindField.{KindField}
 use Rattle.sheet_fields.specs.declared.ValueField.{ValueField}
-use Rattle.sheet_fields.specs.Parts.{endAt, fourFields, CutsFour}
-use Rattle.sheet_fields.specs.Forms.{cappedNumber, ReadsKind, ReadsValue, tooLarge}
-use Rattle.sheet_fields.specs.Keys.{ReadsName}
+use Rattle.sheet_fields.specs.Inner.Parts.{endAt, fourFields, CutsFour}
+use Rattle.sheet_fields.specs.Inner.Forms.{cappedNumber, ReadsKind, ReadsValue, tooLarge}
+use Rattle.sheet_fields.specs.Inner.Keys.{ReadsName}
 use Rattle.sheet_fields.proofs.Forms.{number-to, number-small}
 use Rattle.sheet_fields.proofs.Cutting.{Stepped, not-stepped}
 use Rattle.sheet_rows.specs.declared.VertexFields.{VertexFields}
 use Rattle.sheet_rows.specs.declared.ItemLine.{ItemLine}
-use Rattle.sheet_rows.specs.Lines.{vertexForm, vertexFrom, JoinsFields, ReadsFields, ReadsVertex, JoinsItem, ReadsItem}
+use Rattle.sheet_rows.specs.Inner.Lines.{vertexForm, vertexFrom, JoinsFields, ReadsFields, ReadsVertex, JoinsItem, ReadsItem}
 use Rattle.sheet_rows.proofs.Asks.{answer-yes, answer-no, all-yes, one-yes}
 
 -- ---- the four fields behind the name

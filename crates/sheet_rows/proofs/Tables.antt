@@ -17,10 +17,10 @@ use Rattle.sheet_format.specs.Fields.{isName}
 use Rattle.sheet_format.specs.Rows.{ItemRow, Each, numberIn}
 use Rattle.sheet_format.specs.Questions.{isKnown}
 use Rattle.sheet_format.proofs.Tests.{and-both, decide-and, no-of, text-decided}
-use Rattle.sheet_fields.specs.Keys.{keyOf}
+use Rattle.sheet_fields.specs.Inner.Keys.{keyOf}
 use Rattle.sheet_fields.proofs.Packing.{key-same}
 use Rattle.sheet_fields.proofs.Names.{name-small}
-use Rattle.sheet_rows.specs.Table.{lowOf, highOf, WellNamed, Table, placeOf}
+use Rattle.sheet_rows.specs.Inner.Table.{lowOf, highOf, WellNamed, Table, placeOf}
 
 -- ---- the loop
 

@@ -21,8 +21,8 @@ use Rattle.sheet_rows.specs.declared.ItemLine.{ItemLine}
 use Rattle.sheet_rows.specs.declared.TakenItem.{TakenItem}
 use Rattle.sheet_rows.specs.declared.EdgeLine.{EdgeLine}
 use Rattle.sheet_rows.specs.declared.TakenEdge.{TakenEdge}
-use Rattle.sheet_rows.specs.Table.{Table, placeOf}
-use Rattle.sheet_rows.specs.Lines.{ReadsItem, TakesItem, ReadsEdge, TakesEdge}
+use Rattle.sheet_rows.specs.Inner.Table.{Table, placeOf}
+use Rattle.sheet_rows.specs.Inner.Lines.{ReadsItem, TakesItem, ReadsEdge, TakesEdge}
 use Rattle.sheet_rows.proofs.Asks.{answer-yes, answer-no, all-yes, one-yes, no-first, yes-first}
 use Rattle.sheet_rows.proofs.Tables.{table-place, known-test}
 

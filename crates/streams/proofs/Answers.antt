@@ -20,7 +20,7 @@ use Rattle.streams.specs.declared.Moved.{Moved}
 use Rattle.streams.specs.declared.Moved.the-variants as moved
 use Rattle.streams.specs.declared.Input.{Input}
 use Rattle.streams.specs.declared.Input.the-variants as input
-use Rattle.streams.specs.Streams.{failedBy, movedBy, MovedOn, ReadInto}
+use Rattle.streams.specs.Inner.Streams.{failedBy, movedBy, MovedOn, ReadInto}
 
 pub answer-above : (z e : ℤ) → ltZ (pos 0) z ≡ true → moved.Bytes (natAbs z) ≡ movedBy z e
 answer-above (pos zero) e t = absurd (subst T (sym t) tt)

@@ -4,7 +4,7 @@
 ghost use mathlib.Core.Path.{_≡_};
 ghost use Prim.Native.Nat.{_≤_};
 ghost use lib.ListN.{length};
-ghost use Rattle.streams.specs.Streams.{failedBy, movedBy, MovedOn, ReadInto};
+ghost use Rattle.streams.specs.Inner.Streams.{failedBy, movedBy, MovedOn, ReadInto};
 
 // What one call of `read` or `write` did.
 pub enum Moved {

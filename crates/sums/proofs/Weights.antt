@@ -18,7 +18,7 @@ use Rattle.vertex_set.proofs.Places.{in-first, in-later, member-le, places, pla
 use Rattle.vertex_set.proofs.Shifts.{low-first, low-half}
 use Rattle.vertex_set.proofs.Sums.{sum-first}
 use Rattle.families.proofs.Masks.{spread, spread-even, spread-odd, by-parity, set-is}
-use Rattle.sums.specs.Sums.{sumAt, WeightsOf, SumsFit}
+use Rattle.sums.specs.Inner.Sums.{sumAt, WeightsOf, SumsFit}
 
 -- ---- sums at a mask's bits
 

@@ -3,7 +3,7 @@ ghost use mathlib.Core.Path.{_≡_};
 ghost use Prim.Native.Nat.{ℕ, _≤_};
 ghost use lib.ListN.{length, getD};
 ghost use lib.Count.{ones};
-ghost use Rattle.sums.specs.Sums.{Singles, WeightsOf, SumsFit, SumTable};
+ghost use Rattle.sums.specs.Inner.Sums.{Singles, WeightsOf, SumsFit, SumTable};
 use vertex_set::VertexSet;
 
 // At v the number of the set that has v alone.

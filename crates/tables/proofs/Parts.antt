@@ -13,12 +13,12 @@ use Rattle.vertex_set.specs.Set.{Member, Iff}
 use Rattle.vertex_set.proofs.Cases.{same-or, less-or}
 use Rattle.vertex_set.proofs.Decisions.{iff-trans}
 use Rattle.setup.specs.declared.Rows.{Rows}
-use Rattle.derivations.specs.Admits.{Admits}
-use Rattle.words.specs.Words.{At, FamilyWhere, room, Joined}
+use Rattle.derivations.specs.Inner.Admits.{Admits}
+use Rattle.words.specs.Inner.Words.{At, FamilyWhere, room, Joined}
 use Rattle.words.proofs.Joins.{room-append}
-use Rattle.lanes.specs.Lanes.{Lane}
+use Rattle.lanes.specs.Inner.Lanes.{Lane}
 use Rattle.lanes.proofs.Scans.{part-lane}
-use Rattle.tables.specs.Steps.{Stepped}
+use Rattle.tables.specs.Inner.Steps.{Stepped}
 
 module _ (w d : List ℕ) (v k : ℕ) (hw : length w ≡ 16384) (hv : v < 64) (hk : k ≡ 256) (hd : length d ≡ 256) where
   front : length (take (v * 256) w) ≡ v * 256

@@ -15,14 +15,14 @@ use Rattle.setup.specs.declared.Graph.{Graph}
 use Rattle.setup.specs.Setup.{rowOf, rowsAt}
 use Rattle.derivations.specs.Derivation.{Derivation}
 use Rattle.derivations.specs.Both.{ruleOf}
-use Rattle.derivations.specs.Admits.{Admits}
+use Rattle.derivations.specs.Inner.Admits.{Admits}
 use Rattle.derivations.proofs.Rules.{Sub, held, least}
 use Rattle.derivations.proofs.Both.{lawful}
 use Rattle.derivations.proofs.Admits.{admits-local, step-admits, admits-derived, admits-place}
-use Rattle.words.specs.Words.{Without, room}
+use Rattle.words.specs.Inner.Words.{Without, room}
 use Rattle.words.proofs.Families.{full-word}
-use Rattle.lanes.specs.Lanes.{Lane}
-use Rattle.tables.specs.Steps.{Stepped, AllNeeded, Users, Closed}
+use Rattle.lanes.specs.Inner.Lanes.{Lane}
+use Rattle.tables.specs.Inner.Steps.{Stepped, AllNeeded, Users, Closed}
 
 -- Each lane lies between its start and what is derivable from there, and gains no vertex that is not to be looked at again.
 pub record Settling (loss : Bool) (g : Graph) (needs w₀ w : List ℕ) (todo : ℕ) : Type 0 where

@@ -14,11 +14,11 @@ use Rattle.vertex_set.specs.Set.{Member, Iff}
 use Rattle.vertex_set.proofs.Cases.{same-or, less-or}
 use Rattle.vertex_set.proofs.Decisions.{iff-trans}
 use Rattle.vertex_set.proofs.Sets.{shifted-one, none-in-zero, member-below}
-use Rattle.families.specs.Masks.{rank, Picked}
-use Rattle.words.specs.Words.{FamilyWhere}
+use Rattle.families.specs.Inner.Masks.{rank, Picked}
+use Rattle.words.specs.Inner.Words.{FamilyWhere}
 use Rattle.words.proofs.Families.{family-as}
-use Rattle.lanes.specs.Lanes.{Lane}
-use Rattle.tables.specs.Steps.{Started}
+use Rattle.lanes.specs.Inner.Lanes.{Lane}
+use Rattle.tables.specs.Inner.Steps.{Started}
 use Rattle.tables.proofs.Parts.{put-length, lane-put, lane-kept}
 
 pub rank-le : (chosen v : ℕ) → rank chosen v ≤ v

@@ -13,14 +13,14 @@ use Rattle.derivations.specs.Derivation.{Rule, Derivation}
 use Rattle.derivations.specs.Both.{ruleOf}
 use Rattle.derivations.proofs.Rules.{Lawful, monotone}
 use Rattle.derivations.proofs.Both.{lawful}
-use Rattle.families.specs.Masks.{Picked}
-use Rattle.families.specs.Family.{In}
+use Rattle.families.specs.Inner.Masks.{Picked}
+use Rattle.families.specs.Inner.Family.{In}
 use Rattle.families.proofs.Exact.{Rising}
-use Rattle.words.specs.Words.{At}
-use Rattle.lanes.specs.Lanes.{Lane}
+use Rattle.words.specs.Inner.Words.{At}
+use Rattle.lanes.specs.Inner.Lanes.{Lane}
 use Rattle.lanes.proofs.Scans.{part-lane}
-use Rattle.tables.specs.Table.{Table, FamilyOf}
-use Rattle.tables.specs.Steps.{Closed, Started}
+use Rattle.tables.specs.Inner.Table.{Table, FamilyOf}
+use Rattle.tables.specs.Inner.Steps.{Closed, Started}
 
 -- lanes that are closed from their masks' sets are a table
 pub tabled : (r : Rule) (chosen : ℕ) (w e : List ℕ) → Lawful r → Started chosen w → Closed r w e → Table r chosen e

@@ -6,7 +6,7 @@ use Prim.Native.Nat.{ℕ, zero, suc, _≤_, _<_}
 use native.Mathlib.Nat.{not-suc-le-zero}
 use native.Mathlib.Omega.{arith}
 use Rattle.vertex_set.specs.Set.{Member, Within}
-use Rattle.vertex_set.specs.Missing.{missing}
+use Rattle.vertex_set.specs.Inner.Missing.{missing}
 use Rattle.vertex_set.proofs.Cases.{same-or}
 use Rattle.vertex_set.proofs.Digits.{digit, digit-lt}
 use Rattle.vertex_set.proofs.Sets.{member-or, not-member}

@@ -1,3 +1,3 @@
-pub mod Missing
 pub mod Order
 pub mod Set
+pub mod Inner

@@ -19,7 +19,7 @@ use Rattle.setup.specs.Calls.{written}
 use Rattle.derivations.specs.Derivation.{Vertices, With}
 use Rattle.derivations.specs.Access.{Step, Opens, access}
 use Rattle.derivations.specs.Way.{LowestStep, Way}
-use Rattle.derivations.specs.Admits.{Complete}
+use Rattle.derivations.specs.Inner.Admits.{Complete}
 use Rattle.derivations.proofs.Rules.{least}
 use Rattle.derivations.proofs.Graphs.{access-lawful}
 use Rattle.derivations.proofs.Way.{way-same, way-unique, lowest-unique}

@@ -9,7 +9,7 @@ use lib.ListN.{getD}
 use Rattle.vertex_set.specs.Set.{Member, Iff}
 use Rattle.vertex_set.proofs.Decisions.{iff-trans}
 use Rattle.vertex_set.proofs.Sets.{in-and, in-or, below-power}
-use Rattle.words.specs.Words.{At, FamilyWhere, mergedWord, Merged}
+use Rattle.words.specs.Inner.Words.{At, FamilyWhere, mergedWord, Merged}
 use Rattle.words.proofs.Words.{Mapped}
 
 -- ---- the same bits, said otherwise

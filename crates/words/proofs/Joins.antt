@@ -15,7 +15,7 @@ use borrow.Author.Tests.{eqb-true, eqb-false, not-true, not-false}
 use Rattle.vertex_set.specs.Set.{Within, Iff}
 use Rattle.vertex_set.proofs.Cases.{same-or}
 use Rattle.vertex_set.proofs.Sets.{in-or, within-test, within-le, same-set}
-use Rattle.words.specs.Words.{mergedWord, Merged, room, Joined}
+use Rattle.words.specs.Inner.Words.{mergedWord, Merged, room, Joined}
 use Rattle.words.proofs.Words.{Mapped, mapped-more}
 use Rattle.words.proofs.Families.{merge-family}
 

@@ -7,7 +7,7 @@ use lib.Count.{trailingZeros}
 use lib.Pow.{pow-pos}
 use Rattle.vertex_set.proofs.Sets.{member-below, shifted-one}
 use Rattle.vertex_set.proofs.Places.{lowest-member, in-removed, member-le}
-use Rattle.words.specs.Words.{VertexOf, Without}
+use Rattle.words.specs.Inner.Words.{VertexOf, Without}
 
 pub lowest-trailing : (s : ℕ) → (s ≡ 0 → ⊥) → s < 2 ^ 64 → VertexOf s (trailingZeros 64 s)
 lowest-trailing s p h = let m = lowest-member 64 s h p in record { place = member-below 64 s (trailingZeros 64 s) h m; member = m }

@@ -15,7 +15,7 @@ use Rattle.vertex_set.proofs.Decisions.{iff-trans}
 use Rattle.vertex_set.proofs.Digits.{digit, digit-lt}
 use Rattle.vertex_set.proofs.Sets.{none-in-zero}
 use Rattle.vertex_set.proofs.Shifts.{in-low, in-high, all, all-at}
-use Rattle.words.specs.Words.{FamilyWhere}
+use Rattle.words.specs.Inner.Words.{FamilyWhere}
 use Rattle.words.proofs.Words.{Mapped}
 use Rattle.words.proofs.Families.{mapped-family, family-as, full-word}
 

@@ -4,8 +4,8 @@ ghost use mathlib.Core.Path.{_≡_};
 ghost use Prim.Native.Nat.{_+_, _*_, _<_};
 ghost use lib.ListN.{length};
 ghost use Rattle.vertex_set.specs.Set.{Member};
-ghost use Rattle.families.specs.Family.{familyWords};
-ghost use Rattle.words.specs.Words.{At, FamilyWhere, Merged, mergedWord, Joined, VertexOf, Without};
+ghost use Rattle.families.specs.Inner.Family.{familyWords};
+ghost use Rattle.words.specs.Inner.Words.{At, FamilyWhere, Merged, mergedWord, Joined, VertexOf, Without};
 use families::WORDS;
 
 // Every word of the family becomes x.

@@ -2,8 +2,8 @@ use mathlib.Core.Path.{sym, subst, _∙_}
 use Prim.Native.Nat.{_+_, _-_, _*_}
 use native.Mathlib.Omega.{arith}
 use Rattle.derivations.specs.Both.{ruleOf}
-use Rattle.families.specs.Family.{familyWords}
-use Rattle.tables.specs.Table.{FamilyOf}
+use Rattle.families.specs.Inner.Family.{familyWords}
+use Rattle.tables.specs.Inner.Table.{FamilyOf}
 use Rattle.tables.proofs.Tables.{family-of}
 use borrow.Author.Needs.{needs}
 use Rattle.bases.proofs.family_of.Statement.{statement}

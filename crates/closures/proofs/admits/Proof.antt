@@ -2,7 +2,7 @@ use mathlib.Core.Path.{sym, subst}
 use mathlib.Core.Bool.{Bool}
 use lib.Dec.{ltb}
 use Rattle.vertex_set.specs.Set.{Member, Decides}
-use Rattle.derivations.specs.Admits.{Admits}
+use Rattle.derivations.specs.Inner.Admits.{Admits}
 use Rattle.closures.proofs.Colours.{some-complete}
 use borrow.Author.Needs.{needs}
 use Rattle.closures.proofs.admits.Statement.{statement}

@@ -6,7 +6,7 @@ use native.Mathlib.Omega.{arith}
 use lib.ListN.{drop, getD}
 use lib.Count.{ones, ones-le}
 use borrow.Author.Needs.{needs}
-use Rattle.families.specs.Family.{size}
+use Rattle.families.specs.Inner.Family.{size}
 use Rattle.families.proofs.Families.{size-drop, size-end}
 use Rattle.families.proofs.count_members.Statement.{statement}
 use Rattle.families.proofs.count_members.Tie as tie

@@ -5,7 +5,7 @@ use Prim.Native.Nat.{ℕ, _-_, _≤_, _<_}
 use native.Mathlib.Omega.{arith}
 use lib.ListN.{length, getD}
 use borrow.Author.Needs.{needs}
-use Rattle.families.specs.Steps.{LeastWord}
+use Rattle.families.specs.Inner.Steps.{LeastWord}
 use Rattle.families.proofs.Families.{minimal-members, word-more}
 use Rattle.families.proofs.minimal_members.Statement.{statement}
 use Rattle.families.proofs.minimal_members.Tie as tie

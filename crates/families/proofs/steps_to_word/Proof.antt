@@ -8,7 +8,7 @@ use borrow.Author.Needs.{needs}
 use Rattle.vertex_set.specs.Set.{Member}
 use Rattle.vertex_set.proofs.Places.{member-le}
 use Rattle.vertex_set.proofs.Sets.{shifted-one}
-use Rattle.families.specs.Steps.{StepsToWord}
+use Rattle.families.specs.Inner.Steps.{StepsToWord}
 use Rattle.families.proofs.Steps.{to-none, to-more, to-same}
 use Rattle.families.proofs.steps_to_word.Statement.{statement}
 use Rattle.families.proofs.steps_to_word.Tie as tie

@@ -4,7 +4,7 @@ use mathlib.Core.Logic.{⊎-elim}
 use Prim.Native.Nat.{_-_, _≤_}
 use native.Mathlib.Omega.{arith}
 use borrow.Author.Needs.{needs}
-use Rattle.family_lists.specs.Tables.{sumBy}
+use Rattle.family_lists.specs.Inner.Tables.{sumBy}
 use Rattle.family_lists.proofs.Lists.{writing-none}
 use Rattle.family_lists.proofs.Order.{Words}
 use Rattle.family_lists.proofs.SetLists.{AllWriting, all-room, all-next, all-end}

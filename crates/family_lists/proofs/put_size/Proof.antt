@@ -4,7 +4,7 @@ use Prim.Native.Nat.{_-_, _≤_, _<_}
 use native.Mathlib.Omega.{arith}
 use lib.ListN.{getD, take}
 use borrow.Author.Needs.{needs}
-use Rattle.family_lists.specs.Tables.{sumBy}
+use Rattle.family_lists.specs.Inner.Tables.{sumBy}
 use Rattle.family_lists.proofs.Lists.{SizeWriting, writing-none, size-room, size-next, size-end}
 use Rattle.family_lists.proofs.put_size.Statement.{statement}
 use Rattle.family_lists.proofs.put_size.Tie as tie

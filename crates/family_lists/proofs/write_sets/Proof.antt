@@ -1,7 +1,7 @@
 -- `family_lists::write_sets` meets its contract. The two tables give set numbers, and the list of the members by size is the list of their sets.
 -- Assumes nothing.
 use Prim.Native.Nat.{_^_, _<_}
-use Rattle.sums.specs.Sums.{SumsFit}
+use Rattle.sums.specs.Inner.Sums.{SumsFit}
 use Rattle.family_lists.proofs.SetLists.{number-fits, tables-fit, wrote-sets}
 use borrow.Author.Needs.{needs}
 use Rattle.family_lists.proofs.write_sets.Statement.{statement}

@@ -2,7 +2,7 @@ use Prim.Native.Nat.{_≤_}
 use lib.Count.{ones}
 use Rattle.vertex_set.specs.Set.{Iff}
 use Rattle.setup.specs.Bounds.{mostChosen}
-use Rattle.formed.specs.Parts.{CountsFit}
+use Rattle.formed.specs.Inner.Parts.{CountsFit}
 use native.Mathlib.Omega.{arith}
 use Rattle.vertex_set.proofs.Decisions.{decide-no, decide-iff, decide-leb}
 use borrow.Author.Needs.{needs}

@@ -4,7 +4,7 @@ use Prim.Native.Nat.{ℕ, _≤_, _<_, _-_}
 use mathlib.Core.Path.{_≡_}
 use mathlib.Core.Logic.{⊎-elim}
 use native.Mathlib.Omega.{arith}
-use Rattle.formed.specs.Parts.{PlaceFits}
+use Rattle.formed.specs.Inner.Parts.{PlaceFits}
 use Rattle.vertex_set.proofs.Decisions.{decide-yes, decide-no}
 use Rattle.formed.proofs.places_fit.Statement.{statement}
 use Rattle.formed.proofs.places_fit.Tie as tie

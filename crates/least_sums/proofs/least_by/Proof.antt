@@ -7,8 +7,8 @@ use Prim.Native.Nat.{ℕ, _-_, _≤_}
 use native.Mathlib.Omega.{arith}
 use lib.ListN.{getD}
 use borrow.Author.Needs.{needs}
-use Rattle.family_lists.specs.Tables.{sumBy, masksIn}
-use Rattle.least_sums.specs.Least.{leastOf}
+use Rattle.family_lists.specs.Inner.Tables.{sumBy, masksIn}
+use Rattle.least_sums.specs.Inner.Least.{leastOf}
 use Rattle.least_sums.proofs.Least.{Remaining, remaining-more, remaining-same, remaining-end, least-sum}
 use Rattle.least_sums.proofs.least_by.Statement.{statement}
 use Rattle.least_sums.proofs.least_by.Tie as tie

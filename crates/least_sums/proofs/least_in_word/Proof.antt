@@ -8,7 +8,7 @@ use lib.ListN.{getD}
 use borrow.Author.Needs.{needs}
 use Rattle.vertex_set.proofs.Places.{Lowest, lowest}
 use Rattle.family_lists.proofs.Lists.{lane-sums, lane-fits}
-use Rattle.least_sums.specs.Least.{leastOf}
+use Rattle.least_sums.specs.Inner.Least.{leastOf}
 use Rattle.least_sums.proofs.Least.{Seeking, seeking-more, seeking-end}
 use Rattle.least_sums.proofs.least_in_word.Statement.{statement}
 use Rattle.least_sums.proofs.least_in_word.Tie as tie

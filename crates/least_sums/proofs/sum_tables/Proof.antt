@@ -3,7 +3,7 @@
 use mathlib.Core.Path.{_∙_}
 use Prim.Native.Nat.{_^_, _<_}
 use borrow.Author.Needs.{needs}
-use Rattle.sums.specs.Sums.{SumsFit}
+use Rattle.sums.specs.Inner.Sums.{SumsFit}
 use Rattle.least_sums.proofs.Least.{value-fits, value-tables}
 use Rattle.least_sums.proofs.sum_tables.Statement.{statement}
 use Rattle.least_sums.proofs.sum_tables.Tie as tie

@@ -5,8 +5,8 @@ use native.Mathlib.Omega.{arith}
 use lib.Bits.{bitAnd}
 use lib.Count.{ones}
 use lib.ListN.{drop, getD}
-use Rattle.families.specs.Family.{size}
-use Rattle.marking.specs.Counting.{meet}
+use Rattle.families.specs.Inner.Family.{size}
+use Rattle.marking.specs.Inner.Counting.{meet}
 use Rattle.marking.proofs.Seeing.{meet-next, meet-end, and-ones}
 use Rattle.marking.proofs.count_common.Statement.{statement}
 use Rattle.marking.proofs.count_common.Tie as tie

@@ -2,7 +2,7 @@ use mathlib.Core.List.{List}
 use Prim.Native.Nat.{ℕ, _^_, _<_}
 use native.Mathlib.Omega.{arith}
 use Rattle.family_lists.proofs.Order.{Words}
-use Rattle.marking.specs.Counting.{Seen}
+use Rattle.marking.specs.Inner.Counting.{Seen}
 use Rattle.marking.proofs.Seeing.{seen-none}
 use Rattle.marking.proofs.Tallies.{right-le, opening-le, different-le, marked-all}
 use borrow.Author.Needs.{needs}

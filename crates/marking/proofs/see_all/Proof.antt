@@ -3,7 +3,7 @@ use mathlib.Core.Path.{_≡_, refl}
 use Prim.Native.Nat.{_-_, _≤_}
 use native.Mathlib.Omega.{arith}
 use lib.ListN.{length, take}
-use Rattle.marking.specs.Counting.{Seen}
+use Rattle.marking.specs.Inner.Counting.{Seen}
 use Rattle.marking.proofs.Seeing.{seen-end}
 use Rattle.marking.proofs.see_all.Statement.{statement}
 use Rattle.marking.proofs.see_all.Tie as tie

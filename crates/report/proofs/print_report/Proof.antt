@@ -2,7 +2,7 @@ use mathlib.Core.Path.{sym}
 use native.Mathlib.Omega.{arith}
 use lib.Seq.{length-take-le}
 use borrow.Author.Needs.{needs}
-use Rattle.report_steps.specs.Steps.{stepsLeft}
+use Rattle.report_steps.specs.Inner.Steps.{stepsLeft}
 use Rattle.report_steps.proofs.Filling.{left-some}
 use Rattle.report.proofs.Printing.{Printing, printing-begun, printing-more}
 use Rattle.report.proofs.print_report.Statement.{statement}

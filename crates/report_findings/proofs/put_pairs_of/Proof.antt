@@ -6,7 +6,7 @@ use mir.Syntax.{w64}
 use lib.ListN.{length, getD}
 use Rattle.sheet_format.specs.Names.{nameOf}
 use Rattle.report_facts.specs.Texts.{pairsAt}
-use Rattle.report_findings.specs.Parts.{pairsWith}
+use Rattle.report_findings.specs.Inner.Parts.{pairsWith}
 use Rattle.report_findings.proofs.Parts.{part-wrote, part-empty, no-pairs, pairs-text, below-names, below-room}
 use borrow.Author.Needs.{needs}
 use Rattle.report_findings.proofs.put_pairs_of.Statement.{statement}

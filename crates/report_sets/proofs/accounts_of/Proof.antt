@@ -7,7 +7,7 @@ use native.Mathlib.Omega.{arith}
 use Rattle.vertex_set.specs.declared.VertexSet.{VertexSet}
 use Rattle.vertex_set.proofs.Cases.{false-true}
 use Rattle.report_text.specs.Report.{isAccount}
-use Rattle.report_sets.specs.Sets.{Passing}
+use Rattle.report_sets.specs.Inner.Sets.{Passing}
 use Rattle.report_sets.proofs.Sets.{passing-none, passing-more, passing-same}
 use Rattle.report_sets.proofs.accounts_of.Statement.{statement}
 use Rattle.report_sets.proofs.accounts_of.Tie as tie

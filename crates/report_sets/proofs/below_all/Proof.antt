@@ -2,7 +2,7 @@ use borrow.Author.Needs.{needs}
 use Prim.Native.Nat.{_≤_, _-_}
 use mathlib.Core.Path.{_≡_, refl}
 use native.Mathlib.Omega.{arith}
-use Rattle.report_sets.specs.Sets.{BelowOne}
+use Rattle.report_sets.specs.Inner.Sets.{BelowOne}
 use Rattle.report_sets.proofs.Sets.{EachBelow, each-none, each-more}
 use Rattle.report_sets.proofs.below_all.Statement.{statement}
 use Rattle.report_sets.proofs.below_all.Tie as tie

@@ -5,8 +5,8 @@ use mathlib.Core.Logic.{⊎-elim}
 use native.Mathlib.Omega.{arith}
 use lib.ListN.{getD}
 use Rattle.vertex_set.specs.declared.VertexSet.{VertexSet}
-use Rattle.scores.specs.Lists.{securityAt}
-use Rattle.report_sets.specs.Sets.{Passing, Above}
+use Rattle.scores.specs.Inner.Lists.{securityAt}
+use Rattle.report_sets.specs.Inner.Sets.{Passing, Above}
 use Rattle.report_sets.proofs.Sets.{passing-none, passing-more, passing-same, below-one}
 use Rattle.report_sets.proofs.below_one.Statement.{statement}
 use Rattle.report_sets.proofs.below_one.Tie as tie

@@ -1,6 +1,6 @@
 use mathlib.Core.Path.{_∙_}
 use native.Mathlib.Omega.{arith}
-use Rattle.report_steps.specs.Steps.{stepsLeft}
+use Rattle.report_steps.specs.Inner.Steps.{stepsLeft}
 use Rattle.report_steps.proofs.Filling.{Filling, filling-none, filling-more, went-going, went-inside, filled, left-some}
 use Rattle.report_steps.proofs.fill.Statement.{statement}
 use Rattle.report_steps.proofs.fill.Tie as tie

@@ -3,7 +3,7 @@ use mathlib.Core.Path.{_≡_}
 use Prim.Native.Nat.{_+_, _-_}
 use native.Mathlib.Omega.{arith}
 use lib.ListN.{length, drop}
-use Rattle.sheet_fields.specs.Parts.{until}
+use Rattle.sheet_fields.specs.Inner.Parts.{until}
 use Rattle.sheet_fields.proofs.Scans.{until-here, until-next, until-end}
 use Rattle.sheet_fields.proofs.find.Statement.{statement}
 use Rattle.sheet_fields.proofs.find.Tie as tie

@@ -2,7 +2,7 @@ use mathlib.Core.Path.{sym}
 use native.Mathlib.Omega.{arith}
 use lib.ListN.{length-take}
 use lib.Seq.{length-take-le}
-use Rattle.sheet_fields.specs.Keys.{keyOf}
+use Rattle.sheet_fields.specs.Inner.Keys.{keyOf}
 use Rattle.sheet_fields.proofs.Packing.{key-short}
 use Rattle.sheet_fields.proofs.Slices.{rest-part}
 use borrow.Author.Needs.{needs}

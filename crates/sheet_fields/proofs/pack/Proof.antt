@@ -3,7 +3,7 @@ use mathlib.Core.Path.{_≡_, _∙_}
 use Prim.Native.Nat.{_-_, _≤_}
 use native.Mathlib.Omega.{arith}
 use lib.ListN.{length, drop}
-use Rattle.sheet_fields.specs.Keys.{packed}
+use Rattle.sheet_fields.specs.Inner.Keys.{packed}
 use Rattle.sheet_fields.proofs.Packing.{packed-back, packed-fits, packed-end}
 use Rattle.sheet_fields.proofs.pack.Statement.{statement}
 use Rattle.sheet_fields.proofs.pack.Tie as tie

@@ -3,7 +3,7 @@ use mathlib.Core.Path.{_≡_, sym, _∙_}
 use Prim.Native.Nat.{_-_, _≤_}
 use native.Mathlib.Omega.{arith}
 use lib.ListN.{length, drop}
-use Rattle.sheet_fields.specs.Forms.{cappedNumber, tooLarge}
+use Rattle.sheet_fields.specs.Inner.Forms.{cappedNumber, tooLarge}
 use Rattle.sheet_fields.proofs.Numbers.{cappedRun, run-next, run-end, no-digits, leading-zero, number-run, step-le, zero-alone}
 use Rattle.sheet_fields.proofs.read_number.Statement.{statement}
 use Rattle.sheet_fields.proofs.read_number.Tie as tie

@@ -1,6 +1,6 @@
 -- `sheet_lines::read_items` meets its contract: each turn takes in the row of one line, and each way out says why the reading of item rows stops.
 -- Assumes nothing.
-use Rattle.sheet_items.specs.Items.{ReadsItems}
+use Rattle.sheet_items.specs.Inner.Items.{ReadsItems}
 use borrow.Author.Needs.{needs}
 use mathlib.Core.Path.{refl, sym, subst}
 use Prim.Native.Nat.{_-_, _≤_, _<_}

@@ -5,7 +5,7 @@ use mir.Val.{toZ, ofZ}
 use mir.Facts.{toZ-ofZ, fits-natAbs, sfits-toZ, fits-ofZ}
 use borrow.Author.Needs.{needs}
 use Rattle.streams.specs.declared.Moved.the-variants as moved
-use Rattle.streams.specs.Streams.{failedBy, movedBy}
+use Rattle.streams.specs.Inner.Streams.{failedBy, movedBy}
 use Rattle.streams.proofs.Answers.{answer-above, above-none, answer-below, answer-none}
 use Rattle.streams.proofs.moved_by.Statement.{statement}
 use Rattle.streams.proofs.moved_by.Tie as tie

@@ -5,7 +5,7 @@ use Prim.Native.Nat.{ℕ, _-_}
 use native.Mathlib.Omega.{arith}
 use lib.ListN.{getD}
 use borrow.Author.Needs.{needs}
-use Rattle.words.specs.Words.{mergedWord}
+use Rattle.words.specs.Inner.Words.{mergedWord}
 use Rattle.words.proofs.Words.{Mapped, mapped-more}
 use Rattle.words.proofs.Families.{merge-family}
 use Rattle.words.proofs.merge_in.Statement.{statement}

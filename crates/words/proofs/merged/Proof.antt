@@ -2,7 +2,7 @@
 -- Assumes nothing.
 use mathlib.Core.Path.{sym, ap}
 use mathlib.Core.Bool.{Bool}
-use Rattle.words.specs.Words.{mergedWord}
+use Rattle.words.specs.Inner.Words.{mergedWord}
 use Rattle.words.proofs.merged.Statement.{statement}
 use Rattle.words.proofs.merged.Tie as tie
 

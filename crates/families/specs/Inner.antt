@@ -1,0 +1,4 @@
+pub mod Exact
+pub mod Family
+pub mod Masks
+pub mod Steps

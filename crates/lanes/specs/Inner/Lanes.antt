@@ -1,0 +1,58 @@
+-- Lanes of a table: a table has a family for each vertex, and the bits at one place of all families are one set of vertices.
+use mathlib.Core.Bool.{Bool, true, false, not}
+use mathlib.Core.List.{List}
+use Prim.Native.Nat.{ℕ, _+_, _-_, _*_, _^_}
+use lib.ListN.{getD}
+use Rattle.vertex_set.specs.Set.{Member, Iff}
+use Rattle.setup.specs.declared.Rows.{Rows}
+use Rattle.setup.specs.Setup.{rowOf}
+use Rattle.derivations.specs.Derivation.{Vertices}
+use Rattle.derivations.specs.Inner.Admits.{Complete, Broken}
+use Rattle.words.specs.Inner.Words.{Merged}
+use Rattle.families.specs.Inner.Family.{familyWords}
+
+-- The words of a table: those of a family for each of 64 vertices.
+abbrev pub tableWords : ℕ
+tableWords = 64 * familyWords
+
+-- The vertices in whose family bit i of word b is set: vertex v has the words from v * 256 on.
+unfoldable pub Lane : List ℕ → ℕ → ℕ → Vertices
+Lane w b i v = Member (getD w (v * familyWords + b) 0) i
+
+-- Q holds at all places of S,
+pub record AllOf (S Q : ℕ → Type 0) : Type 0 where
+  pub each : (v : ℕ) → S v → Q v
+
+-- or at some place of S.
+pub record SomeOf (S Q : ℕ → Type 0) : Type 0 where
+  pub place : ℕ
+  pub is : S place
+  pub has : Q place
+
+-- All or, with any, some.
+unfoldable pub Over : Bool → (ℕ → Type 0) → (ℕ → Type 0) → Type 0
+Over false S Q = AllOf S Q
+Over true S Q = SomeOf S Q
+
+-- What a row says of its vertex: it is complete or, with loss, it is broken.
+unfoldable pub Colour : Bool → Vertices → ℕ → Type 0
+Colour false held row = Complete held row
+Colour true lost row = Broken lost row
+
+-- What a family becomes by one colour: what it was or the colour is complete; with loss, what it was and the colour is broken.
+abbrev pub Takes : Bool → Type 0 → Vertices → ℕ → Type 0
+Takes loss was held row = Merged (not loss) was (Colour loss held row)
+
+-- The word before any colour is taken.
+abbrev pub untakenWord : Bool → ℕ
+untakenWord false = 0
+untakenWord true = 2 ^ 64 - 1
+
+-- Some colour of these rows needs the vertex v.
+pub record Coloured (rows : Rows) (v : ℕ) : Type 0 where
+  pub colour : ℕ
+  pub member : Member (rowOf rows colour) v
+
+-- r is the set of all vertices that some colour of these rows needs.
+pub record Needed (rows : Rows) (r : ℕ) : Type 0 where
+  pub each : (v : ℕ) → Iff (Member r v) (Coloured rows v)

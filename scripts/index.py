@@ -52,6 +52,15 @@ counts = re.findall(r"^\| `([\w/]+\.antt)` \| (\d+) \|", read("docs/TRUST.md"), 
 for file, count in counts:
     lines = read(f"crates/{file}").count("\n") if (ROOT / "crates" / file).is_file() else "no"
     faults += [f"docs/TRUST.md: {file} has {lines} lines, not {count}"] * (str(lines) != count)
+# What must be believed is told from inner definitions by its place: TRUST.md lists just the files outside of the modules Inner, but for
+# those of the worked examples, which are what the definitions are held to.
+believed = {str(p.relative_to(ROOT / "crates")) for p in ROOT.glob("crates/*/specs/*.antt") if p.stem not in ("Lib", "Inner")}
+believed -= {file for file in believed if file.startswith("worked_examples/")}
+faults += [f"docs/TRUST.md does not list {file}" for file in sorted(believed - {file for file, _ in counts})]
+faults += [f"docs/TRUST.md lists {file}, which is inner" for file, _ in counts if file not in believed]
+# None of them cites an inner one, but for the statement that the printed parts are the whole report, as TRUST.md says.
+citing = {file for file in believed if "specs.Inner" in read(f"crates/{file}")} - {"report_start/specs/Whole.antt"}
+faults += [f"{file} rests on an inner definition" for file in sorted(citing)]
 numbers = dict(zip(FEWEST, (len(files), len(names), len(calls), len(counts))))
 faults += [f"only {numbers[what]} {what}" for what in FEWEST if numbers[what] < FEWEST[what]]
 print(*(f"index: {fault}\n" for fault in faults), sep="", end="")

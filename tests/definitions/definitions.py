@@ -1083,25 +1083,38 @@ def Meaning(s, g, handed):
 # ---- report_text/Meaning
 
 
+def Rising(l):
+    if not l:
+        return True
+    return all(implies(lambda: Listed(l[1:], w), lambda: l[0] < w) for w in world.vertices) and Rising(l[1:])
+
+
 def ReportMeaning(s):
     both, targets = (False, True), range(s.count)
     accounts = all(Iff(Listed(accountsOf(s), v), v < s.count and vertexAt(s, v).kind == Account) for v in world.vertices)
+    in_order = Rising(accountsOf(s))
     base = all(Base(loss, s, s.graph, v, baseOf(loss, s, s.graph, v)) for loss in both for v in targets)
     items = all(Iff(Listed(itemsOf(x), v), Member(x, v) and v < 64) for x in list(world.sets) + [2**63 + 1, 2**64 + 1] for v in world.vertices)
+    items_rise = all(Rising(itemsOf(x)) for x in world.sets)
     score = all(Score(loss, s, s.graph, v, scoreOf(loss, s, s.graph, v)) for loss in both for v in targets)
     less = WithoutRecovery(s, lessRecovery(s))
     back = all(FindsBackdoor(s, v, isBackdoor(s, v)) for v in targets)
     idle = all(FindsIneffective(s, v, isIdle(s, v)) for v in targets)
     pair = all(FindsInconsistent(s, v, w, isOutOfRank(s, v, w)) for v in targets for w in targets)
-    return accounts and base and items and score and less and back and idle and pair
+    below = all(
+        Iff(Listed(belowOf(s, v), w), Listed(accountsOf(s), w) and isOutOfRank(s, v, w) == True) for v in targets for w in world.vertices
+    )
+    below_rise = all(Rising(belowOf(s, v)) for v in targets)
+    return accounts and in_order and base and items and items_rise and score and less and back and idle and pair and below and below_rise
 
 
-# ---- report_start/Whole: `rest` gives what is left of the report at a place, `places` are the places
+# ---- report_start/Whole: `rest` gives what is left of the report at a place, `places` are the places; the tables as they were and as they are
 
 
-def Begun(rest, report, here, c):
+def Begun(rest, report, here, c, refused=False, entry=([], []), exit=([], [])):
+    kept = implies(lambda: refused, lambda: exit[0] == entry[0] and exit[1] == entry[1])
     whole = rest(c) == report
-    return whole and here(c)
+    return kept and whole and here(c)
 
 
 def WholeRun(rest, cursors, c, parts):

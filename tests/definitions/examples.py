@@ -598,6 +598,9 @@ def of_spare(D):
     return [
         ("meaning: the executable definitions", lambda: D.Meaning(spare, spare.graph, [[1, 2, 1], [3, 4], []]), True),
         ("report meaning", lambda: D.ReportMeaning(spare), True),
+        ("rising", lambda: D.Rising([0, 2, 3]), True),
+        ("not rising: twice", lambda: D.Rising([0, 2, 2]), False),
+        ("not rising: the last below the first", lambda: D.Rising([1, 2, 0]), False),
     ]
 
 
@@ -673,6 +676,16 @@ def of_whole(D):
         ("whole: begun at the start", lambda: D.Begun(rest.get, [1, 2, 3], lambda c: True, "Start"), True),
         ("not whole: begun in the middle", lambda: D.Begun(rest.get, [1, 2, 3], lambda c: True, "Middle"), False),
         ("not whole: with nothing known", lambda: D.Begun(rest.get, [1, 2, 3], lambda c: False, "Start"), False),
+        (
+            "whole: a refused sheet whose tables are kept",
+            lambda: D.Begun(rest.get, [1, 2, 3], lambda c: True, "Start", True, ([0], [1]), ([0], [1])),
+            True,
+        ),
+        (
+            "not whole: a refused sheet whose tables are written",
+            lambda: D.Begun(rest.get, [1, 2, 3], lambda c: True, "Start", True, ([0], [1]), ([0], [2])),
+            False,
+        ),
         ("whole: two parts to the end", lambda: D.WholeRun(rest.get, list(rest), "Start", [[1, 2], [3]]), True),
         ("not whole: one part, and not the end", lambda: D.WholeRun(rest.get, list(rest), "Start", [[1, 2]]), False),
         ("not whole: another part", lambda: D.WholeRun(rest.get, list(rest), "Start", [[1], [3]]), False),

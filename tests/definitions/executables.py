@@ -367,6 +367,10 @@ def accountsOf(s):
     return [v for v in range(s.count) if vertexAt(s, v).kind == Account]
 
 
+def belowOf(s, v):
+    return [w for w in accountsOf(s) if isOutOfRank(s, v, w)]
+
+
 def itemsOf(x):
     return [v for v in range(64) if x >> v & 1]
 

@@ -13,7 +13,7 @@ NO_EXAMPLES = "-- No examples.\nuse mathlib.Core.Path.{_≡_, refl}\n\n"
 # The files with executable definitions, and what they stand on, in order.
 FILES = """
 vertex_set/Set vertex_set/Order
-setup/Setup setup/Calls
+setup/Bounds setup/Setup setup/Calls
 derivations/Derivation derivations/Access derivations/Lockout derivations/Both derivations/Way
 formed/WellFormed
 bases/Base bases/Score bases/Marks

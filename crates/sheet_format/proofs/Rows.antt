@@ -9,6 +9,7 @@ use lib.ListN.{length, drop-of-length-le}
 use lib.Seq.{drop-cons}
 use lib.Dec.{eqb}
 use borrow.Author.Tests.{eqb-true, eqb-false, eq-eqb}
+use Rattle.setup.specs.Bounds.{highest}
 use Rattle.vertex_set.proofs.Cases.{byTest, false-true}
 use Rattle.sheet_format.specs.Text.{isEmpty, all, fieldsOf}
 use Rattle.sheet_format.specs.Fields.{isName, isNumberTo, numberOf, decimal, isKind, isValue}
@@ -110,7 +111,7 @@ pub record ItemRead (fs : List (List ℕ)) : Type 0 where
 pub item-read : (fs : List (List ℕ)) → question4 5 fs ≡ true → question5Item fs ≡ true → ItemRead fs
 unfolding question5Item itemOf
 item-read fs q4 q5 =
-    let r = and-parts (isName (field fs 0) && isKind (field fs 1) && isValue (field fs 2) && isValue (field fs 3)) (isNumberTo 9 (field fs 4)) q5 in
+    let r = and-parts (isName (field fs 0) && isKind (field fs 1) && isValue (field fs 2) && isValue (field fs 3)) (isNumberTo highest (field fs 4)) q5 in
     let l = and-parts (isName (field fs 0) && isKind (field fs 1) && isValue (field fs 2)) (isValue (field fs 3)) (r .0) in
     let s = and-parts (isName (field fs 0) && isKind (field fs 1)) (isValue (field fs 2)) (l .0) in
     let k = and-parts (isName (field fs 0)) (isKind (field fs 1)) (s .0) in

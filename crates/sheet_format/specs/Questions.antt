@@ -4,7 +4,7 @@ use mathlib.Core.Bool.{Bool, true, false, not, _&&_, _||_}
 use Prim.Native.Nat.{ℕ, suc, _+_}
 use lib.ListN.{length, getD}
 use lib.Dec.{eqb, leb}
-use Rattle.setup.specs.Bounds.{mostEdges, mostChosen, mostBytes}
+use Rattle.setup.specs.Bounds.{highest, mostEdges, mostChosen, mostBytes}
 use Rattle.setup.specs.Setup.{given}
 use Rattle.sheet_format.specs.Text.{isEmpty, sameText, all}
 use Rattle.sheet_format.specs.Fields.{isName, isNumberTo, numberOf, isKind, kindOf, isValue, valueOf}
@@ -55,7 +55,7 @@ question4 n fs = eqb (length fs) n && noneEmpty fs
 
 -- 5: each field in its form and range? `name kind start loss rank`, with the rank 0 to 9
 unfoldable pub question5Item : List (List ℕ) → Bool
-question5Item fs = isName (field fs 0) && isKind (field fs 1) && isValue (field fs 2) && isValue (field fs 3) && isNumberTo 9 (field fs 4)
+question5Item fs = isName (field fs 0) && isKind (field fs 1) && isValue (field fs 2) && isValue (field fs 3) && isNumberTo highest (field fs 4)
 
 -- 5, of an edge: `from to colour rec`, with the colour 0 to 7 and rec 0 or 1
 unfoldable pub question5Edge : List (List ℕ) → Bool

@@ -8,6 +8,7 @@ use native.Mathlib.Omega.{arith}
 use lib.ListN.{take}
 use lib.Dec.{leb, ltb}
 use borrow.Author.Tests.{le-leb, lt-leb, leb-true, lt-ltb, le-ltb}
+use Rattle.setup.specs.Bounds.{highest}
 use Rattle.setup.specs.declared.Value.{Value}
 use Rattle.setup.specs.declared.Value.the-variants.{Blank, Of}
 use Rattle.setup.specs.Setup.{given}
@@ -55,7 +56,7 @@ item-name fs h =
     and-parts (isName (field fs 0)) (isKind (field fs 1))
     (and-parts (isName (field fs 0) && isKind (field fs 1)) (isValue (field fs 2))
     (and-parts (isName (field fs 0) && isKind (field fs 1) && isValue (field fs 2)) (isValue (field fs 3))
-    (and-parts (isName (field fs 0) && isKind (field fs 1) && isValue (field fs 2) && isValue (field fs 3)) (isNumberTo 9 (field fs 4)) h .0) .0) .0) .0
+    (and-parts (isName (field fs 0) && isKind (field fs 1) && isValue (field fs 2) && isValue (field fs 3)) (isNumberTo highest (field fs 4)) h .0) .0) .0) .0
 
 -- ---- an item row
 

@@ -29,7 +29,7 @@ use Rattle.report_facts.specs.Inner.Facts.{FactsOf}
 use Rattle.report_facts.specs.Texts.{slotLoss, slotList, slotRow}
 use Rattle.report_lists.specs.declared.RowsStep.{RowsStep}
 use Rattle.report_lists.specs.Inner.Lists.{SetReady, RowsReady, rowOf, RowsWent}
-use Rattle.report_lists.specs.Lists as lists
+use Rattle.report_lists.specs.Inner.Lists as lists
 use Rattle.report_steps.specs.Rest.{rowsFrom}
 use Rattle.report_steps.specs.Inner.Steps.{ValuesBy, ListGoing, ListWent}
 use Rattle.report_steps.proofs.Rest.{rows-next}

@@ -5,7 +5,7 @@ use lib.ListN.{getD}
 use Rattle.vertex_set.specs.Set.{Member, Iff}
 use Rattle.derivations.specs.Derivation.{Rule, Derivation}
 use Rattle.families.specs.Inner.Masks.{Picked}
-use Rattle.families.specs.Exact as exact
+use Rattle.families.specs.Inner.Exact as exact
 use Rattle.families.specs.Inner.Family.{familyWords, masks}
 
 -- w is the table of the rule r and the chosen vertices: bit m % 64 of word m / 64 of the vertex v says whether v has a derivation

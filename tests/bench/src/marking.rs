@@ -122,16 +122,14 @@ pub fn marking(kind: &Kind, rounds: &Rounds, targets: &mut Vec<Target>) -> Grid 
     let asked = Asked::new(kind);
     let names = asked.lists(1).into_iter().map(|(name, _)| name);
     let mut rows: Vec<Vec<String>> = names.map(|name| vec![name.to_string()]).collect();
-    let (mut times, mut ratios) = (Vec::new(), Vec::new());
+    let mut ratios = Vec::new();
     for n in COUNTS {
-        times.clear();
         ratios.clear();
         for ((name, handed), row) in asked.lists(n).into_iter().zip(&mut rows) {
             let marks = proved::mark_access(&kind.words, kind.target, &handed);
             assert_eq!(marks, asked.marks(&handed), "marks of {n} sets: {name}");
             let [marked, sorted] = asked.times(&handed, rounds.marking);
             row.extend([micros(marked), ratio(marked, sorted)]);
-            times.push((name.to_string(), marked));
             ratios.push((name.to_string(), marked / sorted));
         }
     }
@@ -143,14 +141,15 @@ pub fn marking(kind: &Kind, rounds: &Rounds, targets: &mut Vec<Target>) -> Grid 
         10.0,
         &ratios,
     ));
-    let orders = by_order(&times);
+    let orders = by_order(&ratios);
     targets.push(judged("the same strays in order / shuffled", "at most 1.5 times", 1.5, &orders));
     grid
 }
 
-/// The times of strays that are handed in in some order, by that of the same strays shuffled.
-fn by_order(times: &[(String, f64)]) -> Vec<(String, f64)> {
-    let of = |name| times.iter().find(|(other, _)| other == name).map_or(0.0, |(_, time)| *time);
+/// The ratios of strays that are handed in in some order, by that of the same strays shuffled. What is
+/// sorted beside them is the same each time, so that the machine's own pace does not count.
+fn by_order(ratios: &[(String, f64)]) -> Vec<(String, f64)> {
+    let of = |name| ratios.iter().find(|(other, _)| other == name).map_or(0.0, |(_, times)| *times);
     let orders = [RISING, ALL_BUT_LAST, FALLING];
     orders.map(|name| (name.to_string(), of(name) / of(SHUFFLED))).to_vec()
 }

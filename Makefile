@@ -1,5 +1,5 @@
 # `make test` proves and tests everything; its last line is the verdict.
-.PHONY: test report definitions prove lib fuzz bench mutate alter check-contracts
+.PHONY: test report definitions prove lib install fuzz bench mutate alter check-contracts
 
 test:
 	@bash scripts/test.sh
@@ -21,9 +21,14 @@ definitions:
 prove:
 	@rt prove
 
-# The portal's library for C: target/staticlib/libportal.a, with include/portal.h.
+# The portal's library for C: build/lib/libportal.a and a shared library, with include/portal.h.
 lib:
-	@rt staticlib portal
+	@bash scripts/lib.sh
+
+# Library, header, pkg-config file, the program `report` and manual pages: make install PREFIX=/usr/local.
+PREFIX = /usr/local
+install:
+	@bash scripts/install.sh "$(PREFIX)"
 
 # Fresh inputs against the brute force: make fuzz, make fuzz SECONDS=600, make fuzz SEED=7 to repeat a run.
 SECONDS = 60

@@ -1,17 +1,38 @@
 /*
- * The course portal's calls: a sheet's bytes and an item number in, one number out.
+ * Gemzuleg's calls for the course portal, in C. They answer who can get into an account: the papers' words are used as they
+ * stand in document 01 (a sheet, an item, a starting item, a colour, a set, the opening list, score and risk).
  *
- * A sheet is document 01's text, of any length; a null pointer goes with length 0 only. An item is its number in the
- * sheet, counted from 0 in row order.
+ *   sheets     portal_score, portal_risk     one item's score or risk, as one number
+ *              portal_read                   the sheet's setup, which all calls below ask
+ *              portal_name                   an item's name
+ *   setups     portal_check                  is this a setup?
+ *              portal_closure, portal_lost   what a set opens, what the loss of a set takes away
+ *              portal_way_in                 how a set opens an item, step by step
+ *              portal_lists                  the smallest sets that open an item, and the smallest losses that shut it
+ *              portal_setup_score, portal_setup_risk
+ *              portal_mark_openings, portal_mark_lockouts
+ *              portal_backdoor, portal_idle, portal_out_of_rank
  *
- * What a call returns:
- *   below PORTAL_NEVER     the score (portal_score) or the risk (portal_risk) of the item;
- *   PORTAL_NEVER           "never": no set of starting items opens the item (no loss shuts it);
- *   above PORTAL_NEVER     a refusal: PORTAL_NEVER plus its number, which is the sheet's own, 1 to 11, or 13 for an
- *                          item that isn't there.
+ * Every call takes any input. It answers, or it refuses with exactly one number (enum portal_number), and its contract, which
+ * is proved, says for every input what is returned and how every lent place ends (docs/INDEX.md leads from each call to it).
  *
- * Calls share no state and write nothing but their own stack, so threads may call at the same time. A call needs
- * PORTAL_STACK bytes of stack; a thread with less ends in a crash.
+ * Results. A result is a struct of plain numbers. Its first field is `number`: 0 for an answer, else that of the refusal. The
+ * other fields have the answer's values; a field that the answer has no value for is 0, so all of them are after a refusal.
+ * (portal_reading's line is the exception that document 01 asks for: a refused sheet has a line.)
+ *
+ * Lent places. A slice is a pointer and the count of its places. A pointer may be null where the count is 0, and nowhere else.
+ * It is aligned as its type is. Memory that a call may write to overlaps nothing else that the same call is given. A refused
+ * call changes no place that it was lent; an answered one leaves the places behind the written ones as they were.
+ * (portal_read is the exception that document 01 asks for: a refused sheet gives a setup of 0 items.)
+ *
+ * Threads. No call keeps anything: there is no state, no heap and no lock, so threads may call at the same time, as long as
+ * none writes to what another one uses. No call reads or changes errno, a signal or the floating point environment.
+ *
+ * Stack. A call needs PORTAL_STACK bytes of stack, one that marks PORTAL_STACK_MARKS; a thread with less ends in a crash. Each
+ * call is tried in a thread of just that size before a change lands.
+ *
+ * Platform. The library is for x86-64 Linux (System V calling convention, no instruction beyond SSE2) and needs memcpy and
+ * memset of the C library. There, size_t and uint64_t have the same 64 bits.
  */
 #ifndef GEMZULEG_PORTAL_H
 #define GEMZULEG_PORTAL_H
@@ -23,22 +44,192 @@
 extern "C" {
 #endif
 
+/* ---- version ---- */
+
+/* 1.0.0 is 10000: the last two parts have two digits each. The first part changes where a call or a struct does. */
+#define PORTAL_VERSION 10000
+
+/* The version of the library. A program that was compiled with another one's header sees PORTAL_VERSION differ from it. */
+uint64_t portal_version(void);
+
+/* ---- numbers ---- */
+
+/* The score of an item that no set opens, and the risk of an item that no loss shuts: "never", above every number. */
 #define PORTAL_NEVER (UINT64_C(1) << 62)
+
+/* Bytes of stack: for a call that asks all subsets of the starting or losable items, which scores, lists and findings do; for
+ * one that marks a handed-in list; and for the others (portal_version, _read, _name, _check, _closure, _lost, _way_in). */
 #define PORTAL_STACK ((size_t)256 * 1024)
+#define PORTAL_STACK_MARKS ((size_t)512 * 1024)
+#define PORTAL_STACK_SMALL ((size_t)128 * 1024)
 
-/* The refusal for an item that isn't there. */
-#define PORTAL_NO_ITEM 13
+/* The numbers for no: document 01's questions. portal_refusal_text has a sentence for each. Later versions have more. */
+enum portal_number {
+    PORTAL_ANSWERED = 0,
+    /* of a sheet */
+    PORTAL_TOO_LONG = 1,
+    PORTAL_NO_TEXT = 2,
+    PORTAL_HEADER = 3,
+    PORTAL_FIELDS = 4,
+    PORTAL_FORM = 5,
+    PORTAL_NAME_USED = 6,
+    PORTAL_BOUND = 7,
+    PORTAL_NAME_UNKNOWN = 8,
+    PORTAL_EDGE_TWICE = 9,
+    PORTAL_NO_ROWS = 10,
+    PORTAL_NO_EDGE_PART = 11,
+    /* of a call on a setup */
+    PORTAL_NO_SETUP = 12,
+    PORTAL_NO_ITEM = 13,
+    PORTAL_OUTSIDE = 14,
+    PORTAL_SHORT = 15
+};
 
-/* The security score of the item. */
+/* What a refusal says, in a sentence that lives as long as the program; "answered" for 0. */
+static inline const char *portal_refusal_text(uint64_t number)
+{
+    switch (number) {
+    case PORTAL_ANSWERED: return "answered";
+    case PORTAL_TOO_LONG: return "the sheet has more than 16384 bytes";
+    case PORTAL_NO_TEXT: return "the sheet is empty, has a byte other than LF and 32 to 126, or does not end in LF";
+    case PORTAL_HEADER: return "this is not the header that belongs on this line";
+    case PORTAL_FIELDS: return "the row has not five fields (an item) or four (an edge), or one of them is empty";
+    case PORTAL_FORM: return "a field of the row is not in its form or range";
+    case PORTAL_NAME_USED: return "the item's name is used by a row above";
+    case PORTAL_BOUND: return "with this row there are more than 64 items, 256 edges, 14 starting items or 14 losable items";
+    case PORTAL_NAME_UNKNOWN: return "the edge names an item that has no row";
+    case PORTAL_EDGE_TWICE: return "an earlier row has the same from, to and colour";
+    case PORTAL_NO_ROWS: return "no item row has come before the empty line";
+    case PORTAL_NO_EDGE_PART: return "the text is over, and the second header has not come";
+    case PORTAL_NO_SETUP: return "the setup is none that an accepted sheet yields";
+    case PORTAL_NO_ITEM: return "an item number is not below the item count";
+    case PORTAL_OUTSIDE: return "the set has items that are not in the setup";
+    case PORTAL_SHORT: return "a lent list is too short for what must be written";
+    default: return "a number that this version does not have";
+    }
+}
+
+/* ---- a setup ---- */
+
+/*
+ * A setup is a buffer of PORTAL_SETUP_WORDS numbers, which portal_read writes and which may be made by hand too. Items count
+ * from 0. A set is a number: the sum of 2^i over its items. A word that a shorter buffer does not have counts as 0, and words
+ * behind the last one are not looked at, so that every buffer says something; portal_check tells whether that is a setup.
+ */
+#define PORTAL_SETUP_WORDS 1281
+#define PORTAL_MAX_ITEMS 64
+#define PORTAL_COLOURS 8
+#define PORTAL_MAX_SHEET 16384
+#define PORTAL_MAX_NAME 16
+
+/* Places that are always enough for both lists of a target: each has subsets of at most 14 items, each once. */
+#define PORTAL_MAX_SETS 32768
+
+/* Where the words stand. First, how many items there are: 1 to 64. */
+#define PORTAL_COUNT 0
+/* Of each place v from 0 to 63: 0 for a credential, and any other number for an account; portal_read writes 1 for it. */
+#define PORTAL_KIND(v) (1 + 4 * (v))
+/* How hard the item is to get, and to lose: 0 to 1,000,000, or PORTAL_BLANK where it is not a starting, or losable, item. */
+#define PORTAL_START(v) (2 + 4 * (v))
+#define PORTAL_LOSS(v) (3 + 4 * (v))
+/* Its rank: 0 to 9. */
+#define PORTAL_RANK(v) (4 + 4 * (v))
+/* The set of items from which an edge of colour c, from 0 to 7, leads to it: they are needed together. 0: no such colour. */
+#define PORTAL_ROW(v, c) (257 + 8 * (v) + (c))
+/* Those of them whose edge is a recovery edge. */
+#define PORTAL_RECOVERY(v, c) (769 + 8 * (v) + (c))
+/* "-": no value. A place behind the last item has kind 0, PORTAL_BLANK twice, rank 0 and empty rows. */
+#define PORTAL_BLANK UINT64_MAX
+
+/* ---- results ---- */
+
+/* A sheet's reading; line is that of the no, counted from 1, and 0 where the no is about the whole text or there is none. */
+struct portal_reading {
+    uint64_t number;
+    uint64_t line;
+};
+
+/* A part of a sheet's bytes: `length` of them, from the byte `start` on. */
+struct portal_part {
+    uint64_t number;
+    uint64_t start;
+    uint64_t length;
+};
+
+struct portal_closure {
+    uint64_t number;
+    uint64_t set;
+};
+
+struct portal_set {
+    uint64_t number;
+    uint64_t set;
+};
+
+/* opens is 1 where the set opens the target, and 0 for "shut"; steps is how many steps were written. */
+struct portal_way {
+    uint64_t number;
+    uint64_t opens;
+    uint64_t steps;
+};
+
+/* How many sets each list has. */
+struct portal_lists {
+    uint64_t number;
+    uint64_t openings;
+    uint64_t lockouts;
+};
+
+/* Score and risk have a struct each: the papers never add or compare one with the other. PORTAL_NEVER is "never". */
+struct portal_setup_score {
+    uint64_t number;
+    uint64_t score;
+};
+
+struct portal_setup_risk {
+    uint64_t number;
+    uint64_t risk;
+};
+
+/* How many handed-in sets are right, repeated, shut and loose, and how many sets of the list are missing. */
+struct portal_marks {
+    uint64_t number;
+    uint64_t right;
+    uint64_t repeated;
+    uint64_t shut;
+    uint64_t loose;
+    uint64_t missing;
+};
+
+/* yes is 1 for yes, and 0 for no. */
+struct portal_finding {
+    uint64_t number;
+    uint64_t yes;
+};
+
+/* Is this a full mark: no set is repeated, shut, loose or missing? */
+static inline int portal_is_full(struct portal_marks marks)
+{
+    return marks.number == 0 && marks.repeated == 0 && marks.shut == 0 && marks.loose == 0 && marks.missing == 0;
+}
+
+/* ---- calls on a sheet ---- */
+
+/*
+ * The score of an item of the sheet, as one number:
+ *   below PORTAL_NEVER     the score: the least sum of start values over the sets of the opening list;
+ *   PORTAL_NEVER           "never": no set of starting items opens the item;
+ *   above PORTAL_NEVER     a refusal: PORTAL_NEVER plus its number, which is the sheet's own, 1 to 11, or 13.
+ */
 uint64_t portal_score(const uint8_t *sheet, size_t length, uint64_t item);
 
-/* The recoverability score of the item. */
+/* The risk likewise: the least sum of loss values over the sets of the lockout list. */
 uint64_t portal_risk(const uint8_t *sheet, size_t length, uint64_t item);
 
-/* Is the answer a score or a risk? */
+/* Is what portal_score or portal_risk returned a score or a risk? */
 static inline int portal_is_value(uint64_t answer) { return answer < PORTAL_NEVER; }
 
-/* Is the answer "never"? */
+/* Is it "never"? */
 static inline int portal_is_never(uint64_t answer) { return answer == PORTAL_NEVER; }
 
 /* The number of a refusal, and 0 for any other answer. */
@@ -46,6 +237,71 @@ static inline unsigned portal_refusal(uint64_t answer)
 {
     return answer > PORTAL_NEVER ? (unsigned)(answer - PORTAL_NEVER) : 0;
 }
+
+/*
+ * Reads a sheet and writes its setup to the first PORTAL_SETUP_WORDS words of the buffer. A refused sheet has its number, 1 to
+ * 11, and its line, and gives the setup of 0 items with no place in use. A shorter buffer is left as it was; then an accepted
+ * sheet has number 15, and a refused one its own.
+ */
+struct portal_reading portal_read(const uint8_t *sheet, size_t length, uint64_t *setup, size_t words);
+
+/*
+ * An item's name: the part of the sheet's own bytes that holds it, 1 to PORTAL_MAX_NAME bytes. Refused with the sheet's
+ * number, 1 to 11, then 13; the part is then the empty one at the sheet's start.
+ */
+struct portal_part portal_name(const uint8_t *sheet, size_t length, uint64_t item);
+
+/* ---- calls on a setup ---- */
+
+/* Question 12 by itself: 0 where the setup is one that some accepted sheet yields, and 12 where it is not. */
+uint64_t portal_check(const uint64_t *setup, size_t words);
+
+/* The closure: all items that the set opens, those in it too. Refused with 12, 14. */
+struct portal_closure portal_closure(const uint64_t *setup, size_t words, uint64_t set);
+
+/* The lost set: all items that the loss of the set takes away, those in it too. Refused with 12, 14. */
+struct portal_set portal_lost(const uint64_t *setup, size_t words, uint64_t set);
+
+/*
+ * The way in from the set to the target: at each step the lowest item that can be opened, by its lowest complete colour, until
+ * the target is. The steps' items go to one list and their colours to the other; 0 steps where the set has the target. "Shut"
+ * (opens is 0) where the set does not open it, whatever the lists' lengths. Refused with 12, 13, 14, 15. Lists of
+ * PORTAL_MAX_ITEMS bytes are always long enough.
+ */
+struct portal_way portal_way_in(const uint64_t *setup, size_t words, uint64_t target, uint64_t set,
+                                uint8_t *items, size_t item_places, uint8_t *colours, size_t colour_places);
+
+/*
+ * Both lists of the target: the opening list (sets of starting items that open it, no proper subset doing so), then from the
+ * next place on the lockout list (sets of losable items whose loss takes it away, likewise). Each is ordered by fewer items,
+ * then by the smaller number. Refused with 12, 13, and 15 exactly where both together have more sets than there are places.
+ */
+struct portal_lists portal_lists(const uint64_t *setup, size_t words, uint64_t target, uint64_t *sets, size_t places);
+
+/* The score of the target. Refused with 12, 13. */
+struct portal_setup_score portal_setup_score(const uint64_t *setup, size_t words, uint64_t target);
+
+/* The risk of the target. Refused with 12, 13. */
+struct portal_setup_risk portal_setup_risk(const uint64_t *setup, size_t words, uint64_t target);
+
+/*
+ * Marks for handed-in opening sets of the target. Each counts as the first that fits: repeated (equal to an earlier one), shut
+ * (an item outside the starting items, or not opening), loose (a proper subset opens), right. Missing is the list's length
+ * less right. Any number may be handed in as a set. Refused with 12, 13.
+ */
+struct portal_marks portal_mark_openings(const uint64_t *setup, size_t words, uint64_t target, const uint64_t *sets, size_t count);
+
+/* Marks for handed-in lockout sets, likewise. Refused with 12, 13. */
+struct portal_marks portal_mark_lockouts(const uint64_t *setup, size_t words, uint64_t target, const uint64_t *sets, size_t count);
+
+/* Is recovery a backdoor to the item: is its score below that without recovery? Refused with 12, 13. */
+struct portal_finding portal_backdoor(const uint64_t *setup, size_t words, uint64_t item);
+
+/* Is the item's recovery idle: is its risk at most that without recovery? Refused with 12, 13. */
+struct portal_finding portal_idle(const uint64_t *setup, size_t words, uint64_t item);
+
+/* Out of rank: is `above` of higher rank than `below`, and its score at most that of `below`? Refused with 12, 13. */
+struct portal_finding portal_out_of_rank(const uint64_t *setup, size_t words, uint64_t above, uint64_t below);
 
 #ifdef __cplusplus
 }

@@ -4,8 +4,7 @@
 set -euo pipefail
 cd "$(dirname "$0")/.."
 
-bash scripts/make_older.sh target/staticlib/libportal.a rt staticlib portal
-bash scripts/make_older.sh target/staticlib/libprobe.a rt staticlib probe
+bash scripts/make_older.sh build/lib/libportal.a bash scripts/lib.sh
 bash scripts/make_older.sh target/bin/report rt check report
 
 (cd tests && cargo build --release --quiet -p bench)

@@ -7,8 +7,6 @@ cd "$(dirname "$0")/.."
 for_seconds=$1
 seed=${2:-$(od -An -N6 -tu8 /dev/urandom | tr -d ' ')}
 
-for library in portal probe; do
-    bash scripts/make_older.sh "target/staticlib/lib$library.a" rt staticlib "$library"
-done
+bash scripts/make_older.sh build/lib/libportal.a bash scripts/lib.sh
 echo "fuzz: seed $seed, for $for_seconds seconds"
 cd tests && cargo run --release --quiet -p harness -- fuzz "$seed" "$for_seconds"

@@ -21,6 +21,9 @@ python3 scripts/map.py
 echo "test: the index"
 python3 scripts/index.py
 
+echo "test: the header"
+python3 scripts/header.py
+
 echo "test: proofs, must-fail edits and programs"
 log=$(mktemp)
 trap 'rm -f "$log"' EXIT
@@ -31,8 +34,9 @@ verdict=$(tail -n 1 "$log")
 
 # These come after `rt ci`, which removes target/: they use what it has built, and nothing is proved twice.
 echo "test: the portal's library, from C"
-rt staticlib portal > "$log" 2>&1 || { cat "$log"; exit 1; }
+bash scripts/lib.sh
 bash tests/c/run.sh
+bash tests/c/installed.sh
 
 echo "test: the examples' reports"
 bash scripts/examples.sh
@@ -44,7 +48,6 @@ echo "test: the brute force, in Rust"
 (cd tests && cargo test --release --quiet)
 
 echo "test: the proved code and the brute force, side by side"
-rt staticlib probe > "$log" 2>&1 || { cat "$log"; exit 1; }
 (cd tests && cargo run --release --quiet -p harness -- gate)
 
 # scripts/gate_times.py reads this line, and those of `rt ci`.

@@ -1,11 +1,17 @@
-/* A client of the portal's calls: document 01's sheet, refusals, a thread with just the stack that the header names, and
- * several threads at once. Prints what is wrong and ends with status 1, or says that all is well. */
+/* A client of the portal's calls, each on document 01's sheet and on refused input, in a thread with just the stack that the
+ * header names for it; then all of them in several threads at once. Prints what is wrong and ends with status 1, or says that
+ * all is well. `client stack` prints instead how small a stack each call ran with. */
 #include <pthread.h>
 #include <stdio.h>
 #include <stdlib.h>
 #include <string.h>
+#include <sys/wait.h>
+#include <unistd.h>
 
 #include "../../include/portal.h"
+
+#define WORDS PORTAL_SETUP_WORDS
+#define LENT UINT64_C(0x1234567890abcdef)
 
 static const char SHEET[] =
     "name kind start loss rank\n"
@@ -23,77 +29,325 @@ static const char SHEET[] =
 
 static const char ALONE[] = "name kind start loss rank\nalone a - - 0\n\nfrom to colour rec\n";
 
+enum { ORDPW = 1, MAILPW = 2, TOKEN = 4, MAIL = 8, ORDER = 16, ORDER_ITEM = 4, MAIL_ITEM = 3 };
+
+/* The setup of SHEET, and one that no sheet yields. */
+static uint64_t setup[WORDS], malformed[WORDS];
+
 static int faults;
 
 static void expect(const char *what, uint64_t got, uint64_t wanted)
 {
     if (got != wanted) {
         printf("%s: got %llu, wanted %llu\n", what, (unsigned long long)got, (unsigned long long)wanted);
-        faults = 1;
+        __atomic_store_n(&faults, 1, __ATOMIC_RELAXED);
     }
 }
 
-static uint64_t score(const char *text, uint64_t item)
-{
-    return portal_score((const uint8_t *)text, strlen(text), item);
-}
+static const uint8_t *bytes(const char *text) { return (const uint8_t *)text; }
 
-static uint64_t risk(const char *text, uint64_t item)
-{
-    return portal_risk((const uint8_t *)text, strlen(text), item);
-}
+static uint64_t score(const char *text, uint64_t item) { return portal_score(bytes(text), strlen(text), item); }
 
-static void *work(void *rounds)
-{
-    uintptr_t bad = 0;
-    for (int i = 0; i < *(const int *)rounds; i++)
-        bad += score(SHEET, 4) != 1 || risk(SHEET, 4) != 3 || score(SHEET, 3) != 1;
-    return (void *)bad;
-}
+static uint64_t risk(const char *text, uint64_t item) { return portal_risk(bytes(text), strlen(text), item); }
 
-/* Runs the work in threads with just the stack that the header names. */
-static void threads(const char *what, int count, int rounds)
-{
-    pthread_t id[8];
-    pthread_attr_t attr;
-    if (pthread_attr_init(&attr) != 0 || pthread_attr_setstacksize(&attr, PORTAL_STACK) != 0) {
-        printf("%s: no such stack\n", what);
-        exit(1);
-    }
-    for (int i = 0; i < count; i++)
-        if (pthread_create(&id[i], &attr, work, &rounds) != 0) {
-            printf("%s: no thread\n", what);
-            exit(1);
-        }
-    for (int i = 0; i < count; i++) {
-        void *bad = NULL;
-        pthread_join(id[i], &bad);
-        expect(what, (uintptr_t)bad, 0);
-    }
-    pthread_attr_destroy(&attr);
-}
+/* ---- one function for each call: an answer, and refusals */
 
-int main(void)
+static void try_version(void) { expect("version", portal_version(), PORTAL_VERSION); }
+
+static void try_score(void)
 {
     expect("score of order", score(SHEET, 4), 1);
-    expect("risk of order", risk(SHEET, 4), 3);
     expect("score of mail", score(SHEET, 3), 1);
-    expect("risk of mail", risk(SHEET, 3), 1);
     expect("score of token", score(SHEET, 2), 3);
     expect("no such item", score(SHEET, 5), PORTAL_NEVER + PORTAL_NO_ITEM);
-    expect("no such item, far off", risk(SHEET, UINT64_MAX), PORTAL_NEVER + PORTAL_NO_ITEM);
     expect("never", score(ALONE, 0), PORTAL_NEVER);
-    expect("never lost", risk(ALONE, 0), PORTAL_NEVER);
-    expect("empty sheet", portal_score(NULL, 0, 0), PORTAL_NEVER + 2);
-    expect("no header", score("names\n", 0), PORTAL_NEVER + 3);
+    expect("empty sheet", portal_score(NULL, 0, 0), PORTAL_NEVER + PORTAL_NO_TEXT);
+    expect("no header", score("names\n", 0), PORTAL_NEVER + PORTAL_HEADER);
     expect("is a value", (uint64_t)portal_is_value(score(SHEET, 4)), 1);
     expect("is never", (uint64_t)portal_is_never(score(ALONE, 0)), 1);
     expect("is a refusal", portal_refusal(score("names\n", 0)), 3);
     expect("is no refusal", portal_refusal(score(ALONE, 0)), 0);
-    threads("one thread", 1, 50);
-    threads("several threads", 8, 200);
+}
+
+static void try_risk(void)
+{
+    expect("risk of order", risk(SHEET, 4), 3);
+    expect("risk of mail", risk(SHEET, 3), 1);
+    expect("no such item, far off", risk(SHEET, UINT64_MAX), PORTAL_NEVER + PORTAL_NO_ITEM);
+    expect("never lost", risk(ALONE, 0), PORTAL_NEVER);
+}
+
+static void try_read(void)
+{
+    uint64_t words[WORDS + 1];
+    words[WORDS] = LENT;
+    struct portal_reading r = portal_read(bytes(SHEET), strlen(SHEET), words, WORDS + 1);
+    expect("reading", r.number, 0);
+    expect("no line", r.line, 0);
+    expect("item count", words[PORTAL_COUNT], 5);
+    expect("kind of token", words[PORTAL_KIND(2)], 0);
+    expect("kind of mail", words[PORTAL_KIND(3)], 1);
+    expect("start of token", words[PORTAL_START(2)], 3);
+    expect("loss of ordpw", words[PORTAL_LOSS(0)], 2);
+    expect("start of mail", words[PORTAL_START(3)], PORTAL_BLANK);
+    expect("rank of order", words[PORTAL_RANK(4)], 3);
+    expect("order's colour 0", words[PORTAL_ROW(4, 0)], ORDPW + TOKEN);
+    expect("order's colour 1", words[PORTAL_ROW(4, 1)], MAIL);
+    expect("order's recovery", words[PORTAL_RECOVERY(4, 1)], MAIL);
+    expect("no more recovery", words[PORTAL_RECOVERY(4, 0)], 0);
+    expect("a place not in use", words[PORTAL_LOSS(63)], PORTAL_BLANK);
+    expect("the word behind", words[WORDS], LENT);
+
+    words[0] = LENT;
+    r = portal_read(bytes(SHEET), strlen(SHEET), words, WORDS - 1);
+    expect("buffer too short", r.number, PORTAL_SHORT);
+    expect("buffer too short, no line", r.line, 0);
+    expect("buffer too short, untouched", words[0], LENT);
+    r = portal_read(bytes("names\n"), 6, words, WORDS - 1);
+    expect("refused, buffer too short", r.number, PORTAL_HEADER);
+    expect("refused, its line", r.line, 1);
+    expect("refused, untouched", words[0], LENT);
+    r = portal_read(bytes("names\n"), 6, words, WORDS);
+    expect("refused", r.number, PORTAL_HEADER);
+    expect("refused: no items", words[PORTAL_COUNT], 0);
+    expect("refused: not in use", words[PORTAL_START(0)], PORTAL_BLANK);
+    r = portal_read(NULL, 0, NULL, 0);
+    expect("nothing at all", r.number, PORTAL_NO_TEXT);
+}
+
+static void try_name(void)
+{
+    struct portal_part p = portal_name(bytes(SHEET), strlen(SHEET), 2);
+    expect("name", p.number, 0);
+    expect("its length", p.length, 5);
+    expect("its bytes", (uint64_t)memcmp(SHEET + p.start, "token ", 6), 0);
+    p = portal_name(bytes(SHEET), strlen(SHEET), 5);
+    expect("no such name", p.number, PORTAL_NO_ITEM);
+    expect("the empty part", p.start + p.length, 0);
+    p = portal_name(bytes("names\n"), 6, 0);
+    expect("no sheet", p.number, PORTAL_HEADER);
+    expect("the empty part again", p.start + p.length, 0);
+}
+
+static void try_check(void)
+{
+    expect("a setup", portal_check(setup, WORDS), 0);
+    expect("no setup", portal_check(malformed, WORDS), PORTAL_NO_SETUP);
+    expect("no words", portal_check(NULL, 0), PORTAL_NO_SETUP);
+}
+
+static void try_closure(void)
+{
+    struct portal_closure r = portal_closure(setup, WORDS, MAILPW);
+    expect("closure", r.number, 0);
+    expect("what mailpw opens", r.set, MAILPW + MAIL + ORDER);
+    expect("what nothing opens", portal_closure(setup, WORDS, 0).set, 0);
+    r = portal_closure(setup, WORDS, 32);
+    expect("outside", r.number, PORTAL_OUTSIDE);
+    expect("outside, no set", r.set, 0);
+    expect("closure in no setup", portal_closure(malformed, WORDS, 0).number, PORTAL_NO_SETUP);
+}
+
+static void try_lost(void)
+{
+    struct portal_set r = portal_lost(setup, WORDS, MAILPW + TOKEN);
+    expect("lost", r.number, 0);
+    expect("what is lost", r.set, MAILPW + TOKEN + MAIL + ORDER);
+    expect("lost, outside", portal_lost(setup, WORDS, UINT64_MAX).number, PORTAL_OUTSIDE);
+}
+
+static void try_way_in(void)
+{
+    uint8_t items[4] = { 9, 9, 9, 9 }, colours[4] = { 8, 8, 8, 8 };
+    struct portal_way r = portal_way_in(setup, WORDS, ORDER_ITEM, MAILPW, items, 4, colours, 4);
+    expect("way in", r.number, 0);
+    expect("it opens", r.opens, 1);
+    expect("its steps", r.steps, 2);
+    expect("its items", (uint64_t)memcmp(items, "\3\4\11\11", 4), 0);
+    expect("its colours", (uint64_t)memcmp(colours, "\0\1\10\10", 4), 0);
+    r = portal_way_in(setup, WORDS, ORDER_ITEM, TOKEN, NULL, 0, NULL, 0);
+    expect("shut", r.number, 0);
+    expect("shut, so it opens not", r.opens + r.steps, 0);
+    r = portal_way_in(setup, WORDS, ORDER_ITEM, MAILPW, items, 4, colours, 1);
+    expect("list too short", r.number, PORTAL_SHORT);
+    expect("list too short, no values", r.opens + r.steps, 0);
+    expect("list too short, untouched", (uint64_t)memcmp(items, "\3\4\11\11", 4), 0);
+}
+
+static void try_lists(void)
+{
+    uint64_t sets[5] = { LENT, LENT, LENT, LENT, LENT };
+    struct portal_lists r = portal_lists(setup, WORDS, ORDER_ITEM, sets, 3);
+    expect("lists too short", r.number, PORTAL_SHORT);
+    expect("lists untouched", sets[0], LENT);
+    r = portal_lists(setup, WORDS, ORDER_ITEM, sets, 5);
+    expect("lists", r.number, 0);
+    expect("openings", r.openings, 2);
+    expect("lockouts", r.lockouts, 2);
+    expect("first opening", sets[0], MAILPW);
+    expect("second opening", sets[1], ORDPW + TOKEN);
+    expect("first lockout", sets[2], ORDPW + MAILPW);
+    expect("second lockout", sets[3], MAILPW + TOKEN);
+    expect("the place behind", sets[4], LENT);
+    expect("lists of no item", portal_lists(setup, WORDS, 5, sets, 5).number, PORTAL_NO_ITEM);
+}
+
+static void try_setup_score(void)
+{
+    expect("setup's score", portal_setup_score(setup, WORDS, ORDER_ITEM).score, 1);
+    expect("setup's score, no item", portal_setup_score(setup, WORDS, 64).number, PORTAL_NO_ITEM);
+    expect("setup's score, no value", portal_setup_score(setup, WORDS, 64).score, 0);
+}
+
+static void try_setup_risk(void)
+{
+    expect("setup's risk", portal_setup_risk(setup, WORDS, ORDER_ITEM).risk, 3);
+    expect("setup's risk, no setup", portal_setup_risk(malformed, WORDS, 64).number, PORTAL_NO_SETUP);
+}
+
+static void try_mark_openings(void)
+{
+    const uint64_t handed[4] = { MAILPW, MAILPW, MAILPW + TOKEN, TOKEN };
+    struct portal_marks m = portal_mark_openings(setup, WORDS, ORDER_ITEM, handed, 4);
+    expect("marks", m.number, 0);
+    expect("one of each", m.right == 1 && m.repeated == 1 && m.shut == 1 && m.loose == 1 && m.missing == 1, 1);
+    expect("not full", (uint64_t)portal_is_full(m), 0);
+    m = portal_mark_openings(setup, WORDS, ORDER_ITEM, NULL, 0);
+    expect("nothing handed in", m.right + m.repeated + m.shut + m.loose, 0);
+    expect("all missing", m.missing, 2);
+}
+
+static void try_mark_lockouts(void)
+{
+    const uint64_t handed[2] = { MAILPW + TOKEN, ORDPW + MAILPW };
+    expect("full", (uint64_t)portal_is_full(portal_mark_lockouts(setup, WORDS, ORDER_ITEM, handed, 2)), 1);
+    expect("marks, no item", portal_mark_lockouts(setup, WORDS, 5, handed, 2).number, PORTAL_NO_ITEM);
+    expect("no full marks", (uint64_t)portal_is_full(portal_mark_lockouts(setup, WORDS, 5, handed, 2)), 0);
+}
+
+static void try_backdoor(void)
+{
+    expect("backdoor", portal_backdoor(setup, WORDS, ORDER_ITEM).yes, 1);
+    expect("no backdoor", portal_backdoor(setup, WORDS, MAIL_ITEM).yes, 0);
+    expect("backdoor, no item", portal_backdoor(setup, WORDS, 5).number, PORTAL_NO_ITEM);
+}
+
+static void try_idle(void)
+{
+    expect("idle", portal_idle(setup, WORDS, MAIL_ITEM).yes, 1);
+    expect("not idle", portal_idle(setup, WORDS, ORDER_ITEM).yes, 0);
+}
+
+static void try_out_of_rank(void)
+{
+    expect("out of rank", portal_out_of_rank(setup, WORDS, ORDER_ITEM, MAIL_ITEM).yes, 1);
+    expect("in rank", portal_out_of_rank(setup, WORDS, MAIL_ITEM, ORDER_ITEM).yes, 0);
+    expect("out of rank, no item", portal_out_of_rank(setup, WORDS, ORDER_ITEM, 5).number, PORTAL_NO_ITEM);
+}
+
+static const struct call {
+    const char *name;
+    size_t stack;
+    void (*run)(void);
+} CALLS[] = {
+    { "portal_version", PORTAL_STACK_SMALL, try_version },
+    { "portal_score", PORTAL_STACK, try_score },
+    { "portal_risk", PORTAL_STACK, try_risk },
+    { "portal_read", PORTAL_STACK_SMALL, try_read },
+    { "portal_name", PORTAL_STACK_SMALL, try_name },
+    { "portal_check", PORTAL_STACK_SMALL, try_check },
+    { "portal_closure", PORTAL_STACK_SMALL, try_closure },
+    { "portal_lost", PORTAL_STACK_SMALL, try_lost },
+    { "portal_way_in", PORTAL_STACK_SMALL, try_way_in },
+    { "portal_lists", PORTAL_STACK, try_lists },
+    { "portal_setup_score", PORTAL_STACK, try_setup_score },
+    { "portal_setup_risk", PORTAL_STACK, try_setup_risk },
+    { "portal_mark_openings", PORTAL_STACK_MARKS, try_mark_openings },
+    { "portal_mark_lockouts", PORTAL_STACK_MARKS, try_mark_lockouts },
+    { "portal_backdoor", PORTAL_STACK, try_backdoor },
+    { "portal_idle", PORTAL_STACK, try_idle },
+    { "portal_out_of_rank", PORTAL_STACK, try_out_of_rank },
+};
+
+enum { COUNT = sizeof CALLS / sizeof CALLS[0], THREADS = 8 };
+
+/* ---- threads */
+
+static void *run_one(void *call)
+{
+    ((const struct call *)call)->run();
+    return NULL;
+}
+
+static void *run_all(void *unused)
+{
+    (void)unused;
+    for (int round = 0; round < 50; round++)
+        for (int i = 0; i < COUNT; i++)
+            CALLS[i].run();
+    return NULL;
+}
+
+static pthread_t begin(size_t stack, void *(*run)(void *), void *with)
+{
+    pthread_t id;
+    pthread_attr_t attr;
+    if (pthread_attr_init(&attr) != 0 || pthread_attr_setstacksize(&attr, stack) != 0 || pthread_create(&id, &attr, run, with) != 0) {
+        printf("no thread with a stack of %zu bytes\n", stack);
+        exit(1);
+    }
+    pthread_attr_destroy(&attr);
+    return id;
+}
+
+/* Does the call return in a thread with so large a stack? In a process of its own, which a small stack ends. */
+static int runs_with(const struct call *call, size_t stack)
+{
+    int status = 0;
+    pid_t child = fork();
+    if (child == 0) {
+        pthread_join(begin(stack, run_one, (void *)call), NULL);
+        _exit(0);
+    }
+    return waitpid(child, &status, 0) == child && status == 0;
+}
+
+static void print_stacks(void)
+{
+    const size_t page = 4096;
+    for (int i = 0; i < COUNT; i++) {
+        size_t low = 3, high = 256;     /* in pages: no thread has 3, and every call runs with 256 */
+        while (low + 1 < high) {
+            size_t middle = (low + high) / 2;
+            if (runs_with(&CALLS[i], middle * page))
+                high = middle;
+            else
+                low = middle;
+        }
+        printf("%s %zu\n", CALLS[i].name, high * page / 1024);
+    }
+}
+
+int main(int argc, char **argv)
+{
+    pthread_t id[THREADS];
+    expect("document 01's sheet", portal_read(bytes(SHEET), strlen(SHEET), setup, WORDS).number, 0);
+    memcpy(malformed, setup, sizeof setup);
+    malformed[PORTAL_RANK(0)] = 10;
+    if (argc > 1 && strcmp(argv[1], "stack") == 0) {
+        print_stacks();
+        return faults;
+    }
+    for (int i = 0; i < COUNT; i++)
+        pthread_join(begin(CALLS[i].stack, run_one, (void *)&CALLS[i]), NULL);
+    for (int i = 0; i < THREADS; i++)
+        id[i] = begin(PORTAL_STACK_MARKS, run_all, NULL);
+    for (int i = 0; i < THREADS; i++)
+        pthread_join(id[i], NULL);
+    for (uint64_t number = 0; number <= PORTAL_SHORT; number++)
+        expect("a sentence", strcmp(portal_refusal_text(number), portal_refusal_text(PORTAL_SHORT + 1)) != 0, 1);
     if (faults)
         return 1;
-    puts("c client: all well");
+    printf("c client: %d calls, all well\n", COUNT);
     return 0;
 }

@@ -1,12 +1,31 @@
 #!/bin/bash
-# Builds the C client with warnings as errors, links it with the portal's library, and runs it.
+# Builds the C client and the example with warnings as errors, as C and as C++, with the archive and with the shared library,
+# and runs them. The library's global names are the header's. `run.sh stack` prints instead how small a stack each call ran with.
 set -euo pipefail
-cd "$(dirname "$0")"
-lib=../../target/staticlib/libportal.a
-out=../../build/c
+cd "$(dirname "$0")/../.."
+lib=build/lib
+out=build/c
+flags=(-Wall -Wextra -Wpedantic -Wconversion -Werror -O2 -Iinclude)
 mkdir -p "$out"
-gcc -std=c11 -Wall -Wextra -Wpedantic -Werror -O2 -pthread -o "$out/client" client.c "$lib"
-if command -v g++ > /dev/null; then
-    echo '#include "../../include/portal.h"' | g++ -std=c++17 -Wall -Wextra -Wpedantic -Werror -fsyntax-only -I. -x c++ -
+
+gcc -std=c11 -D_GNU_SOURCE "${flags[@]}" -pthread -o "$out/client" tests/c/client.c "$lib/libportal.a"
+if [[ ${1:-} == stack ]]; then
+    exec "$out/client" stack
 fi
+gcc -std=c11 -D_GNU_SOURCE "${flags[@]}" -pthread -o "$out/client-shared" tests/c/client.c "$lib/libportal.so"
+gcc -std=c11 "${flags[@]}" -o "$out/example" examples/portal.c "$lib/libportal.a"
+examples=("$out/example")
+if command -v g++ > /dev/null; then
+    g++ -std=c++17 "${flags[@]}" -o "$out/example-c++" -x c++ examples/portal.c -x none "$lib/libportal.a"
+    examples+=("$out/example-c++")
+fi
+
+diff <(nm "$lib/libportal.a" | sed -n 's/.* T //p' | sort) <(sed -n 's/^\(uint64_t\|struct [a-z_]*\) \(portal_[a-z_]*\)(.*/\2/p' include/portal.h | sort) ||
+    { echo "c client: the library has other names than the header" >&2; exit 1; }
 "$out/client"
+LD_LIBRARY_PATH=$lib "$out/client-shared"
+for example in "${examples[@]}"; do
+    "$example" examples/document.sheet order mailpw mailpw mailpw+token token | diff examples/portal.expected - ||
+        { echo "c client: $example prints something else than examples/portal.expected" >&2; exit 1; }
+done
+echo "c client: the example prints what is stored, ${#examples[@]} times"

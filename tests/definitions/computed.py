@@ -27,7 +27,7 @@ FIRST = {
     "report_text": ["report-"],
     "report_facts": ["rest-of-"],
     "report_steps": ["rest-of-"],
-    "probe_setup": ["words-"],
+    "portal_setup": ["words-"],
 }
 
 

@@ -387,7 +387,7 @@ def isOutOfRank(s, v, w):
     return vertexAt(s, w).rank < vertexAt(s, v).rank and scoreOf(False, s, s.graph, v) <= scoreOf(False, s, s.graph, w)
 
 
-# ---- probe_setup: a setup as plain numbers
+# ---- portal_setup: a setup as plain numbers
 
 
 def wordsOf(s):

@@ -23,7 +23,7 @@ findings/Findings findings/Answers
 reference/Tests reference/Closures reference/Bases
 report_text/Rows report_text/Report
 report_facts/Texts report_steps/Rest
-probe_setup/Words
+portal_setup/Words
 worked_examples/Sheets worked_examples/Table
 """.split()
 

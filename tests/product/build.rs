@@ -1,12 +1,10 @@
-//! Links the two static libraries that `rt staticlib portal` and `rt staticlib probe` have made.
+//! Links the portal's library, which `make lib` has made.
 
 use std::path::Path;
 
 fn main() {
-    let libraries = Path::new(env!("CARGO_MANIFEST_DIR")).join("../../target/staticlib");
-    println!("cargo:rustc-link-search=native={}", libraries.display());
-    for name in ["portal", "probe"] {
-        println!("cargo:rustc-link-lib=static={name}");
-        println!("cargo:rerun-if-changed={}", libraries.join(format!("lib{name}.a")).display());
-    }
+    let library = Path::new(env!("CARGO_MANIFEST_DIR")).join("../../build/lib");
+    println!("cargo:rustc-link-search=native={}", library.display());
+    println!("cargo:rustc-link-lib=static=portal");
+    println!("cargo:rerun-if-changed={}", library.join("libportal.a").display());
 }

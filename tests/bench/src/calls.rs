@@ -6,7 +6,6 @@ use crate::targets::{against_twin, Target};
 use crate::timing::{in_turn, median, once};
 use crate::twin::{self, Setup};
 use crate::{plain, proved, Rounds};
-use product::READING;
 use std::hint::black_box;
 
 /// The times of both lists of a target: by the proved call, the twin and the lean twin.
@@ -44,7 +43,7 @@ fn brute_lists(kind: &Kind) -> f64 {
 
 /// Question 12 alone, with the setup taken from its words.
 fn question(kind: &Kind, rounds: usize) -> f64 {
-    let ask = || once(|| assert_eq!(black_box(product::well_formed(black_box(&kind.words))), 0));
+    let ask = || once(|| assert_eq!(black_box(product::check(black_box(&kind.words))), 0));
     median((0..rounds).map(|_| ask()).collect())
 }
 
@@ -106,19 +105,19 @@ pub fn one_target(kinds: &[Kind], rounds: &Rounds, targets: &mut Vec<Target>) ->
 /// The reading of the longest accepted sheet against one list call.
 pub fn reading(rounds: &Rounds, targets: &mut Vec<Target>) -> Grid {
     let kind = longest_sheet();
-    let mut values = [0; READING];
+    let mut words = [0; product::WORDS];
     let mut out = vec![0; ROOM];
     let [read, listed, scored] = in_turn(
         rounds.calls,
         [
             &mut || {
-                black_box(product::read_sheet(black_box(&kind.sheet), &mut values));
+                black_box(product::read(black_box(&kind.sheet), &mut words));
             },
             &mut || {
                 black_box(proved::both_bases(black_box(&kind.words), kind.target, &mut out));
             },
             &mut || {
-                black_box(product::portal_score(black_box(&kind.sheet), kind.target as u64));
+                black_box(product::score(black_box(&kind.sheet), kind.target as u64));
             },
         ],
     );

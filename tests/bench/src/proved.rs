@@ -2,24 +2,29 @@
 
 /// Both lists to one lent list, and their lengths.
 pub fn both_bases(words: &[u64], target: usize, out: &mut [u64]) -> (usize, usize) {
-    let mut counts = [0; 2];
-    answered(product::both_bases(words, target as u64, out, &mut counts));
-    (counts[0] as usize, counts[1] as usize)
+    let lists = product::lists(words, target as u64, out);
+    answered(lists.number);
+    (lists.openings as usize, lists.lockouts as usize)
 }
 
 /// A vertex's score or, with loss, its risk.
 pub fn score(words: &[u64], target: usize, loss: bool) -> u64 {
-    let call = if loss { product::recoverability_score } else { product::security_score };
-    let mut value = [0];
-    answered(call(words, target as u64, &mut value));
-    value[0]
+    let (number, value) = if loss {
+        let risk = product::setup_risk(words, target as u64);
+        (risk.number, risk.risk)
+    } else {
+        let score = product::setup_score(words, target as u64);
+        (score.number, score.score)
+    };
+    answered(number);
+    value
 }
 
 /// Marks of opening sets: right, repeated, shut, loose, missing.
 pub fn mark_access(words: &[u64], target: usize, handed: &[u64]) -> [u64; 5] {
-    let mut marks = [0; 5];
-    answered(product::mark_access(words, target as u64, handed, &mut marks));
-    marks
+    let m = product::mark_openings(words, target as u64, handed);
+    answered(m.number);
+    [m.right, m.repeated, m.shut, m.loose, m.missing]
 }
 
 fn answered(number: u64) {

@@ -1,6 +1,5 @@
 //! What both programs answer, side by side. The first difference ends the run.
 
-use brute::cases::{probes, Rng};
 use brute::setup::Setup;
 use std::fmt::{self, Debug};
 
@@ -60,51 +59,16 @@ impl Subject<'_> {
             brute: format!("{brute:?}"),
         }))
     }
-
-    /// A call that tells values: the number, and how the list that is lent for them ends. The list
-    /// is one longer than the values, and sometimes exact, one short, longer or empty.
-    pub fn same_values(
-        &self,
-        rng: &mut Rng,
-        call: impl Fn() -> String,
-        expected: &Result<Vec<u64>, u8>,
-        proved: impl Fn(&mut [u64]) -> u64,
-    ) -> Result<(), Box<Difference>> {
-        let many = expected.as_ref().map_or(1, Vec::len);
-        self.same_values_at(rng, many + 1, &call, expected, &proved)?;
-        if rng.chance(1, 4) {
-            let length = *rng.pick(&[0, many.saturating_sub(1), many, many + 5]);
-            self.same_values_at(rng, length, &call, expected, &proved)?;
-        }
-        Ok(())
-    }
-
-    fn same_values_at(
-        &self,
-        rng: &mut Rng,
-        length: usize,
-        call: impl Fn() -> String,
-        expected: &Result<Vec<u64>, u8>,
-        proved: impl Fn(&mut [u64]) -> u64,
-    ) -> Result<(), Box<Difference>> {
-        let lent = probes::lent_sets(rng, length);
-        let mut values = lent.clone();
-        let number = proved(&mut values);
-        let call = || format!("{}, with {length} places for values", call());
-        self.same(call, (number, values), told(expected, lent))
-    }
 }
 
-/// The number of an answer, and how a list ends that was lent for its values: they stand at the
-/// front where all of them fit, and otherwise nothing is written.
-pub fn told(expected: &Result<Vec<u64>, u8>, mut lent: Vec<u64>) -> (u64, Vec<u64>) {
-    match expected {
-        Ok(values) => {
-            if let Some(front) = lent.get_mut(..values.len()) {
-                front.copy_from_slice(values);
-            }
-            (0, lent)
-        }
-        Err(number) => (u64::from(*number), lent),
-    }
+/// A result's numbers: that of the answer, its values, and 0 in the fields that it has no value for.
+pub fn told(fields: usize, expected: Result<Vec<u64>, u8>) -> Vec<u64> {
+    let (number, values) = match expected {
+        Ok(values) => (0, values),
+        Err(number) => (u64::from(number), Vec::new()),
+    };
+    let mut numbers = vec![number];
+    numbers.extend(values);
+    numbers.resize(1 + fields, 0);
+    numbers
 }

@@ -19,14 +19,14 @@ const SHEET: &[u8] =
 /// Marks each list, and counts its different sets besides. All have a vertex that is not there, so
 /// that each is shut or repeated, and the list's one set is missing.
 pub fn compare_long_lists(seed: u64) -> Result<(), Box<Difference>> {
-    let mut words = vec![0; 1 + 1281];
-    assert_eq!(product::read_sheet(SHEET, &mut words), 0, "the sheet is accepted");
+    let mut setup = vec![0; product::WORDS];
+    assert_eq!(product::read(SHEET, &mut setup).number, 0, "the sheet is accepted");
     for (label, sets) in lists(seed) {
         let different = sets.iter().collect::<HashSet<_>>().len() as u64;
-        let expected = (0, [0, MANY as u64 - different, different, 0, 1]);
-        let marked = marked(words[1..].to_vec(), sets);
+        let expected = vec![0, 0, MANY as u64 - different, different, 0, 1];
+        let marked = marked(setup.clone(), sets);
         let subject = Subject { label, sheet: Some(SHEET), setup: None };
-        subject.same(|| format!("mark_access(1) of {MANY} sets"), marked, expected)?;
+        subject.same(|| format!("mark_openings(1) of {MANY} sets"), marked, expected)?;
     }
     Ok(())
 }
@@ -47,13 +47,9 @@ fn lists(seed: u64) -> [(&'static str, Vec<u64>); 4] {
     ]
 }
 
-/// The number of the answer and its five values.
-fn marked(words: Vec<u64>, sets: Vec<u64>) -> (u64, [u64; 5]) {
-    let work = move || {
-        let mut values = [0; 5];
-        let number = product::mark_access(&words, 1, &sets, &mut values);
-        (number, values)
-    };
+/// The number of the answer, and its five counts.
+fn marked(setup: Vec<u64>, sets: Vec<u64>) -> Vec<u64> {
+    let work = move || product::mark_openings(&setup, 1, &sets).numbers();
     let thread = thread::Builder::new().stack_size(STACK).spawn(work);
     thread.expect("a thread starts").join().expect("marking ends")
 }

@@ -7,7 +7,6 @@ use brute::cases::{probes, Rng};
 use brute::lists::{Least, Marks};
 use brute::report::PORTAL_NEVER;
 use brute::setup::{Setup, PLACES};
-use product::{MarkCall, NumberCall};
 
 /// How much is asked of a setup.
 #[derive(Clone, Copy)]
@@ -76,15 +75,17 @@ impl Compare<'_> {
     fn all(&mut self) -> Outcome {
         let calls = self.calls;
         let expected = if calls.well_formed() { 0 } else { 12 };
-        let call = || "well_formed".to_string();
-        self.subject.same(call, product::well_formed(&self.words), expected)?;
+        let call = || "check".to_string();
+        self.subject.same(call, product::check(&self.words), expected)?;
         // A malformed setup's count may be any number.
         let count = calls.setup().count.min(PLACES as u64);
         let mut sets = probes::sets_within(self.rng, count, self.depth.sets);
         sets.extend(probes::sets_outside(self.rng, count));
         for &set in &sets {
-            self.number("access_from", set, calls.closure(set), product::access_from)?;
-            self.number("lockout_from", set, calls.lost_set(set), product::lockout_from)?;
+            let closure = product::closure(&self.words, set);
+            self.value("closure", set, closure.numbers(), calls.closure(set))?;
+            let lost = product::lost(&self.words, set);
+            self.value("lost", set, lost.numbers(), calls.lost_set(set))?;
         }
         for target in self.targets(count) {
             self.target(target, &sets, count)?;
@@ -130,20 +131,20 @@ impl Compare<'_> {
         let calls = self.calls;
         let coded = |least: Least| if let Least::Sum(sum) = least { sum } else { PORTAL_NEVER };
         if self.more() {
-            let score = calls.score(target).map(coded);
-            self.number("security_score", target, score, product::security_score)?;
+            let proved = product::setup_score(&self.words, target).numbers();
+            self.value("setup_score", target, proved, calls.score(target).map(coded))?;
         }
         if self.more() {
-            let risk = calls.risk(target).map(coded);
-            self.number("recoverability_score", target, risk, product::recoverability_score)?;
+            let proved = product::setup_risk(&self.words, target).numbers();
+            self.value("setup_risk", target, proved, calls.risk(target).map(coded))?;
         }
         if self.more() {
-            let backdoor = calls.backdoor(target).map(u64::from);
-            self.number("has_backdoor", target, backdoor, product::has_backdoor)?;
+            let proved = product::backdoor(&self.words, target).numbers();
+            self.value("backdoor", target, proved, calls.backdoor(target).map(u64::from))?;
         }
         if self.more() {
-            let idle = calls.idle(target).map(u64::from);
-            self.number("ineffective_recovery", target, idle, product::ineffective_recovery)?;
+            let proved = product::idle(&self.words, target).numbers();
+            self.value("idle", target, proved, calls.idle(target).map(u64::from))?;
         }
         Ok(())
     }
@@ -154,37 +155,34 @@ impl Compare<'_> {
             let members = calls.setup().starting();
             let right = calls.opening_list(target).unwrap_or_default();
             let mark = |handed: &[u64]| calls.mark_openings(target, handed);
-            self.marks("mark_access", target, right, &members, mark, product::mark_access)?;
+            self.marks("mark_openings", target, right, &members, mark, product::mark_openings)?;
         }
         if self.more() {
             let members = calls.setup().losable();
             let right = calls.lockout_list(target).unwrap_or_default();
             let mark = |handed: &[u64]| calls.mark_lockouts(target, handed);
-            self.marks("mark_lockout", target, right, &members, mark, product::mark_lockout)?;
+            self.marks("mark_lockouts", target, right, &members, mark, product::mark_lockouts)?;
         }
         Ok(())
     }
 
-    /// A call on one number with one value.
-    fn number(
-        &mut self,
+    /// What a call on one number handed back, which has one value.
+    fn value(
+        &self,
         name: &str,
         number: u64,
+        proved: Vec<u64>,
         expected: Result<u64, u8>,
-        call: NumberCall,
     ) -> Outcome {
-        let expected = expected.map(|value| vec![value]);
         let named = || format!("{name}({number:#x})");
-        let words = &self.words;
-        self.subject.same_values(self.rng, named, &expected, |values| call(words, number, values))
+        self.subject.same(named, proved, told(1, expected.map(|value| vec![value])))
     }
 
     fn pair(&mut self, above: u64, below: u64) -> Outcome {
         let expected = self.calls.out_of_rank(above, below).map(|is| vec![u64::from(is)]);
-        let named = || format!("inconsistent({above}, {below})");
-        let words = &self.words;
-        let call = |values: &mut [u64]| product::inconsistent(words, above, below, values);
-        self.subject.same_values(self.rng, named, &expected, call)
+        let named = || format!("out_of_rank({above}, {below})");
+        let proved = product::out_of_rank(&self.words, above, below);
+        self.subject.same(named, proved.numbers(), told(1, expected))
     }
 
     /// Both lists, to lent lists around the length that they need.
@@ -204,12 +202,9 @@ impl Compare<'_> {
             let (mut proved, mut brute) = (before.clone(), before);
             let expected = calls.lists(target, &mut brute);
             let expected = expected.map(|(n, m)| vec![n as u64, m as u64]);
-            let lent = probes::lent_sets(self.rng, 3);
-            let mut values = lent.clone();
-            let number = product::both_bases(&self.words, target, &mut proved, &mut values);
-            let named = || format!("both_bases({target}), with {length} places");
-            let proved = ((number, values), proved);
-            self.subject.same(named, proved, (told(&expected, lent), brute))?;
+            let numbers = product::lists(&self.words, target, &mut proved).numbers();
+            let named = || format!("lists({target}), with {length} places");
+            self.subject.same(named, (numbers, proved), (told(2, expected), brute))?;
         }
         Ok(())
     }
@@ -234,20 +229,12 @@ impl Compare<'_> {
                 Way::Shut => vec![0],
             });
             let (mut items_proved, mut colours_proved) = (items.clone(), colours.clone());
-            let lent = probes::lent_sets(self.rng, 3);
-            let mut values = lent.clone();
-            let number = product::access_derivation(
-                &self.words,
-                target,
-                set,
-                &mut items_proved,
-                &mut colours_proved,
-                &mut values,
-            );
+            let way =
+                product::way_in(&self.words, target, set, &mut items_proved, &mut colours_proved);
             let lengths = (items.len(), colours.len());
-            let named = || format!("access_derivation({target}, {set:#x}), places {lengths:?}");
-            let proved = ((number, values), items_proved, colours_proved);
-            let brute = (told(&expected, lent), items_brute, colours_brute);
+            let named = || format!("way_in({target}, {set:#x}), places {lengths:?}");
+            let proved = (way.numbers(), items_proved, colours_proved);
+            let brute = (told(2, expected), items_brute, colours_brute);
             self.subject.same(named, proved, brute)?;
         }
         Ok(())
@@ -261,7 +248,7 @@ impl Compare<'_> {
         right: &[u64],
         members: &[(usize, u64)],
         brute: impl Fn(&[u64]) -> Result<Marks, u8>,
-        proved: MarkCall,
+        proved: fn(&[u64], u64, &[u64]) -> product::Marks,
     ) -> Outcome {
         let allowed = members.iter().fold(0, |set, &(item, _)| set | 1 << item);
         let count = self.calls.setup().count.min(PLACES as u64);
@@ -270,7 +257,6 @@ impl Compare<'_> {
             self.rng.shuffle(&mut handed);
             handed.truncate(self.depth.handed);
         }
-        let words = &self.words;
         for list in &handed {
             let marks = brute(&list.sets);
             let expected = marks.map(|marks| {
@@ -278,8 +264,8 @@ impl Compare<'_> {
                 [right, repeated, shut, loose, missing].map(|count| count as u64).to_vec()
             });
             let named = || format!("{name}({target}), {}: {:x?}", list.label, list.sets);
-            let call = |values: &mut [u64]| proved(words, target, &list.sets, values);
-            self.subject.same_values(self.rng, named, &expected, call)?;
+            let marks = proved(&self.words, target, &list.sets);
+            self.subject.same(named, marks.numbers(), told(5, expected))?;
         }
         Ok(())
     }

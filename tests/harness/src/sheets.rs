@@ -1,7 +1,7 @@
 //! A text: its reading, its items' names, the portal's numbers, all calls on the setup that it
 //! yields, and the whole report.
 
-use crate::compare::{told, Difference, Subject};
+use crate::compare::{Difference, Subject};
 use crate::program::Program;
 use crate::setups::{compare_setup, Depth};
 use crate::words::words_of;
@@ -49,7 +49,7 @@ fn text(bytes: &[u8]) -> String {
     String::from_utf8_lossy(bytes).into_owned()
 }
 
-/// The number; then the line and the setup's words to lists with room and without.
+/// The number and the line, and how buffers with room and without end.
 fn reading(
     subject: &Subject,
     rng: &mut Rng,
@@ -60,35 +60,41 @@ fn reading(
         Ok(sheet) => (0, 0, sheet.setup.clone()),
         Err(refusal) => (u64::from(refusal.number), refusal.line, Setup::empty()),
     };
-    let mut expected = vec![line];
-    expected.extend(words_of(&setup).expect("a sheet's setup can be said in words"));
-    let other = *rng.pick(&[0, 1, WORDS, WORDS + 1, WORDS + 9]);
-    for length in [WORDS + 2, other] {
+    let words = words_of(&setup).expect("a sheet's setup can be said in words");
+    let other = *rng.pick(&[0, 1, WORDS - 1, WORDS, WORDS + 9]);
+    for length in [WORDS + 1, other] {
         let lent = probes::lent_sets(rng, length);
-        let mut values = lent.clone();
-        let proved = product::read_sheet(sheet, &mut values);
-        let (_, lent) = told(&Ok(expected.clone()), lent);
-        let call = || format!("read_sheet, with {length} places for values");
-        subject.same(call, (proved, values), (number, lent))?;
+        let (mut proved, mut brute) = (lent.clone(), lent);
+        let numbers = product::read(sheet, &mut proved).numbers();
+        let number = match brute.get_mut(..WORDS) {
+            Some(front) => {
+                front.copy_from_slice(&words);
+                number
+            }
+            None if number == 0 => 15,
+            None => number,
+        };
+        let call = || format!("read, with {length} words");
+        subject.same(call, (numbers, proved), (vec![number, line], brute))?;
     }
     Ok(())
 }
 
-/// Where each name begins, and its bytes.
+/// Where each name stands, and its bytes.
 fn names(subject: &Subject, rng: &mut Rng, sheet: &[u8], read: &Result<Sheet, Refusal>) -> Outcome {
     let count = read.as_ref().map_or(0, |sheet| sheet.setup.count);
     let mut items = probes::item_numbers(count);
     rng.shuffle(&mut items);
     for &item in items.iter().take(6) {
-        let range = match read {
-            Ok(read) if item < count => read.names[item as usize].clone(),
-            _ => 0..0,
+        let (number, range) = match read {
+            Ok(read) if item < count => (0, read.names[item as usize].clone()),
+            Ok(_) => (13, 0..0),
+            Err(refusal) => (u64::from(refusal.number), 0..0),
         };
-        let bytes = sheet[range.clone()].iter().map(|&byte| u64::from(byte));
-        let expected: Vec<u64> = std::iter::once(range.start as u64).chain(bytes).collect();
-        let call = || format!("name_of({item})");
-        let name = |values: &mut [u64]| product::name_of(sheet, item, values);
-        subject.same_values(rng, call, &Ok(expected), name)?;
+        let expected = vec![number, range.start as u64, range.len() as u64];
+        let part = product::name(sheet, item);
+        let call = || format!("name({item})");
+        subject.same(call, (part.numbers(), part.of(sheet)), (expected, &sheet[range]))?;
     }
     Ok(())
 }
@@ -111,10 +117,10 @@ fn portal(
             Ok(calls) => (calls.score(item), calls.risk(item)),
             Err(refusal) => (Err(refusal.number), Err(refusal.number)),
         };
-        let call = || format!("portal_score({item})");
-        subject.same(call, product::portal_score(sheet, item), portal_code(score))?;
-        let call = || format!("portal_risk({item})");
-        subject.same(call, product::portal_risk(sheet, item), portal_code(risk))?;
+        let call = || format!("score({item})");
+        subject.same(call, product::score(sheet, item), portal_code(score))?;
+        let call = || format!("risk({item})");
+        subject.same(call, product::risk(sheet, item), portal_code(risk))?;
     }
     Ok(())
 }

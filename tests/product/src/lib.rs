@@ -1,189 +1,184 @@
-//! The proved code's calls, from `libportal.a` and `libprobe.a`, as safe functions. A setup is given
-//! as [`WORDS`] plain numbers: the count; then of each of 64 places kind (0 for a credential, 1 for an
-//! account), start, loss and rank; then of each place eight rows; then the same rows of recovery
-//! edges. A call returns its number, and writes its values to the front of `values` where they fit.
-//! Only this crate has unsafe code for them: a slice is a pointer and a length there, and the calls
-//! are proved to stay within it.
+//! The portal's calls as safe functions, over the library that `make lib` makes: what a portal
+//! written in Rust would use. `include/portal.h` tells of each call more than stands here.
+//!
+//! A setup is a buffer of [`WORDS`] plain numbers, which [`read`] writes: the count; then of each of
+//! 64 places kind (0 for a credential, any other number for an account), start, loss (or [`BLANK`])
+//! and rank; then of each place eight rows, one a colour; then the same rows of recovery edges. A
+//! shorter buffer counts as one with zeros behind it. An item is its number, a set the sum of 2^i
+//! over its items.
+//!
+//! This crate is all the unsafe code there is for the calls: a slice is a pointer and a length
+//! there, and the calls are proved to stay within it.
 
-mod linked {
-    extern "C" {
-        pub fn portal_score(sheet: *const u8, length: usize, item: u64) -> u64;
-        pub fn portal_risk(sheet: *const u8, length: usize, item: u64) -> u64;
-        pub fn probe_read_sheet(sheet: *const u8, length: usize, values: *mut u64, n: usize)
-            -> u64;
-        pub fn probe_name_of(
-            sheet: *const u8,
-            length: usize,
-            item: u64,
-            values: *mut u64,
-            n: usize,
-        ) -> u64;
-        pub fn probe_well_formed(words: *const u64, length: usize) -> u64;
-        pub fn probe_access_derivation(
-            words: *const u64,
-            length: usize,
-            target: u64,
-            set: u64,
-            vertices: *mut u8,
-            vertices_length: usize,
-            colours: *mut u8,
-            colours_length: usize,
-            values: *mut u64,
-            n: usize,
-        ) -> u64;
-        pub fn probe_both_bases(
-            words: *const u64,
-            length: usize,
-            target: u64,
-            out: *mut u64,
-            out_length: usize,
-            values: *mut u64,
-            n: usize,
-        ) -> u64;
-        pub fn probe_inconsistent(
-            words: *const u64,
-            length: usize,
-            above: u64,
-            below: u64,
-            values: *mut u64,
-            n: usize,
-        ) -> u64;
-    }
-}
+mod results;
+
+pub use results::{
+    Closure, Finding, Lists, Marks, Part, Reading, Refusal, Set, SetupRisk, SetupScore, Way,
+};
 
 /// How many words a setup has.
 pub const WORDS: usize = 1 + 4 * 64 + 2 * 8 * 64;
-/// How many values a reading has: the line, then the setup's words.
-pub const READING: usize = 1 + WORDS;
 /// The number that stands for a blank, and so for no value.
 pub const BLANK: u64 = u64::MAX;
+/// "Never": the score of an item that no set opens, the risk of one that no loss shuts.
+pub const NEVER: u64 = 1 << 62;
+/// The version of the header that this crate was written for.
+pub const VERSION: u64 = 10000;
 
-/// A call on a setup and one number.
-pub type NumberCall = fn(&[u64], u64, &mut [u64]) -> u64;
-/// A call on a setup, a target and a handed-in list.
-pub type MarkCall = fn(&[u64], u64, &[u64], &mut [u64]) -> u64;
+mod linked {
+    use super::*;
 
-/// The portal's score of an item: 2^62 for "never", 2^62 plus the number for a refusal.
-pub fn portal_score(sheet: &[u8], item: u64) -> u64 {
+    extern "C" {
+        pub fn portal_version() -> u64;
+        pub fn portal_score(sheet: *const u8, length: usize, item: u64) -> u64;
+        pub fn portal_risk(sheet: *const u8, length: usize, item: u64) -> u64;
+        pub fn portal_read(sheet: *const u8, n: usize, setup: *mut u64, words: usize) -> Reading;
+        pub fn portal_name(sheet: *const u8, length: usize, item: u64) -> Part;
+        pub fn portal_check(setup: *const u64, words: usize) -> u64;
+        pub fn portal_closure(setup: *const u64, words: usize, set: u64) -> Closure;
+        pub fn portal_lost(setup: *const u64, words: usize, set: u64) -> Set;
+        pub fn portal_way_in(
+            setup: *const u64,
+            words: usize,
+            target: u64,
+            set: u64,
+            items: *mut u8,
+            item_places: usize,
+            colours: *mut u8,
+            colour_places: usize,
+        ) -> Way;
+        pub fn portal_lists(
+            setup: *const u64,
+            words: usize,
+            target: u64,
+            sets: *mut u64,
+            places: usize,
+        ) -> Lists;
+        pub fn portal_setup_score(setup: *const u64, words: usize, target: u64) -> SetupScore;
+        pub fn portal_setup_risk(setup: *const u64, words: usize, target: u64) -> SetupRisk;
+        pub fn portal_mark_openings(
+            setup: *const u64,
+            words: usize,
+            target: u64,
+            sets: *const u64,
+            count: usize,
+        ) -> Marks;
+        pub fn portal_mark_lockouts(
+            setup: *const u64,
+            words: usize,
+            target: u64,
+            sets: *const u64,
+            count: usize,
+        ) -> Marks;
+        pub fn portal_backdoor(setup: *const u64, words: usize, item: u64) -> Finding;
+        pub fn portal_idle(setup: *const u64, words: usize, item: u64) -> Finding;
+        pub fn portal_out_of_rank(
+            setup: *const u64,
+            words: usize,
+            above: u64,
+            below: u64,
+        ) -> Finding;
+    }
+}
+
+/// The version of the linked library, to be compared with [`VERSION`].
+pub fn version() -> u64 {
+    unsafe { linked::portal_version() }
+}
+
+/// The score of an item of a sheet: [`NEVER`] for "never", [`NEVER`] plus the number for a refusal.
+pub fn score(sheet: &[u8], item: u64) -> u64 {
     unsafe { linked::portal_score(sheet.as_ptr(), sheet.len(), item) }
 }
 
-/// The portal's risk of an item, coded likewise.
-pub fn portal_risk(sheet: &[u8], item: u64) -> u64 {
+/// The risk of an item of a sheet, coded likewise.
+pub fn risk(sheet: &[u8], item: u64) -> u64 {
     unsafe { linked::portal_risk(sheet.as_ptr(), sheet.len(), item) }
 }
 
-/// Values: the line, then the words of the setup.
-pub fn read_sheet(sheet: &[u8], values: &mut [u64]) -> u64 {
+/// Reads a sheet, and writes its setup to the front of a buffer of at least [`WORDS`] places. 1 to
+/// 11 with a line; 15 for an accepted sheet and a shorter buffer, to which nothing is written.
+pub fn read(sheet: &[u8], setup: &mut [u64]) -> Reading {
     let (text, length) = (sheet.as_ptr(), sheet.len());
-    unsafe { linked::probe_read_sheet(text, length, values.as_mut_ptr(), values.len()) }
+    unsafe { linked::portal_read(text, length, setup.as_mut_ptr(), setup.len()) }
 }
 
-/// Values: where the name begins, then its bytes.
-pub fn name_of(sheet: &[u8], item: u64, values: &mut [u64]) -> u64 {
-    let (text, length) = (sheet.as_ptr(), sheet.len());
-    unsafe { linked::probe_name_of(text, length, item, values.as_mut_ptr(), values.len()) }
+/// Where an item's name stands in the sheet. 1 to 11, 13.
+pub fn name(sheet: &[u8], item: u64) -> Part {
+    unsafe { linked::portal_name(sheet.as_ptr(), sheet.len(), item) }
 }
 
-/// Question 12: 0 or 12.
-pub fn well_formed(words: &[u64]) -> u64 {
-    unsafe { linked::probe_well_formed(words.as_ptr(), words.len()) }
+/// Question 12: 0 for a setup that an accepted sheet yields, else 12.
+pub fn check(setup: &[u64]) -> u64 {
+    unsafe { linked::portal_check(setup.as_ptr(), setup.len()) }
 }
 
-macro_rules! number_calls {
-    ($($name:ident = $linked:ident, $what:literal;)*) => {
-        extern "C" {
-            $(fn $linked(
-                words: *const u64,
-                length: usize,
-                number: u64,
-                values: *mut u64,
-                n: usize,
-            ) -> u64;)*
-        }
-
-        $(#[doc = $what]
-        pub fn $name(words: &[u64], number: u64, values: &mut [u64]) -> u64 {
-            let (setup, length) = (words.as_ptr(), words.len());
-            unsafe { $linked(setup, length, number, values.as_mut_ptr(), values.len()) }
-        })*
-    };
+/// What a set opens. 12, 14.
+pub fn closure(setup: &[u64], set: u64) -> Closure {
+    unsafe { linked::portal_closure(setup.as_ptr(), setup.len(), set) }
 }
 
-number_calls! {
-    access_from = probe_access_from, "What a set opens.";
-    lockout_from = probe_lockout_from, "What the loss of a set takes away.";
-    security_score = probe_security_score, "An item's score.";
-    recoverability_score = probe_recoverability_score, "An item's risk.";
-    has_backdoor = probe_has_backdoor, "1 for yes, 0 for no.";
-    ineffective_recovery = probe_ineffective_recovery, "1 for yes, 0 for no.";
+/// What the loss of a set takes away. 12, 14.
+pub fn lost(setup: &[u64], set: u64) -> Set {
+    unsafe { linked::portal_lost(setup.as_ptr(), setup.len(), set) }
 }
 
-/// Out of rank: 1 for yes, 0 for no.
-pub fn inconsistent(words: &[u64], above: u64, below: u64, values: &mut [u64]) -> u64 {
-    let (setup, length) = (words.as_ptr(), words.len());
-    let (front, n) = (values.as_mut_ptr(), values.len());
-    unsafe { linked::probe_inconsistent(setup, length, above, below, front, n) }
-}
-
-/// The way in: items and colours to two lists; values: 1 and the count, or 0 for "shut".
-pub fn access_derivation(
-    words: &[u64],
-    target: u64,
-    set: u64,
-    items: &mut [u8],
-    colours: &mut [u8],
-    values: &mut [u64],
-) -> u64 {
+/// The way in from a set to a target: the steps' items to one list, their colours to the other.
+/// 12, 13, 14, and 15 where the answer isn't "shut".
+pub fn way_in(setup: &[u64], target: u64, set: u64, items: &mut [u8], colours: &mut [u8]) -> Way {
     unsafe {
-        linked::probe_access_derivation(
-            words.as_ptr(),
-            words.len(),
+        linked::portal_way_in(
+            setup.as_ptr(),
+            setup.len(),
             target,
             set,
             items.as_mut_ptr(),
             items.len(),
             colours.as_mut_ptr(),
             colours.len(),
-            values.as_mut_ptr(),
-            values.len(),
         )
     }
 }
 
-/// Both lists to one lent list; values: both counts.
-pub fn both_bases(words: &[u64], target: u64, out: &mut [u64], values: &mut [u64]) -> u64 {
-    let (setup, length) = (words.as_ptr(), words.len());
-    let (list, places) = (out.as_mut_ptr(), out.len());
-    let (front, n) = (values.as_mut_ptr(), values.len());
-    unsafe { linked::probe_both_bases(setup, length, target, list, places, front, n) }
+/// The opening list and, from the next place on, the lockout list of a target. 12, 13, 15.
+pub fn lists(setup: &[u64], target: u64, sets: &mut [u64]) -> Lists {
+    let (words, length) = (setup.as_ptr(), setup.len());
+    unsafe { linked::portal_lists(words, length, target, sets.as_mut_ptr(), sets.len()) }
 }
 
-macro_rules! mark_calls {
-    ($($name:ident = $linked:ident, $what:literal;)*) => {
-        extern "C" {
-            $(fn $linked(
-                words: *const u64,
-                length: usize,
-                target: u64,
-                handed: *const u64,
-                handed_length: usize,
-                values: *mut u64,
-                n: usize,
-            ) -> u64;)*
-        }
-
-        $(#[doc = $what]
-        pub fn $name(words: &[u64], target: u64, handed: &[u64], values: &mut [u64]) -> u64 {
-            let (setup, length) = (words.as_ptr(), words.len());
-            let (list, places) = (handed.as_ptr(), handed.len());
-            let (front, n) = (values.as_mut_ptr(), values.len());
-            unsafe { $linked(setup, length, target, list, places, front, n) }
-        })*
-    };
+/// A target's score. 12, 13.
+pub fn setup_score(setup: &[u64], target: u64) -> SetupScore {
+    unsafe { linked::portal_setup_score(setup.as_ptr(), setup.len(), target) }
 }
 
-mark_calls! {
-    mark_access = probe_mark_access, "Marks of opening sets: right, repeated, shut, loose, missing.";
-    mark_lockout = probe_mark_lockout, "Marks of lockout sets.";
+/// A target's risk. 12, 13.
+pub fn setup_risk(setup: &[u64], target: u64) -> SetupRisk {
+    unsafe { linked::portal_setup_risk(setup.as_ptr(), setup.len(), target) }
+}
+
+/// Marks of handed-in opening sets. 12, 13.
+pub fn mark_openings(setup: &[u64], target: u64, sets: &[u64]) -> Marks {
+    let (words, length) = (setup.as_ptr(), setup.len());
+    unsafe { linked::portal_mark_openings(words, length, target, sets.as_ptr(), sets.len()) }
+}
+
+/// Marks of handed-in lockout sets. 12, 13.
+pub fn mark_lockouts(setup: &[u64], target: u64, sets: &[u64]) -> Marks {
+    let (words, length) = (setup.as_ptr(), setup.len());
+    unsafe { linked::portal_mark_lockouts(words, length, target, sets.as_ptr(), sets.len()) }
+}
+
+/// Is recovery a backdoor to the item? 12, 13.
+pub fn backdoor(setup: &[u64], item: u64) -> Finding {
+    unsafe { linked::portal_backdoor(setup.as_ptr(), setup.len(), item) }
+}
+
+/// Is the item's recovery idle? 12, 13.
+pub fn idle(setup: &[u64], item: u64) -> Finding {
+    unsafe { linked::portal_idle(setup.as_ptr(), setup.len(), item) }
+}
+
+/// Are the two items, in this order, out of rank? 12, 13.
+pub fn out_of_rank(setup: &[u64], above: u64, below: u64) -> Finding {
+    unsafe { linked::portal_out_of_rank(setup.as_ptr(), setup.len(), above, below) }
 }

@@ -1,0 +1,80 @@
+-- Writing words one after the other.
+-- Assumes nothing.
+use mathlib.Core.Path.{_≡_, refl, sym, ap, subst, _∙_}
+use mathlib.Core.List.{List, [], _∷_, _++_}
+use Prim.Native.Nat.{ℕ, suc, _+_, _≤_, _<_}
+use native.Mathlib.Numerals.{add-one}
+use native.Mathlib.Omega.{arith}
+use lib.ListN.{length, getD, set, drop, length-set, length-append}
+use lib.Seq.{paste, paste-zero, paste-suc, sets-eq, take-length, drop-length, drop-cons, length-sets}
+use Rattle.family_lists.specs.Inner.Tables.{Wrote}
+use Rattle.family_lists.proofs.Lists.{Writing, writing-none, writing-part, writing-end, wrote-one}
+use Rattle.portal_setup.specs.Words.{flat}
+use Rattle.portal_setup.specs.Inner.{WroteAll}
+
+-- ---- a copy
+
+-- Of the words s, the first i stand in `out` from `at` on, which was d.
+pub record Copied (d : List ℕ) (at : ℕ) (s out : List ℕ) (i : ℕ) : Type 0 where
+  pub long : length out ≡ length d
+  pub value : out ≡ paste d at s i
+
+pub copied-none : (d : List ℕ) (at : ℕ) (s : List ℕ) → Copied d at s d 0
+copied-none d at s = record { long = refl; value = paste-zero d at s }
+
+module _ (d : List ℕ) (at : ℕ) (s : List ℕ) (room : at + length s ≤ length d) where
+  pub copied-more : (out : List ℕ) (i : ℕ) → i < length s → Copied d at s out i → Copied d at s (set out (at + i) (getD s i 0)) (i + 1)
+  copied-more out i h w =
+      rw (add-one i)
+      (record {
+        long = length-set out (at + i) (getD s i 0) ∙ w .long;
+        value = ap (λ (l : List ℕ). set l (at + i) (getD s i 0)) (w .value) ∙ paste-suc d at s i 0 (omega arith) h;
+      })
+
+  pub copied-all : (out : List ℕ) → Copied d at s out (length s) → Wrote d at s out (at + length s)
+  copied-all out w = record { exit = (rw (take-length s) at (w .value)) ∙ sym (sets-eq s d at room); next = refl }
+
+-- ---- the words of a list's elements: those of the first v stand
+
+module _ {A : Type 0} (f : A → List ℕ) (xs : List A) (d : List ℕ) (at : ℕ) where
+  abbrev pub Put : List ℕ → ℕ → ℕ → Type 0
+  Put out next v = Writing d at (flat f xs) (flat f (drop v xs)) out next
+
+  pub put-none : Put d at 0
+  put-none = writing-none d at (flat f xs)
+
+  pub put-more : (out : List ℕ) (next v : ℕ) (z : A) (after : List ℕ) (r : ℕ) → v < length xs → Put out next v → Wrote out next (f (getD xs v z)) after r
+      → Put after r (v + 1)
+  unfolding flat
+  put-more out next v z after r h w p =
+      rw (add-one v) (writing-part d at (flat f xs) (f (getD xs v z)) (flat f (drop (suc v) xs)) out next after r (rw (drop-cons xs v z h) at w) p)
+
+  pub put-all : (out : List ℕ) (next v n : ℕ) → v ≡ length xs → next ≡ at + n → Put out next v → WroteAll n d at (flat f xs) out next
+  unfolding flat
+  put-all out next v n e k w =
+      let none : flat f (drop v xs) ≡ [] = rw (e, drop-length xs) in
+      let all = writing-end d at (flat f xs) (flat f (drop v xs)) out next none w in
+      record { long = omega (arith, all .next); wrote = all }
+
+-- ---- one run of words behind another
+
+pub wrote-as : {d : List ℕ} {at : ℕ} {xs ys out : List ℕ} {r : ℕ} → xs ≡ ys → Wrote d at xs out r → Wrote d at ys out r
+wrote-as {d} {at} {out = out} {r = r} e w = subst (λ (l : List ℕ). Wrote d at l out r) e w
+
+pub all-one : (d : List ℕ) (at x : ℕ) → WroteAll 1 d at (x ∷ []) (set d at x) (at + 1)
+all-one d at x = record { long = refl; wrote = wrote-one d at x }
+
+module _ (n : ℕ) (d : List ℕ) (at : ℕ) (xs out : List ℕ) (next : ℕ) (w : WroteAll n d at xs out next) where
+  pub all-long : length out ≡ length d
+  all-long = ap length (w .wrote .exit) ∙ length-sets d at xs
+
+  pub all-next : next ≡ at + n
+  all-next = w .wrote .next ∙ ap (λ (k : ℕ). at + k) (w .long)
+
+  pub all-then : (m : ℕ) (ys after : List ℕ) (r : ℕ) → WroteAll m out next ys after r → WroteAll (n + m) d at (xs ++ ys) after r
+  all-then m ys after r v =
+      let p = writing-part d at (xs ++ ys) xs ys d at out next (writing-none d at (xs ++ ys)) (w .wrote) in
+      let a = length-append xs ys in
+      let l = w .long in
+      let k = v .long in
+      record { long = omega arith; wrote = record { exit = v .wrote .exit ∙ p .value; next = v .wrote .next ∙ p .count } }

@@ -1,0 +1,70 @@
+use native.Mathlib.Omega.{arith}
+use lib.ListN.{length-set}
+use Rattle.portal_setup.specs.Words.{wordsOf}
+use Rattle.portal_setup.proofs.Writing.{all-one, all-long, all-next, all-then}
+use borrow.Author.Needs.{needs}
+use Rattle.portal_setup.proofs.put_setup.Statement.{statement}
+use Rattle.portal_setup.proofs.put_setup.Tie as tie
+
+mul-out : tie.Need-mul-out
+mul-out c = search needs
+
+slice-write-out : tie.Need-slice-write-out
+slice-write-out c = search needs
+
+add-put-vertices : tie.Need-add-put-vertices
+add-put-vertices c = search needs
+
+put-vertices-requires : tie.Need-put-vertices-requires
+put-vertices-requires c κs =
+    let st = c .before .before .before .before in
+    let k = length-set (st .args .out .now) (st .args .at) (st .args .s .count) in
+    omega arith
+
+put-graph-requires : tie.Need-put-graph-requires
+put-graph-requires c κs =
+    let v = c .before .before .before in
+    let st = v .before .before .before .before .before in
+    let k = length-set (st .args .out .now) (st .args .at) (st .args .s .count) in
+    let l = all-long 256 _ _ _ _ _ (v .put-vertices .ensures) in
+    let n = all-next 256 _ _ _ _ _ (v .put-vertices .ensures) in
+    omega arith
+
+put-graph-requires-2 : tie.Need-put-graph-requires-2
+put-graph-requires-2 c κs =
+    let g = c .before .before .before in
+    let v = g .before .before .before .before in
+    let st = v .before .before .before .before .before in
+    let k = length-set (st .args .out .now) (st .args .at) (st .args .s .count) in
+    let l = all-long 256 _ _ _ _ _ (v .put-vertices .ensures) in
+    let n = all-next 256 _ _ _ _ _ (v .put-vertices .ensures) in
+    let l2 = all-long 512 _ _ _ _ _ (g .put-graph .ensures) in
+    let n2 = all-next 512 _ _ _ _ _ (g .put-graph .ensures) in
+    omega arith
+
+returns : tie.Need-returns
+unfolding wordsOf
+returns c =
+    let h = c .before .before in
+    let g = h .before .before .before .before in
+    let v = g .before .before .before .before in
+    let a = v .before .before .before .before .before .args in
+    all-then 1 _ _ _ _ _ (all-one (a .out .now) (a .at) (a .s .count)) 1280 _ _ _
+    (all-then 256 _ _ _ _ _ (v .put-vertices .ensures) 1024 _ _ _
+    (all-then 512 _ _ _ _ _ (g .put-graph .ensures) 512 _ _ _ (h .put-graph2 .ensures)))
+
+same-length : tie.Need-same-length
+same-length c = all-long 1281 _ _ _ _ _ (returns c)
+
+pub put-setup-spec : {M : Type 1} → statement M
+put-setup-spec =
+    tie.close
+    (tie.spec
+    mul-out
+    slice-write-out
+    add-put-vertices
+    put-vertices-requires
+    put-graph-requires
+    put-graph-requires-2
+    same-length
+    returns)

@@ -1,0 +1,196 @@
+// A setup as plain numbers, as C hands it over and gets it: every buffer says one, malformed ones too.
+ghost use mathlib.Core.Path.{_≡_};
+ghost use Prim.Native.Nat.{_+_, _≤_, _<_};
+ghost use lib.ListN.{length};
+ghost use Rattle.family_lists.specs.Inner.Tables.{Wrote};
+ghost use Rattle.portal_setup.specs.Inner.{WroteAll};
+ghost use Rattle.portal_setup.specs.Words.{wordAt, kindIn, valueIn, vertexIn, rowsIn, graphIn, setupIn, kindWord, valueWord, vertexWords, verticesWords, graphWords, wordsOf};
+use setup::Graph;
+use setup::Kind;
+use setup::Rows;
+use setup::Setup;
+use setup::Value;
+use setup::Vertex;
+
+// The number that stands for a blank.
+const BLANK: u64 = 0xFFFF_FFFF_FFFF_FFFF;
+
+// Where the rows of the graph begin, and those of the recovery edges.
+const GRAPH: usize = 257;
+
+const RECOVERY: usize = 769;
+
+fn word_at(words: &[u64], i: usize) -> u64
+    ensures { λ r. ⌜ r ≡ wordAt (now (words .entry)) i ⌝ }
+{
+    if i < words.len() { words[i] } else { 0 }
+}
+
+fn kind_in(n: u64) -> Kind
+    ensures { λ r. ⌜ r ≡ kindIn n ⌝ }
+{
+    if n == 0 {
+        return Kind::Credential;
+    }
+    Kind::Account
+}
+
+fn value_in(n: u64) -> Value
+    ensures { λ r. ⌜ r ≡ valueIn n ⌝ }
+{
+    if n == BLANK {
+        return Value::Blank;
+    }
+    Value::Of(n)
+}
+
+fn vertex_in(words: &[u64], v: usize) -> Vertex
+    requires { ⌜ v < 64 ⌝ }
+    ensures { λ r. ⌜ r ≡ vertexIn (now (words .entry)) v ⌝ }
+{
+    let at = 1 + 4 * v;
+    let kind = kind_in(word_at(words, at));
+    let start = value_in(word_at(words, at + 1));
+    let loss = value_in(word_at(words, at + 2));
+    let rank = word_at(words, at + 3);
+    Vertex {
+        kind,
+        start,
+        loss,
+        rank,
+    }
+}
+
+fn rows_in(words: &[u64], at: usize) -> Rows
+    requires { ⌜ at ≤ 2048 ⌝ }
+    ensures { λ r. ⌜ r ≡ rowsIn (now (words .entry)) at ⌝ }
+{
+    let mut r = Rows { needs: [0; 8] };
+    for c in 0..8usize {
+        r.needs[c] = word_at(words, at + c);
+    }
+    r
+}
+
+fn graph_in(words: &[u64], at: usize) -> Graph
+    requires { ⌜ at ≤ 1024 ⌝ }
+    ensures { λ r. ⌜ r ≡ graphIn (now (words .entry)) at ⌝ }
+{
+    let mut r = setup::EMPTY;
+    for v in 0..64usize {
+        let rows = rows_in(words, at + 8 * v);
+        r.rows[v] = rows;
+    }
+    r
+}
+
+// The setup that the words say, whatever they are.
+pub fn setup_in(words: &[u64]) -> Setup
+    ensures { λ r. ⌜ r ≡ setupIn (now (words .entry)) ⌝ }
+{
+    let count = word_at(words, 0) as usize;
+    let graph = graph_in(words, GRAPH);
+    let recovery = graph_in(words, RECOVERY);
+    let unused = Vertex {
+        kind: Kind::Credential,
+        start: Value::Blank,
+        loss: Value::Blank,
+        rank: 0,
+    };
+    let mut s = Setup {
+        count,
+        vertices: [unused; 64],
+        graph,
+        recovery,
+    };
+    for v in 0..64usize {
+        let vertex = vertex_in(words, v);
+        s.vertices[v] = vertex;
+    }
+    s
+}
+
+fn kind_word(kind: Kind) -> u64
+    ensures { λ r. ⌜ r ≡ kindWord kind ⌝ }
+{
+    match kind {
+        Kind::Credential => 0,
+        Kind::Account => 1,
+    }
+}
+
+fn value_word(value: Value) -> u64
+    ensures { λ r. ⌜ r ≡ valueWord value ⌝ }
+{
+    match value {
+        Value::Blank => BLANK,
+        Value::Of(n) => n,
+    }
+}
+
+// Writes the words from `at` on, and gives the next place.
+pub fn put_words(words: &[u64], out: &mut [u64], at: usize) -> usize
+    requires { ⌜ at + length (now words) ≤ length (now out) ⌝ }
+    ensures { λ r. ⌜ Wrote (now (out .entry)) at (now (words .entry)) (now (out .exit)) r ⌝ }
+{
+    for i in 0..words.len() {
+        out[at + i] = words[i];
+    }
+    at + words.len()
+}
+
+fn put_vertex(x: Vertex, out: &mut [u64], at: usize) -> usize
+    requires { ⌜ at + 4 ≤ length (now out) ⌝ }
+    ensures { λ r. ⌜ Wrote (now (out .entry)) at (vertexWords x) (now (out .exit)) r ⌝ }
+{
+    let kind = x.kind;
+    let start = x.start;
+    let loss = x.loss;
+    let words = [kind_word(kind), value_word(start), value_word(loss), x.rank];
+    put_words(&words, out, at)
+}
+
+fn put_vertices(s: Setup, out: &mut [u64], at: usize) -> usize
+    requires { ⌜ at + 256 ≤ length (now out) ⌝ }
+    ensures { λ r. ⌜ WroteAll 256 (now (out .entry)) at (verticesWords (s .vertices)) (now (out .exit)) r ⌝ }
+{
+    let mut next = at;
+    for v in 0..64usize {
+        let vertex = s.vertices[v];
+        next = put_vertex(vertex, out, next);
+    }
+    next
+}
+
+fn put_rows(rows: Rows, out: &mut [u64], at: usize) -> usize
+    requires { ⌜ at + 8 ≤ length (now out) ⌝ }
+    ensures { λ r. ⌜ WroteAll 8 (now (out .entry)) at (rows .needs) (now (out .exit)) r ⌝ }
+{
+    let needs = rows.needs;
+    put_words(&needs, out, at)
+}
+
+fn put_graph(g: Graph, out: &mut [u64], at: usize) -> usize
+    requires { ⌜ at + 512 ≤ length (now out) ⌝ }
+    ensures { λ r. ⌜ WroteAll 512 (now (out .entry)) at (graphWords (g .rows)) (now (out .exit)) r ⌝ }
+{
+    let mut next = at;
+    for v in 0..64usize {
+        let rows = g.rows[v];
+        next = put_rows(rows, out, next);
+    }
+    next
+}
+
+// Writes the words that say the setup.
+pub fn put_setup(s: Setup, out: &mut [u64], at: usize) -> usize
+    requires { ⌜ at + 1281 ≤ length (now out) ⌝ }
+    ensures { λ r. ⌜ WroteAll 1281 (now (out .entry)) at (wordsOf s) (now (out .exit)) r ⌝ }
+{
+    out[at] = s.count as u64;
+    let graph = s.graph;
+    let recovery = s.recovery;
+    let behind_vertices = put_vertices(s, out, at + 1);
+    let behind_graph = put_graph(graph, out, behind_vertices);
+    put_graph(recovery, out, behind_graph)
+}

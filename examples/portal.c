@@ -1,0 +1,143 @@
+/* A worked example of include/portal.h. Reads a sheet, prints the opening sets of an account by name with the way in of each,
+ * and marks a handed-in list:
+ *
+ *     portal SHEET ACCOUNT [SET ...]     a set is names joined by '+', and '-' is the empty set
+ *
+ * Compiles as C11 and as C++17. */
+#include <inttypes.h>
+#include <stdio.h>
+#include <stdlib.h>
+#include <string.h>
+
+#include <portal.h>
+
+/* All that the calls are given: a sheet's bytes, and the setup that portal_read writes. One byte more than a sheet may have
+ * is read, so that a longer file is refused and not cut. */
+static uint8_t sheet[PORTAL_MAX_SHEET + 1];
+static size_t length;
+static uint64_t setup[PORTAL_SETUP_WORDS];
+static uint64_t sets[PORTAL_MAX_SETS];
+
+static void stop(const char *what, uint64_t number)
+{
+    fprintf(stderr, "portal: %s: refused with %" PRIu64 ", %s\n", what, number, portal_refusal_text(number));
+    exit(1);
+}
+
+/* A name is a part of the sheet: nothing is copied. */
+static void print_name(uint64_t item)
+{
+    struct portal_part name = portal_name(sheet, length, item);
+    printf("%.*s", (int)name.length, (const char *)sheet + name.start);
+}
+
+static void print_set(uint64_t set)
+{
+    const char *between = "";
+    for (uint64_t item = 0; item < setup[PORTAL_COUNT]; item++)
+        if (set >> item & 1) {
+            printf("%s", between);
+            print_name(item);
+            between = "+";
+        }
+    if (set == 0)
+        printf("-");
+}
+
+/* The item that has the name; the item count where none has. */
+static uint64_t item_named(const char *text, size_t size)
+{
+    uint64_t item = 0;
+    for (; item < setup[PORTAL_COUNT]; item++) {
+        struct portal_part name = portal_name(sheet, length, item);
+        if (name.length == size && memcmp(sheet + name.start, text, size) == 0)
+            break;
+    }
+    return item;
+}
+
+/* Any number may be handed in, so a name that is not in the sheet is bit 63, which no item of a smaller sheet is. */
+static uint64_t set_named(const char *text)
+{
+    uint64_t set = 0;
+    if (strcmp(text, "-") == 0)
+        return 0;
+    for (;;) {
+        size_t size = strcspn(text, "+");
+        uint64_t item = item_named(text, size);
+        set |= UINT64_C(1) << (item < setup[PORTAL_COUNT] ? item : 63);
+        if (text[size] == '\0')
+            return set;
+        text += size + 1;
+    }
+}
+
+static void print_way(uint64_t account, uint64_t set)
+{
+    uint8_t items[PORTAL_MAX_ITEMS], colours[PORTAL_MAX_ITEMS];
+    struct portal_way way = portal_way_in(setup, PORTAL_SETUP_WORDS, account, set, items, sizeof items, colours, sizeof colours);
+    if (way.number != 0)
+        stop("way in", way.number);
+    for (uint64_t step = 0; step < way.steps; step++) {
+        printf(step == 0 ? ": " : ", ");
+        print_name(items[step]);
+        printf(" by colour %u", (unsigned)colours[step]);
+    }
+    printf("\n");
+}
+
+static void read_sheet(const char *path)
+{
+    FILE *file = fopen(path, "rb");
+    if (file == NULL) {
+        perror(path);
+        exit(1);
+    }
+    length = fread(sheet, 1, sizeof sheet, file);
+    fclose(file);
+    struct portal_reading reading = portal_read(sheet, length, setup, PORTAL_SETUP_WORDS);
+    if (reading.number != 0) {
+        fprintf(stderr, "portal: %s, line %" PRIu64 "\n", path, reading.line);
+        stop(path, reading.number);
+    }
+}
+
+static void print_marks(uint64_t account, const uint64_t *handed, size_t count)
+{
+    struct portal_marks m = portal_mark_openings(setup, PORTAL_SETUP_WORDS, account, handed, count);
+    if (m.number != 0)
+        stop("marks", m.number);
+    printf("right %" PRIu64 ", repeated %" PRIu64 ", shut %" PRIu64 ", loose %" PRIu64 ", missing %" PRIu64 ": %s\n", m.right,
+           m.repeated, m.shut, m.loose, m.missing, portal_is_full(m) ? "full" : "not full");
+}
+
+int main(int argc, char **argv)
+{
+    if (argc < 3) {
+        fprintf(stderr, "usage: portal SHEET ACCOUNT [SET ...]\n");
+        return 2;
+    }
+    if (portal_version() != PORTAL_VERSION) {
+        fprintf(stderr, "portal: the library has another version than the header\n");
+        return 1;
+    }
+    read_sheet(argv[1]);
+    uint64_t account = item_named(argv[2], strlen(argv[2]));
+    struct portal_lists lists = portal_lists(setup, PORTAL_SETUP_WORDS, account, sets, PORTAL_MAX_SETS);
+    if (lists.number != 0)
+        stop(argv[2], lists.number);
+    for (uint64_t i = 0; i < lists.openings; i++) {
+        print_set(sets[i]);
+        print_way(account, sets[i]);
+    }
+
+    size_t count = (size_t)argc - 3;
+    uint64_t *handed = (uint64_t *)malloc((count + 1) * sizeof *handed);
+    if (handed == NULL)
+        return 1;
+    for (size_t i = 0; i < count; i++)
+        handed[i] = set_named(argv[i + 3]);
+    print_marks(account, handed, count);
+    free(handed);
+    return 0;
+}

@@ -1,0 +1,127 @@
+#!/usr/bin/env python3
+"""Holds include/portal.h to the sources and to the documents.
+
+Every exported function of the portal's crates has its prototype, with the same names and the types that C has for them, in
+order; every struct that is handed back has its fields; the version, the places of a setup's words and the blank are the
+sources'; the refusals' names and sentences are those of docs/TERMS.md; README.md and man/portal.3 name every call, and above
+each prototype stands a comment. Else the exit status is 1.
+"""
+import re
+import sys
+from pathlib import Path
+
+ROOT = Path(__file__).resolve().parent.parent
+FEWEST = {"calls": 17, "structs": 10, "refusals": 15}
+SLICES = {"&[u8]": "const uint8_t *", "&mut [u8]": "uint8_t *", "&[u64]": "const uint64_t *", "&mut [u64]": "uint64_t *"}
+SCALARS = {"u64": "uint64_t", "u8": "uint8_t", "bool": "bool"}
+
+
+def read(path):
+    return (ROOT / path).read_text(encoding="utf-8")
+
+
+def snake(name):
+    """PortalSetupScore is struct portal_setup_score in C."""
+    return re.sub(r"(?<!^)(?=[A-Z])", "_", name).lower()
+
+
+def parts(text):
+    return [part.strip() for part in text.split(",") if part.strip()]
+
+
+def calls_of(source):
+    """Each exported function as C has it: name, type of the result, and types and names of the parameters, None for a count's."""
+    for name, given, result in re.findall(r'^#\[no_mangle\]\npub extern "C" fn (\w+)\(([^)]*)\) -> (\w+)', source, re.M):
+        wanted = []
+        for parameter in parts(given):
+            word, kind = (part.strip() for part in parameter.split(":"))
+            if kind in SLICES:
+                wanted += [(SLICES[kind], word), ("size_t", None)]
+            else:
+                wanted.append((SCALARS[kind], word))
+        yield name, SCALARS.get(result) or f"struct {snake(result)}", wanted
+
+
+def structs_of(source):
+    for name, fields in re.findall(r"^#\[repr\(C\)\]\npub struct (\w+) \{\n(.*?)^\}", source, re.M | re.S):
+        pairs = (field.split(":") for field in parts(fields))
+        yield snake(name), [(SCALARS[kind.strip()], word.strip().removeprefix("pub ")) for word, kind in pairs]
+
+
+def declared(text):
+    """A C declaration's type and name."""
+    return re.fullmatch(r"((?:const )?\w+ \*?|struct \w+ )(\w+)", text).groups()
+
+
+def prototypes(header):
+    """Each prototype of the header, its comments taken out."""
+    for result, name, given in re.findall(r"^(uint64_t|bool|struct \w+) (\w+)\(([^)]*)\);", header, re.M):
+        yield name, (result, [] if given == "void" else [declared(" ".join(part.split())) for part in parts(given)])
+
+
+def agree(wanted, found):
+    """Are the types the same, in order, and the names of all but the counts?"""
+    kinds = [kind.strip() for kind, _ in wanted] == [kind.strip() for kind, _ in found]
+    return kinds and all(word in (None, other) for (_, word), (_, other) in zip(wanted, found))
+
+
+def constant(source, name):
+    return int(re.search(rf"^const {name}: \w+ = ([\w]+);", source, re.M).group(1).replace("_", ""), 0)
+
+
+def macro(header, name):
+    return re.search(rf"^#define {name}(?:\([^)]*\))? (.*)$", header, re.M).group(1)
+
+
+text = read("include/portal.h")
+header = re.sub(r"/\*.*?\*/", "", text, flags=re.S)
+sources = {path.parts[-3]: path.read_text(encoding="utf-8") for path in sorted(ROOT.glob("crates/portal*/src/lib.rt"))}
+faults = []
+
+# calls
+offered = {name: (result, given) for source in sources.values() for name, result, given in calls_of(source)}
+shown = dict(prototypes(header))
+readme, manual = read("README.md"), read("man/portal.3")
+for name in sorted(offered.keys() | shown.keys()):
+    if name not in shown or name not in offered:
+        faults.append(f"{name} is {'not in the header' if name in offered else 'in the header and in no crate'}")
+    elif shown[name][0] != offered[name][0] or not agree(offered[name][1], shown[name][1]):
+        faults.append(f"{name}: the source has {offered[name]}, the header {shown[name]}")
+    elif not re.search(rf"\*/\n(?:uint64_t|bool|struct \w+) {name}\(", text):
+        faults.append(f"{name}: no comment above it")
+    faults += [f"{name} is not in {where}" for where, page in (("README.md", readme), ("man/portal.3", manual)) if not re.search(rf"\b{name}\b", page)]
+
+# structs
+made = {name: fields for source in sources.values() for name, fields in structs_of(source)}
+laid = {
+    name: [declared(" ".join(field.split())) for field in fields.split(";") if field.strip()]
+    for name, fields in re.findall(r"^struct (\w+) \{\n(.*?)^\};", header, re.M | re.S)
+}
+for name in sorted(made.keys() | laid.keys()):
+    fields = [(kind.strip(), word) for kind, word in laid.get(name, [])]
+    if made.get(name) != fields:
+        faults.append(f"struct {name}: the source has {made.get(name)}, the header {fields}")
+
+# constants
+words, reading = sources["portal_setup"], sources["portal_reading"]
+places = {"PORTAL_ROW": constant(words, "GRAPH"), "PORTAL_RECOVERY": constant(words, "RECOVERY")}
+faults += [f"{name} does not begin at {at}" for name, at in places.items() if macro(header, name) != f"({at} + 8 * (v) + (c))"]
+faults += ["PORTAL_SETUP_WORDS is another number"] * (macro(header, "PORTAL_SETUP_WORDS") != str(constant(reading, "SETUP_WORDS")))
+faults += ["PORTAL_VERSION is another number"] * (macro(header, "PORTAL_VERSION") != str(constant(reading, "VERSION")))
+faults += ["PORTAL_BLANK is another number"] * (macro(header, "PORTAL_BLANK") != "UINT64_MAX" or constant(words, "BLANK") != 2**64 - 1)
+
+# refusals
+numbers = re.findall(r"^    (PORTAL_\w+) = (\d+)", re.search(r"^enum portal_number \{\n(.*?)^\};", header, re.M | re.S).group(1), re.M)
+sentences = dict(re.findall(r'^    case (PORTAL_\w+): return "(.*)";$', header, re.M))
+named = [(int(number), name, sentences.pop(name, None)) for name, number in numbers if number != "0"]
+listed = [(int(number), name, sentence) for number, name, sentence in re.findall(r"^\| (\d+) \| `(PORTAL_\w+)` \| (.*?) \|$", read("docs/TERMS.md"), re.M)]
+faults += [f"refusals: the header has {one}, docs/TERMS.md {other}" for one, other in zip(named, listed) if one != other]
+faults += ["the header and docs/TERMS.md have not as many refusals"] * (len(named) != len(listed))
+faults += [f"{name} is no refusal" for name in sentences if name != "PORTAL_ANSWERED"]
+faults += ["refusals are not numbered from 1 on"] * ([number for number, _, _ in named] != list(range(1, len(named) + 1)))
+
+counts = dict(zip(FEWEST, (len(offered), len(made), len(named))))
+faults += [f"only {counts[what]} {what}" for what in FEWEST if counts[what] < FEWEST[what]]
+print(*(f"header: {fault}\n" for fault in faults), sep="", end="")
+print("header:", ", ".join(f"{n} {what}" for what, n in counts.items()) + f", {len(faults)} faults")
+sys.exit(1 if faults else 0)

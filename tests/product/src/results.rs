@@ -1,0 +1,121 @@
+//! What the calls hand back: the structs of `include/portal.h`, field by field.
+
+use std::fmt;
+
+/// A call's no: document 01's number for it. `docs/TERMS.md` has a sentence for each.
+#[derive(Clone, Copy, Debug, PartialEq, Eq)]
+pub struct Refusal(pub u64);
+
+impl fmt::Display for Refusal {
+    fn fmt(&self, out: &mut fmt::Formatter<'_>) -> fmt::Result {
+        write!(out, "refused with {}", self.0)
+    }
+}
+
+impl std::error::Error for Refusal {}
+
+macro_rules! results {
+    ($($(#[$what:meta])* $name:ident { $($(#[$value:meta])* $field:ident,)* })*) => {
+        $($(#[$what])*
+        #[repr(C)]
+        #[derive(Clone, Copy, Debug, PartialEq, Eq)]
+        pub struct $name {
+            /// 0 for an answer, else the refusal's number.
+            pub number: u64,
+            $($(#[$value])* pub $field: u64,)*
+        }
+
+        impl $name {
+            /// The answer, or the refusal.
+            pub fn answered(self) -> Result<$name, Refusal> {
+                if self.number == 0 { Ok(self) } else { Err(Refusal(self.number)) }
+            }
+
+            /// The number and the fields behind it, in order.
+            pub fn numbers(self) -> Vec<u64> {
+                vec![self.number, $(self.$field,)*]
+            }
+        })*
+    };
+}
+
+results! {
+    /// A sheet's reading.
+    Reading {
+        /// The line of the no, from 1 on; 0 where there is none, or where it is about the whole text.
+        line,
+    }
+    /// A part of a sheet's bytes.
+    Part {
+        /// Its first byte.
+        start,
+        /// How many bytes it has.
+        length,
+    }
+    /// What a set opens.
+    Closure {
+        /// The set of all items that it opens.
+        set,
+    }
+    /// What the loss of a set takes away.
+    Set {
+        /// The set of all items that are lost.
+        set,
+    }
+    /// A way in.
+    Way {
+        /// 1 where the set opens the target, and 0 for "shut".
+        opens,
+        /// How many steps were written.
+        steps,
+    }
+    /// Both lists of a target.
+    Lists {
+        /// How many opening sets.
+        openings,
+        /// How many lockout sets.
+        lockouts,
+    }
+    /// A target's score.
+    SetupScore {
+        /// The score, or [`NEVER`](crate::NEVER).
+        score,
+    }
+    /// A target's risk.
+    SetupRisk {
+        /// The risk, or [`NEVER`](crate::NEVER).
+        risk,
+    }
+    /// Marks of a handed-in list.
+    Marks {
+        /// Sets of the list, each counted once.
+        right,
+        /// Sets equal to an earlier one.
+        repeated,
+        /// Sets with an item that does not count, or that do not open (lock) the target.
+        shut,
+        /// Sets of which a proper subset does.
+        loose,
+        /// Sets of the list that were not handed in.
+        missing,
+    }
+    /// A finding.
+    Finding {
+        /// 1 for yes, and 0 for no.
+        yes,
+    }
+}
+
+impl Part {
+    /// The part's bytes, of the sheet that it is a part of.
+    pub fn of(self, sheet: &[u8]) -> &[u8] {
+        &sheet[self.start as usize..][..self.length as usize]
+    }
+}
+
+impl Marks {
+    /// Full: nothing is repeated, shut, loose or missing.
+    pub fn full(self) -> bool {
+        self.number == 0 && self.repeated + self.shut + self.loose + self.missing == 0
+    }
+}

@@ -628,6 +628,63 @@ def Valid(d):
     )
 
 
+# ---- sheet_format/Stated: an edge row, its place and the item rows of its names are looked for among the rows
+
+
+def StandsAt(l, i, x):
+    if not l:
+        return False
+    if i == 0:
+        return l[0] == x
+    return StandsAt(l[1:], i - 1, x)
+
+
+def HasFields(x, v):
+    kind = v.kind == x.kind
+    start = v.start == x.start
+    loss = v.loss == x.loss
+    rank = v.rank == x.rank
+    return kind and start and loss and rank
+
+
+def Joins(d, f, v, c, e):
+    return any(
+        StandsAt(d.edges, place, e)
+        and StandsAt(d.items, f, source)
+        and StandsAt(d.items, v, target)
+        and e.source == source.name
+        and e.to == target.name
+        and e.colour == c
+        for place in range(len(d.edges))
+        for source in d.items
+        for target in d.items
+    )
+
+
+def Stated(d, s):
+    triples = [(f, v, c) for f in world.vertices for v in world.vertices for c in world.colours]
+    shaped = Shaped(s)
+    count = s.count == len(d.items)
+    items = all(implies(lambda: StandsAt(d.items, i, x), lambda: HasFields(x, vertexAt(s, i))) for i in world.vertices for x in d.items)
+    edges = all(Iff(Edge(s.graph, f, v, c), any(Joins(d, f, v, c, e) for e in d.edges)) for f, v, c in triples)
+    recovery = all(Iff(Edge(s.recovery, f, v, c), any(Joins(d, f, v, c, e) and e.rec == True for e in d.edges)) for f, v, c in triples)
+    unused = all(implies(lambda: s.count <= v, lambda: vertexAt(s, v) == unusedVertex) for v in world.vertices)
+    emptyRows = all(
+        implies(lambda: s.count <= v, lambda: row(s.graph, v, c) == 0 and row(s.recovery, v, c) == 0)
+        for v in world.vertices
+        for c in world.colours
+    )
+    return shaped and count and items and edges and recovery and unused and emptyRows
+
+
+def StatedByRows(docs):
+    return all(implies(lambda: Valid(d), lambda: Stated(d, setupOf(d))) for d in docs)
+
+
+def StatedUnique(docs, setups):
+    return all(implies(lambda: Stated(d, s) and Stated(d, t), lambda: s == t) for d in docs for s in setups for t in setups)
+
+
 # ---- sheet_format/Meaning: statements, asked of the documents, texts, numbers and setups that are handed to them
 
 
@@ -754,6 +811,24 @@ def NamesOfRows(docs):
         implies(lambda: Valid(d) and i < len(d.items), lambda: nameOf(render(d), i) == getD([x.name for x in d.items], i, []))
         for d in docs
         for i in world.vertices
+    )
+
+
+def NameBegins(text, above, name, i):
+    whole = any(text == above + (name + rest) for rest in [text[len(above) + len(name):]])
+    begins = nameStart(text, i) == len(above)
+    return whole and begins
+
+
+def NamePlaces(docs):
+    return all(
+        implies(
+            lambda: Valid(d) and StandsAt(d.items, i, x),
+            lambda: NameBegins(render(d), firstHeader + [10] + itemLines(d.items[:i]), x.name, i),
+        )
+        for d in docs
+        for i in world.vertices
+        for x in d.items
     )
 
 

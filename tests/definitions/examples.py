@@ -132,6 +132,7 @@ ROWS = [
     ("the longest name, highest values", Doc([item("a" * 16, 1000000, 1000000, 9)] + EIGHT, MANY[:1]), True),
 ]
 DOCS = [d for n, d, ok in ROWS]
+SAME_NAMES = Doc([item("a"), item("a", 1)], [edge("a", "a")])
 LONG = [f"{n:016d}" for n in range(64)]
 LONG_NAMES = Doc([item(n) for n in LONG], [edge(LONG[f], LONG[v], c) for v in range(4) for c in range(8) for f in range(8)])
 RANK_10 = with_vertex(bench, 0, Vertex(Credential, 1, 2, 10))
@@ -617,6 +618,20 @@ def of_rows(D):
     ]
 
 
+def of_stated(D):
+    """What rows state."""
+    used = with_vertex(bench, 5, Vertex(Account, None, None, 0))
+    return [
+        ("stated: bench", lambda: D.Stated(BENCH_DOC, bench), True),
+        ("not stated: another start", lambda: D.Stated(BENCH_DOC, with_vertex(bench, 0, Vertex(Credential, 2, 2, 0))), False),
+        ("not stated: a place in use", lambda: D.Stated(BENCH_DOC, used), False),
+        ("not stated: an edge more", lambda: D.Stated(BENCH_DOC, bench._replace(graph=with_row(bench.graph, MAIL, 0, 3))), False),
+        ("not stated: no recovery edge", lambda: D.Stated(BENCH_DOC, bench._replace(recovery=with_row(bench.recovery, ORDER, 1, 0))), False),
+        ("stated by rows", lambda: D.StatedByRows([DOC, one_item(), SAME_NAMES]), True),
+        ("stated once", lambda: D.StatedUnique([BENCH_DOC, DOC], [bench, setupOf(DOC)]), True),
+    ]
+
+
 def of_meaning(D):
     """What reading a sheet means."""
     return [
@@ -639,6 +654,7 @@ def of_meaning(D):
         ("accepted or refused", lambda: D.AcceptedOrRefused(TEXTS, NUMBERS, LINES), True),
         ("question 12: setups and sheets", lambda: D.Question12([bench, setupOf(DOC), EMPTY, RANK_10], TEXTS), True),
         ("names of rows", lambda: D.NamesOfRows(DOCS), True),
+        ("name places", lambda: D.NamePlaces(DOCS), True),
     ]
 
 
@@ -693,7 +709,7 @@ GROUPS = {
     "one": [of_one],
     "bench": [of_derivations, of_ways, of_bases, of_scores, of_marks, of_set_calls, of_way_calls, of_base_calls, of_score_calls, of_demand3]
     + [of_findings, of_portal, of_same, of_told, of_determined],
-    "rows": [of_valid_rows, of_rows, of_meaning, of_refusals],
+    "rows": [of_valid_rows, of_rows, of_stated, of_meaning, of_refusals],
     "spare": [of_spare],
     "ring": [of_ring],
 }

@@ -157,10 +157,13 @@ firstHeader = list(b"name kind start loss rank")
 secondHeader = list(b"from to colour rec")
 
 
+def itemLines(xs):
+    return [b for x in xs for b in lineText([x.name, kindText(x.kind), valueText(x.start), valueText(x.loss), decimal(x.rank)])]
+
+
 def render(d):
-    items = [b for x in d.items for b in lineText([x.name, kindText(x.kind), valueText(x.start), valueText(x.loss), decimal(x.rank)])]
     edges = [b for e in d.edges for b in lineText([e.source, e.to, decimal(e.colour), decimal(1 if e.rec else 0)])]
-    return firstHeader + [10] + items + [10] + secondHeader + [10] + edges
+    return firstHeader + [10] + itemLines(d.items) + [10] + secondHeader + [10] + edges
 
 
 def numberIn(xs, n):

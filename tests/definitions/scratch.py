@@ -17,7 +17,7 @@ setup/Setup setup/WellFormed setup/Calls
 derivations/Derivation derivations/Access derivations/Lockout derivations/Both derivations/Way
 bases/Base bases/Score bases/Marks
 access/Answers answers/Answers
-sheet_format/Text sheet_format/Fields sheet_format/Rows sheet_format/Questions sheet_format/Read sheet_format/Names
+sheet_format/Text sheet_format/Fields sheet_format/Rows sheet_format/Stated sheet_format/Questions sheet_format/Read sheet_format/Names
 findings/Findings findings/Answers
 reference/Tests reference/Closures reference/Bases
 report_text/Rows report_text/Report

@@ -1,7 +1,7 @@
 -- The names of a sheet's items: where they stand, and whose names they are.
 -- Assumes nothing.
 use mathlib.Core.Path.{_≡_, refl, sym, ap, _∙_, subst}
-use mathlib.Core.List.{List, [], _∷_, _++_, map}
+use mathlib.Core.List.{List, [], _∷_, _++_, map, append-assoc}
 use mathlib.Core.Bool.{true, false, and-false}
 use mathlib.Core.Logic.{⊎-elim}
 use Prim.Native.Nat.{ℕ, zero, suc, _+_, _-_, _≤_, _<_}
@@ -13,14 +13,17 @@ use lib.Dec.{eqb}
 use borrow.Author.Tests.{eq-eqb, ne-eqb, lt-ltb, le-ltb}
 use Rattle.sheet_format.specs.declared.Reading.{Reading}
 use Rattle.sheet_format.specs.Text.{linesOf, fieldsOf}
-use Rattle.sheet_format.specs.Rows.{ItemRow, Doc, Each, ValidItem, Valid, render, setupOf, secondHeader}
+use Rattle.sheet_format.specs.Fields.{decimal, kindText, valueText}
+use Rattle.sheet_format.specs.Rows.{ItemRow, Doc, Each, ValidItem, Valid, firstHeader, secondHeader, lineText, itemFields, itemLines, edgeLines, render, setupOf}
+use Rattle.sheet_format.specs.Stated.{StandsAt}
 use Rattle.sheet_format.specs.Questions.{field}
 use Rattle.sheet_format.specs.Read.{readSheet, accepted}
-use Rattle.sheet_format.specs.Names.{lineStart, rowOfItem, hasItem, nameOf, nameStart, NamesOfRows}
-use Rattle.sheet_format.proofs.Lines.{joined}
+use Rattle.sheet_format.specs.Names.{lineStart, rowOfItem, hasItem, nameOf, nameStart, NamesOfRows, NamePlaces}
+use Rattle.sheet_format.proofs.Lines.{joined, line-text}
 use Rattle.sheet_format.proofs.Rows.{itemLine, edgeLine}
 use Rattle.sheet_format.proofs.Documents.{docLines, doc-joined, item-back}
 use Rattle.sheet_format.proofs.Meaning.{render-lines, accepted-of-valid, valid-of-accepted, accepted-or-refused}
+use Rattle.sheet_format.proofs.Stated.{stands-below}
 use Rattle.sheet_fields.specs.Parts.{until}
 use Rattle.sheet_fields.proofs.Cutting.{until-le}
 use Rattle.sheet_names.specs.declared.Span.{Span}
@@ -140,3 +143,58 @@ names-of-rows d v i h =
     let a = accepted-of-valid d v in
     let t = item-there (render d) i (accepted (setupOf d)) (sym a) refl h in
     rw (t, render-lines d v) (row-name (d .items) ([] ∷ secondHeader ∷ map edgeLine (d .edges)) i (v .items) h)
+
+-- ---- where it begins
+
+-- a row's line and its LF are what is written of it
+line-length : (x : ItemRow) → length (lineText (itemFields x)) ≡ length (itemLine x) + 1
+line-length x = ap length (line-text (itemFields x)) ∙ length-append (itemLine x) (10 ∷ [])
+
+rows-above : (xs : List ItemRow) (rest : List (List ℕ)) (i : ℕ) (x : ItemRow) → StandsAt xs i x → lineStart (map itemLine xs ++ rest) i ≡ length (itemLines (take i xs))
+unfolding lineStart itemLines
+rows-above [] rest i x h = absurd h
+rows-above (y ∷ ys) rest zero x h = refl
+rows-above (y ∷ ys) rest (suc i) x h =
+    let r = rows-above ys rest i x h in
+    let l = line-length y in
+    let a = length-append (lineText (itemFields y)) (itemLines (take i ys)) in
+    omega arith
+
+-- What a row's line has behind the name.
+abbrev behindName : ItemRow → List ℕ
+behindName x = 32 ∷ lineText (kindText (x .kind) ∷ valueText (x .start) ∷ valueText (x .loss) ∷ decimal (x .rank) ∷ [])
+
+-- the item rows' lines, as what stands above a row, its name, and the rest
+rows-split : (xs : List ItemRow) (i : ℕ) (x : ItemRow) → StandsAt xs i x → (rest : List ℕ) × (itemLines xs ≡ itemLines (take i xs) ++ (x .name ++ rest))
+unfolding itemLines
+rows-split [] i x h = absurd h
+rows-split (y ∷ ys) zero x h = (
+  behindName y ++ itemLines ys,
+  append-assoc (y .name) (behindName y) (itemLines ys) ∙ ap (λ (z : ItemRow). z .name ++ (behindName y ++ itemLines ys)) h,
+)
+rows-split (y ∷ ys) (suc i) x h =
+    let r = rows-split ys i x h in
+    (r .0, ap (λ (s : List ℕ). lineText (itemFields y) ++ s) (r .1) ∙ sym (append-assoc (lineText (itemFields y)) (itemLines (take i ys)) (x .name ++ r .0)))
+
+-- a text of a first line, lines in which a part stands, and more
+regroup : (first above part rest more : List ℕ) → first ++ (10 ∷ ((above ++ (part ++ rest)) ++ more)) ≡ (first ++ (10 ∷ above)) ++ (part ++ (rest ++ more))
+regroup first above part rest more =
+    ap (λ (s : List ℕ). first ++ (10 ∷ s)) (append-assoc above (part ++ rest) more ∙ ap (λ (s : List ℕ). above ++ s) (append-assoc part rest more)) ∙
+    sym (append-assoc first (10 ∷ above) (part ++ (rest ++ more)))
+
+pub name-places : NamePlaces
+unfolding nameStart setupOf render lineStart
+name-places d v i x h =
+    let l = stands-below (d .items) i x h in
+    let a = accepted-of-valid d v in
+    let t = item-there (render d) i (accepted (setupOf d)) (sym a) refl l in
+    let r = rows-split (d .items) i x h in
+    let more : List ℕ = 10 ∷ (secondHeader ++ (10 ∷ edgeLines (d .edges))) in
+    let above = itemLines (take i (d .items)) in
+    let n = rows-above (d .items) ([] ∷ secondHeader ∷ map edgeLine (d .edges)) i x h in
+    let k = length-append firstHeader (10 ∷ above) in
+    record {
+      rest = r .0 ++ more;
+      whole = ap (λ (s : List ℕ). firstHeader ++ (10 ∷ (s ++ more))) (r .1) ∙ regroup firstHeader above (x .name) (r .0) more;
+      begins = rw (t, render-lines d v) (omega arith);
+    }

@@ -22,7 +22,7 @@ use Rattle.sheet_format.specs.Read.{AmongEdges, ask, firstNo, edgeQuestions, ac
 use Rattle.sheet_format.proofs.Tests.{and-parts, yes-of, no-of, text-decided, known-decided, single-decided}
 use Rattle.sheet_format.proofs.Lists.{each-append}
 use Rattle.sheet_format.proofs.Question12Lists.{each-of, of-each}
-use Rattle.sheet_format.proofs.Question12Edges.{empty-shaped, empty-edges, Stated, Placed, edges-more}
+use Rattle.sheet_format.proofs.Question12Edges.{empty-shaped, empty-edges, StatedEdge, Placed, edges-more}
 use Rattle.sheet_fields.specs.Parts.{until}
 use Rattle.sheet_rows.specs.declared.TakenEdge.{TakenEdge}
 use Rattle.sheet_rows.specs.Table.{Table}
@@ -222,12 +222,12 @@ module _ (s : List ℕ) (start first : ℕ) (items : List ItemRow) (low high : L
           (ask 9 (question9 above (edgeOf fs)) ∷ ask 7 (question7Edge above) ∷ []) (omega arith, (omega arith, (omega arith, tt))) (sym asked ∙ zero)
 
       -- the bit of the row says whether the edge came before
-      graph-edges : (a v c : ℕ) → Edge graph a v c → Stated items (f .edges) a v c
+      graph-edges : (a v c : ℕ) → Edge graph a v c → StatedEdge items (f .edges) a v c
       graph-edges a v c m =
           ⊎-elim (λ z. absurd (empty-edges a v c z)) (λ z. z)
           (edges-more items emptyGraph (f .edges) empty-shaped (f .placed) a v c .to (subst (λ (g : Graph). Edge g a v c) (f .graphs) m))
 
-      edges-graph : (a v c : ℕ) → Stated items (f .edges) a v c → Edge graph a v c
+      edges-graph : (a v c : ℕ) → StatedEdge items (f .edges) a v c → Edge graph a v c
       edges-graph a v c z =
           subst (λ (g : Graph). Edge g a v c) (sym (f .graphs)) (edges-more items emptyGraph (f .edges) empty-shaped (f .placed) a v c .from (inr z))
 

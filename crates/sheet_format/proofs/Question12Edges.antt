@@ -137,7 +137,7 @@ module _ (g : Graph) (f v c : ℕ) (sh : ShapedGraph g) (lv : v < 64) (lc : c < 
 -- ---- the edges that rows state
 
 -- One of the rows states the edge of colour c from f to v.
-pub record Stated (xs : List ItemRow) (es : List EdgeRow) (f v c : ℕ) : Type 0 where
+pub record StatedEdge (xs : List ItemRow) (es : List EdgeRow) (f v c : ℕ) : Type 0 where
   pub edge : EdgeRow
   pub stands : In edge es
   pub from : numberIn xs (edge .from) ≡ f
@@ -145,15 +145,15 @@ pub record Stated (xs : List ItemRow) (es : List EdgeRow) (f v c : ℕ) : Type 0
   pub colour : edge .colour ≡ c
 
 stated-first : (xs : List ItemRow) (e : EdgeRow) (es : List EdgeRow) (f v c : ℕ)
-    → (f ≡ numberIn xs (e .from)) × (v ≡ numberIn xs (e .to)) × (c ≡ e .colour) → Stated xs (e ∷ es) f v c
+    → (f ≡ numberIn xs (e .from)) × (v ≡ numberIn xs (e .to)) × (c ≡ e .colour) → StatedEdge xs (e ∷ es) f v c
 stated-first xs e es f v c p = record { edge = e; stands = List·Memᴰ·head refl; from = sym (p .0); to = sym (p .1); colour = sym (p .2) }
 
-stated-later : (xs : List ItemRow) (e : EdgeRow) (es : List EdgeRow) (f v c : ℕ) → Stated xs es f v c → Stated xs (e ∷ es) f v c
+stated-later : (xs : List ItemRow) (e : EdgeRow) (es : List EdgeRow) (f v c : ℕ) → StatedEdge xs es f v c → StatedEdge xs (e ∷ es) f v c
 stated-later xs e es f v c s =
     record { edge = s .edge; stands = List·Memᴰ·tail (s .stands); from = s .from; to = s .to; colour = s .colour }
 
-stated-cases : (xs : List ItemRow) (e : EdgeRow) (es : List EdgeRow) (f v c : ℕ) → Stated xs (e ∷ es) f v c
-    → ((f ≡ numberIn xs (e .from)) × (v ≡ numberIn xs (e .to)) × (c ≡ e .colour)) ⊎ Stated xs es f v c
+stated-cases : (xs : List ItemRow) (e : EdgeRow) (es : List EdgeRow) (f v c : ℕ) → StatedEdge xs (e ∷ es) f v c
+    → ((f ≡ numberIn xs (e .from)) × (v ≡ numberIn xs (e .to)) × (c ≡ e .colour)) ⊎ StatedEdge xs es f v c
 stated-cases xs e es f v c s =
     ⊎-elim
     (λ p. inl (
@@ -178,7 +178,7 @@ edges-shaped xs g (e ∷ es) sh p =
 
 -- the graph with the rows' edges has those that it had, and those that they state
 pub edges-more : (xs : List ItemRow) (g : Graph) (es : List EdgeRow) → ShapedGraph g → Each (Placed xs) es
-    → (f v c : ℕ) → Iff (Edge (withEdges xs g es) f v c) (Edge g f v c ⊎ Stated xs es f v c)
+    → (f v c : ℕ) → Iff (Edge (withEdges xs g es) f v c) (Edge g f v c ⊎ StatedEdge xs es f v c)
 unfolding withEdges
 edges-more xs g [] sh p f v c =
     record { to = λ m. inl m; from = ⊎-elim (λ m. m) (λ s. absurd (List·Memᴰ·not-nil (s .stands))) }

@@ -20,7 +20,7 @@ use Rattle.setup.specs.WellFormed.{WellFormed}
 use Rattle.setup.proofs.Whole.{edge-place, edge-colour}
 use Rattle.sheet_format.specs.Rows.{ItemRow, EdgeRow, Doc, Each, Known, ValidItem, ValidEdge, Valid, startCount, lossCount, numberIn, vertexOf, verticesOf, emptyGraph, withEdges, recoveryRows, setupOf}
 use Rattle.sheet_format.proofs.Question12Lists.{In, each-of}
-use Rattle.sheet_format.proofs.Question12Edges.{Stated, Placed, graph-same, empty-shaped, edges-shaped}
+use Rattle.sheet_format.proofs.Question12Edges.{StatedEdge, Placed, graph-same, empty-shaped, edges-shaped}
 use Rattle.sheet_format.proofs.Question12Items.{vertices-length, vertex-unused, vertices-total}
 use Rattle.sheet_format.proofs.Question12Yielded.{in-recovery, recovery-in, recovery-placed, graph-edges}
 use Rattle.sheet_format.proofs.Question12Text.{ShortEdge, text-length}
@@ -93,7 +93,7 @@ module _ (s : Setup) (w : WellFormed s) where
       record { to = rw (to-number e h) (h .place); colour = rw (colour-number e h) (h .colour) })
 
   -- what a row states is its edge
-  stated-row : (es : List EdgeRow) → ((e : EdgeRow) → In e es → In e (edgesOf s)) → (f v c : ℕ) (t : Stated (itemsOf s) es f v c)
+  stated-row : (es : List EdgeRow) → ((e : EdgeRow) → In e es → In e (edgesOf s)) → (f v c : ℕ) (t : StatedEdge (itemsOf s) es f v c)
       → Edge (s .graph) f v c × (t .edge ≡ edgeAt s v c f)
   stated-row es sub f v c t =
       let h = in-edges s (t .edge) (sub (t .edge) (t .stands)) in
@@ -103,7 +103,7 @@ module _ (s : Setup) (w : WellFormed s) where
       (rw (p, q, r) at (h .edge), rw (p, q, r) at (h .same))
 
   -- an edge's row, where it stands, states it
-  row-stated : (es : List EdgeRow) (f v c : ℕ) → Edge (s .graph) f v c → In (edgeAt s v c f) es → Stated (itemsOf s) es f v c
+  row-stated : (es : List EdgeRow) (f v c : ℕ) → Edge (s .graph) f v c → In (edgeAt s v c f) es → StatedEdge (itemsOf s) es f v c
   unfolding edgeAt
   row-stated es f v c m k =
       record {

@@ -13,7 +13,7 @@ use Rattle.setup.specs.Setup.{Edge, chosenCount, given}
 use Rattle.setup.specs.WellFormed.{ValidVertex, WellFormed}
 use Rattle.sheet_format.specs.Rows.{ItemRow, EdgeRow, Doc, Each, ValidItem, ValidEdge, Valid, startCount, lossCount, vertexOf, emptyGraph, withEdges, recoveryRows, setupOf}
 use Rattle.sheet_format.proofs.Question12Lists.{In, each-of, of-each}
-use Rattle.sheet_format.proofs.Question12Edges.{Stated, Placed, empty-shaped, empty-edges, empty-count, edges-shaped, edges-more, edges-count}
+use Rattle.sheet_format.proofs.Question12Edges.{StatedEdge, Placed, empty-shaped, empty-edges, empty-count, edges-shaped, edges-more, edges-count}
 use Rattle.sheet_format.proofs.Question12Items.{known-number, vertices-length, vertex-unused, vertex-used, vertices-total}
 
 -- ---- recovery rows
@@ -52,7 +52,7 @@ recovery-in (x ∷ es) e m r =
 
 -- ---- the edges of a doc's graphs are those that its rows state
 
-pub graph-edges : (xs : List ItemRow) (es : List EdgeRow) → Each (Placed xs) es → (f v c : ℕ) → Iff (Edge (withEdges xs emptyGraph es) f v c) (Stated xs es f v c)
+pub graph-edges : (xs : List ItemRow) (es : List EdgeRow) → Each (Placed xs) es → (f v c : ℕ) → Iff (Edge (withEdges xs emptyGraph es) f v c) (StatedEdge xs es f v c)
 graph-edges xs es p f v c =
     let h = edges-more xs emptyGraph es empty-shaped p f v c in
     record { to = λ m. ⊎-elim (λ k. absurd (empty-edges f v c k)) (λ s. s) (h .to m); from = λ s. h .from (inr s) }
@@ -61,7 +61,7 @@ pub recovery-placed : (xs : List ItemRow) (es : List EdgeRow) → Each (Placed x
 recovery-placed xs es p = each-of (Placed xs) (recoveryRows es) (λ e m. of-each (Placed xs) es p e (in-recovery es e m .0))
 
 module _ (d : Doc) (w : Valid d) where
-  placed : Each (Placed (d .items)) (d .edges)
+  pub placed : Each (Placed (d .items)) (d .edges)
   placed = each-of (Placed (d .items)) (d .edges) (λ e m.
       let h = of-each (ValidEdge (d .items)) (d .edges) (w .edges) e m in
       let l = known-number (d .items) (e .to) (h .to) in
@@ -69,12 +69,12 @@ module _ (d : Doc) (w : Valid d) where
       let b = h .colour in
       record { to = omega arith; colour = omega arith })
 
-  ends : (f v c : ℕ) → Stated (d .items) (d .edges) f v c → (f < length (d .items)) × (v < length (d .items))
+  ends : (f v c : ℕ) → StatedEdge (d .items) (d .edges) f v c → (f < length (d .items)) × (v < length (d .items))
   ends f v c s =
       let h = of-each (ValidEdge (d .items)) (d .edges) (w .edges) (s .edge) (s .stands) in
       (rw (s .from) at (known-number (d .items) (s .edge .from) (h .from)), rw (s .to) at (known-number (d .items) (s .edge .to) (h .to)))
 
-  marked : (f v c : ℕ) → Stated (d .items) (recoveryRows (d .edges)) f v c → Stated (d .items) (d .edges) f v c
+  marked : (f v c : ℕ) → StatedEdge (d .items) (recoveryRows (d .edges)) f v c → StatedEdge (d .items) (d .edges) f v c
   marked f v c s =
       record { edge = s .edge; stands = in-recovery (d .edges) (s .edge) (s .stands) .0; from = s .from; to = s .to; colour = s .colour }
 

@@ -1,12 +1,13 @@
 -- The name that is handed back for an item: the first field of its row, and where in the sheet it begins.
 use mathlib.Core.Path.{_≡_}
-use mathlib.Core.List.{List, [], _∷_, map}
+use mathlib.Core.List.{List, [], _∷_, _++_, map}
 use mathlib.Core.Bool.{Bool, cond, _&&_}
 use Prim.Native.Nat.{ℕ, zero, suc, _+_, _<_}
-use lib.ListN.{length, getD}
+use lib.ListN.{length, getD, take}
 use lib.Dec.{eqb, ltb}
 use Rattle.sheet_format.specs.Text.{linesOf, fieldsOf}
-use Rattle.sheet_format.specs.Rows.{ItemRow, Doc, Valid, render}
+use Rattle.sheet_format.specs.Rows.{ItemRow, Doc, Valid, firstHeader, itemLines, render}
+use Rattle.sheet_format.specs.Stated.{StandsAt}
 use Rattle.sheet_format.specs.Questions.{field}
 use Rattle.sheet_format.specs.Read.{readSheet}
 
@@ -35,3 +36,14 @@ nameStart text i = cond (hasItem text i) (lineStart (linesOf text) (suc i)) 0
 -- In the written form of valid rows the name of item i is that of the row i.
 abbrev pub NamesOfRows : Type 0
 NamesOfRows = (d : Doc) → Valid d → (i : ℕ) → i < length (d .items) → nameOf (render d) i ≡ getD (map (λ (x : ItemRow). x .name) (d .items)) i []
+
+-- The name stands in the text right behind what is above it, and there the name of item i begins.
+pub record NameBegins (text above name : List ℕ) (i : ℕ) : Type 0 where
+  pub rest : List ℕ
+  pub whole : text ≡ above ++ (name ++ rest)
+  pub begins : nameStart text i ≡ length above
+
+-- In the written form of valid rows the name of item i begins where its row does: behind the first header, its LF, and the lines of the item rows above.
+abbrev pub NamePlaces : Type 0
+NamePlaces = (d : Doc) → Valid d → (i : ℕ) (x : ItemRow) → StandsAt (d .items) i x
+    → NameBegins (render d) (firstHeader ++ (10 ∷ itemLines (take i (d .items)))) (x .name) i

@@ -23,50 +23,59 @@ use Rattle.reference.specs.Tests.{lowest, some, every, those, isListed, isMembe
 use Rattle.reference.specs.Closures.{isComplete, isBroken, colourOf, isAdded, passOf, passesOf, closureOf, derivesOf, vertexOf, stepsOf, wayOf}
 use Rattle.reference.specs.Bases.{isChosen, setsOfSize, setsUpTo, setsOf, targetSetsOf, isMinimal, baseOf, leastSum, scoreOf, markOf, marksFrom, countsOf, marksOf}
 use Rattle.reference.proofs.Unique.{base-unique}
-use Rattle.worked_examples.specs.Sheets.{bench, ordpw, mailpw, token, mail, order, ring, pwdBackup, pwdManager, device, seed, accBackup, closed, only}
+use Rattle.worked_examples.specs.Sheets.{Reads, bench, ordpw, mailpw, token, mail, order, ring, pwdBackup, pwdManager, device, seed, accBackup, closed, only}
 use Rattle.worked_examples.specs.Table.{Example, lockout, marks, setOf, AllHold}
 use Rattle.worked_examples.proofs.Reading.{_&_, all-read, reads-well}
-use Rattle.worked_examples.proofs.Table.{all-hold, table-holds}
+use Rattle.worked_examples.proofs.Table.{held, all-hold, table-holds}
 use Rattle.worked_examples.proofs.Settled.{set-settled, way-counted, bases-settled, bases-counted, score-settled, marks-settled}
 
 -- ---- what is known of the examples
 
+read-bench : Reads bench
+read-bench = all-read .0
+
+read-ring : Reads ring
+read-ring = all-read .1 .0
+
+read-closed : Reads closed
+read-closed = all-read .1 .1 .1 .0
+
 well : WellFormed (bench .setup)
-well = reads-well bench (all-read .0)
+well = reads-well bench read-bench
 
 well-ring : WellFormed (ring .setup)
-well-ring = reads-well ring (all-read .1 .0)
+well-ring = reads-well ring read-ring
 
 well-closed : WellFormed (closed .setup)
-well-closed = reads-well closed (all-read .1 .1 .1 .0)
+well-closed = reads-well closed read-closed
 
 inside : (set : ℕ) → set < 32 → Inside (bench .setup) set
 inside set h = record { each = λ v m. member-below 5 set v h m }
 
 b2 : AccessFrom (bench .setup .graph) (setOf (mailpw ∷ [])) (setOf (mailpw ∷ mail ∷ order ∷ []))
-b2 = table-holds .1 .0
+b2 = held bench _ read-bench (table-holds .1 .0)
 
 b3 : Base false (bench .setup) (bench .setup .graph) order (setOf (mailpw ∷ []) ∷ setOf (ordpw ∷ token ∷ []) ∷ [])
-b3 = table-holds .1 .1 .0
+b3 = held bench _ read-bench (table-holds .1 .1 .0)
 
 b4 : Base true (bench .setup) (bench .setup .graph) order (setOf (ordpw ∷ mailpw ∷ []) ∷ setOf (mailpw ∷ token ∷ []) ∷ [])
-b4 = table-holds .1 .1 .1 .0
+b4 = held bench _ read-bench (table-holds .1 .1 .1 .0)
 
 b5 : Score false (bench .setup) (bench .setup .graph) order 1
-b5 = table-holds .1 .1 .1 .1 .0
+b5 = held bench _ read-bench (table-holds .1 .1 .1 .1 .0)
 
 abbrev steps : List Step
 steps = record { vertex = mail; colour = 0 } ∷ record { vertex = order; colour = 1 } ∷ []
 
 b6 : Way (bench .setup .graph) order (Member (setOf (mailpw ∷ []))) steps
-b6 = table-holds .1 .1 .1 .1 .1 .1 .0
+b6 = held bench _ read-bench (table-holds .1 .1 .1 .1 .1 .1 .0)
 
 b8 : Base false (ring .setup) (ring .setup .graph) accBackup
     (setOf (pwdBackup ∷ device ∷ []) ∷ setOf (pwdManager ∷ device ∷ []) ∷ setOf (pwdBackup ∷ seed ∷ []) ∷ setOf (pwdManager ∷ seed ∷ []) ∷ [])
-b8 = table-holds .1 .1 .1 .1 .1 .1 .1 .1 .0
+b8 = held ring _ read-ring (table-holds .1 .1 .1 .1 .1 .1 .1 .1 .0)
 
 b10 : Score false (closed .setup) (closed .setup .graph) only never
-b10 = table-holds .1 .1 .1 .1 .1 .1 .1 .1 .1 .1 .0
+b10 = held closed _ read-closed (table-holds .1 .1 .1 .1 .1 .1 .1 .1 .1 .1 .0)
 
 -- and of some more, shown likewise: the ring has no losable vertex; {mailpw, mail} and {mailpw} are handed in for order
 abbrev more : List Example
@@ -78,7 +87,7 @@ more =
 
 further : AllHold more
 unfolding lowest some every those isListed isMember isWithin isMeeting withVertex isComplete isBroken colourOf isAdded passOf passesOf closureOf derivesOf vertexOf stepsOf wayOf isChosen setsOfSize setsUpTo setsOf targetSetsOf isMinimal baseOf leastSum scoreOf markOf marksFrom countsOf marksOf sumOver
-further = all-hold more ((all-read .1 .0, refl) & (all-read .0, refl) & (all-read .0, refl) & tt)
+further = all-hold more ((read-ring, refl) & (read-bench, refl) & (read-bench, refl) & tt)
 
 -- lists with other first elements are not equal
 apart : (a b : ℕ) (l k : List ℕ) → (a ≡ b → ⊥) → a ∷ l ≡ b ∷ k → ⊥
@@ -106,7 +115,7 @@ no-empty-list n entry exit c = apart 0 2 (n ∷ []) (2 ∷ []) (omega arith) (ba
 -- One minimal set instead of all, as where vertices are dropped one by one from the full set (B8): the ring has four.
 pub no-single-set : (n : ℕ) (entry exit : List ℕ) → BasesCall (ring .setup) accBackup 0 (1 ∷ n ∷ []) entry exit → ⊥
 no-single-set n entry exit c =
-    apart 1 4 (n ∷ []) (0 ∷ []) (omega arith) (bases-counted (ring .setup) well-ring accBackup (omega arith) _ _ _ entry exit b8 (further .0) c)
+    apart 1 4 (n ∷ []) (0 ∷ []) (omega arith) (bases-counted (ring .setup) well-ring accBackup (omega arith) _ _ _ entry exit b8 (held ring _ read-ring (further .0)) c)
 
 -- Loss through one colour where another still opens (B4): without ordpw the colour of ordpw and token is broken, and mail still opens order.
 pub no-loss-by-one-colour : (l : List ℕ) → Base true (bench .setup) (bench .setup .graph) order l → Listed l (setOf (ordpw ∷ [])) → ⊥
@@ -161,13 +170,13 @@ no-score-above-never c = apart (never + 1) never [] [] (omega arith) (score-sett
 -- Loose before shut: {mailpw, mail} opens, and so does a part of it, but mail is no initial vertex.
 pub no-loose-before-shut : MarksCall false (bench .setup) order (setOf (mailpw ∷ mail ∷ []) ∷ []) 0 (0 ∷ 0 ∷ 0 ∷ 1 ∷ 2 ∷ []) → ⊥
 no-loose-before-shut c =
-    let e = marks-settled (bench .setup) well order (omega arith) false (setOf (mailpw ∷ mail ∷ []) ∷ []) 0 0 1 0 2 0 _ (further .1 .0) c in
+    let e = marks-settled (bench .setup) well order (omega arith) false (setOf (mailpw ∷ mail ∷ []) ∷ []) 0 0 1 0 2 0 _ (held bench _ read-bench (further .1 .0)) c in
     let z : _≡_ {A = ℕ} 0 1 = ap (λ (l : List ℕ). getD l 2 0) e in
     omega arith
 
 -- Full marks for a list with a set missing: {mailpw} alone is one of two.
 pub no-full-marks-early : MarksCall false (bench .setup) order (setOf (mailpw ∷ []) ∷ []) 0 (1 ∷ 0 ∷ 0 ∷ 0 ∷ 0 ∷ []) → ⊥
 no-full-marks-early c =
-    let e = marks-settled (bench .setup) well order (omega arith) false (setOf (mailpw ∷ []) ∷ []) 1 0 0 0 1 0 _ (further .1 .1 .0) c in
+    let e = marks-settled (bench .setup) well order (omega arith) false (setOf (mailpw ∷ []) ∷ []) 1 0 0 0 1 0 _ (held bench _ read-bench (further .1 .1 .0)) c in
     let z : _≡_ {A = ℕ} 0 1 = ap (λ (l : List ℕ). getD l 4 0) e in
     omega arith

@@ -1,16 +1,17 @@
--- The table holds: each entry is computed by the executable definitions, which are the declared ones.
+-- The table holds: each entry's sheet is read, and the entry computed by the executable definitions, which are the declared ones.
 -- Assumes nothing.
-use mathlib.Core.Path.{_≡_, refl, subst}
+use mathlib.Core.Path.{_≡_, refl, sym, ap, subst, _∙_}
 use mathlib.Core.Bool.{true, false}
 use mathlib.Core.List.{List, [], _∷_}
 use Rattle.vertex_set.specs.Set.{Member}
 use Rattle.vertex_set.specs.Order.{sumOver}
-use Rattle.setup.specs.WellFormed.{WellFormed}
+use Rattle.setup.specs.declared.Setup.{Setup}
 use Rattle.derivations.specs.Access.{AccessFrom}
 use Rattle.derivations.specs.Lockout.{LockoutFrom}
 use Rattle.derivations.specs.Way.{Way}
 use Rattle.bases.specs.Base.{Base}
 use Rattle.bases.specs.Score.{Score}
+use Rattle.sheet_format.specs.declared.Reading.{Reading}
 use Rattle.sheet_format.specs.Rows.{Each}
 use Rattle.reference.specs.Tests.{lowest, some, every, those, isListed, isMember, isWithin, isMeeting, withVertex}
 use Rattle.reference.specs.Closures.{isComplete, isBroken, colourOf, isAdded, passOf, passesOf, closureOf, derivesOf, vertexOf, stepsOf, wayOf}
@@ -19,7 +20,7 @@ use Rattle.reference.specs.Meaning.{Meaning}
 use Rattle.reference.proofs.Graphs.{own-graph}
 use Rattle.reference.proofs.Marks.{counts-of}
 use Rattle.reference.proofs.Meaning.{meaning}
-use Rattle.worked_examples.specs.Sheets.{Sheet, Reads}
+use Rattle.worked_examples.specs.Sheets.{Sheet, Reads, Yields}
 use Rattle.worked_examples.specs.Table.{Example, closure, loss, opening, lockout, score, risk, way, marks, lockMarks, Holds, table, further, AllHold}
 use Rattle.worked_examples.proofs.Reading.{_&_, all-read, reads-well}
 
@@ -50,22 +51,30 @@ Computed (marks x target handed right repeated shut loose missing) =
 Computed (lockMarks x target handed right repeated shut loose missing) =
     marksOf true (x .setup) (x .setup .graph) target handed ≡ right ∷ repeated ∷ shut ∷ loose ∷ missing ∷ []
 
-means : (x : Sheet) → WellFormed (x .setup) → Meaning (x .setup) (x .setup .graph)
-means x w = meaning (x .setup) (x .setup .graph) w (own-graph (x .setup) w)
+means : (x : Sheet) → Reads x → Meaning (x .setup) (x .setup .graph)
+means x r = let w = reads-well x r in meaning (x .setup) (x .setup .graph) w (own-graph (x .setup) w)
+
+-- what holds of the expected setup holds of what is read, if that is the expected one
+of-read : (x : Sheet) (P : Setup → Type 0) → Reads x → P (x .setup) → Yields x P
+of-read x P r h = record { setup = x .setup; reading = r; holds = h }
+
+-- .. and the other way round
+pub held : (x : Sheet) (P : Setup → Type 0) → Reads x → Yields x P → P (x .setup)
+held x P r y = subst P (ap (λ (z : Reading). z .setup) (sym (y .reading) ∙ r)) (y .holds)
 
 -- what is computed holds
-holds : (e : Example) → WellFormed (sheetOf e .setup) → Computed e → Holds e
-holds (closure x set result) w c = subst (AccessFrom (x .setup .graph) set) c (means x w .closure false set)
-holds (loss x set result) w c = subst (LockoutFrom (x .setup .graph) set) c (means x w .closure true set)
-holds (opening x target l) w c = subst (Base false (x .setup) (x .setup .graph) target) c (means x w .base false target)
-holds (lockout x target l) w c = subst (Base true (x .setup) (x .setup .graph) target) c (means x w .base true target)
-holds (score x target result) w c = subst (Score false (x .setup) (x .setup .graph) target) c (means x w .score false target)
-holds (risk x target result) w c = subst (Score true (x .setup) (x .setup .graph) target) c (means x w .score true target)
-holds (way x target set steps) w c = subst (Way (x .setup .graph) target (Member set)) (c .1) (means x w .way target set (c .0))
-holds (marks x target handed right repeated shut loose missing) w c =
-    counts-of false (x .setup) (x .setup .graph) target w (own-graph (x .setup) w) handed right repeated shut loose missing c
-holds (lockMarks x target handed right repeated shut loose missing) w c =
-    counts-of true (x .setup) (x .setup .graph) target w (own-graph (x .setup) w) handed right repeated shut loose missing c
+holds : (e : Example) → Reads (sheetOf e) → Computed e → Holds e
+holds (closure x set result) r c = of-read x _ r (subst (AccessFrom (x .setup .graph) set) c (means x r .closure false set))
+holds (loss x set result) r c = of-read x _ r (subst (LockoutFrom (x .setup .graph) set) c (means x r .closure true set))
+holds (opening x target l) r c = of-read x _ r (subst (Base false (x .setup) (x .setup .graph) target) c (means x r .base false target))
+holds (lockout x target l) r c = of-read x _ r (subst (Base true (x .setup) (x .setup .graph) target) c (means x r .base true target))
+holds (score x target result) r c = of-read x _ r (subst (Score false (x .setup) (x .setup .graph) target) c (means x r .score false target))
+holds (risk x target result) r c = of-read x _ r (subst (Score true (x .setup) (x .setup .graph) target) c (means x r .score true target))
+holds (way x target set steps) r c = of-read x _ r (subst (Way (x .setup .graph) target (Member set)) (c .1) (means x r .way target set (c .0)))
+holds (marks x target handed right repeated shut loose missing) r c =
+    of-read x _ r (counts-of false (x .setup) (x .setup .graph) target (reads-well x r) (own-graph (x .setup) (reads-well x r)) handed right repeated shut loose missing c)
+holds (lockMarks x target handed right repeated shut loose missing) r c =
+    of-read x _ r (counts-of true (x .setup) (x .setup .graph) target (reads-well x r) (own-graph (x .setup) (reads-well x r)) handed right repeated shut loose missing c)
 
 -- An entry of the table is computed, and its sheet read.
 abbrev pub Shown : Example → Type 0
@@ -73,7 +82,7 @@ Shown e = Reads (sheetOf e) × Computed e
 
 pub all-hold : (l : List Example) → Each Shown l → AllHold l
 all-hold [] s = tt
-all-hold (e ∷ l) s = (holds e (reads-well (sheetOf e) (s .0 .0)) (s .0 .1), all-hold l (s .1))
+all-hold (e ∷ l) s = (holds e (s .0 .0) (s .0 .1), all-hold l (s .1))
 
 table-shown : Each Shown table
 unfolding lowest some every those isListed isMember isWithin isMeeting withVertex isComplete isBroken colourOf isAdded passOf passesOf closureOf derivesOf vertexOf stepsOf wayOf isChosen setsOfSize setsUpTo setsOf targetSetsOf isMinimal baseOf leastSum scoreOf markOf marksFrom countsOf marksOf sumOver

@@ -39,13 +39,20 @@ rows l = record { needs = l ++ replicate (8 - length l) 0 }
 abbrev pub graph : List (List ℕ) → Graph
 graph l = record { rows = map rows l ++ replicate (64 - length l) (rows []) }
 
+-- A sheet's lines, and the setup that is expected of them.
 pub record Sheet : Type 0 where
   pub lines : List String
   pub setup : Setup
 
--- Reading the sheet's bytes yields the setup.
+-- Reading the sheet's bytes yields that setup.
 abbrev pub Reads : Sheet → Type 0
 Reads x = readSheet (linesText (x .lines)) ≡ accepted (x .setup)
+
+-- The sheet's bytes are accepted, and P holds of the setup that is read from them, whatever is expected.
+pub record Yields (x : Sheet) (P : Setup → Type 0) : Type 0 where
+  pub setup : Setup
+  pub reading : readSheet (linesText (x .lines)) ≡ accepted setup
+  pub holds : P setup
 
 -- ---- the sheet of document 01
 

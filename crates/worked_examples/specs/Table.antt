@@ -1,4 +1,4 @@
--- Document 01's bench examples, B1 to B12, and what it is for them to hold: in terms of the definitions that the contracts cite.
+-- Document 01's bench examples, B1 to B12, and what it is for them to hold of the sheets' bytes: in terms of the definitions that the contracts cite.
 use mathlib.Core.Bool.{true, false}
 use mathlib.Core.List.{List, [], _∷_}
 use Prim.Native.Nat.{ℕ, _^_}
@@ -11,7 +11,7 @@ use Rattle.bases.specs.Base.{Base}
 use Rattle.bases.specs.Score.{Score, never}
 use Rattle.bases.specs.Marks.{Counts}
 use Rattle.sheet_format.specs.Rows.{Each}
-use Rattle.worked_examples.specs.Sheets.{Sheet, bench, ordpw, mailpw, token, mail, order, ring, pwdBackup, pwdManager, device, seed, accBackup, alone, closed, loop, only, pair, p, q, spare, pw, key, acc, full, first, last}
+use Rattle.worked_examples.specs.Sheets.{Sheet, Yields, bench, ordpw, mailpw, token, mail, order, ring, pwdBackup, pwdManager, device, seed, accBackup, alone, closed, loop, only, pair, p, q, spare, pw, key, acc, full, first, last}
 
 -- The set of the vertices of the list.
 abbrev pub setOf : List ℕ → ℕ
@@ -37,18 +37,19 @@ pub data Example : Type 0 where
   -- and as the lockout list
   lockMarks : Sheet → (target : ℕ) → List ℕ → (right repeated shut loose missing : ℕ) → Example
 
+-- The example holds of what is read from its sheet's bytes.
 abbrev pub Holds : Example → Type 0
-Holds (closure x set result) = AccessFrom (x .setup .graph) set result
-Holds (loss x set result) = LockoutFrom (x .setup .graph) set result
-Holds (opening x target l) = Base false (x .setup) (x .setup .graph) target l
-Holds (lockout x target l) = Base true (x .setup) (x .setup .graph) target l
-Holds (score x target result) = Score false (x .setup) (x .setup .graph) target result
-Holds (risk x target result) = Score true (x .setup) (x .setup .graph) target result
-Holds (way x target set steps) = Way (x .setup .graph) target (Member set) steps
+Holds (closure x set result) = Yields x (λ s. AccessFrom (s .graph) set result)
+Holds (loss x set result) = Yields x (λ s. LockoutFrom (s .graph) set result)
+Holds (opening x target l) = Yields x (λ s. Base false s (s .graph) target l)
+Holds (lockout x target l) = Yields x (λ s. Base true s (s .graph) target l)
+Holds (score x target result) = Yields x (λ s. Score false s (s .graph) target result)
+Holds (risk x target result) = Yields x (λ s. Score true s (s .graph) target result)
+Holds (way x target set steps) = Yields x (λ s. Way (s .graph) target (Member set) steps)
 Holds (marks x target handed right repeated shut loose missing) =
-    Counts false (x .setup) (x .setup .graph) target handed right repeated shut loose missing
+    Yields x (λ s. Counts false s (s .graph) target handed right repeated shut loose missing)
 Holds (lockMarks x target handed right repeated shut loose missing) =
-    Counts true (x .setup) (x .setup .graph) target handed right repeated shut loose missing
+    Yields x (λ s. Counts true s (s .graph) target handed right repeated shut loose missing)
 
 -- ---- the examples
 

@@ -5,21 +5,21 @@ use mathlib.Core.Bool.{Bool, true}
 use mathlib.Core.List.{List, [], _∷_, map}
 use mathlib.Core.Logic.{_⊎_, inl, inr, ⊎-elim}
 use Prim.Native.Nat.{ℕ, zero, suc, _+_, _≤_, _<_}
-use native.Mathlib.Nat.{not-suc-le-zero}
 use native.Mathlib.Omega.{arith}
 use lib.ListN.{length, getD}
 use Rattle.vertex_set.specs.Order.{Listed}
 use Rattle.vertex_set.proofs.Cases.{same-or, less-or, false-true}
 use Rattle.bases.specs.Score.{never}
 use Rattle.sheet_format.specs.declared.Reading.{Reading}
-use Rattle.sheet_format.specs.Text.{linesOf}
 use Rattle.sheet_format.specs.Fields.{isName}
 use Rattle.sheet_format.specs.Rows.{ItemRow, Doc, Each, ValidItem, render, setupOf}
 use Rattle.sheet_format.specs.Read.{accepted, refused, readSheet}
-use Rattle.sheet_format.specs.Names.{lineStart, nameOf, nameStart}
+use Rattle.sheet_format.specs.Stated.{StandsAt, Stated}
+use Rattle.sheet_format.specs.Names.{nameOf, nameStart}
 use Rattle.sheet_format.specs.Meaning.{Refusal, Accepted, Refused}
 use Rattle.sheet_format.proofs.Meaning.{accepted-of-valid, valid-of-accepted, refusal-law, refusal-unique, empty-setup, accepted-or-refused}
-use Rattle.sheet.proofs.Names.{refused-none, beyond-none, item-there, name-none, start-none, names-of-rows}
+use Rattle.sheet_format.proofs.Stated.{stands-below, at-place, stated-by-rows}
+use Rattle.sheet.proofs.Names.{refused-none, beyond-none, name-none, start-none, names-of-rows, name-places}
 use Rattle.reference.proofs.Unique.{score-unique}
 use Rattle.portal.specs.Portal.{PortalCall}
 use Rattle.portal.proofs.Portal.{decoded}
@@ -37,7 +37,7 @@ reads-accepted : (text : List ℕ) (a : Accepted text) → Reads text (accepted 
 reads-accepted text a =
     record {
       accepted = record { to = λ z. read-rows text a; from = λ d. refl };
-      states = λ d h. (refl, ap (λ (r : Reading). r .setup) (sym (a .reading) ∙ rows-read text d h));
+      states = λ d h. let e = ap (λ (r : Reading). r .setup) (sym (a .reading) ∙ rows-read text d h) in (refl, e, subst (Stated d) (sym e) (stated-by-rows d (h .valid)));
       refused = λ n. absurd (n refl);
     }
 
@@ -106,39 +106,39 @@ module _ (text : List ℕ) (r : Reading) (h : Reads text r) where
 
 -- ---- an item's name
 
+name-at : (xs : List ItemRow) (i : ℕ) (x : ItemRow) → StandsAt xs i x → getD (map (λ (y : ItemRow). y .name) xs) i [] ≡ x .name
+name-at [] i x h = absurd h
+name-at (y ∷ ys) zero x h = ap (λ (z : ItemRow). z .name) h
+name-at (y ∷ ys) (suc i) x h = name-at ys i x h
+
 -- a name has a byte
-name-some : (xs : List ItemRow) (i : ℕ) → Each ValidItem xs → i < length xs → getD (map (λ (x : ItemRow). x .name) xs) i [] ≡ [] → ⊥
+name-some : (xs : List ItemRow) (i : ℕ) (x : ItemRow) → Each ValidItem xs → StandsAt xs i x → x .name ≡ [] → ⊥
 unfolding isName
-name-some [] i v l e = not-suc-le-zero l
-name-some (x ∷ xs) zero v l e = false-true (subst (λ (n : List ℕ). isName n ≡ true) e (v .0 .name))
-name-some (x ∷ xs) (suc i) v l e = name-some xs i (v .1) (omega arith) e
+name-some [] i x v h e = h
+name-some (y ∷ ys) zero x v h e = false-true (subst (λ (n : List ℕ). isName n ≡ true) (ap (λ (z : ItemRow). z .name) h ∙ e) (v .0 .name))
+name-some (y ∷ ys) (suc i) x v h e = name-some ys i x (v .1) h e
 
 module _ (text : List ℕ) (item : ℕ) where
   -- the item is there, or it isn't, or the sheet is refused
-  by-item : {Q : Type 0} → ((d : Doc) → RowsOf text d → item < length (d .items) → Q) → ((d : Doc) → RowsOf text d → length (d .items) ≤ item → Q)
-      → (((d : Doc) → RowsOf text d → ⊥) → Q) → Q
+  by-item : {Q : Type 0} → ((d : Doc) → RowsOf text d → (x : ItemRow) → StandsAt (d .items) item x → Q)
+      → ((d : Doc) → RowsOf text d → length (d .items) ≤ item → Q) → (((d : Doc) → RowsOf text d → ⊥) → Q) → Q
   by-item there beyond none =
-      ⊎-elim (λ z. let d = reads text (readSheet text) refl .accepted .to z in ⊎-elim (there (d .0) (d .1)) (beyond (d .0) (d .1)) (less-or item (length (d .0 .items))))
+      ⊎-elim
+      (λ z. let d = reads text (readSheet text) refl .accepted .to z in
+      ⊎-elim (λ l. let x = at-place (d .0 .items) item l in there (d .0) (d .1) (x .0) (x .1)) (beyond (d .0) (d .1)) (less-or item (length (d .0 .items))))
       (λ n. none (λ d h. n (ap (λ (r : Reading). r .number) (rows-read text d h)))) (same-or (readSheet text .number) 0)
 
-  module _ (d : Doc) (h : RowsOf text d) where
-    count-is : readSheet text .setup .count ≡ length (d .items)
-    unfolding setupOf
-    count-is = ap (λ (r : Reading). r .setup .count) (rows-read text d h)
-
-    number-is : readSheet text .number ≡ 0
-    number-is = ap (λ (r : Reading). r .number) (rows-read text d h)
-
-    start-there : item < length (d .items) → nameStart text item ≡ lineStart (linesOf text) (suc item)
-    unfolding nameStart
-    start-there l = let c = count-is in rw (item-there text item (readSheet text) refl number-is (omega arith)) refl
+  count-is : (d : Doc) → RowsOf text d → readSheet text .setup .count ≡ length (d .items)
+  unfolding setupOf
+  count-is d h = ap (λ (r : Reading). r .setup .count) (rows-read text d h)
 
   module _ (sheet : ℕ) (part : List ℕ) (at : ℕ) (e : part ≡ nameOf text item) (f : at ≡ sheet + nameStart text item) where
     pub named : Named text item sheet part at
     named =
         record {
-          name = λ d h l. e ∙ ap (λ (t : List ℕ). nameOf t item) (h .written) ∙ names-of-rows d (h .valid) item l;
-          place = λ d h l. f ∙ ap (λ (x : ℕ). sheet + x) (start-there d h l);
+          name = λ d h x j.
+              e ∙ ap (λ (t : List ℕ). nameOf t item) (h .written) ∙ names-of-rows d (h .valid) item (stands-below (d .items) item x j) ∙ name-at (d .items) item x j;
+          place = λ d h x j. f ∙ ap (λ (t : List ℕ). sheet + nameStart t item) (h .written) ∙ ap (λ (n : ℕ). sheet + n) (name-places d (h .valid) item x j .begins);
           beyond = λ d h l. let c = count-is d h in let b = beyond-none text item (readSheet text) refl (omega arith) in
               (e ∙ sym (name-none text item b), f ∙ sym (start-none text item sheet b));
           refused = λ n. let b = refused-none text item (readSheet text) refl (λ z. let d = reads text (readSheet text) refl .accepted .to z in n (d .0) (d .1)) in
@@ -149,11 +149,11 @@ module _ (text : List ℕ) (item : ℕ) where
     pub settled-name : SettledName text item sheet part at
     settled-name =
         record {
-          outcome = by-item (λ d h l. inl (λ e. name-some (d .items) item (h .valid .items) l (sym (k .name d h l) ∙ e)))
+          outcome = by-item (λ d h x i. inl (λ e. name-some (d .items) item x (h .valid .items) i (sym (k .name d h x i) ∙ e)))
               (λ d h l. inr (k .beyond d h l)) (λ n. inr (k .refused n));
           meets = k;
           only = λ p a j. by-item
-              (λ d h l. (j .name d h l ∙ sym (k .name d h l), j .place d h l ∙ sym (k .place d h l)))
+              (λ d h x i. (j .name d h x i ∙ sym (k .name d h x i), j .place d h x i ∙ sym (k .place d h x i)))
               (λ d h l. both (j .beyond d h l) (k .beyond d h l)) (λ n. both (j .refused n) (k .refused n));
         }
       where

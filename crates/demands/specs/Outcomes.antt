@@ -19,14 +19,14 @@ pub record Answered (number : ℕ) (values : List ℕ) : Type 0 where
   pub some : values ≡ [] → ⊥
 
 -- A refusal: one of the numbers, no values, and every lent list as it was.
-pub record Refused (numbers : List ℕ) (number : ℕ) (values : List ℕ) (entry exit : List (List ℕ)) : Type 0 where
+pub record RefusedWith (numbers : List ℕ) (number : ℕ) (values : List ℕ) (entry exit : List (List ℕ)) : Type 0 where
   pub listed : Listed numbers number
   pub none : values ≡ []
   pub kept : exit ≡ entry
 
 -- A call gives the one or the other; no number of a refusal is 0, so never both.
 abbrev pub Outcome : List ℕ → ℕ → List ℕ → List (List ℕ) → List (List ℕ) → Type 0
-Outcome numbers number values entry exit = Answered number values ⊎ Refused numbers number values entry exit
+Outcome numbers number values entry exit = Answered number values ⊎ RefusedWith numbers number values entry exit
 
 -- A call that is lent no list has an outcome, which meets the call's contract; and nothing else meets it.
 pub record Settled (numbers : List ℕ) (Call : ℕ → List ℕ → Type 0) (number : ℕ) (values : List ℕ) : Type 0 where

@@ -1,19 +1,18 @@
 -- What the calls on a sheet's bytes give, over rows as data: the reading, an item's name, and the portal's number.
 use mathlib.Core.Path.{_≡_}
 use mathlib.Core.Bool.{Bool}
-use mathlib.Core.List.{List, [], _∷_, map}
+use mathlib.Core.List.{List, [], _∷_, _++_}
 use mathlib.Core.Logic.{_⊎_}
-use Prim.Native.Nat.{ℕ, suc, _+_, _≤_, _<_}
-use lib.ListN.{length, replicate, getD}
+use Prim.Native.Nat.{ℕ, _+_, _≤_}
+use lib.ListN.{length, replicate, take}
 use Rattle.vertex_set.specs.Set.{Iff}
 use Rattle.vertex_set.specs.Order.{Listed}
 use Rattle.setup.specs.declared.Setup.{Setup}
 use Rattle.setup.specs.Setup.{unusedVertex}
 use Rattle.bases.specs.Score.{never}
 use Rattle.sheet_format.specs.declared.Reading.{Reading}
-use Rattle.sheet_format.specs.Text.{linesOf}
-use Rattle.sheet_format.specs.Rows.{ItemRow, Doc, Valid, render, emptyGraph, setupOf}
-use Rattle.sheet_format.specs.Names.{lineStart}
+use Rattle.sheet_format.specs.Rows.{ItemRow, Doc, firstHeader, itemLines, Valid, render, emptyGraph, setupOf}
+use Rattle.sheet_format.specs.Stated.{StandsAt, Stated}
 use Rattle.sheet_format.specs.Meaning.{Refusal}
 use Rattle.portal.specs.Portal.{PortalCall}
 
@@ -35,8 +34,8 @@ pub record RowsOf (text : List ℕ) (d : Doc) : Type 0 where
 pub record Reads (text : List ℕ) (r : Reading) : Type 0 where
   -- number 0 exactly where the text is the written form of some valid rows
   pub accepted : Iff (r .number ≡ 0) ((d : Doc) × RowsOf text d)
-  -- whatever valid rows it is the form of, the line is 0 and the setup is the one that they state
-  pub states : (d : Doc) → RowsOf text d → (r .line ≡ 0) × (r .setup ≡ setupOf d)
+  -- whatever valid rows it is the form of, the line is 0 and the setup is the one that they state, item by item and edge by edge
+  pub states : (d : Doc) → RowsOf text d → (r .line ≡ 0) × (r .setup ≡ setupOf d) × Stated d (r .setup)
   -- else number and line are those of the first no, and the setup has 0 items
   pub refused : (r .number ≡ 0 → ⊥) → Refusal text (r .number) (r .line) × (r .setup ≡ noItems)
 
@@ -50,9 +49,10 @@ pub record SettledReading (text : List ℕ) (r : Reading) : Type 0 where
 
 -- Of a sheet that begins at the place `sheet`, the part that begins at the place `at` and holds the bytes `part`.
 pub record Named (text : List ℕ) (item sheet : ℕ) (part : List ℕ) (at : ℕ) : Type 0 where
-  -- the name of the item's row, and where this row begins: the first header stands above the rows
-  pub name : (d : Doc) → RowsOf text d → item < length (d .items) → part ≡ getD (map (λ (x : ItemRow). x .name) (d .items)) item []
-  pub place : (d : Doc) → RowsOf text d → item < length (d .items) → at ≡ sheet + lineStart (linesOf text) (suc item)
+  -- the name of the item's row, which begins behind the first header, its LF, and the lines of the item rows above
+  pub name : (d : Doc) → RowsOf text d → (x : ItemRow) → StandsAt (d .items) item x → part ≡ x .name
+  pub place : (d : Doc) → RowsOf text d → (x : ItemRow) → StandsAt (d .items) item x
+      → at ≡ sheet + length (firstHeader ++ (10 ∷ itemLines (take item (d .items))))
   -- for an item that isn't there, and for a refused sheet, the empty part at the sheet's start
   pub beyond : (d : Doc) → RowsOf text d → length (d .items) ≤ item → (part ≡ []) × (at ≡ sheet)
   pub refused : ((d : Doc) → RowsOf text d → ⊥) → (part ≡ []) × (at ≡ sheet)

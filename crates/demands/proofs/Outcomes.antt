@@ -1,12 +1,12 @@
 -- Every call on a setup has an outcome, and no second one: this follows from its contract. An outcome is decided by looking at its number, values
 -- and lists, so that it may be shown by cases on questions which are not.
 -- Assumes nothing.
-use mathlib.Core.Path.{_≡_, refl, ap, _∙_}
+use mathlib.Core.Path.{_≡_, refl, ap}
 use mathlib.Core.Bool.{Bool}
 use mathlib.Core.HLevel.{Stable, dec→stable}
 use mathlib.Core.List.{List, [], _∷_, List-discrete}
 use mathlib.Core.Logic.{inl, inr, ⊎-elim}
-use Prim.Native.Nat.{ℕ, _+_, _≤_, _<_}
+use Prim.Native.Nat.{ℕ, _+_}
 use native.Mathlib.Decide.{ℕ-discrete}
 use native.Mathlib.Omega.{arith}
 use lib.ListN.{length}
@@ -16,7 +16,7 @@ use Rattle.vertex_set.proofs.Cases.{less-or}
 use Rattle.vertex_set.proofs.Decisions.{decide-iff}
 use Rattle.setup.specs.declared.Setup.{Setup}
 use Rattle.setup.specs.WellFormed.{WellFormed}
-use Rattle.setup.specs.Calls.{Refuses, Same, Inside}
+use Rattle.setup.specs.Calls.{Refuses, Inside}
 use Rattle.derivations.specs.Derivation.{Closure}
 use Rattle.derivations.specs.Access.{Step, HasAccess}
 use Rattle.derivations.specs.Both.{ruleOf}

@@ -12,18 +12,18 @@ use Rattle.vertex_set.proofs.Cases.{same-or, less-or, false-true}
 use Rattle.bases.specs.Score.{never}
 use Rattle.sheet_format.specs.declared.Reading.{Reading}
 use Rattle.sheet_format.specs.Fields.{isName}
-use Rattle.sheet_format.specs.Rows.{ItemRow, Doc, Each, ValidItem, render, setupOf}
+use Rattle.sheet_format.specs.Rows.{ItemRow, Doc, Each, ValidItem, setupOf}
 use Rattle.sheet_format.specs.Read.{accepted, refused, readSheet}
 use Rattle.sheet_format.specs.Stated.{StandsAt, Stated}
 use Rattle.sheet_format.specs.Names.{nameOf, nameStart}
-use Rattle.sheet_format.specs.Meaning.{Refusal, Accepted, Refused}
+use Rattle.sheet_format.specs.Meaning.{Accepted, Refused}
 use Rattle.sheet_format.proofs.Meaning.{accepted-of-valid, valid-of-accepted, refusal-law, refusal-unique, empty-setup, accepted-or-refused}
 use Rattle.sheet_format.proofs.Stated.{stands-below, at-place, stated-by-rows}
 use Rattle.sheet.proofs.Names.{refused-none, beyond-none, name-none, start-none, names-of-rows, name-places}
 use Rattle.reference.proofs.Unique.{score-unique}
 use Rattle.portal.specs.Portal.{PortalCall}
 use Rattle.portal.proofs.Portal.{decoded}
-use Rattle.demands.specs.Sheets.{sheetNumbers, noItems, RowsOf, Reads, SettledReading, Named, SettledName, SettledPortal}
+use Rattle.demands.specs.Sheets.{sheetNumbers, RowsOf, Reads, SettledReading, Named, SettledName, SettledPortal}
 
 -- ---- the reading
 

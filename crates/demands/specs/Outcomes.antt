@@ -24,7 +24,7 @@ pub record RefusedWith (numbers : List ℕ) (number : ℕ) (values : List ℕ) (
   pub none : values ≡ []
   pub kept : exit ≡ entry
 
--- A call gives the one or the other; no number of a refusal is 0, so never both.
+-- A call gives the one or the other; an answer has values and a refusal has none, so never both.
 abbrev pub Outcome : List ℕ → ℕ → List ℕ → List (List ℕ) → List (List ℕ) → Type 0
 Outcome numbers number values entry exit = Answered number values ⊎ RefusedWith numbers number values entry exit
 

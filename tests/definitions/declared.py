@@ -51,9 +51,9 @@ def looked_for(block):
     return noticing(D, first="rows" if block["file"].startswith("sheet_format") else "spare" if block["name"].endswith("Meaning") else None)
 
 
-# Files that stand on those of the scratch crate. Those of Whole are left out, and of what cites it: it stands on inner definitions of the report's steps.
-ABOVE = "answers/Demand3 sheet_format/Meaning portal/Portal determined/Determined reference/Meaning report_text/Meaning probe_tells/Tells probe/Told".split()
-UNTYPED = {"report_start/Whole", "demands/Demands"}
+# Files that stand on those of the scratch crate. Those of Whole are left out: it stands on inner definitions of the report's steps.
+ABOVE = "answers/Demand3 sheet_format/Meaning portal/Portal determined/Determined demands/Outcomes demands/Sheets reference/Meaning report_text/Meaning probe_tells/Tells probe/Told".split()
+UNTYPED = {"report_start/Whole"}
 
 
 def typed():

@@ -200,6 +200,12 @@ def Refuses(q, number, values):
     return numbered and empty
 
 
+def Same(n, n_, v, v_):
+    number = n == n_
+    values = v == v_
+    return number and values
+
+
 def Inside(s, set_):
     return all(implies(lambda: Member(set_, v), lambda: v < s.count) for v in world.vertices)
 
@@ -961,12 +967,6 @@ def Decoded(text, item, r):
 # ---- determined/Determined: of all pairs of the answers that are handed to them
 
 
-def Same(n, n_, v, v_):
-    number = n == n_
-    values = v == v_
-    return number and values
-
-
 def SetDetermined(loss, s, set_, answers):
     From = lambda g, x, r: Closure(ruleOf(loss, g), x, r)
     return all(
@@ -1024,30 +1024,112 @@ def MarksDetermined(loss, s, target, handed, answers):
     )
 
 
-# ---- demands/Demands
+# ---- demands/Outcomes: of the answers, texts and documents that are handed to them
 
 
-def FindingsDetermined(s, v, w, answers):
-    backdoor = all(
-        implies(lambda: BackdoorCall(s, v, n, x) and BackdoorCall(s, v, n_, x_), lambda: Same(n, n_, x, x_)) for n, x in answers for n_, x_ in answers
-    )
-    ineffective = all(
-        implies(lambda: IneffectiveCall(s, v, n, x) and IneffectiveCall(s, v, n_, x_), lambda: Same(n, n_, x, x_))
-        for n, x in answers
-        for n_, x_ in answers
-    )
-    inconsistent = all(
-        implies(lambda: InconsistentCall(s, v, w, n, x) and InconsistentCall(s, v, w, n_, x_), lambda: Same(n, n_, x, x_))
-        for n, x in answers
-        for n_, x_ in answers
-    )
-    return backdoor and ineffective and inconsistent
+def Answered(number, values):
+    zero = number == 0
+    some = values != []
+    return zero and some
 
 
-def PortalDetermined(loss, text, item, answers):
-    return all(
-        implies(lambda: PortalCall(loss, text, item, r) and PortalCall(loss, text, item, r_), lambda: r == r_) for r in answers for r_ in answers
+def RefusedWith(numbers, number, values, entry, exit_):
+    listed = Listed(numbers, number)
+    none = values == []
+    kept = exit_ == entry
+    return listed and none and kept
+
+
+def Outcome(numbers, number, values, entry, exit_):
+    return Answered(number, values) or RefusedWith(numbers, number, values, entry, exit_)
+
+
+def Settled(numbers, Call, number, values, answers):
+    outcome = Outcome(numbers, number, values, [], [])
+    meets = Call(number, values)
+    only = all(implies(lambda: Call(n, v), lambda: Same(n, number, v, values)) for n, v in answers)
+    return outcome and meets and only
+
+
+def SettledWay(s, target, set_, number, values, entry, exit, entry_, exit_, answers):
+    outcome = Outcome([12, 13, 14, 15], number, values, [entry, entry_], [exit, exit_])
+    meets = WayCall(s, target, set_, number, values, entry, exit, entry_, exit_)
+    only = all(
+        implies(lambda: WayCall(s, target, set_, n, v, entry, x, entry_, y), lambda: SameWay(n, number, v, values, x, exit, y, exit_))
+        for n, v, x, y in answers
     )
+    return outcome and meets and only
+
+
+def SettledLists(s, target, number, values, entry, exit, answers):
+    outcome = Outcome([12, 13, 15], number, values, [entry], [exit])
+    meets = BasesCall(s, target, number, values, entry, exit)
+    only = all(implies(lambda: BasesCall(s, target, n, v, entry, x), lambda: SameBases(n, number, v, values, x, exit)) for n, v, x in answers)
+    return outcome and meets and only
+
+
+def Yielded(s, texts):
+    return any(readSheet(text) == accepted(s) for text in texts)
+
+
+def SettledQuestion12(s, answer, texts):
+    meets = Decides(Yielded(s, texts), answer)
+    only = all(implies(lambda: Decides(Yielded(s, texts), b), lambda: b == answer) for b in (True, False))
+    return meets and only
+
+
+# ---- demands/Sheets
+
+
+sheetNumbers = [1, 2, 3, 4, 5, 6, 7, 8, 9, 10, 11]
+noItems = Setup(count=0, vertices=(unusedVertex,) * 64, graph=emptyGraph, recovery=emptyGraph)
+
+
+def RowsOf(text, d):
+    valid = Valid(d)
+    written = text == render(d)
+    return valid and written
+
+
+def Reads(text, r, docs):
+    accepted_ = Iff(r.number == 0, any(RowsOf(text, d) for d in docs))
+    states = all(implies(lambda: RowsOf(text, d), lambda: r.line == 0 and r.setup == setupOf(d) and Stated(d, r.setup)) for d in docs)
+    refused_ = implies(lambda: r.number != 0, lambda: Refusal(text, r.number, r.line) and r.setup == noItems)
+    return accepted_ and states and refused_
+
+
+def SettledReading(text, r, docs, readings):
+    outcome = (r.number == 0 and r.line == 0) or (Listed(sheetNumbers, r.number) and r.setup == noItems)
+    meets = Reads(text, r, docs)
+    only = all(implies(lambda: Reads(text, p, docs), lambda: p == r) for p in readings)
+    return outcome and meets and only
+
+
+def Named(text, item, sheet, part, at, docs):
+    rows = [d for d in docs if RowsOf(text, d)]
+    name = all(implies(lambda: StandsAt(d.items, item, x), lambda: part == x.name) for d in rows for x in d.items)
+    place = all(
+        implies(lambda: StandsAt(d.items, item, x), lambda: at == sheet + len(firstHeader + [10] + itemLines(d.items[:item])))
+        for d in rows
+        for x in d.items
+    )
+    beyond = all(implies(lambda: len(d.items) <= item, lambda: part == [] and at == sheet) for d in rows)
+    refused_ = implies(lambda: not rows, lambda: part == [] and at == sheet)
+    return name and place and beyond and refused_
+
+
+def SettledName(text, item, sheet, part, at, docs, parts):
+    outcome = part != [] or (part == [] and at == sheet)
+    meets = Named(text, item, sheet, part, at, docs)
+    only = all(implies(lambda: Named(text, item, sheet, p, a, docs), lambda: p == part and a == at) for p, a in parts)
+    return outcome and meets and only
+
+
+def SettledPortal(loss, text, item, r, numbers):
+    outcome = r <= never or any(Listed([13] + sheetNumbers, q) and r == never + q for q in range(16))
+    meets = PortalCall(loss, text, item, r)
+    only = all(implies(lambda: PortalCall(loss, text, item, q), lambda: q == r) for q in numbers)
+    return outcome and meets and only
 
 
 # ---- reference/Meaning

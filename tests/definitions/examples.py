@@ -562,8 +562,54 @@ def of_determined(D):
         ("determined: lists of order", lambda: D.BasesDetermined(bench, ORDER, LENT[:4], base_answers), True),
         ("determined: score of order", lambda: D.ScoreDetermined(False, bench, ORDER, answers), True),
         ("determined: marks of B7", lambda: D.MarksDetermined(False, bench, ORDER, [2, 2, 6, 4], mark_answers), True),
-        ("determined: findings of order", lambda: D.FindingsDetermined(bench, ORDER, MAIL, answers), True),
-        ("determined: the portal's number for order", lambda: D.PortalDetermined(False, text(BENCH), ORDER, [0, 1, 3, 13, 2**62, 2**62 + 13]), True),
+    ]
+
+
+def of_demands(D):
+    """What demands 1 and 2 ask of a call: right answers, and wrong ones."""
+    closure = lambda s: lambda n, v: D.SetCall(D.AccessFrom, s, 2, n, v)
+    backdoor = lambda n, x: D.BackdoorCall(bench, ORDER, n, x)
+    answers = [(n, v) for n in (0, 12, 13, 14) for v in ([], [0], [1], [2], [26])]
+    way = (bench, ORDER, 2, 0, [1, 2], [9, 9], [3, 4], [9, 9], [0, 1])
+    ways = [(0, [1, 2], [3, 4], [0, 1]), (0, [1, 2], [3, 4], [9, 9]), (0, [0], [9, 9], [9, 9]), (15, [], [9, 9], [9, 9])]
+    lists = [(0, [2, 2], [2, 5, 3, 6]), (0, [0, 0], LENT[:4]), (15, [], LENT[:4]), (13, [], LENT[:4])]
+    docs, sheets = [BENCH_DOC, DOC], [text(BENCH), render(DOC)]
+    five, over = REFUSED["refused 5"][0], REFUSED["refused 11"][0]
+    right = D.accepted(bench)
+    readings = [right, D.accepted(EMPTY), right._replace(line=1), D.refused(5, 2), D.refused(2, 5), D.refused(11, 4)]
+    names = [(list(b"ordpw"), 126), (list(b"mail"), 169), (list(b"mail"), 100), ([], 100), ([], 0)]
+    numbers = [0, 1, 3, 13, never, never + 12, never + 13, never + 5]
+    return [
+        ("answered: a set", lambda: D.Answered(0, [26]), True),
+        ("not answered: a number and a value", lambda: D.Answered(12, [26]), False),
+        ("not answered: nothing", lambda: D.Answered(0, []), False),
+        ("refused with 15", lambda: D.RefusedWith([12, 15], 15, [], [LENT], [LENT]), True),
+        ("not refused with 15: a place changed", lambda: D.RefusedWith([12, 15], 15, [], [LENT], [LENT[1:]]), False),
+        ("not refused with 15: a value", lambda: D.RefusedWith([12, 15], 15, [1], [LENT], [LENT]), False),
+        ("not refused with 13: no number of this call", lambda: D.RefusedWith([12, 15], 13, [], [LENT], [LENT]), False),
+        ("outcome: refused with 12", lambda: D.Outcome([12, 14], 12, [], [], []), True),
+        ("settled: closure of mailpw", lambda: D.Settled([12, 14], closure(bench), 0, [26], answers), True),
+        ("settled: closure, 12", lambda: D.Settled([12, 14], closure(EMPTY), 12, [], answers), True),
+        ("not settled: the set handed back", lambda: D.Settled([12, 14], closure(bench), 0, [2], answers), False),
+        ("not settled: a contract that leaves it open", lambda: D.Settled([12, 14], lambda n, v: n == 0, 0, [26], answers), False),
+        ("not settled: a contract that nothing meets", lambda: D.Settled([12, 14], lambda n, v: False, 0, [26], answers), False),
+        ("settled: backdoor of order", lambda: D.Settled([12, 13], backdoor, 0, [1], answers), True),
+        ("settled: way from mailpw", lambda: D.SettledWay(*way, ways), True),
+        ("settled: lists of order", lambda: D.SettledLists(bench, ORDER, 0, [2, 2], LENT[:4], [2, 5, 3, 6], lists), True),
+        ("settled: question 12 of bench", lambda: D.SettledQuestion12(bench, True, sheets), True),
+        ("not settled: question 12 of no item is yes", lambda: D.SettledQuestion12(EMPTY, True, sheets), False),
+        ("settled: reading of bench", lambda: D.SettledReading(text(BENCH), right, docs, readings), True),
+        ("settled: reading, refused 5 in line 2", lambda: D.SettledReading(five, D.refused(5, 2), docs, readings), True),
+        ("settled: reading, refused 11 in line 4", lambda: D.SettledReading(over, D.refused(11, 4), docs, readings), True),
+        ("not settled: bench refused", lambda: D.SettledReading(text(BENCH), D.refused(5, 2), docs, readings), False),
+        ("settled: name of mail", lambda: D.SettledName(text(BENCH), MAIL, 100, list(b"mail"), 169, docs, names), True),
+        ("settled: name of no item", lambda: D.SettledName(text(BENCH), 5, 100, [], 100, docs, names), True),
+        ("settled: name in a refused sheet", lambda: D.SettledName(five, 0, 100, [], 100, docs, names), True),
+        ("not settled: the name of another item", lambda: D.SettledName(text(BENCH), MAIL, 100, list(b"ordpw"), 126, docs, names), False),
+        ("not settled: other bytes at the name's place", lambda: D.SettledName(text(BENCH), MAIL, 100, list(b"mall"), 169, docs, []), False),
+        ("settled: the portal's number for order", lambda: D.SettledPortal(False, text(BENCH), ORDER, 1, numbers), True),
+        ("settled: the portal's number for no item", lambda: D.SettledPortal(False, text(BENCH), 5, never + 13, numbers), True),
+        ("settled: the portal's number for refused 5", lambda: D.SettledPortal(True, five, 0, never + 5, numbers), True),
     ]
 
 
@@ -728,7 +774,7 @@ GROUPS = {
     "far": [of_sets, of_setups, of_well_formed, of_parts, of_full_marks, of_whole],
     "one": [of_one],
     "bench": [of_derivations, of_ways, of_bases, of_scores, of_marks, of_set_calls, of_way_calls, of_base_calls, of_score_calls, of_demand3]
-    + [of_findings, of_portal, of_same, of_told, of_determined],
+    + [of_findings, of_portal, of_same, of_told, of_determined, of_demands],
     "rows": [of_valid_rows, of_rows, of_stated, of_meaning, of_refusals],
     "spare": [of_spare],
     "ring": [of_ring],

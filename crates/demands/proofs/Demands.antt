@@ -1,72 +1,34 @@
--- Demands 1 and 2 hold: their parts are the theorems of the crates that state them.
+-- Demand 1 follows from demand 2: what meets the contracts is an outcome, and the only one.
 -- Assumes nothing.
-use mathlib.Core.Path.{sym, _∙_}
-use mathlib.Core.List.{List}
-use mathlib.Core.Logic.{⊎-elim}
+use mathlib.Core.Bool.{true, false}
+use mathlib.Core.List.{List, [], _∷_}
 use Prim.Native.Nat.{ℕ}
-use Rattle.vertex_set.proofs.Cases.{same-or, less-or}
-use Rattle.sheet_format.specs.Read.{readSheet}
-use Rattle.sheet_format.proofs.Meaning.{accepted-of-valid, valid-of-accepted, refusal-law, refusal-unique, empty-setup, accepted-or-refused}
-use Rattle.sheet_format.proofs.Stated.{stated-by-rows, stated-unique}
-use Rattle.sheet_format.proofs.Question12.{question-12}
-use Rattle.sheet.proofs.Names.{names-of-rows, name-places}
-use Rattle.reference.proofs.Meaning.{meaning}
-use Rattle.reference.proofs.Unique.{score-unique}
-use Rattle.determined.specs.Determined.{Same}
-use Rattle.determined.proofs.Determined.{set-determined, way-determined, bases-determined, score-determined, marks-determined}
-use Rattle.findings.proofs.Unique.{SameAnswer, backdoor-determined, ineffective-determined, inconsistent-determined}
-use Rattle.report_text.proofs.Meaning.{report-meaning}
-use Rattle.report_start.proofs.Whole.{whole-report}
-use Rattle.demands.specs.Demands.{FindingsDetermined, PortalDetermined, Demand1, Demand2}
+use Rattle.setup.specs.declared.Setup.{Setup}
+use Rattle.findings.specs.Findings.{FindsBackdoor, FindsIneffective, FindsInconsistent}
+use Rattle.findings.proofs.Unique.{backdoor-unique, ineffective-unique, inconsistent-unique}
+use Rattle.demands.specs.declared.Answers.{Answers}
+use Rattle.demands.specs.Demands.{Demand1, Demand2}
+use Rattle.demands.proofs.Outcomes.{settled-set, settled-score, settled-marks, settled-finding, settled-lists, settled-way, settled-question-12}
+use Rattle.demands.proofs.Sheets.{settled-reading, settled-portal}
 
-same : {n n′ : ℕ} {x x′ : List ℕ} → SameAnswer n n′ x x′ → Same n n′ x x′
-same a = record { number = a .number; values = a .values }
-
-pub findings-determined : FindingsDetermined
-findings-determined =
+pub one-of-two : {text : List ℕ} {item : ℕ} {s : Setup} {set target other : ℕ} {opened locked vertices vertices′ colours colours′ list list′ : List ℕ} {r : Answers}
+    → Demand2 text item s set target other opened locked vertices vertices′ colours colours′ list list′ r
+    → Demand1 text item s set target other opened locked vertices vertices′ colours colours′ list list′ r
+one-of-two {text = text} {item = item} {s = s} {set = set} {target = target} {other = other} {opened = opened} {locked = locked} {r = r} d =
     record {
-      backdoor = λ s v n n′ x x′ a b. same (backdoor-determined s v n n′ x x′ a b);
-      ineffective = λ s v n n′ x x′ a b. same (ineffective-determined s v n n′ x x′ a b);
-      inconsistent = λ s v w n n′ x x′ a b. same (inconsistent-determined s v w n n′ x x′ a b);
-    }
-
-pub portal-determined : PortalDetermined
-portal-determined loss text item r r′ a b =
-    ⊎-elim
-    (λ z. ⊎-elim
-    (λ l. score-unique loss (readSheet text .setup) (readSheet text .setup .graph) item r r′ (a .answers z l) (b .answers z l))
-    (λ l. a .noItem z l ∙ sym (b .noItem z l))
-    (less-or item (readSheet text .setup .count)))
-    (λ n. a .refused n ∙ sym (b .refused n))
-    (same-or (readSheet text .number) 0)
-
-pub demand-1 : Demand1
-demand-1 =
-    record {
-      sets = set-determined;
-      ways = way-determined;
-      lists = bases-determined;
-      scores = score-determined;
-      marks = marks-determined;
-      findings = findings-determined;
-      sheets = accepted-or-refused;
-      refusals = refusal-unique;
-      portal = portal-determined;
-    }
-
-pub demand-2 : Demand2
-demand-2 =
-    record {
-      accepted = accepted-of-valid;
-      valid = valid-of-accepted;
-      stated = stated-by-rows;
-      statedOnce = stated-unique;
-      refused = refusal-law;
-      empty = empty-setup;
-      question12 = question-12;
-      names = names-of-rows;
-      namePlaces = name-places;
-      computed = meaning;
-      reported = report-meaning;
-      whole = whole-report;
+      closure = settled-set s _ _ false set (d .closure);
+      lost = settled-set s _ _ true set (d .lost);
+      way = settled-way s target _ _ set _ _ _ _ (d .way);
+      bases = settled-lists s target _ _ _ _ (d .bases);
+      score = settled-score s _ _ false target (d .score);
+      risk = settled-score s _ _ true target (d .risk);
+      openings = settled-marks s _ _ false target opened (d .openings);
+      lockouts = settled-marks s _ _ true target locked (d .lockouts);
+      backdoor = settled-finding s _ _ (FindsBackdoor s target) (backdoor-unique s target) (target ∷ []) (d .backdoor);
+      idle = settled-finding s _ _ (FindsIneffective s target) (ineffective-unique s target) (target ∷ []) (d .idle);
+      pair = settled-finding s _ _ (FindsInconsistent s target other) (λ b b′. inconsistent-unique s target b b′ other) (target ∷ other ∷ []) (d .pair);
+      formed = settled-question-12 s (r .findings .formed) (d .formed);
+      reading = settled-reading text (r .sheet .reading) (d .reading) (d .asked);
+      portalScore = settled-portal false text item (r .sheet .score) (d .portalScore);
+      portalRisk = settled-portal true text item (r .sheet .risk) (d .portalRisk);
     }

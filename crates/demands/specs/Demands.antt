@@ -1,60 +1,72 @@
--- Demands 1 and 2, each as one statement. That each call's code meets its contract, on every input, and ends, is proved of the code itself.
+-- Demands 1 and 2: what the offered calls answer, all of them on one input. Each is the contract of a function that makes the calls; the name of
+-- an item, a part of the sheet, is handed back by a function of its own (`SettledName`, `Named`).
 use mathlib.Core.Path.{_≡_}
-use mathlib.Core.Bool.{Bool}
-use mathlib.Core.List.{List}
+use mathlib.Core.Bool.{true, false}
+use mathlib.Core.List.{List, [], _∷_}
 use Prim.Native.Nat.{ℕ}
-use Rattle.setup.specs.declared.Graph.{Graph}
+use Rattle.vertex_set.specs.Set.{Decides}
 use Rattle.setup.specs.declared.Setup.{Setup}
-use Rattle.formed.specs.WellFormed.{WellFormed}
-use Rattle.sheet_format.specs.Stated.{StatedByRows, StatedUnique}
-use Rattle.sheet_format.specs.Meaning.{AcceptedOfValid, ValidOfAccepted, RefusalLaw, RefusalUnique, EmptySetup, AcceptedOrRefused, Question12}
-use Rattle.sheet_format.specs.Names.{NamesOfRows, NamePlaces}
-use Rattle.reference.specs.Graphs.{GraphOf}
-use Rattle.reference.specs.Meaning.{Meaning}
-use Rattle.determined.specs.Determined.{Same, SetDetermined, WayDetermined, BasesDetermined, ScoreDetermined, MarksDetermined}
-use Rattle.findings.specs.Answers.{BackdoorCall, IneffectiveCall, InconsistentCall}
+use Rattle.derivations.specs.Access.{AccessFrom}
+use Rattle.derivations.specs.Lockout.{LockoutFrom}
+use Rattle.access.specs.Answers.{numberOf, valuesOf, SetCall, wayNumber, wayValues, WayCall}
+use Rattle.answers.specs.Answers.{basesNumber, basesValues, BasesCall, scoreNumber, scoreValues, riskNumber, riskValues, ScoreCall, marksNumber, marksValues, MarksCall}
+use Rattle.findings.specs.Answers.{findingNumber, findingValues, BackdoorCall, IneffectiveCall, InconsistentCall}
+use Rattle.sheet_format.specs.Read.{readSheet}
 use Rattle.portal.specs.Portal.{PortalCall}
-use Rattle.report_text.specs.Meaning.{ReportMeaning}
-use Rattle.report_start.specs.Whole.{WholeReport}
+use Rattle.demands.specs.declared.Answers.{Answers}
+use Rattle.demands.specs.Outcomes.{Settled, SettledWay, SettledLists, Yielded, SettledQuestion12}
+use Rattle.demands.specs.Sheets.{Reads, SettledReading, SettledPortal}
 
--- Two answers that meet a finding's contract are the same.
-pub record FindingsDetermined : Type 0 where
-  pub backdoor : (s : Setup) (v n n′ : ℕ) (x x′ : List ℕ) → BackdoorCall s v n x → BackdoorCall s v n′ x′ → Same n n′ x x′
-  pub ineffective : (s : Setup) (v n n′ : ℕ) (x x′ : List ℕ) → IneffectiveCall s v n x → IneffectiveCall s v n′ x′ → Same n n′ x x′
-  pub inconsistent : (s : Setup) (v w n n′ : ℕ) (x x′ : List ℕ) → InconsistentCall s v w n x → InconsistentCall s v w n′ x′ → Same n n′ x x′
+-- Demand 1: to every input each call gives its answer or exactly one refusal, with every lent place as it was; and its contract leaves no second
+-- answer. Lent lists stand as they were and, with ′, as they are afterwards.
+pub record Demand1 (text : List ℕ) (item : ℕ) (s : Setup) (set target other : ℕ) (opened locked : List ℕ)
+    (vertices vertices′ colours colours′ list list′ : List ℕ) (r : Answers) : Type 0 where
+  -- closure and lost set: 12, 14
+  pub closure : Settled (12 ∷ 14 ∷ []) (SetCall AccessFrom s set) (numberOf (r .sets .closure)) (valuesOf (r .sets .closure))
+  pub lost : Settled (12 ∷ 14 ∷ []) (SetCall LockoutFrom s set) (numberOf (r .sets .lost)) (valuesOf (r .sets .lost))
+  -- the way in: 12, 13, 14, 15; both lists: 12, 13, 15
+  pub way : SettledWay s target set (wayNumber (r .sets .way)) (wayValues (r .sets .way)) vertices vertices′ colours colours′
+  pub bases : SettledLists s target (basesNumber (r .lists .bases)) (basesValues (r .lists .bases)) list list′
+  -- scores, marks and findings: 12, 13
+  pub score : Settled (12 ∷ 13 ∷ []) (ScoreCall false s target) (scoreNumber (r .lists .score)) (scoreValues (r .lists .score))
+  pub risk : Settled (12 ∷ 13 ∷ []) (ScoreCall true s target) (riskNumber (r .lists .risk)) (riskValues (r .lists .risk))
+  pub openings : Settled (12 ∷ 13 ∷ []) (MarksCall false s target opened) (marksNumber (r .lists .openings)) (marksValues (r .lists .openings))
+  pub lockouts : Settled (12 ∷ 13 ∷ []) (MarksCall true s target locked) (marksNumber (r .lists .lockouts)) (marksValues (r .lists .lockouts))
+  pub backdoor : Settled (12 ∷ 13 ∷ []) (BackdoorCall s target) (findingNumber (r .findings .backdoor)) (findingValues (r .findings .backdoor))
+  pub idle : Settled (12 ∷ 13 ∷ []) (IneffectiveCall s target) (findingNumber (r .findings .idle)) (findingValues (r .findings .idle))
+  pub pair : Settled (12 ∷ 13 ∷ []) (InconsistentCall s target other) (findingNumber (r .findings .pair)) (findingValues (r .findings .pair))
+  -- question 12 itself: yes or no
+  pub formed : SettledQuestion12 s (r .findings .formed)
+  -- a sheet: 1 to 11; the portal: 2^62 plus these, or plus 13
+  pub reading : SettledReading text (r .sheet .reading)
+  pub portalScore : SettledPortal false text item (r .sheet .score)
+  pub portalRisk : SettledPortal true text item (r .sheet .risk)
 
--- Two numbers that meet the portal's contract are the same.
-abbrev pub PortalDetermined : Type 0
-PortalDetermined = (loss : Bool) (text : List ℕ) (item r r′ : ℕ) → PortalCall loss text item r → PortalCall loss text item r′ → r ≡ r′
-
--- Demand 1: to every input each contract leaves one answer or one refusal, with every lent place.
-pub record Demand1 : Type 0 where
-  pub sets : SetDetermined
-  pub ways : WayDetermined
-  pub lists : BasesDetermined
-  pub scores : ScoreDetermined
-  pub marks : MarksDetermined
-  pub findings : FindingsDetermined
-  -- a sheet is accepted or refused, and never both; its refusal has one number and one line
-  pub sheets : AcceptedOrRefused
-  pub refusals : RefusalUnique
-  pub portal : PortalDetermined
-
--- Demand 2: a sheet is accepted exactly when it has the paper's form, and yields the setup that its rows state; what can be computed with, and
--- printed, is what the paper defines.
-pub record Demand2 : Type 0 where
-  pub accepted : AcceptedOfValid
-  pub valid : ValidOfAccepted
-  -- that setup, item by item and edge by edge, and that there is only one such
-  pub stated : StatedByRows
-  pub statedOnce : StatedUnique
-  pub refused : RefusalLaw
-  pub empty : EmptySetup
-  pub question12 : Question12
-  pub names : NamesOfRows
-  pub namePlaces : NamePlaces
-  -- closures, lost sets, ways in, lists, scores and marks
-  pub computed : (s : Setup) (g : Graph) → WellFormed s → GraphOf s g → Meaning s g
-  -- accounts, rows, scores and findings of the report, and that its parts are the whole of it
-  pub reported : (s : Setup) → WellFormed s → ReportMeaning s
-  pub whole : WholeReport
+-- Demand 2: every answer is the one of the paper's definitions, by the calls' own contracts; a sheet is accepted exactly where it has the paper's
+-- form, and yields the setup that its rows state.
+pub record Demand2 (text : List ℕ) (item : ℕ) (s : Setup) (set target other : ℕ) (opened locked : List ℕ)
+    (vertices vertices′ colours colours′ list list′ : List ℕ) (r : Answers) : Type 0 where
+  -- all items with a derivation, and all with a loss derivation, from the set
+  pub closure : SetCall AccessFrom s set (numberOf (r .sets .closure)) (valuesOf (r .sets .closure))
+  pub lost : SetCall LockoutFrom s set (numberOf (r .sets .lost)) (valuesOf (r .sets .lost))
+  -- always the lowest step; "shut" exactly where no derivation exists
+  pub way : WayCall s target set (wayNumber (r .sets .way)) (wayValues (r .sets .way)) vertices vertices′ colours colours′
+  -- the minimal sets that open the target, then those whose loss shuts it; the least sums over them
+  pub bases : BasesCall s target (basesNumber (r .lists .bases)) (basesValues (r .lists .bases)) list list′
+  pub score : ScoreCall false s target (scoreNumber (r .lists .score)) (scoreValues (r .lists .score))
+  pub risk : ScoreCall true s target (riskNumber (r .lists .risk)) (riskValues (r .lists .risk))
+  -- right, repeated, shut, loose, missing
+  pub openings : MarksCall false s target opened (marksNumber (r .lists .openings)) (marksValues (r .lists .openings))
+  pub lockouts : MarksCall true s target locked (marksNumber (r .lists .lockouts)) (marksValues (r .lists .lockouts))
+  -- the scores compared with those without recovery, and with those of another item
+  pub backdoor : BackdoorCall s target (findingNumber (r .findings .backdoor)) (findingValues (r .findings .backdoor))
+  pub idle : IneffectiveCall s target (findingNumber (r .findings .idle)) (findingValues (r .findings .idle))
+  pub pair : InconsistentCall s target other (findingNumber (r .findings .pair)) (findingValues (r .findings .pair))
+  -- yes exactly where some accepted sheet yields the setup
+  pub formed : Decides (Yielded s) (r .findings .formed)
+  -- the text's rows and the setup that they state, or its first no
+  pub reading : Reads text (r .sheet .reading)
+  -- this reading is also the one that the portal's contract cites
+  pub asked : r .sheet .reading ≡ readSheet text
+  pub portalScore : PortalCall false text item (r .sheet .score)
+  pub portalRisk : PortalCall true text item (r .sheet .risk)

@@ -1,2 +1,171 @@
-// Demands 1 and 2, each as one statement over the contracts of the calls and the definitions that these
-// cite. Demand 3 is the contract of `answers::demand_three`. There is no code here.
+// Demands 1 and 2, as the contracts of functions that make the offered calls on any sheet, item,
+// setup, set, vertices, handed-in lists and lent lists. Demand 3 is that of `answers::demand_three`.
+ghost use mathlib.Core.Path.{_≡_};
+ghost use mathlib.Core.Bool.{true, false};
+ghost use Rattle.vertex_set.specs.Set.{Decides};
+ghost use Rattle.derivations.specs.Access.{AccessFrom};
+ghost use Rattle.derivations.specs.Lockout.{LockoutFrom};
+ghost use Rattle.access.specs.Answers.{numberOf, valuesOf, SetCall, wayNumber, wayValues, WayCall};
+ghost use Rattle.findings.specs.Answers.{findingNumber, findingValues, BackdoorCall, IneffectiveCall, InconsistentCall};
+ghost use Rattle.sheet_format.specs.Read.{readSheet};
+ghost use Rattle.portal.specs.Portal.{PortalCall};
+ghost use Rattle.demands.specs.Outcomes.{Yielded};
+ghost use Rattle.demands.specs.Sheets.{Reads, Named, SettledName};
+ghost use Rattle.demands.specs.Demands.{Demand1, Demand2};
+use access::SetAnswer;
+use access::WayAnswer;
+use answers::AllAnswers;
+use findings::FindingAnswer;
+use setup::Setup;
+use sheet_format::Reading;
+use vertex_set::VertexSet;
+
+pub struct SetAnswers {
+    pub closure: SetAnswer,
+    pub lost: SetAnswer,
+    pub way: WayAnswer,
+}
+
+pub struct FindingAnswers {
+    pub backdoor: FindingAnswer,
+    pub idle: FindingAnswer,
+    pub pair: FindingAnswer,
+    pub formed: bool,
+}
+
+// The reading, and the portal's two numbers.
+pub struct SheetAnswers {
+    pub reading: Reading,
+    pub score: u64,
+    pub risk: u64,
+}
+
+// What the calls answer, all on one input. An item's name is not among them: it is a part of the sheet.
+pub struct Answers {
+    pub sets: SetAnswers,
+    pub lists: AllAnswers,
+    pub findings: FindingAnswers,
+    pub sheet: SheetAnswers,
+}
+
+// Closure, lost set and way in.
+fn ask_sets(
+    s: Setup,
+    set: VertexSet,
+    target: usize,
+    vertices: &mut [u8],
+    colours: &mut [u8],
+) -> SetAnswers
+    ensures closure { λ r. ⌜ SetCall AccessFrom s (set .0) (numberOf (r .closure)) (valuesOf (r .closure)) ⌝ }
+    ensures lost { λ r. ⌜ SetCall LockoutFrom s (set .0) (numberOf (r .lost)) (valuesOf (r .lost)) ⌝ }
+    ensures way { λ r. ⌜ WayCall s target (set .0) (wayNumber (r .way)) (wayValues (r .way)) (now (vertices .entry)) (now (vertices .exit)) (now (colours .entry)) (now (colours .exit)) ⌝ }
+{
+    let closure = access::access_from(s, set);
+    let lost = access::lockout_from(s, set);
+    let way = access::access_derivation(s, target, set, vertices, colours);
+    SetAnswers { closure, lost, way }
+}
+
+// The findings, and question 12.
+fn ask_findings(s: Setup, target: usize, other: usize) -> FindingAnswers
+    ensures backdoor { λ r. ⌜ BackdoorCall s target (findingNumber (r .backdoor)) (findingValues (r .backdoor)) ⌝ }
+    ensures idle { λ r. ⌜ IneffectiveCall s target (findingNumber (r .idle)) (findingValues (r .idle)) ⌝ }
+    ensures pair { λ r. ⌜ InconsistentCall s target other (findingNumber (r .pair)) (findingValues (r .pair)) ⌝ }
+    ensures formed { λ r. ⌜ Decides (Yielded s) (r .formed) ⌝ }
+{
+    let backdoor = findings::has_backdoor(s, target);
+    let idle = findings::ineffective_recovery(s, target);
+    let pair = findings::inconsistent(s, target, other);
+    let formed = formed::well_formed(s);
+    FindingAnswers {
+        backdoor,
+        idle,
+        pair,
+        formed,
+    }
+}
+
+// The calls on a sheet's bytes.
+fn ask_sheet(sheet: &[u8], item: u64) -> SheetAnswers
+    ensures reading { λ r. ⌜ Reads (now (sheet .entry)) (r .reading) ⌝ }
+    ensures asked { λ r. ⌜ r .reading ≡ readSheet (now (sheet .entry)) ⌝ }
+    ensures score { λ r. ⌜ PortalCall false (now (sheet .entry)) item (r .score) ⌝ }
+    ensures risk { λ r. ⌜ PortalCall true (now (sheet .entry)) item (r .risk) ⌝ }
+{
+    let reading = sheet::read_sheet(sheet);
+    let score = portal::portal_score(sheet, item);
+    let risk = portal::portal_risk(sheet, item);
+    SheetAnswers {
+        reading,
+        score,
+        risk,
+    }
+}
+
+// Demand 2, about the code: whatever the calls answer together is as it states.
+pub fn demand_two(
+    sheet: &[u8],
+    item: u64,
+    s: Setup,
+    set: VertexSet,
+    target: usize,
+    other: usize,
+    opened: &[u64],
+    locked: &[u64],
+    vertices: &mut [u8],
+    colours: &mut [u8],
+    list: &mut [u64],
+) -> Answers
+    ensures { λ r. ⌜ Demand2 (now (sheet .entry)) item s (set .0) target other (now (opened .entry)) (now (locked .entry)) (now (vertices .entry)) (now (vertices .exit)) (now (colours .entry)) (now (colours .exit)) (now (list .entry)) (now (list .exit)) r ⌝ }
+{
+    let sets = ask_sets(s, set, target, vertices, colours);
+    let lists = answers::demand_three(s, target, list, opened, locked);
+    let findings = ask_findings(s, target, other);
+    let sheet = ask_sheet(sheet, item);
+    Answers {
+        sets,
+        lists,
+        findings,
+        sheet,
+    }
+}
+
+// Demand 1, about the code: what meets the contracts is an answer or one refusal, and the only one.
+pub fn demand_one(
+    sheet: &[u8],
+    item: u64,
+    s: Setup,
+    set: VertexSet,
+    target: usize,
+    other: usize,
+    opened: &[u64],
+    locked: &[u64],
+    vertices: &mut [u8],
+    colours: &mut [u8],
+    list: &mut [u64],
+) -> Answers
+    ensures { λ r. ⌜ Demand1 (now (sheet .entry)) item s (set .0) target other (now (opened .entry)) (now (locked .entry)) (now (vertices .entry)) (now (vertices .exit)) (now (colours .entry)) (now (colours .exit)) (now (list .entry)) (now (list .exit)) r ⌝ }
+{
+    demand_two(
+        sheet,
+        item,
+        s,
+        set,
+        target,
+        other,
+        opened,
+        locked,
+        vertices,
+        colours,
+        list,
+    )
+}
+
+// Both demands of an item's name, the part of the sheet that is handed back.
+pub fn demands_of_name(sheet: &[u8], item: usize) -> &[u8]
+    ensures one { λ r. ⌜ SettledName (now (sheet .entry)) item (sheet .entry .ptr .1) (now r) (r .ptr .1) ⌝ }
+    ensures two { λ r. ⌜ Named (now (sheet .entry)) item (sheet .entry .ptr .1) (now r) (r .ptr .1) ⌝ }
+    ensures within { λ r. ⌜ r .ptr .0 ≡ sheet .entry .ptr .0 ⌝ }
+{
+    sheet::name_of(sheet, item)
+}

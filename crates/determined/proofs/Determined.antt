@@ -12,18 +12,18 @@ use Rattle.vertex_set.specs.Set.{Member}
 use Rattle.vertex_set.proofs.Cases.{less-or}
 use Rattle.setup.specs.declared.Setup.{Setup}
 use Rattle.formed.specs.WellFormed.{WellFormed}
-use Rattle.setup.specs.Calls.{Refuses, Inside, Untouched}
+use Rattle.setup.specs.Calls.{Refuses, Same, Inside, Untouched}
 use Rattle.derivations.specs.Access.{Step, HasAccess}
 use Rattle.derivations.specs.Both.{ruleOf}
 use Rattle.derivations.proofs.Way.{way-unique}
 use Rattle.access.specs.Answers.{WayWritten}
 use Rattle.answers.specs.Answers.{BasesWritten}
 use Rattle.reference.proofs.Unique.{closure-unique, base-unique, score-unique, counts-unique}
-use Rattle.determined.specs.Determined.{Same, SetDetermined, SameWay, WayDetermined, SameBases, BasesDetermined, ScoreDetermined, MarksDetermined}
+use Rattle.determined.specs.Determined.{SetDetermined, SameWay, WayDetermined, SameBases, BasesDetermined, ScoreDetermined, MarksDetermined}
 use Rattle.determined.proofs.Stable.{stable-number, stable-list, by-cases}
 
 -- Questions 12 and 13, which all calls with a target ask first.
-by-target : (s : Setup) (target : ℕ) {Q : Type 0} → Stable Q → ((WellFormed s → ⊥) → Q) → (WellFormed s → s .count ≤ target → Q)
+pub by-target : (s : Setup) (target : ℕ) {Q : Type 0} → Stable Q → ((WellFormed s → ⊥) → Q) → (WellFormed s → s .count ≤ target → Q)
     → (WellFormed s → target < s .count → Q) → Q
 by-target s target stable malformed noTarget answers =
     by-cases (WellFormed s) stable (λ w. ⊎-elim (answers w) (noTarget w) (less-or target (s .count))) malformed

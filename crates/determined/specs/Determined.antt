@@ -4,15 +4,11 @@ use mathlib.Core.Bool.{Bool}
 use mathlib.Core.List.{List}
 use Prim.Native.Nat.{ℕ}
 use Rattle.setup.specs.declared.Setup.{Setup}
+use Rattle.setup.specs.Calls.{Same}
 use Rattle.derivations.specs.Derivation.{Closure}
 use Rattle.derivations.specs.Both.{ruleOf}
 use Rattle.access.specs.Answers.{SetCall, WayCall}
 use Rattle.answers.specs.Answers.{BasesCall, ScoreCall, MarksCall}
-
--- Two answers, as document 01's number and values, are the same.
-pub record Same (n n′ : ℕ) (v v′ : List ℕ) : Type 0 where
-  pub number : n ≡ n′
-  pub values : v ≡ v′
 
 -- Closure and lost set.
 abbrev pub SetDetermined : Type 0

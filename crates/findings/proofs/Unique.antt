@@ -14,7 +14,7 @@ use Rattle.vertex_set.proofs.Decisions.{decide-iff}
 use Rattle.setup.specs.declared.Setup.{Setup}
 use Rattle.setup.specs.Setup.{vertexAt}
 use Rattle.formed.specs.WellFormed.{WellFormed}
-use Rattle.setup.specs.Calls.{Refuses}
+use Rattle.setup.specs.Calls.{Refuses, Same}
 use Rattle.bases.specs.Score.{Score}
 use Rattle.reference.proofs.Unique.{score-unique}
 use Rattle.findings.specs.Findings.{Compared, FindsBackdoor, FindsIneffective, FindsInconsistent}
@@ -67,13 +67,8 @@ module _ (s : Setup) (v : ℕ) (b b′ : Bool) where
 
 -- ---- calls
 
--- Two answers, as document 01's number and values, are the same.
-pub record SameAnswer (n n′ : ℕ) (v v′ : List ℕ) : Type 0 where
-  pub number : n ≡ n′
-  pub values : v ≡ v′
-
 -- all vertices of the call are below the count, or one is not
-all-below : (n : ℕ) (vertices : List ℕ) → ((v : ℕ) → Listed vertices v → v < n) ⊎ ((v : ℕ) × Listed vertices v × (n ≤ v))
+pub all-below : (n : ℕ) (vertices : List ℕ) → ((v : ℕ) → Listed vertices v → v < n) ⊎ ((v : ℕ) × Listed vertices v × (n ≤ v))
 all-below n [] = inl (λ v. absurd)
 all-below n (x ∷ vertices) = first (less-or x n) (all-below n vertices)
   where
@@ -85,13 +80,13 @@ all-below n (x ∷ vertices) = first (less-or x n) (all-below n vertices)
 
 module _ (Finds : Bool → Type 0) (unique : (b b′ : Bool) → Finds b → Finds b′ → b ≡ b′) (s : Setup) (vertices : List ℕ) where
   module _ (n n′ : ℕ) (v v′ : List ℕ) (a : FindingCall Finds s vertices n v) (b : FindingCall Finds s vertices n′ v′) where
-    refused : {q : ℕ} → Refuses q n v → Refuses q n′ v′ → SameAnswer n n′ v v′
+    refused : {q : ℕ} → Refuses q n v → Refuses q n′ v′ → Same n n′ v v′
     refused p q = record { number = p .numbered ∙ sym (q .numbered); values = p .empty ∙ sym (q .empty) }
 
-    formed : WellFormed s → SameAnswer n n′ v v′
+    formed : WellFormed s → Same n n′ v v′
     formed w = ⊎-elim answered (λ h. refused (a .noVertex w (h .0) (h .1) (h .2)) (b .noVertex w (h .0) (h .1) (h .2))) (all-below (s .count) vertices)
       where
-        answered : ((x : ℕ) → Listed vertices x → x < s .count) → SameAnswer n n′ v v′
+        answered : ((x : ℕ) → Listed vertices x → x < s .count) → Same n n′ v v′
         answered l =
             let p = a .answers w l in
             let q = b .answers w l in
@@ -99,21 +94,21 @@ module _ (Finds : Bool → Type 0) (unique : (b b′ : Bool) → Finds b → Fin
             record { number = p .1 ∙ sym (q .1); values = p .2 ∙ ap (λ (x : Bool). yesNo x ∷ []) e ∙ sym (q .2) }
 
     -- equations of numbers and of lists are decided, so that question 12 need not be
-    pub finding-determined : SameAnswer n n′ v v′
+    pub finding-determined : Same n n′ v v′
     finding-determined =
         record {
           number = dec→stable (ℕ-discrete n n′) (λ d. d (refused′ (λ w. d (formed w .number)) .number));
           values = dec→stable (List-discrete ℕ-discrete v v′) (λ d. d (refused′ (λ w. d (formed w .values)) .values));
         }
       where
-        refused′ : (WellFormed s → ⊥) → SameAnswer n n′ v v′
+        refused′ : (WellFormed s → ⊥) → Same n n′ v v′
         refused′ m = refused (a .malformed m) (b .malformed m)
 
-pub backdoor-determined : (s : Setup) (x n n′ : ℕ) (v v′ : List ℕ) → BackdoorCall s x n v → BackdoorCall s x n′ v′ → SameAnswer n n′ v v′
+pub backdoor-determined : (s : Setup) (x n n′ : ℕ) (v v′ : List ℕ) → BackdoorCall s x n v → BackdoorCall s x n′ v′ → Same n n′ v v′
 backdoor-determined s x = finding-determined (FindsBackdoor s x) (backdoor-unique s x) s (x ∷ [])
 
-pub ineffective-determined : (s : Setup) (x n n′ : ℕ) (v v′ : List ℕ) → IneffectiveCall s x n v → IneffectiveCall s x n′ v′ → SameAnswer n n′ v v′
+pub ineffective-determined : (s : Setup) (x n n′ : ℕ) (v v′ : List ℕ) → IneffectiveCall s x n v → IneffectiveCall s x n′ v′ → Same n n′ v v′
 ineffective-determined s x = finding-determined (FindsIneffective s x) (ineffective-unique s x) s (x ∷ [])
 
-pub inconsistent-determined : (s : Setup) (x y n n′ : ℕ) (v v′ : List ℕ) → InconsistentCall s x y n v → InconsistentCall s x y n′ v′ → SameAnswer n n′ v v′
+pub inconsistent-determined : (s : Setup) (x y n n′ : ℕ) (v v′ : List ℕ) → InconsistentCall s x y n v → InconsistentCall s x y n′ v′ → Same n n′ v v′
 inconsistent-determined s x y = finding-determined (FindsInconsistent s x y) (λ b b′. inconsistent-unique s x b b′ y) s (x ∷ y ∷ [])

@@ -11,6 +11,11 @@ pub record Refuses (q number : ℕ) (values : List ℕ) : Type 0 where
   pub numbered : number ≡ q
   pub empty : values ≡ []
 
+-- Two answers, as document 01's number and values, are the same.
+pub record Same (n n′ : ℕ) (v v′ : List ℕ) : Type 0 where
+  pub number : n ≡ n′
+  pub values : v ≡ v′
+
 -- Question 14: the set has only vertices of the setup.
 pub record Inside (s : Setup) (set : ℕ) : Type 0 where
   pub each : (v : ℕ) → Member set v → v < s .count

@@ -31,7 +31,7 @@ stands-below [] i x h = absurd h
 stands-below (y ∷ ys) zero x h = omega arith
 stands-below (y ∷ ys) (suc i) x h = let l = stands-below ys i x h in omega arith
 
-at-place : {A : Type 0} (xs : List A) (i : ℕ) → i < length xs → (x : A) × StandsAt xs i x
+pub at-place : {A : Type 0} (xs : List A) (i : ℕ) → i < length xs → (x : A) × StandsAt xs i x
 at-place [] i l = absurd (omega arith)
 at-place (y ∷ ys) zero l = (y, refl)
 at-place (y ∷ ys) (suc i) l = at-place ys i (omega arith)

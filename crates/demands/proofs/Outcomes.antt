@@ -1,0 +1,165 @@
+-- Every call on a setup has an outcome, and no second one: this follows from its contract. An outcome is decided by looking at its number, values
+-- and lists, so that it may be shown by cases on questions which are not.
+-- Assumes nothing.
+use mathlib.Core.Path.{_≡_, refl, ap}
+use mathlib.Core.Bool.{Bool}
+use mathlib.Core.HLevel.{Stable, dec→stable}
+use mathlib.Core.List.{List, [], _∷_, List-discrete}
+use mathlib.Core.Logic.{inl, inr, ⊎-elim}
+use Prim.Native.Nat.{ℕ, _+_}
+use native.Mathlib.Decide.{ℕ-discrete}
+use native.Mathlib.Omega.{arith}
+use lib.ListN.{length}
+use Rattle.vertex_set.specs.Set.{Member, Decides}
+use Rattle.vertex_set.specs.Order.{Listed}
+use Rattle.vertex_set.proofs.Cases.{less-or}
+use Rattle.vertex_set.proofs.Decisions.{decide-iff}
+use Rattle.setup.specs.declared.Setup.{Setup}
+use Rattle.formed.specs.WellFormed.{WellFormed}
+use Rattle.setup.specs.Calls.{Refuses, Inside, Untouched}
+use Rattle.derivations.specs.Derivation.{Closure}
+use Rattle.derivations.specs.Access.{Step, HasAccess}
+use Rattle.derivations.specs.Both.{ruleOf}
+use Rattle.sheet_format.proofs.Question12.{question-12}
+use Rattle.access.specs.Answers.{SetCall, WayWritten, WayCall}
+use Rattle.answers.specs.Answers.{BasesWritten, BasesCall, ScoreCall, MarksCall}
+use Rattle.findings.specs.Answers.{FindingCall}
+use Rattle.findings.proofs.Unique.{decided-once, all-below, finding-determined}
+use Rattle.determined.proofs.Stable.{stable-number, by-cases}
+use Rattle.determined.proofs.Determined.{by-target, set-determined, way-determined, bases-determined, score-determined, marks-determined}
+use Rattle.demands.specs.Outcomes.{Outcome, Settled, SettledWay, SettledLists, Yielded, SettledQuestion12}
+
+listed-dec : (l : List ℕ) (x : ℕ) → Dec (Listed l x)
+listed-dec [] x = no (λ h. h)
+listed-dec (y ∷ l) x = first (ℕ-discrete x y) (listed-dec l x)
+  where
+    first : Dec (x ≡ y) → Dec (Listed l x) → Dec (Listed (y ∷ l) x)
+    first (yes e) d = yes (inl e)
+    first (no n) (yes h) = yes (inr h)
+    first (no n) (no m) = no (⊎-elim n m)
+
+cons-nil : (x : ℕ) (l : List ℕ) → x ∷ l ≡ [] → ⊥
+cons-nil x l e = let z : _≡_ {A = ℕ} 0 1 = cc in omega arith
+
+module _ {numbers : List ℕ} {number : ℕ} {entry exit : List (List ℕ)} where
+  outcome-stable : (values : List ℕ) → Stable (Outcome numbers number values entry exit)
+  outcome-stable [] k =
+      inr
+      (record {
+        listed = dec→stable (listed-dec numbers number) (λ d. k (⊎-elim (λ a. a .some refl) (λ r. d (r .listed))));
+        none = refl;
+        kept = dec→stable (List-discrete (List-discrete ℕ-discrete) exit entry) (λ d. k (⊎-elim (λ a. a .some refl) (λ r. d (r .kept))));
+      })
+  outcome-stable (x ∷ l) k =
+      inl
+      (record {
+        zero = stable-number number 0 (λ d. k (⊎-elim (λ a. d (a .zero)) (λ r. cons-nil x l (r .none))));
+        some = cons-nil x l;
+      })
+
+  module _ {values : List ℕ} where
+    answered : {x : ℕ} {l : List ℕ} → number ≡ 0 → values ≡ x ∷ l → Outcome numbers number values entry exit
+    answered {x = x} {l = l} z e = inl (record { zero = z; some = rw e (cons-nil x l) })
+
+    refused : {q : ℕ} → Listed numbers q → exit ≡ entry → Refuses q number values → Outcome numbers number values entry exit
+    refused h k r = inr (record { listed = rw (r .numbered) h; none = r .empty; kept = k })
+
+-- ---- calls that are lent no list
+
+module _ (s : Setup) (n : ℕ) (v : List ℕ) where
+  pub settled-set : (loss : Bool) (set : ℕ) → SetCall (λ g. Closure (ruleOf loss g)) s set n v
+      → Settled (12 ∷ 14 ∷ []) (SetCall (λ g. Closure (ruleOf loss g)) s set) n v
+  settled-set loss set c =
+      record {
+        outcome = by-cases (WellFormed s) (outcome-stable v)
+            (λ w. by-cases (Inside s set) (outcome-stable v) (λ i. let a = c .answers w i in answered (a .1) (a .2))
+            (λ o. refused (inr (inl refl)) refl (c .outside w o)))
+            (λ m. refused (inl refl) refl (c .malformed m));
+        meets = c;
+        only = λ n′ v′ d. set-determined loss s set n′ n v′ v d c;
+      }
+
+  pub settled-score : (loss : Bool) (target : ℕ) → ScoreCall loss s target n v → Settled (12 ∷ 13 ∷ []) (ScoreCall loss s target) n v
+  settled-score loss target c =
+      record {
+        outcome = by-target s target (outcome-stable v) (λ m. refused (inl refl) refl (c .malformed m))
+            (λ w o. refused (inr (inl refl)) refl (c .noTarget w o)) (λ w l. let a = c .answers w l in answered (a .1) (a .2));
+        meets = c;
+        only = λ n′ v′ d. score-determined loss s target n′ n v′ v d c;
+      }
+
+  pub settled-marks : (loss : Bool) (target : ℕ) (handed : List ℕ) → MarksCall loss s target handed n v
+      → Settled (12 ∷ 13 ∷ []) (MarksCall loss s target handed) n v
+  settled-marks loss target handed c =
+      record {
+        outcome = by-target s target (outcome-stable v) (λ m. refused (inl refl) refl (c .malformed m))
+            (λ w o. refused (inr (inl refl)) refl (c .noTarget w o)) (λ w l. let a = c .answers w l in answered (a .5) (a .6));
+        meets = c;
+        only = λ n′ v′ d. marks-determined loss s target handed n′ n v′ v d c;
+      }
+
+  pub settled-finding : (Finds : Bool → Type 0) → ((b b′ : Bool) → Finds b → Finds b′ → b ≡ b′) → (vertices : List ℕ)
+      → FindingCall Finds s vertices n v → Settled (12 ∷ 13 ∷ []) (FindingCall Finds s vertices) n v
+  settled-finding Finds unique vertices c =
+      record {
+        outcome = by-cases (WellFormed s) (outcome-stable v)
+            (λ w. ⊎-elim (λ l. let a = c .answers w l in answered (a .1) (a .2))
+            (λ h. refused (inr (inl refl)) refl (c .noVertex w (h .0) (h .1) (h .2))) (all-below (s .count) vertices))
+            (λ m. refused (inl refl) refl (c .malformed m));
+        meets = c;
+        only = λ n′ v′ d. finding-determined Finds unique s vertices n′ n v′ v d c;
+      }
+
+-- ---- both lists, and the way in
+
+module _ (s : Setup) (target n : ℕ) (v : List ℕ) where
+  pub settled-lists : (a x : List ℕ) → BasesCall s target n v a x → SettledLists s target n v a x
+  settled-lists a x c =
+      record {
+        outcome = by-target s target (outcome-stable v) (λ m. kept (inl refl) (c .malformed m)) (λ w o. kept (inr (inl refl)) (c .noTarget w o))
+            (λ w l. let p = c .answers w l in written (p .0) (p .1) (p .4));
+        meets = c;
+        only = λ n′ v′ x′ d. bases-determined s target n′ n v′ v a x′ x d c;
+      }
+    where
+      kept : {q : ℕ} → Listed (12 ∷ 13 ∷ 15 ∷ []) q → Refuses q n v × (x ≡ a) → Outcome (12 ∷ 13 ∷ 15 ∷ []) n v (a ∷ []) (x ∷ [])
+      kept h r = refused h (ap (λ (y : List ℕ). y ∷ []) (r .1)) (r .0)
+
+      written : (opening lockout : List ℕ) → BasesWritten opening lockout n v a x → Outcome (12 ∷ 13 ∷ 15 ∷ []) n v (a ∷ []) (x ∷ [])
+      written opening lockout p =
+          ⊎-elim (λ k. kept (inr (inr (inl refl))) (p .short k)) (λ k. let e = p .room k in answered (e .0) (e .1))
+          (less-or (length a) (length opening + length lockout))
+
+  pub settled-way : (set : ℕ) (a x b y : List ℕ) → WayCall s target set n v a x b y → SettledWay s target set n v a x b y
+  settled-way set a x b y c =
+      record {
+        outcome = by-target s target (outcome-stable v) (λ m. kept (inl refl) (c .malformed m)) (λ w o. kept (inr (inl refl)) (c .noTarget w o))
+            (λ w l. by-cases (Inside s set) (outcome-stable v)
+            (λ i. by-cases (HasAccess (s .graph) (Member set) target) (outcome-stable v)
+            (λ h. let p = c .found w l i h in written (p .0) (p .2))
+            (λ h. let p = c .shut w l i h in answered (p .0) (p .1)))
+            (λ o. kept (inr (inr (inl refl))) (c .outside w l o)));
+        meets = c;
+        only = λ n′ v′ x′ y′ d. way-determined s target set n′ n v′ v a x′ x b y′ y d c;
+      }
+    where
+      kept : {q : ℕ} → Listed (12 ∷ 13 ∷ 14 ∷ 15 ∷ []) q → Refuses q n v × Untouched a x b y
+          → Outcome (12 ∷ 13 ∷ 14 ∷ 15 ∷ []) n v (a ∷ b ∷ []) (x ∷ y ∷ [])
+      kept h r = refused h (rw (r .1 .first, r .1 .second) refl) (r .0)
+
+      written : (d : List Step) → WayWritten d n v a x b y → Outcome (12 ∷ 13 ∷ 14 ∷ 15 ∷ []) n v (a ∷ b ∷ []) (x ∷ y ∷ [])
+      written d p =
+          ⊎-elim (λ k. kept last (p .short (inl k)))
+          (λ k. ⊎-elim (λ j. kept last (p .short (inr j))) (λ j. let e = p .room k j in answered (e .0) (e .1)) (less-or (length b) (length d)))
+          (less-or (length a) (length d))
+        where
+          last : Listed (12 ∷ 13 ∷ 14 ∷ 15 ∷ []) 15
+          last = inr (inr (inr (inl refl)))
+
+-- ---- question 12
+
+pub yielded : (s : Setup) (answer : Bool) → Decides (WellFormed s) answer → Decides (Yielded s) answer
+yielded s answer d = decide-iff (question-12 s) d
+
+pub settled-question-12 : (s : Setup) (answer : Bool) → Decides (Yielded s) answer → SettledQuestion12 s answer
+settled-question-12 s answer d = record { meets = d; only = λ b e. decided-once b answer e d }

@@ -1,0 +1,65 @@
+use borrow.Author.Needs.{needs}
+use Rattle.demands.proofs.demand_two.Statement.{statement}
+use Rattle.demands.proofs.demand_two.Tie as tie
+
+ask-sets-requires : tie.Need-ask-sets-requires
+ask-sets-requires c κs = search needs
+
+demand-three-requires : tie.Need-demand-three-requires
+demand-three-requires c κs = search needs
+
+ask-findings-requires : tie.Need-ask-findings-requires
+ask-findings-requires c κs = search needs
+
+ask-sheet-requires : tie.Need-ask-sheet-requires
+ask-sheet-requires c κs = search needs
+
+same-length : tie.Need-same-length
+same-length c = search needs
+
+same-length-2 : tie.Need-same-length-2
+same-length-2 c = search needs
+
+same-length-3 : tie.Need-same-length-3
+same-length-3 c = search needs
+
+returns : tie.Need-returns
+returns c =
+    let f = c .before in
+    let l = f .before .before .before in
+    let s = l .before .before .before .before .before .before in
+    let sets = s .ask-sets .ensures in
+    let lists = l .demand-three .ensures in
+    let findings = f .ask-findings .ensures in
+    let sheet = c .ask-sheet .ensures in
+    record {
+      closure = sets .0;
+      lost = sets .1 .0;
+      way = sets .1 .1;
+      bases = lists .lists;
+      score = lists .security;
+      risk = lists .recoverability;
+      openings = lists .openings;
+      lockouts = lists .lockouts;
+      backdoor = findings .0;
+      idle = findings .1 .0;
+      pair = findings .1 .1 .0;
+      formed = findings .1 .1 .1;
+      reading = sheet .0;
+      asked = sheet .1 .0;
+      portalScore = sheet .1 .1 .0;
+      portalRisk = sheet .1 .1 .1;
+    }
+
+pub demand-two-spec : {M : Type 1} → statement M
+demand-two-spec =
+    tie.close
+    (tie.spec
+    ask-sets-requires
+    demand-three-requires
+    ask-findings-requires
+    ask-sheet-requires
+    same-length
+    same-length-2
+    same-length-3
+    returns)

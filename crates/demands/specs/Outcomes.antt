@@ -1,0 +1,56 @@
+-- What a call on a setup gives, for demand 1: an answer, or one refusal that document 01 lists for this call; and no second one.
+use mathlib.Core.Path.{_≡_}
+use mathlib.Core.Bool.{Bool}
+use mathlib.Core.List.{List, [], _∷_}
+use mathlib.Core.Logic.{_⊎_}
+use Prim.Native.Nat.{ℕ}
+use Rattle.vertex_set.specs.Set.{Decides}
+use Rattle.vertex_set.specs.Order.{Listed}
+use Rattle.setup.specs.declared.Setup.{Setup}
+use Rattle.setup.specs.Calls.{Same}
+use Rattle.sheet_format.specs.Read.{accepted, readSheet}
+use Rattle.access.specs.Answers.{WayCall}
+use Rattle.answers.specs.Answers.{BasesCall}
+use Rattle.determined.specs.Determined.{SameWay, SameBases}
+
+-- An answer: number 0, with its values.
+pub record Answered (number : ℕ) (values : List ℕ) : Type 0 where
+  pub zero : number ≡ 0
+  pub some : values ≡ [] → ⊥
+
+-- A refusal: one of the numbers, no values, and every lent list as it was.
+pub record RefusedWith (numbers : List ℕ) (number : ℕ) (values : List ℕ) (entry exit : List (List ℕ)) : Type 0 where
+  pub listed : Listed numbers number
+  pub none : values ≡ []
+  pub kept : exit ≡ entry
+
+-- A call gives the one or the other; an answer has values and a refusal has none, so never both.
+abbrev pub Outcome : List ℕ → ℕ → List ℕ → List (List ℕ) → List (List ℕ) → Type 0
+Outcome numbers number values entry exit = Answered number values ⊎ RefusedWith numbers number values entry exit
+
+-- A call that is lent no list has an outcome, which meets the call's contract; and nothing else meets it.
+pub record Settled (numbers : List ℕ) (Call : ℕ → List ℕ → Type 0) (number : ℕ) (values : List ℕ) : Type 0 where
+  pub outcome : Outcome numbers number values [] []
+  pub meets : Call number values
+  pub only : (n : ℕ) (v : List ℕ) → Call n v → Same n number v values
+
+-- The way in likewise, with its two lent lists: 12, 13, 14, 15.
+pub record SettledWay (s : Setup) (target set number : ℕ) (values entry exit entry′ exit′ : List ℕ) : Type 0 where
+  pub outcome : Outcome (12 ∷ 13 ∷ 14 ∷ 15 ∷ []) number values (entry ∷ entry′ ∷ []) (exit ∷ exit′ ∷ [])
+  pub meets : WayCall s target set number values entry exit entry′ exit′
+  pub only : (n : ℕ) (v x y : List ℕ) → WayCall s target set n v entry x entry′ y → SameWay n number v values x exit y exit′
+
+-- Both lists likewise, with the lent list: 12, 13, 15.
+pub record SettledLists (s : Setup) (target number : ℕ) (values entry exit : List ℕ) : Type 0 where
+  pub outcome : Outcome (12 ∷ 13 ∷ 15 ∷ []) number values (entry ∷ []) (exit ∷ [])
+  pub meets : BasesCall s target number values entry exit
+  pub only : (n : ℕ) (v x : List ℕ) → BasesCall s target n v entry x → SameBases n number v values x exit
+
+-- Question 12: some accepted sheet yields the setup.
+abbrev pub Yielded : Setup → Type 0
+Yielded s = (text : List ℕ) × (readSheet text ≡ accepted s)
+
+-- The answer to question 12 is yes or no, one of them, and no refusal.
+pub record SettledQuestion12 (s : Setup) (answer : Bool) : Type 0 where
+  pub meets : Decides (Yielded s) answer
+  pub only : (b : Bool) → Decides (Yielded s) b → b ≡ answer

@@ -9,7 +9,7 @@ use lib.ListN.{length}
 use Rattle.vertex_set.proofs.Cases.{less-or}
 use Rattle.formed.specs.WellFormed.{WellFormed}
 use Rattle.sheet_format.specs.Read.{readSheet}
-use Rattle.findings.proofs.Unique.{SameAnswer, backdoor-determined, ineffective-determined, inconsistent-determined}
+use Rattle.findings.proofs.Unique.{backdoor-determined, ineffective-determined, inconsistent-determined}
 use Rattle.setup.specs.Calls.{Same}
 use Rattle.determined.proofs.Determined.{set-determined, way-determined, bases-determined, score-determined, marks-determined}
 use Rattle.determined.proofs.Stable.{stable-number, by-cases}
@@ -34,9 +34,6 @@ one-result Call once n n′ f f′ e t t′ = same-fields e t t′ (once n n′ 
 
 -- ---- the calls on a setup
 
-alike : {n n′ : ℕ} {v v′ : List ℕ} → SameAnswer n n′ v v′ → Same n n′ v v′
-alike d = record { number = d .number; values = d .values }
-
 pub setup-calls-determined : (words : List ℕ) → SetupCallsDetermined words
 setup-calls-determined words =
     let s = setupIn words in
@@ -54,10 +51,9 @@ setup-calls-determined words =
       risk = λ target. one-result _ (score-determined true s target);
       openings = λ target sets. one-result _ (marks-determined false s target sets);
       lockouts = λ target sets. one-result _ (marks-determined true s target sets);
-      backdoor = λ item. one-result _ (λ n n′ v v′ a b. alike (backdoor-determined s item n n′ v v′ a b));
-      idle = λ item. one-result _ (λ n n′ v v′ a b. alike (ineffective-determined s item n n′ v v′ a b));
-      outOfRank =
-          λ above below. one-result _ (λ n n′ v v′ a b. alike (inconsistent-determined s above below n n′ v v′ a b));
+      backdoor = λ item. one-result _ (backdoor-determined s item);
+      idle = λ item. one-result _ (ineffective-determined s item);
+      outOfRank = λ above below. one-result _ (inconsistent-determined s above below);
     }
 
 -- ---- the calls on a sheet

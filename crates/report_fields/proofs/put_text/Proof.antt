@@ -8,6 +8,7 @@ use Rattle.report_fields.proofs.Writing.{TextWriting, text-none, text-m
 use Rattle.report_fields.proofs.put_text.Statement.{statement}
 use Rattle.report_fields.proofs.put_text.Tie as tie
 
+-- The first i bytes are written, and the others go from at + i on.
 abbrev Inv-loop : tie.InvT-loop
 Inv-loop text out₀ at i₀ i-end out i = (i ≤ length text) × (i-end ≡ length text) × TextWriting text out₀ at out i
 

@@ -13,7 +13,13 @@ ROOT = Path(__file__).resolve().parent.parent
 KIT = {"io", "libc", "os", "check", "bytes"}
 LINE = re.compile(r"^(\w+):([^#]*)(?:#\s*(inner: )?(.*))?$")
 # A crate that only passes on a value of another crate's type does not name that crate, and depends on it all the same.
-PASSED_ON = {"sheet_cases": {"sheet_format"}, "portal": {"setup"}, "portal_results": {"scores"}}
+PASSED_ON = {
+    "sheet_cases": {"sheet_format"},
+    "portal": {"setup"},
+    "portal_results": {"vertex_set", "scores"},
+    "portal_bases": {"scores"},
+    "demands": {"scores"},
+}
 BEGIN, END = "<!-- the map: written by scripts/map.py from crates.txt -->\n", "<!-- end of the map -->\n"
 
 

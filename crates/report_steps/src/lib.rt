@@ -42,7 +42,7 @@ fn values_by(loss: bool, facts: Facts) -> [u64; 64]
     facts.starts
 }
 
-// Rows of the list with number k, from row i on.
+// Writes rows of the list with number k, from row i on, as far as there is room.
 fn put_list(
     facts: Facts,
     k: usize,
@@ -64,8 +64,8 @@ fn put_list(
     report_lists::put_rows(loss, k / 2, list, i, n, &values, sheet, &from, &to, out, at)
 }
 
-// Rows of the list with number k; where all stand, the next list, and behind the last list the
-// header of the scores.
+// Writes rows of the list with number k. Where all of them stand, loads the next list or, behind
+// the last list, writes the header of the scores.
 fn step_lists(
     facts: Facts,
     k: usize,
@@ -104,7 +104,7 @@ fn step_lists(
     Step { cursor, at: behind }
 }
 
-// The score row of vertex v, and behind the last vertex the header of the pairs.
+// Writes the score row of vertex v or, behind the last vertex, the header of the pairs.
 fn step_scores(facts: Facts, v: usize, sheet: &[u8], out: &mut [u8], at: usize) -> Step
     requires { ⌜ SectionGoing (now sheet) facts v (now out) at ⌝ }
     ensures { λ r. ⌜ ScoresWent (now (sheet .entry)) facts v (now (out .entry)) at (now (out .exit)) r ⌝ }
@@ -119,7 +119,7 @@ fn step_scores(facts: Facts, v: usize, sheet: &[u8], out: &mut [u8], at: usize) 
     Step { cursor, at: next }
 }
 
-// The pairs with vertex v above, and behind the last vertex nothing more.
+// Writes the pairs with vertex v above. Behind the last vertex the report is at its end.
 fn step_pairs(facts: Facts, v: usize, sheet: &[u8], out: &mut [u8], at: usize) -> Step
     requires { ⌜ SectionGoing (now sheet) facts v (now out) at ⌝ }
     ensures { λ r. ⌜ PairsWent (now (sheet .entry)) facts v (now (out .entry)) at (now (out .exit)) r ⌝ }
@@ -133,7 +133,7 @@ fn step_pairs(facts: Facts, v: usize, sheet: &[u8], out: &mut [u8], at: usize) -
     Step { cursor, at }
 }
 
-// The next part of the report.
+// Writes the next part of the report.
 fn advance(
     facts: Facts,
     cursor: Cursor,
@@ -199,7 +199,8 @@ pub fn going(cursor: Cursor) -> bool
     }
 }
 
-// As many parts of the report as fit; the place behind them is in the answer.
+// Writes parts of the report to the front of `out`, as long as there is room for any step, and says
+// where the report goes on.
 pub fn fill(
     facts: Facts,
     cursor: Cursor,

@@ -8,6 +8,7 @@ use Rattle.sheet_fields.proofs.Scans.{until-here, until-next, until-end
 use Rattle.sheet_fields.proofs.find.Statement.{statement}
 use Rattle.sheet_fields.proofs.find.Tie as tie
 
+-- No b stands from `at` up to i, so that the next b from i on is the one that is looked for.
 abbrev Inv-loop : tie.InvT-loop
 Inv-loop s at b i₀ i = (at + until b (drop at s) ≡ i + until b (drop i s))
 

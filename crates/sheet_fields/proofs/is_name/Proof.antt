@@ -9,6 +9,7 @@ use Rattle.sheet_fields.proofs.Names.{name-none, name-long, name-bytes}
 use Rattle.sheet_fields.proofs.is_name.Statement.{statement}
 use Rattle.sheet_fields.proofs.is_name.Tie as tie
 
+-- The bytes before i are bytes of a name, so that the field is a name exactly if those from i on are too.
 abbrev Inv-loop : tie.InvT-loop
 Inv-loop f i₀ i = (isName f ≡ all isNameByte (drop i f))
 

@@ -8,6 +8,7 @@ use Rattle.writing.proofs.Texts.{TextWriting, text-none, text-more, tex
 use Rattle.writing.proofs.put_text.Statement.{statement}
 use Rattle.writing.proofs.put_text.Tie as tie
 
+-- The first i bytes are written, and the others go from at + i on.
 abbrev Inv-loop : tie.InvT-loop
 Inv-loop text out₀ at i₀ i-end out i = (i ≤ length text) × (i-end ≡ length text) × TextWriting text out₀ at out i
 

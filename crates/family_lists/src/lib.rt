@@ -6,8 +6,9 @@ ghost use Prim.Native.Nat.{_+_, _≤_, _<_};
 ghost use lib.ListN.{length};
 ghost use lib.Count.{ones};
 ghost use Rattle.families.specs.Inner.Family.{size, familyWords};
+ghost use Rattle.written.specs.Inner.{Wrote};
 ghost use Rattle.family_lists.specs.Inner.Lists.{Writable, WroteSets};
-ghost use Rattle.family_lists.specs.Inner.Tables.{Layer, LanesOfSize, TablesFit, Wrote, masksIn, rising, Occupied, Joined, SomeOfSize, ofSize, bySize, sumBy};
+ghost use Rattle.family_lists.specs.Inner.Tables.{Layer, LanesOfSize, TablesFit, masksIn, rising, Occupied, Joined, SomeOfSize, ofSize, bySize, sumBy};
 use families::WORDS;
 use vertex_set::VertexSet;
 

@@ -3,7 +3,7 @@
 ghost use mathlib.Core.Path.{_≡_};
 ghost use Prim.Native.Nat.{_+_, _≤_, _<_};
 ghost use lib.ListN.{length};
-ghost use Rattle.family_lists.specs.Inner.Tables.{Wrote};
+ghost use Rattle.written.specs.Inner.{Wrote};
 ghost use Rattle.portal_setup.specs.Inner.{WroteAll};
 ghost use Rattle.portal_setup.specs.Words.{wordAt, kindIn, valueIn, vertexIn, rowsIn, graphIn, setupIn, kindWord, valueWord, vertexWords, verticesWords, graphWords, wordsOf};
 use setup::Graph;

@@ -2,7 +2,7 @@
 // out of rank.
 ghost use Prim.Native.Nat.{_+_, _≤_};
 ghost use lib.ListN.{length};
-ghost use Rattle.family_lists.specs.Inner.Tables.{Wrote};
+ghost use Rattle.written.specs.Inner.{Wrote};
 ghost use Rattle.sheet_format.specs.Names.{nameOf};
 ghost use Rattle.report_fields.specs.Inner.Writing.{NamePlace, NamePlaces};
 ghost use Rattle.report_facts.specs.Texts.{scoreAt, pairsAt};

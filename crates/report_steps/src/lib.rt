@@ -99,7 +99,7 @@ fn step_lists(
         let cursor = Cursor::Lists(next, 0, m);
         return Step { cursor, at };
     }
-    let behind = report_fields::put_text(b"\ntarget score risk back idle\n", out, at);
+    let behind = writing::put_text(b"\ntarget score risk back idle\n", out, at);
     let cursor = Cursor::Scores(0);
     Step { cursor, at: behind }
 }
@@ -114,7 +114,7 @@ fn step_scores(facts: Facts, v: usize, sheet: &[u8], out: &mut [u8], at: usize) 
         let cursor = Cursor::Scores(v + 1);
         return Step { cursor, at: next };
     }
-    let next = report_fields::put_text(b"\nabove below\n", out, at);
+    let next = writing::put_text(b"\nabove below\n", out, at);
     let cursor = Cursor::Pairs(0);
     Step { cursor, at: next }
 }
@@ -153,7 +153,7 @@ fn advance(
             let accounts = facts.accounts;
             let initial = facts.initial;
             let losable = facts.losable;
-            let next = report_fields::put_text(b"target way size sum items\n", out, at);
+            let next = writing::put_text(b"target way size sum items\n", out, at);
             let n = report_lists::load(0, accounts, initial, losable, opening, lockout, list);
             let first = Cursor::Lists(0, 0, n);
             return Step {

@@ -6,7 +6,6 @@ use Prim.Native.Nat.{ℕ, zero, suc, _+_, _*_, _/_, _%_, _^_, _≤_, _<_}
 use lib.Count.{ones}
 use lib.Dec.{eqb}
 use lib.ListN.{length, getD, take}
-use lib.Seq.{sets}
 use Rattle.vertex_set.specs.Set.{Member, Iff, Decides}
 use Rattle.vertex_set.proofs.Places.{places}
 use Rattle.vertex_set.proofs.Sorted.{only}
@@ -73,8 +72,3 @@ pub record TablesFit (low high : List ℕ) : Type 0 where
   pub long-low : length low ≡ 128
   pub long-high : length high ≡ 128
   pub fits : (m : ℕ) → m < masks → sumBy low high m < 2 ^ 64
-
--- From `at` on stand the numbers xs, and r is the next place.
-pub record Wrote (entry : List ℕ) (at : ℕ) (xs after : List ℕ) (r : ℕ) : Type 0 where
-  pub exit : after ≡ sets entry at xs
-  pub next : r ≡ at + length xs

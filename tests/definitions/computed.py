@@ -28,6 +28,8 @@ FIRST = {
     "report_facts": ["rest-of-"],
     "report_steps": ["rest-of-"],
     "portal_setup": ["words-"],
+    "portal_results": ["told-"],
+    "portal_reading": ["told-"],
 }
 
 

@@ -51,18 +51,31 @@ def looked_for(block):
     return noticing(D, first="rows" if block["file"].startswith("sheet_format") else "spare" if block["name"].endswith("Meaning") else None)
 
 
-# Files that stand on those of the scratch crate. Those of Whole are left out: it stands on inner definitions of the report's steps.
-ABOVE = "answers/Demand3 sheet_format/Meaning portal/Portal determined/Determined demands/Outcomes demands/Sheets reference/Meaning report_text/Meaning probe_tells/Tells probe/Told".split()
-UNTYPED = {"report_start/Whole"}
+# Files that stand on those of the scratch crate.
+ABOVE = """
+answers/Demand3 sheet_format/Meaning portal/Portal determined/Determined demands/Outcomes demands/Sheets demands/Demands reference/Meaning
+report_text/Meaning report_steps/Inner/Steps report_start/Whole portal_closures/Check
+""".split()
+# What Whole cites of the report's steps, with the same type and nothing known: no alteration is about it, and what it says need not be believed.
+AT = """-- What is known at a place of the report: nothing, here.
+use mathlib.Core.List.{List}
+use Prim.Native.Nat.{ℕ}
+use Rattle.setup.specs.declared.Setup.{Setup}
+use Rattle.report_facts.specs.declared.Facts.{Facts}
+use Rattle.report_steps.specs.declared.Cursor.{Cursor}
+
+abbrev pub At : List ℕ → Setup → Facts → List ℕ → List ℕ → List ℕ → Cursor → Type 0
+At sheet s f opening lockout list c = Unit {0}
+"""
 
 
 def typed():
     """How many rounds of altered definitions, one alteration of each at a time, the prover does not take as definitions."""
-    left = [b for b in blocks.read(DATA) if "old" in b and b["file"] not in UNTYPED]
+    left = [b for b in blocks.read(DATA) if "old" in b]
     bad = rounds = 0
     while left:
         now = {(b["file"], b["name"]): b for b in reversed(left)}
-        texts = {}
+        texts = {"report_steps/Inner/Steps": AT}
         for (file, name), b in now.items():
             texts[file] = blocks.replaced(texts.get(file) or blocks.source(file).read_text(), name, b["old"], b["new"])
         run = subprocess.run(["rt", "check", str(scratch.write("typed", texts, scratch.NO_EXAMPLES, ABOVE))], capture_output=True, text=True)

@@ -1132,6 +1132,53 @@ def SettledPortal(loss, text, item, r, numbers):
     return outcome and meets and only
 
 
+# ---- demands/Demands: each call's answer in `r` is its number and its values; `among` has the other answers, texts and rows that are looked at
+
+
+def Demand1(text, item, s, set_, target, other, opened, locked, vertices, vertices_, colours, colours_, list_, exit, r, among):
+    both = among.answers
+    closure = Settled([12, 14], lambda n, v: SetCall(AccessFrom, s, set_, n, v), *r.closure, both)
+    lost = Settled([12, 14], lambda n, v: SetCall(LockoutFrom, s, set_, n, v), *r.lost, both)
+    way = SettledWay(s, target, set_, *r.way, vertices, vertices_, colours, colours_, among.ways)
+    bases = SettledLists(s, target, *r.bases, list_, exit, among.lists)
+    score = Settled([12, 13], lambda n, v: ScoreCall(False, s, target, n, v), *r.score, both)
+    risk = Settled([12, 13], lambda n, v: ScoreCall(True, s, target, n, v), *r.risk, both)
+    openings = Settled([12, 13], lambda n, v: MarksCall(False, s, target, opened, n, v), *r.openings, both)
+    lockouts = Settled([12, 13], lambda n, v: MarksCall(True, s, target, locked, n, v), *r.lockouts, both)
+    backdoor = Settled([12, 13], lambda n, v: BackdoorCall(s, target, n, v), *r.backdoor, both)
+    idle = Settled([12, 13], lambda n, v: IneffectiveCall(s, target, n, v), *r.idle, both)
+    pair = Settled([12, 13], lambda n, v: InconsistentCall(s, target, other, n, v), *r.pair, both)
+    formed = SettledQuestion12(s, r.formed, among.texts)
+    reading = SettledReading(text, r.reading, among.docs, among.readings)
+    portalScore = SettledPortal(False, text, item, r.portalScore, among.numbers)
+    portalRisk = SettledPortal(True, text, item, r.portalRisk, among.numbers)
+    sets = closure and lost and way
+    lists = bases and score and risk and openings and lockouts
+    return sets and lists and backdoor and idle and pair and formed and reading and portalScore and portalRisk
+
+
+def Demand2(text, item, s, set_, target, other, opened, locked, vertices, vertices_, colours, colours_, list_, exit, r, among):
+    closure = SetCall(AccessFrom, s, set_, *r.closure)
+    lost = SetCall(LockoutFrom, s, set_, *r.lost)
+    way = WayCall(s, target, set_, *r.way, vertices, vertices_, colours, colours_)
+    bases = BasesCall(s, target, *r.bases, list_, exit)
+    score = ScoreCall(False, s, target, *r.score)
+    risk = ScoreCall(True, s, target, *r.risk)
+    openings = MarksCall(False, s, target, opened, *r.openings)
+    lockouts = MarksCall(True, s, target, locked, *r.lockouts)
+    backdoor = BackdoorCall(s, target, *r.backdoor)
+    idle = IneffectiveCall(s, target, *r.idle)
+    pair = InconsistentCall(s, target, other, *r.pair)
+    formed = Decides(Yielded(s, among.texts), r.formed)
+    reading = Reads(text, r.reading, among.docs)
+    asked = r.reading == readSheet(text)
+    portalScore = PortalCall(False, text, item, r.portalScore)
+    portalRisk = PortalCall(True, text, item, r.portalRisk)
+    sets = closure and lost and way
+    lists = bases and score and risk and openings and lockouts
+    return sets and lists and backdoor and idle and pair and formed and reading and asked and portalScore and portalRisk
+
+
 # ---- reference/Meaning
 
 
@@ -1219,49 +1266,40 @@ def WholeReport(rest, report, here, cursors, lists_of_parts):
     )
 
 
-# ---- probe_tells/Tells
+# ---- portal_results/Told: `candidates` are the lists of values among which the answer's are looked for
 
 
-def Front(xs, entry, exit):
-    room = implies(lambda: len(xs) <= len(entry), lambda: exit == written(xs, entry))
-    short = implies(lambda: len(entry) < len(xs), lambda: exit == entry)
-    return room and short
+def Told(Call, number, fields, candidates):
+    return any(Call(number, values) and fields == filled(len(fields), values) for values in candidates)
 
 
-def Tells(number, values, entry, exit, r):
-    returned = r == number
-    front = Front(values, entry, exit)
-    return returned and front
+# ---- portal_reading/Reading
 
 
-# ---- probe/Told
+def ReadingCall(text, number, line, entry, exit):
+    refused_ = implies(lambda: readSheet(text).number != 0, lambda: number == readSheet(text).number)
+    short = implies(lambda: readSheet(text).number == 0 and len(entry) < 1281, lambda: number == 15)
+    accepted_ = implies(lambda: readSheet(text).number == 0 and 1281 <= len(entry), lambda: number == 0)
+    lined = line == readSheet(text).line
+    room = implies(lambda: 1281 <= len(entry), lambda: exit == written(wordsOf(readSheet(text).setup), entry))
+    untouched = implies(lambda: len(entry) < 1281, lambda: exit == entry)
+    return refused_ and short and accepted_ and lined and room and untouched
 
 
-def Told(Call, entry, exit, r, candidates):
-    return any(Call(r, values) and Front(values, entry, exit) for values in candidates)
+def NameCall(text, item, number, start, size):
+    refused_ = implies(lambda: readSheet(text).number != 0, lambda: number == readSheet(text).number)
+    noItem = implies(lambda: readSheet(text).number == 0 and readSheet(text).setup.count <= item, lambda: number == 13)
+    accepted_ = implies(lambda: readSheet(text).number == 0 and item < readSheet(text).setup.count, lambda: number == 0)
+    begins = start == nameStart(text, item)
+    long = size == len(nameOf(text, item))
+    bytes_ = text[start:][:size] == nameOf(text, item)
+    return refused_ and noItem and accepted_ and begins and long and bytes_
 
 
-def Question12Call(s, r):
+# ---- portal_closures/Check
+
+
+def CheckCall(s, r):
     yes = implies(lambda: WellFormed(s), lambda: r == 0)
     no = implies(lambda: not WellFormed(s), lambda: r == 12)
     return yes and no
-
-
-def WayTo(s, target, set_, entry, exit, entry_, exit_, number, values):
-    return WayCall(s, target, set_, number, values, entry, exit, entry_, exit_)
-
-
-def BasesOf(s, target, entry, exit, number, values):
-    return BasesCall(s, target, number, values, entry, exit)
-
-
-def ReadingCall(text, number, values):
-    numbered = number == readSheet(text).number
-    told = values == [readSheet(text).line] + wordsOf(readSheet(text).setup)
-    return numbered and told
-
-
-def NameCall(text, item, number, values):
-    numbered = number == 0
-    told = values == [nameStart(text, item)] + nameOf(text, item)
-    return numbered and told

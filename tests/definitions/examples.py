@@ -1,6 +1,7 @@
 """Examples for the declarative definitions: what is asked, and whether it holds. B1 to B12 are document 01's; a name that begins with `not` is a
 wrong answer. The setups are read from sheets."""
 import itertools
+from collections import namedtuple
 
 from executables import Account, Credential, Doc, EdgeRow, Graph, ItemRow, Rows, Setup, Step, Vertex, emptyGraph, lessRecovery, never
 from executables import readSheet, render, setupOf, text, unusedVertex, wordsOf
@@ -520,32 +521,53 @@ def of_same(D):
 
 
 def of_told(D):
-    """What the harness is told."""
+    """What C is told."""
+    score = lambda target, n, x: D.Told(lambda number, v: D.ScoreCall(False, bench, target, number, v), n, x, [[], [1], [3]])
+    way = lambda set_, n, x, a, b: D.Told(lambda number, v: D.WayCall(bench, ORDER, set_, number, v, [9, 9], a, [8, 8], b), n, x, [[], [0], [1, 2]])
     return [
-        ("tells: 3 and 7", lambda: D.Tells(3, [7], [1, 2], [7, 2], 3), True),
-        ("not tells: another number", lambda: D.Tells(3, [7], [1, 2], [7, 2], 4), False),
-        ("front: to the front", lambda: D.Front([7, 8], [1, 2, 3], [7, 8, 3]), True),
-        ("front: equal room", lambda: D.Front([7, 8], [1, 2], [7, 8]), True),
-        ("not front: equal room unused", lambda: D.Front([7, 8], [1, 2], [1, 2]), False),
-        ("front: no room", lambda: D.Front([7, 8], [1], [1]), True),
-        ("not front: no room, and changed", lambda: D.Front([7, 8], [1], [7]), False),
-        ("told: score 1", lambda: D.Told(lambda n, v: D.ScoreCall(False, bench, ORDER, n, v), [9, 9], [1, 9], 0, [[], [1], [3]]), True),
-        ("not told: another score", lambda: D.Told(lambda n, v: D.ScoreCall(False, bench, ORDER, n, v), [9, 9], [3, 9], 0, [[], [1], [3]]), False),
-        ("not told: the score behind", lambda: D.Told(lambda n, v: D.ScoreCall(False, bench, ORDER, n, v), [9, 9], [9, 1], 0, [[], [1], [3]]), False),
-        ("question 12: bench", lambda: D.Question12Call(bench, 0), True),
-        ("not question 12: bench is 12", lambda: D.Question12Call(bench, 12), False),
-        ("question 12: no item", lambda: D.Question12Call(EMPTY, 12), True),
-        ("not question 12: no item is 0", lambda: D.Question12Call(EMPTY, 0), False),
-        ("told way: B6", lambda: D.WayTo(bench, ORDER, 2, [9, 9], [3, 4], [8, 8], [0, 1], 0, [1, 2]), True),
-        ("told lists: B3 and B4", lambda: D.BasesOf(bench, ORDER, LENT, [2, 5, 3, 6, 94], 0, [2, 2]), True),
-        ("told reading: bench", lambda: D.ReadingCall(text(BENCH), 0, [0] + wordsOf(bench)), True),
-        ("not told reading: no line", lambda: D.ReadingCall(text(BENCH), 0, wordsOf(bench)), False),
-        ("told reading: refused 5 in line 2", lambda: D.ReadingCall(REFUSED["refused 5"][0], 5, [2] + wordsOf(EMPTY)), True),
-        ("not told reading: number for line", lambda: D.ReadingCall(REFUSED["refused 5"][0], 2, [5] + wordsOf(EMPTY)), False),
-        ("told name: mail at 69", lambda: D.NameCall(text(BENCH), MAIL, 0, [69] + list(b"mail")), True),
-        ("not told name: order", lambda: D.NameCall(text(BENCH), MAIL, 0, [84] + list(b"order")), False),
-        ("told name: none", lambda: D.NameCall(text(BENCH), 5, 0, [0]), True),
-        ("not told name: with a number", lambda: D.NameCall(text(BENCH), 5, 13, [0]), False),
+        ("told: score 1", lambda: score(ORDER, 0, [1]), True),
+        ("not told: another score", lambda: score(ORDER, 0, [3]), False),
+        ("not told: no score", lambda: score(ORDER, 0, [0]), False),
+        ("not told: score 1 as a refusal's", lambda: score(ORDER, 13, [1]), False),
+        ("told: 13, and 0 for the score", lambda: score(5, 13, [0]), True),
+        ("not told: 13, and a score", lambda: score(5, 13, [1]), False),
+        ("told: way, B6", lambda: way(2, 0, [1, 2], [3, 4], [0, 1]), True),
+        ("told: way, shut", lambda: way(4, 0, [0, 0], [9, 9], [8, 8]), True),
+        ("not told: way, shut in two steps", lambda: way(4, 0, [0, 2], [9, 9], [8, 8]), False),
+        ("check: bench", lambda: D.CheckCall(bench, 0), True),
+        ("not check: bench is 12", lambda: D.CheckCall(bench, 12), False),
+        ("check: no item", lambda: D.CheckCall(EMPTY, 12), True),
+        ("not check: no item is 0", lambda: D.CheckCall(EMPTY, 0), False),
+    ]
+
+
+def of_readings(D):
+    """What C is told of a sheet: its reading, and an item's name."""
+    sheet, five = text(BENCH), REFUSED["refused 5"][0]
+    words, none = wordsOf(bench), wordsOf(EMPTY)
+    lent = lambda n: [9] * n
+    return [
+        ("reading: bench, equal room", lambda: D.ReadingCall(sheet, 0, 0, lent(1281), words), True),
+        ("reading: bench, more room", lambda: D.ReadingCall(sheet, 0, 0, lent(1283), words + lent(2)), True),
+        ("not reading: a place behind changed", lambda: D.ReadingCall(sheet, 0, 0, lent(1283), words + [9, 0]), False),
+        ("not reading: equal room unused", lambda: D.ReadingCall(sheet, 0, 0, lent(1281), lent(1281)), False),
+        ("not reading: 15 with equal room", lambda: D.ReadingCall(sheet, 15, 0, lent(1281), words), False),
+        ("reading: 15 with a place too few", lambda: D.ReadingCall(sheet, 15, 0, lent(1280), lent(1280)), True),
+        ("not reading: a place too few, and 0", lambda: D.ReadingCall(sheet, 0, 0, lent(1280), lent(1280)), False),
+        ("not reading: 15 with a place changed", lambda: D.ReadingCall(sheet, 15, 0, lent(1280), words[:1280]), False),
+        ("reading: refused 5 in line 2", lambda: D.ReadingCall(five, 5, 2, lent(1281), none), True),
+        ("not reading: number for line", lambda: D.ReadingCall(five, 2, 5, lent(1281), none), False),
+        ("not reading: refused, and the words as they were", lambda: D.ReadingCall(five, 5, 2, lent(1281), lent(1281)), False),
+        ("reading: refused 5 without room", lambda: D.ReadingCall(five, 5, 2, [], []), True),
+        ("not reading: 15 before 5", lambda: D.ReadingCall(five, 15, 2, [], []), False),
+        ("name: mail at 69", lambda: D.NameCall(sheet, MAIL, 0, 69, 4), True),
+        ("not name: order's place", lambda: D.NameCall(sheet, MAIL, 0, 84, 5), False),
+        ("not name: a byte too many", lambda: D.NameCall(sheet, MAIL, 0, 69, 5), False),
+        ("not name: 13 of an item that is there", lambda: D.NameCall(sheet, MAIL, 13, 69, 4), False),
+        ("name: 13", lambda: D.NameCall(sheet, 5, 13, 0, 0), True),
+        ("not name: no item, and 0", lambda: D.NameCall(sheet, 5, 0, 0, 0), False),
+        ("name: refused 5", lambda: D.NameCall(five, 0, 5, 0, 0), True),
+        ("not name: 13 before 5", lambda: D.NameCall(five, 0, 13, 0, 0), False),
     ]
 
 
@@ -610,6 +632,47 @@ def of_demands(D):
         ("settled: the portal's number for order", lambda: D.SettledPortal(False, text(BENCH), ORDER, 1, numbers), True),
         ("settled: the portal's number for no item", lambda: D.SettledPortal(False, text(BENCH), 5, never + 13, numbers), True),
         ("settled: the portal's number for refused 5", lambda: D.SettledPortal(True, five, 0, never + 5, numbers), True),
+    ]
+
+
+Answers = namedtuple(
+    "Answers", "closure lost way bases score risk openings lockouts backdoor idle pair formed reading portalScore portalRisk"
+)
+Among = namedtuple("Among", "answers ways lists texts docs readings numbers")
+
+
+def of_both_demands(D):
+    """Demands 1 and 2 whole: of an input that is answered and of ones that are refused, and with one answer replaced."""
+    sheet, five, lent, out = text(BENCH), REFUSED["refused 5"][0], [9, 9], LENT[:4]
+    yes = Answers(
+        *[(0, [26]), (0, [10]), (0, [1, 2]), (0, [2, 2]), (0, [1]), (0, [3]), (0, [1, 0, 0, 0, 1]), (0, [2, 0, 0, 0, 0])],
+        *[(0, [1]), (0, [0]), (0, [1]), True, D.accepted(bench), 1, 3],
+    )
+    outside = Answers((14, []), (14, []), *[(13, [])] * 9, True, D.refused(5, 2), never + 5, never + 5)
+    set_outside = yes._replace(closure=(14, []), lost=(14, []), way=(14, []), portalRisk=1)
+    malformed = yes._replace(**{n: (12, []) for n in Answers._fields[:11]}, formed=False)
+    answers = [(0, v) for v in ([0], [1], [3], [10], [26], [1, 0, 0, 0, 1], [2, 0, 0, 0, 0])] + [(n, []) for n in (0, 12, 13, 14)]
+    ways = [(0, [1, 2], [3, 4], [0, 1]), (0, [1, 2], [3, 4], lent)] + [(n, v, lent, lent) for n, v in answers + [(15, [])]]
+    lists = [(0, [2, 2], [2, 5, 3, 6]), (0, [2, 2], out)] + [(n, v, out) for n, v in answers + [(15, [])]]
+    readings = [D.accepted(bench), D.accepted(EMPTY), D.refused(5, 2), D.refused(2, 5)]
+    among = Among(answers, ways, lists, [sheet, render(DOC)], [BENCH_DOC, DOC], readings, [0, 1, 3, 13, never, never + 5, never + 13])
+    asked = lambda t, i, s, set_, v, w: [t, i, s, set_, v, w, [2], [3, 6], lent]
+    untouched, no_way, both = [lent, lent, lent, out, out], [lent, lent, lent, out, [2, 5, 3, 6]], [[3, 4], lent, [0, 1], out, [2, 5, 3, 6]]
+    order = asked(sheet, ORDER, bench, 2, ORDER, MAIL) + both
+    inputs = [
+        ("order from mailpw", order, yes, True),
+        ("a refused sheet, no item, no set", asked(five, 5, bench, 32, 5, MAIL) + untouched, outside, True),
+        ("a set outside", asked(sheet, MAIL, bench, 32, ORDER, MAIL) + no_way, set_outside, True),
+        ("a malformed setup", asked(sheet, ORDER, EMPTY, 2, ORDER, MAIL) + untouched, malformed, True),
+        ("mail and order the other way round", order, yes._replace(pair=(0, [0])), False),
+        ("the risk for the portal's score", order, yes._replace(portalScore=3), False),
+        ("no to question 12", order, yes._replace(formed=False), False),
+        ("another line", order, yes._replace(reading=D.accepted(bench)._replace(line=1)), False),
+    ]
+    return [
+        (f"{'' if ok else 'not '}demand {n}: {name}", lambda f=f, a=a, r=r: f(*a, r, among), ok)
+        for n, f in ((1, D.Demand1), (2, D.Demand2))
+        for name, a, r, ok in inputs
     ]
 
 
@@ -774,7 +837,7 @@ GROUPS = {
     "far": [of_sets, of_setups, of_well_formed, of_parts, of_full_marks, of_whole],
     "one": [of_one],
     "bench": [of_derivations, of_ways, of_bases, of_scores, of_marks, of_set_calls, of_way_calls, of_base_calls, of_score_calls, of_demand3]
-    + [of_findings, of_portal, of_same, of_told, of_determined, of_demands],
+    + [of_findings, of_portal, of_same, of_told, of_readings, of_determined, of_demands, of_both_demands],
     "rows": [of_valid_rows, of_rows, of_stated, of_meaning, of_refusals],
     "spare": [of_spare],
     "ring": [of_ring],

@@ -1,4 +1,4 @@
-"""The executable definitions on which declarative ones rest, in Python: sheets, reference, the report's findings. Here they are used and not
+"""The executable definitions on which declarative ones rest, in Python: sheets, reference, the report's findings, the portal. Here they are used and not
 altered; computed.txt alters the definitions themselves. Texts are lists of bytes, a blank value is None."""
 from collections import namedtuple
 
@@ -399,3 +399,10 @@ def wordsOf(s):
     ]
     rows = [n for g in (s.graph, s.recovery) for r in g.rows for n in r.needs]
     return [s.count] + vertices + rows
+
+
+# ---- portal_results: an answer's values as the fields of a struct
+
+
+def filled(n, v):
+    return v[:n] + [0] * (n - len(v))

@@ -23,13 +23,13 @@ findings/Findings findings/Answers
 reference/Tests reference/Closures reference/Bases
 report_text/Rows report_text/Report
 report_facts/Texts report_steps/Rest
-portal_setup/Words
+portal_setup/Words portal_results/Told portal_reading/Reading
 worked_examples/Sheets worked_examples/Table
 """.split()
 
 # Crates whose types the definitions use, and types of theirs that no definition uses.
-TYPES = ["vertex_set", "setup", "scores", "access", "answers", "sheet_format", "findings", "report_steps"]
-UNUSED = {"AllAnswers", "Step"}
+TYPES = "vertex_set setup scores access answers sheet_format findings report_facts report_steps report_start demands".split()
+UNUSED = {"Step"}
 
 
 def types_of(crate):
@@ -42,7 +42,8 @@ def types_of(crate):
 def renamed(text):
     """A file's text with every project module named as one of the scratch crate."""
     text = re.sub(r"Rattle·\w+?(?:·specs|·proofs)?\.specs\.declared\.", "Rattle.defs.specs.declared.", text)
-    return re.sub(r"Rattle·(\w+?)(?:·specs|·proofs)?\.specs\.(?!declared)(\w+)", lambda m: f"Rattle.defs.specs.{m[1]}_{m[2]}", text)
+    text = re.sub(r"Rattle·(\w+?)(?:·specs|·proofs)?\.specs\.Inner\.(\w+)", r"Rattle.defs.specs.\1_Inner_\2", text)
+    return re.sub(r"Rattle·(?!defs·)(\w+?)(?:·specs|·proofs)?\.specs\.(\w+)", r"Rattle.defs.specs.\1_\2", text)
 
 
 def names_of(kind, text):
@@ -81,11 +82,13 @@ def write(folder, altered, examples, more=()):
         d.mkdir(parents=True, exist_ok=True)
     types = "\n\n".join(t for c in TYPES for t in types_of(c))
     (crate_folder / "src" / "lib.rt").write_text(f"// The types that the definitions use.\n\n{types}\n")
-    for f in [*FILES, *more]:
-        crate, name = f.split("/")
-        text = altered.get(f) or (ROOT / "crates" / crate / "specs" / f"{name}.antt").read_text()
-        (specs / f"{crate}_{name}.antt").write_text(renamed(text))
-    (specs / "Lib.antt").write_text("".join(f"pub mod {f.replace('/', '_')}\n" for f in [*FILES, *more]))
+    names = {f: f.replace("/", "_") for f in [*FILES, *more]}
+    for left in set(specs.glob("*.antt")) - {specs / f"{name}.antt" for name in names.values()}:
+        left.unlink()
+    for f, name in names.items():
+        text = altered.get(f) or (ROOT / "crates" / f.replace("/", "/specs/", 1)).with_suffix(".antt").read_text()
+        (specs / f"{name}.antt").write_text(renamed(text))
+    (specs / "Lib.antt").write_text("".join(f"pub mod {name}\n" for name in names.values()))
     (proofs / "Examples.antt").write_text(renamed(examples_file(examples)))
     (proofs / "Lib.antt").write_text("pub mod Examples\n")
     return crate_folder

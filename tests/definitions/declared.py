@@ -52,7 +52,7 @@ def looked_for(block):
 
 
 # Files that stand on those of the scratch crate. Those of Whole are left out, and of what cites it: it stands on inner definitions of the report's steps.
-ABOVE = "answers/Demand3 sheet_format/Meaning portal/Portal determined/Determined reference/Meaning report_text/Meaning probe_tells/Tells probe/Told".split()
+ABOVE = "answers/Demand3 sheet_format/Meaning portal/Portal determined/Determined reference/Meaning report_text/Meaning portal_results/Told portal_reading/Reading portal_closures/Check portal_determined/Determined".split()
 UNTYPED = {"report_start/Whole", "demands/Demands"}
 
 

@@ -1037,49 +1037,119 @@ def WholeReport(rest, report, here, cursors, lists_of_parts):
     )
 
 
-# ---- probe_tells/Tells
+# ---- portal_results/Told
 
 
-def Front(xs, entry, exit):
-    room = implies(lambda: len(xs) <= len(entry), lambda: exit == written(xs, entry))
-    short = implies(lambda: len(entry) < len(xs), lambda: exit == entry)
-    return room and short
+def filled(n, v):
+    if n == 0:
+        return []
+    if not v:
+        return [0] + filled(n - 1, [])
+    return [v[0]] + filled(n - 1, v[1:])
 
 
-def Tells(number, values, entry, exit, r):
-    returned = r == number
-    front = Front(values, entry, exit)
-    return returned and front
+def Told(Call, number, fields, candidates):
+    return any(Call(number, values) and fields == filled(len(fields), values) for values in candidates)
 
 
-# ---- probe/Told
+# ---- portal_reading/Reading
+
+version = 10000
 
 
-def Told(Call, entry, exit, r, candidates):
-    return any(Call(r, values) and Front(values, entry, exit) for values in candidates)
+def ReadingCall(text, number, line, entry, exit):
+    refused = implies(lambda: readSheet(text).number != 0, lambda: number == readSheet(text).number)
+    short = implies(lambda: readSheet(text).number == 0 and len(entry) < 1281, lambda: number == 15)
+    accepted = implies(lambda: readSheet(text).number == 0 and 1281 <= len(entry), lambda: number == 0)
+    lined = line == readSheet(text).line
+    room = implies(lambda: 1281 <= len(entry), lambda: exit == written(wordsOf(readSheet(text).setup), entry))
+    untouched = implies(lambda: len(entry) < 1281, lambda: exit == entry)
+    return refused and short and accepted and lined and room and untouched
 
 
-def Question12Call(s, r):
+def NameCall(text, item, number, start, size):
+    refused = implies(lambda: readSheet(text).number != 0, lambda: number == readSheet(text).number)
+    noItem = implies(lambda: readSheet(text).number == 0 and readSheet(text).setup.count <= item, lambda: number == 13)
+    accepted = implies(lambda: readSheet(text).number == 0 and item < readSheet(text).setup.count, lambda: number == 0)
+    begins = start == nameStart(text, item)
+    long = size == len(nameOf(text, item))
+    bytes_ = list(text[start:][:size]) == nameOf(text, item)
+    return refused and noItem and accepted and begins and long and bytes_
+
+
+def SaysSetup(texts, numbers, lines, entry, exits):
+    return all(
+        implies(lambda: ReadingCall(text, number, line, entry, exit) and 1281 <= len(entry), lambda: setupIn(exit) == readSheet(text).setup)
+        for text in texts
+        for number in numbers
+        for line in lines
+        for exit in exits
+    )
+
+
+# ---- portal_closures/Check
+
+
+def CheckCall(s, r):
     yes = implies(lambda: WellFormed(s), lambda: r == 0)
     no = implies(lambda: not WellFormed(s), lambda: r == 12)
     return yes and no
 
 
-def WayTo(s, target, set_, entry, exit, entry_, exit_, number, values):
-    return WayCall(s, target, set_, number, values, entry, exit, entry_, exit_)
+# ---- portal_determined/Determined: of all pairs of the results that are handed to them
 
 
-def BasesOf(s, target, entry, exit, number, values):
-    return BasesCall(s, target, number, values, entry, exit)
+def OneResult(Call, results, candidates):
+    return all(
+        implies(lambda: len(f) == len(f_) and Told(Call, n, f, candidates) and Told(Call, n_, f_, candidates), lambda: Same(n, n_, f, f_))
+        for n, f in results
+        for n_, f_ in results
+    )
 
 
-def ReadingCall(text, number, values):
-    numbered = number == readSheet(text).number
-    told = values == [readSheet(text).line] + wordsOf(readSheet(text).setup)
-    return numbered and told
+def SetupCallsDetermined(s, set_, target, other, sets, numbers, results, values, ways, lists):
+    check = all(implies(lambda: CheckCall(s, r) and CheckCall(s, r_), lambda: r == r_) for r in numbers for r_ in numbers)
+    closure = OneResult(lambda n, v: SetCall(AccessFrom, s, set_, n, v), results, values)
+    lost = OneResult(lambda n, v: SetCall(LockoutFrom, s, set_, n, v), results, values)
+    wayIn = all(
+        implies(
+            lambda: len(f) == len(f_)
+            and Told(lambda n, v: WayCall(s, target, set_, n, v, [9, 9], x, [9, 9], y), n, f, values)
+            and Told(lambda n, v: WayCall(s, target, set_, n, v, [9, 9], x_, [9, 9], y_), n_, f_, values),
+            lambda: SameWay(n, n_, f, f_, x, x_, y, y_),
+        )
+        for n, f, x, y in ways
+        for n_, f_, x_, y_ in ways
+    )
+    lists_ = all(
+        implies(
+            lambda: len(f) == len(f_)
+            and Told(lambda n, v: BasesCall(s, target, n, v, [9, 9, 9, 9], x), n, f, values)
+            and Told(lambda n, v: BasesCall(s, target, n, v, [9, 9, 9, 9], x_), n_, f_, values),
+            lambda: SameBases(n, n_, f, f_, x, x_),
+        )
+        for n, f, x in lists
+        for n_, f_, x_ in lists
+    )
+    score = OneResult(lambda n, v: ScoreCall(False, s, target, n, v), results, values)
+    risk = OneResult(lambda n, v: ScoreCall(True, s, target, n, v), results, values)
+    openings = OneResult(lambda n, v: MarksCall(False, s, target, sets, n, v), results, values)
+    lockouts = OneResult(lambda n, v: MarksCall(True, s, target, sets, n, v), results, values)
+    backdoor = OneResult(lambda n, v: BackdoorCall(s, target, n, v), results, values)
+    idle = OneResult(lambda n, v: IneffectiveCall(s, target, n, v), results, values)
+    outOfRank = OneResult(lambda n, v: InconsistentCall(s, target, other, n, v), results, values)
+    return all((check, closure, lost, wayIn, lists_, score, risk, openings, lockouts, backdoor, idle, outOfRank))
 
 
-def NameCall(text, item, number, values):
-    numbered = number == 0
-    told = values == [nameStart(text, item)] + nameOf(text, item)
-    return numbered and told
+def SheetCallsDetermined(text, item, entry, readings, parts):
+    reading = all(
+        implies(lambda: ReadingCall(text, n, l, entry, x) and ReadingCall(text, n_, l_, entry, x_), lambda: n == n_ and l == l_ and x == x_)
+        for n, l, x in readings
+        for n_, l_, x_ in readings
+    )
+    name = all(
+        implies(lambda: NameCall(text, item, n, p, k) and NameCall(text, item, n_, p_, k_), lambda: n == n_ and p == p_ and k == k_)
+        for n, p, k in parts
+        for n_, p_, k_ in parts
+    )
+    return reading and name

@@ -3,7 +3,7 @@ wrong answer. The setups are read from sheets."""
 import itertools
 
 from executables import Account, Credential, Doc, EdgeRow, Graph, ItemRow, Rows, Setup, Step, Vertex, emptyGraph, lessRecovery, never
-from executables import readSheet, render, setupOf, text, unusedVertex, wordsOf
+from executables import readSheet, render, setupIn, setupOf, text, unusedVertex, wordsOf
 
 H1, H2 = "name kind start loss rank", "from to colour rec"
 BENCH = [H1, "ordpw c 1 2 0", "mailpw c 1 1 0", "token c 3 2 0", "mail a - - 1", "order a - - 3", "", H2]
@@ -512,32 +512,46 @@ def of_same(D):
 
 
 def of_told(D):
-    """What the harness is told."""
+    """What C gets."""
+    score = lambda n, v: D.ScoreCall(False, bench, ORDER, n, v)
+    no_item = lambda n, v: D.ScoreCall(False, bench, 5, n, v)
+    lent = [9] * 1282
+    empty, full = wordsOf(EMPTY) + [9], wordsOf(bench) + [9]
+    refused = REFUSED["refused 5"][0]
     return [
-        ("tells: 3 and 7", lambda: D.Tells(3, [7], [1, 2], [7, 2], 3), True),
-        ("not tells: another number", lambda: D.Tells(3, [7], [1, 2], [7, 2], 4), False),
-        ("front: to the front", lambda: D.Front([7, 8], [1, 2, 3], [7, 8, 3]), True),
-        ("front: equal room", lambda: D.Front([7, 8], [1, 2], [7, 8]), True),
-        ("not front: equal room unused", lambda: D.Front([7, 8], [1, 2], [1, 2]), False),
-        ("front: no room", lambda: D.Front([7, 8], [1], [1]), True),
-        ("not front: no room, and changed", lambda: D.Front([7, 8], [1], [7]), False),
-        ("told: score 1", lambda: D.Told(lambda n, v: D.ScoreCall(False, bench, ORDER, n, v), [9, 9], [1, 9], 0, [[], [1], [3]]), True),
-        ("not told: another score", lambda: D.Told(lambda n, v: D.ScoreCall(False, bench, ORDER, n, v), [9, 9], [3, 9], 0, [[], [1], [3]]), False),
-        ("not told: the score behind", lambda: D.Told(lambda n, v: D.ScoreCall(False, bench, ORDER, n, v), [9, 9], [9, 1], 0, [[], [1], [3]]), False),
-        ("question 12: bench", lambda: D.Question12Call(bench, 0), True),
-        ("not question 12: bench is 12", lambda: D.Question12Call(bench, 12), False),
-        ("question 12: no item", lambda: D.Question12Call(EMPTY, 12), True),
-        ("not question 12: no item is 0", lambda: D.Question12Call(EMPTY, 0), False),
-        ("told way: B6", lambda: D.WayTo(bench, ORDER, 2, [9, 9], [3, 4], [8, 8], [0, 1], 0, [1, 2]), True),
-        ("told lists: B3 and B4", lambda: D.BasesOf(bench, ORDER, LENT, [2, 5, 3, 6, 94], 0, [2, 2]), True),
-        ("told reading: bench", lambda: D.ReadingCall(text(BENCH), 0, [0] + wordsOf(bench)), True),
-        ("not told reading: no line", lambda: D.ReadingCall(text(BENCH), 0, wordsOf(bench)), False),
-        ("told reading: refused 5 in line 2", lambda: D.ReadingCall(REFUSED["refused 5"][0], 5, [2] + wordsOf(EMPTY)), True),
-        ("not told reading: number for line", lambda: D.ReadingCall(REFUSED["refused 5"][0], 2, [5] + wordsOf(EMPTY)), False),
-        ("told name: mail at 69", lambda: D.NameCall(text(BENCH), MAIL, 0, [69] + list(b"mail")), True),
-        ("not told name: order", lambda: D.NameCall(text(BENCH), MAIL, 0, [84] + list(b"order")), False),
-        ("told name: none", lambda: D.NameCall(text(BENCH), 5, 0, [0]), True),
-        ("not told name: with a number", lambda: D.NameCall(text(BENCH), 5, 13, [0]), False),
+        ("filled: all values", lambda: D.filled(2, [7, 8]) == [7, 8], True),
+        ("filled: 0 behind them", lambda: D.filled(3, [7]) == [7, 0, 0], True),
+        ("filled: no field", lambda: D.filled(0, [7]) == [], True),
+        ("told: score 1", lambda: D.Told(score, 0, [1], [[], [1], [3]]), True),
+        ("not told: another score", lambda: D.Told(score, 0, [3], [[], [1], [3]]), False),
+        ("not told: a refusal", lambda: D.Told(score, 13, [0], [[], [1], [3]]), False),
+        ("told: 13", lambda: D.Told(no_item, 13, [0], [[], [1], [3]]), True),
+        ("not told: 13 with a value", lambda: D.Told(no_item, 13, [1], [[], [1], [3]]), False),
+        ("version 1.0.0", lambda: D.version == 10000, True),
+        ("question 12: bench", lambda: D.CheckCall(bench, 0), True),
+        ("not question 12: bench is 12", lambda: D.CheckCall(bench, 12), False),
+        ("question 12: no item", lambda: D.CheckCall(EMPTY, 12), True),
+        ("not question 12: no item is 0", lambda: D.CheckCall(EMPTY, 0), False),
+        ("reading: bench", lambda: D.ReadingCall(text(BENCH), 0, 0, lent, full), True),
+        ("not reading: nothing written", lambda: D.ReadingCall(text(BENCH), 0, 0, lent, lent), False),
+        ("reading: just long enough", lambda: D.ReadingCall(text(BENCH), 0, 0, lent[:1281], full[:1281]), True),
+        ("not reading: just long enough, and nothing written", lambda: D.ReadingCall(text(BENCH), 0, 0, lent[:1281], lent[:1281]), False),
+        ("reading: 15", lambda: D.ReadingCall(text(BENCH), 15, 0, lent[:1280], lent[:1280]), True),
+        ("not reading: 15 and a word written", lambda: D.ReadingCall(text(BENCH), 15, 0, lent[:1280], full[:1280]), False),
+        ("not reading: too short, and no refusal", lambda: D.ReadingCall(text(BENCH), 0, 0, lent[:1280], lent[:1280]), False),
+        ("reading: refused 5 in line 2", lambda: D.ReadingCall(refused, 5, 2, lent, empty), True),
+        ("reading: refused 5 comes before 15", lambda: D.ReadingCall(refused, 5, 2, lent[:9], lent[:9]), True),
+        ("not reading: 15 before refused 5", lambda: D.ReadingCall(refused, 15, 2, lent[:9], lent[:9]), False),
+        ("not reading: number for line", lambda: D.ReadingCall(refused, 2, 5, lent, empty), False),
+        ("name: mail at 69", lambda: D.NameCall(text(BENCH), MAIL, 0, 69, 4), True),
+        ("not name: order", lambda: D.NameCall(text(BENCH), MAIL, 0, 84, 5), False),
+        ("not name: one byte less", lambda: D.NameCall(text(BENCH), MAIL, 0, 69, 3), False),
+        ("name: 13", lambda: D.NameCall(text(BENCH), 5, 13, 0, 0), True),
+        ("not name: no item, and no refusal", lambda: D.NameCall(text(BENCH), 5, 0, 0, 0), False),
+        ("name: refused 5", lambda: D.NameCall(refused, 0, 5, 0, 0), True),
+        ("not name: 13 for a refused sheet", lambda: D.NameCall(refused, 0, 13, 0, 0), False),
+        ("read back", lambda: D.SaysSetup([text(BENCH), refused], [0, 5, 15], [0, 2], lent, [lent, full, empty]), True),
+        ("setup in words", lambda: setupIn(full) == bench and setupIn(empty) == EMPTY, True),
     ]
 
 
@@ -548,12 +562,22 @@ def of_determined(D):
     way_answers = [(0, [1, 2], [3, 4], [0, 1]), (0, [1, 2], [3, 4], same), (0, [0], same, same), (15, [], same, same), (13, [], same, same)]
     base_answers = [(0, [2, 2], [2, 5, 3, 6]), (0, [2, 2], [5, 2, 3, 6]), (0, [0, 0], LENT[:4]), (15, [], LENT[:4]), (13, [], LENT[:4])]
     mark_answers = [(0, [1, 1, 1, 1, 1]), (0, [2, 0, 1, 1, 0]), (0, [0, 0, 0, 0, 2]), (13, []), (12, []), (0, [])]
+    values = [[], [0], [1], [3], [26], [1, 2], [2, 2], [1, 1, 1, 1, 1], [0, 1, 3, 0, 2]]
+    results = [(n, f) for n in (0, 12, 13) for f in ([0], [1], [3], [26], [1, 1, 1, 1, 1], [0, 0, 0, 0, 0])]
+    way_results = [(n, list(v) + [0] * (2 - len(v)), x, y) for n, v, x, y in way_answers]
+    list_results = [(0, [2, 2], [2, 5, 3, 6]), (0, [2, 2], [5, 2, 3, 6]), (0, [0, 0], same + same), (15, [0, 0], same + same)]
+    readings = [(n, l, x) for n in (0, 15) for l in (0, 1) for x in ([9] * 1281, wordsOf(bench))]
+    parts = [(n, p, k) for n in (0, 13) for p in (0, 69, 84) for k in (0, 4, 5)]
     return [
         ("determined: closure of mailpw", lambda: D.SetDetermined(False, bench, 2, answers), True),
         ("determined: way from mailpw", lambda: D.WayDetermined(bench, ORDER, 2, [9, 9], [9, 9], way_answers), True),
         ("determined: lists of order", lambda: D.BasesDetermined(bench, ORDER, LENT[:4], base_answers), True),
         ("determined: score of order", lambda: D.ScoreDetermined(False, bench, ORDER, answers), True),
         ("determined: marks of B7", lambda: D.MarksDetermined(False, bench, ORDER, [2, 2, 6, 4], mark_answers), True),
+        ("determined: results", lambda: D.SetupCallsDetermined(bench, 2, ORDER, MAIL, [2, 2, 6, 4], (0, 12), results, values, way_results, list_results), True),
+        ("determined: sheets", lambda: D.SheetCallsDetermined(text(BENCH), MAIL, [9] * 1281, readings, parts), True),
+        ("determined: one result", lambda: D.OneResult(lambda n, v: n == 0 and v == [7], [(0, [7]), (0, [8]), (1, [0])], [[], [7], [8]]), True),
+        ("not determined: two results", lambda: D.OneResult(lambda n, v: n == 0, [(0, [7]), (0, [8])], [[7], [8]]), False),
         ("determined: findings of order", lambda: D.FindingsDetermined(bench, ORDER, MAIL, answers), True),
         ("determined: the portal's number for order", lambda: D.PortalDetermined(False, text(BENCH), ORDER, [0, 1, 3, 13, 2**62, 2**62 + 13]), True),
     ]

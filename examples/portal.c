@@ -56,7 +56,8 @@ static uint64_t item_named(const char *text, size_t size)
     return item;
 }
 
-/* Any number may be handed in, so a name that is not in the sheet is bit 63, which no item of a smaller sheet is. */
+/* A set as the report prints it: names joined by '+', or '-' for the empty set. A name that is not in the sheet ends the program:
+ * it would otherwise have to stand for some number, and every number below 64 may be an item of a sheet. */
 static uint64_t set_named(const char *text)
 {
     uint64_t set = 0;
@@ -65,7 +66,11 @@ static uint64_t set_named(const char *text)
     for (;;) {
         size_t size = strcspn(text, "+");
         uint64_t item = item_named(text, size);
-        set |= UINT64_C(1) << (item < setup[PORTAL_COUNT] ? item : 63);
+        if (setup[PORTAL_COUNT] <= item) {
+            fprintf(stderr, "portal: the sheet has no item %.*s\n", (int)size, text);
+            exit(1);
+        }
+        set |= UINT64_C(1) << item;
         if (text[size] == '\0')
             return set;
         text += size + 1;

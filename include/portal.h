@@ -31,8 +31,8 @@
  * Stack. A call needs PORTAL_STACK bytes of stack, one that marks PORTAL_STACK_MARKS; a thread with less ends in a crash. Each
  * call is tried in a thread of just that size before a change lands.
  *
- * Platform. The library is for x86-64 Linux (System V calling convention, no instruction beyond SSE2) and needs memcpy and
- * memset of the C library. There, size_t and uint64_t have the same 64 bits.
+ * Platform. The library is for x86-64 Linux (System V calling convention, any such processor) and needs memcpy and memset of the
+ * C library. There, size_t and uint64_t have the same 64 bits.
  */
 #ifndef GEMZULEG_PORTAL_H
 #define GEMZULEG_PORTAL_H

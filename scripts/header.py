@@ -2,8 +2,8 @@
 """Holds include/portal.h to the sources and to the documents.
 
 Every exported function of the portal's crates has its prototype, with the same names and the types that C has for them, in
-order; every struct that is handed back has its fields; the version, here and in tests/product, the places of a setup's words and
-the blank are the sources'; the refusals' names and sentences are those of docs/TERMS.md; README.md and man/portal.3 name every call, and above
+order; every struct that is handed back has its fields, here and in tests/product; the version, the places of a setup's words, the blank
+and the largest sheet and name are the sources'; the refusals' names and sentences are those of docs/TERMS.md; README.md and man/portal.3 name every call, and above
 each prototype stands a comment. Else the exit status is 1.
 """
 import re
@@ -102,10 +102,26 @@ for name in sorted(made.keys() | laid.keys()):
     if made.get(name) != fields:
         faults.append(f"struct {name}: the source has {made.get(name)}, the header {fields}")
 
+# the same structs in Rust
+wrapped = {
+    f"portal_{snake(name)}": ["number", *re.findall(r"^        (\w+),$", fields, re.M)]
+    for name, fields in re.findall(r"^    (\w+) \{\n(.*?)^    \}$", read("tests/product/src/results.rs"), re.M | re.S)
+}
+for name, fields in made.items():
+    if wrapped.get(name) != [word for _, word in fields]:
+        faults.append(f"struct {name}: the source has {fields}, tests/product {wrapped.get(name)}")
+
 # constants
 words, reading = sources["portal_setup"], sources["portal_reading"]
 places = {"PORTAL_ROW": constant(words, "GRAPH"), "PORTAL_RECOVERY": constant(words, "RECOVERY")}
 faults += [f"{name} does not begin at {at}" for name, at in places.items() if macro(header, name) != f"({at} + 8 * (v) + (c))"]
+told = dict(re.findall(r"^      (\w+) = .*wordAt words \(1 \+ 4 \* v((?: \+ \d)?)\)", read("crates/portal_setup/specs/Words.antt"), re.M))
+for field in ("kind", "start", "loss", "rank"):
+    at = 1 + int(told[field].removeprefix(" + ") or 0)
+    faults += [f"PORTAL_{field.upper()} does not begin at {at}"] * (macro(header, f"PORTAL_{field.upper()}") != f"({at} + 4 * (v))")
+longest = {"PORTAL_MAX_SHEET": ("sheet", "MAX_BYTES"), "PORTAL_MAX_NAME": ("sheet_fields", "NAME_BYTES")}
+for name, (crate, bound) in longest.items():
+    faults += [f"{name} is another number"] * (macro(header, name) != str(constant(read(f"crates/{crate}/src/lib.rt"), bound)))
 faults += ["PORTAL_SETUP_WORDS is another number"] * (macro(header, "PORTAL_SETUP_WORDS") != str(constant(reading, "SETUP_WORDS")))
 faults += ["PORTAL_VERSION is another number"] * (macro(header, "PORTAL_VERSION") != str(constant(reading, "VERSION")))
 faults += ["tests/product is for another version"] * (f"pub const VERSION: u64 = {constant(reading, 'VERSION')};" not in read("tests/product/src/lib.rs"))

@@ -5,7 +5,7 @@ set -euo pipefail
 cd "$(dirname "$0")/.."
 began=$(date +%s)
 
-for tool in rt python3 cargo gcc; do
+for tool in rt python3 cargo gcc g++; do
     command -v "$tool" > /dev/null || { echo "test: $tool is missing" >&2; exit 1; }
 done
 

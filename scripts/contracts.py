@@ -3,7 +3,9 @@
 
 Every public function and method says something of its result (`ensures`). A crate whose line in crates.txt has no comment
 with the word `inner` is offered to callers: none of its public functions asks something of them (`requires`).
-A body has at most 40 lines. The exit status is 1 where something of this does not hold.
+A body has at most 40 lines. The proof of a loop says the loop's invariant in plain words: by a comment line right above
+`Inv-loop`, or by the file's first comment, which then has the word `invariant`. The exit status is 1 where something of
+this does not hold.
 """
 import re
 import sys
@@ -13,6 +15,8 @@ ROOT = Path(__file__).resolve().parent.parent
 LONGEST = 40
 LITERAL = re.compile(r"""b"(?:[^"\\]|\\.)*"|b'(?:[^'\\]|\\.)*'""")
 HEAD = re.compile(r'^\s*(pub\s+)?(?:extern\s+"C"\s+)?fn\s+(\w+)')
+INVARIANT = re.compile(r"^(?:abbrev\s+|unfoldable\s+)?Inv-loop\S*\s+:")
+WORDS = re.compile(r"^--\s+[\w`]")
 
 
 def inner_crates():
@@ -60,6 +64,18 @@ def functions(lines):
         yield start + 1, bool(found.group(1)), found.group(2), head, max(at - first - 2, 0)
 
 
+def invariants(lines):
+    """Yields (line number, whether a comment says it in words) of each loop's invariant in a proof."""
+    head = ""
+    for line in lines:
+        if not line.startswith("--"):
+            break
+        head += line
+    for at, line in enumerate(lines):
+        if INVARIANT.match(line):
+            yield at + 1, "invariant" in head or at > 0 and bool(WORDS.match(lines[at - 1]))
+
+
 def main():
     inner = inner_crates()
     faults, public_count, count = [], 0, 0
@@ -75,12 +91,18 @@ def main():
                 faults.append(f"{place}: a `requires` in a crate that is offered")
             if length > LONGEST:
                 faults.append(f"{place}: {length} lines")
+    loops = 0
+    for path in sorted(ROOT.glob("crates/*/proofs/**/Proof.antt")):
+        for line, said in invariants(path.read_text(encoding="utf-8").split("\n")):
+            loops += 1
+            if not said:
+                faults.append(f"{path.relative_to(ROOT)}:{line}: no line says the loop's invariant")
     for fault in faults:
         print(fault)
-    print(f"contracts: {count} functions, {public_count} public, {len(faults)} faults")
-    if count == 0:
-        print("contracts: no function was found")
-    return 1 if faults or count == 0 else 0
+    print(f"contracts: {count} functions, {public_count} public, {loops} loops, {len(faults)} faults")
+    if count == 0 or loops == 0:
+        print("contracts: no function was found, or no loop")
+    return 1 if faults or count == 0 or loops == 0 else 0
 
 
 if __name__ == "__main__":

@@ -2,8 +2,8 @@
 """Holds include/portal.h to the sources and to the documents.
 
 Every exported function of the portal's crates has its prototype, with the same names and the types that C has for them, in
-order; every struct that is handed back has its fields; the version, the places of a setup's words and the blank are the
-sources'; the refusals' names and sentences are those of docs/TERMS.md; README.md and man/portal.3 name every call, and above
+order; every struct that is handed back has its fields; the version, here and in tests/product, the places of a setup's words and
+the blank are the sources'; the refusals' names and sentences are those of docs/TERMS.md; README.md and man/portal.3 name every call, and above
 each prototype stands a comment. Else the exit status is 1.
 """
 import re
@@ -108,6 +108,7 @@ places = {"PORTAL_ROW": constant(words, "GRAPH"), "PORTAL_RECOVERY": constant(wo
 faults += [f"{name} does not begin at {at}" for name, at in places.items() if macro(header, name) != f"({at} + 8 * (v) + (c))"]
 faults += ["PORTAL_SETUP_WORDS is another number"] * (macro(header, "PORTAL_SETUP_WORDS") != str(constant(reading, "SETUP_WORDS")))
 faults += ["PORTAL_VERSION is another number"] * (macro(header, "PORTAL_VERSION") != str(constant(reading, "VERSION")))
+faults += ["tests/product is for another version"] * (f"pub const VERSION: u64 = {constant(reading, 'VERSION')};" not in read("tests/product/src/lib.rs"))
 faults += ["PORTAL_BLANK is another number"] * (macro(header, "PORTAL_BLANK") != "UINT64_MAX" or constant(words, "BLANK") != 2**64 - 1)
 
 # refusals

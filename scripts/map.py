@@ -12,6 +12,14 @@ from pathlib import Path
 ROOT = Path(__file__).resolve().parent.parent
 KIT = {"io", "libc", "os", "check", "bytes"}
 LINE = re.compile(r"^(\w+):([^#]*)(?:#\s*(inner: )?(.*))?$")
+# A crate that only passes on a value of another crate's type does not name that crate, and depends on it all the same.
+PASSED_ON = {
+    "sheet_cases": {"sheet_format"},
+    "portal": {"setup"},
+    "portal_results": {"vertex_set", "scores"},
+    "portal_bases": {"scores"},
+    "demands": {"scores"},
+}
 BEGIN, END = "<!-- the map: written by scripts/map.py from crates.txt -->\n", "<!-- end of the map -->\n"
 
 
@@ -31,7 +39,7 @@ def read_map():
 
 def named_by(crate, names):
     """The crates that a crate's files name."""
-    used = set()
+    used = set(PASSED_ON.get(crate, ()))
     for path in sorted((ROOT / "crates" / crate).rglob("*")):
         if path.suffix == ".antt":
             used |= set(re.findall(r"Rattle·(\w+?)(?:·specs|·proofs)?\.", path.read_text(encoding="utf-8")))

@@ -1,6 +1,7 @@
 #!/bin/bash
 # Builds the C client and the example with warnings as errors, as C and as C++, with the archive and with the shared library,
-# and runs them. The library's global names are the header's. `run.sh stack` prints instead how small a stack each call ran with.
+# and runs them. The library's global names are the header's. `run.sh stack` prints instead how small a stack each call ran with,
+# `run.sh speed` what C pays for a call, and how many scores one thread and two work out.
 set -euo pipefail
 cd "$(dirname "$0")/../.."
 lib=build/lib
@@ -11,6 +12,10 @@ mkdir -p "$out"
 gcc -std=c11 -D_GNU_SOURCE "${flags[@]}" -pthread -o "$out/client" tests/c/client.c "$lib/libportal.a"
 if [[ ${1:-} == stack ]]; then
     exec "$out/client" stack
+fi
+if [[ ${1:-} == speed ]]; then
+    gcc -std=c11 -D_GNU_SOURCE "${flags[@]}" -pthread -o "$out/speed" tests/c/speed.c "$lib/libportal.a"
+    exec "$out/speed" examples/document.sheet
 fi
 gcc -std=c11 -D_GNU_SOURCE "${flags[@]}" -pthread -o "$out/client-shared" tests/c/client.c "$lib/libportal.so"
 gcc -std=c11 "${flags[@]}" -o "$out/example" examples/portal.c "$lib/libportal.a"

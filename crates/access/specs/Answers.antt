@@ -42,7 +42,7 @@ wayNumber (way.Steps n) = 0
 wayNumber way.Shut = 0
 wayNumber (way.Refused q) = q
 
--- Its values: 0 where the target is shut, else 1 and the count of steps. A refusal has none, so no refusal looks like "shut".
+-- The values of an answer to a way in: 0 where the target is shut, else 1 and the count of steps. A refusal has none, so no refusal looks like "shut".
 abbrev pub wayValues : WayAnswer → List ℕ
 wayValues (way.Steps n) = 1 ∷ n ∷ []
 wayValues way.Shut = 0 ∷ []

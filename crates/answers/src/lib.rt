@@ -1,4 +1,4 @@
-// The calls of the second and third exercise: both lists, scores, and marks.
+// The calls on a target of a setup: both lists, score, risk, and the marks of handed-in lists.
 ghost use mathlib.Core.Path.{_≡_};
 ghost use mathlib.Core.Bool.{true, false};
 ghost use Prim.Native.Nat.{_-_, _<_};
@@ -25,8 +25,8 @@ pub enum RiskAnswer {
     Refused(u64),
 }
 
-// The five counts of a handed-in list, by document 01's names. Shut: no access set (lockout set).
-// Loose: not minimal.
+// The five counts of a handed-in list, by document 01's names: a shut set is no access set (lockout
+// set), a loose set is not minimal.
 pub struct Marks {
     pub right: usize,
     pub repeated: usize,
@@ -40,7 +40,8 @@ pub enum MarksAnswer {
     Refused(u64),
 }
 
-// Both lists of a setup that is well formed.
+// Both lists of a target of a well-formed setup. Their lengths are known before a set is written,
+// so that a lent list which is too short stays as it was.
 fn write_bases(s: Setup, target: usize, out: &mut [u64]) -> BasesAnswer
     requires { ⌜ Asked s target ⌝ }
     ensures { λ r. ⌜ BasesTaken s target (basesNumber r) (basesValues r) (now (out .entry)) (now (out .exit)) ⌝ }
@@ -108,14 +109,14 @@ pub fn recoverability_score(s: Setup, target: usize) -> RiskAnswer
     RiskAnswer::Refused(12)
 }
 
-// What is left of a when b is taken from it, and nothing where b is more.
+// a - b, and 0 where b is larger.
 fn left_of(a: usize, b: usize) -> usize
     ensures { λ r. ⌜ r ≡ a - b ⌝ }
 {
     if b < a { a - b } else { 0 }
 }
 
-// The marks of a setup that is well formed.
+// The marks of a list that is handed in for a target of a well-formed setup.
 fn take_marks(loss: bool, s: Setup, target: usize, handed: &[u64]) -> Marks
     requires { ⌜ Asked s target ⌝ }
     ensures { λ r. ⌜ MarksTaken loss s target (now (handed .entry)) r ⌝ }
@@ -156,7 +157,7 @@ pub fn mark_access(s: Setup, target: usize, handed: &[u64]) -> MarksAnswer
     mark(false, s, target, handed)
 }
 
-// Marks for sets handed in as its lockout base.
+// Marks for sets handed in as the target's lockout base (document 01: lockouts).
 pub fn mark_lockout(s: Setup, target: usize, handed: &[u64]) -> MarksAnswer
     ensures { λ r. ⌜ MarksCall true s target (now (handed .entry)) (marksNumber r) (marksValues r) ⌝ }
 {
@@ -172,7 +173,7 @@ pub struct AllAnswers {
     pub lockouts: MarksAnswer,
 }
 
-// Demand 3, about the code: whatever these calls answer together is as it states.
+// Demand 3, about the code: whatever these calls answer together is as the demand states.
 pub fn demand_three(
     s: Setup,
     target: usize,

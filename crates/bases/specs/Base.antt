@@ -20,7 +20,7 @@ pub record TargetSet (loss : Bool) (s : Setup) (g : Graph) (target x : ℕ) : Ty
   pub chosen : (v : ℕ) → Member x v → Chosen loss s v
   pub derives : Derives loss g target x
 
--- It is minimal: from no proper subset is there a derivation (document 01: a set of the opening list, or of the lockout list).
+-- x is a minimal access set or lockout set: from no proper subset is there a derivation (document 01: a set of the opening list, or of the lockout list).
 pub record MinimalSet (loss : Bool) (s : Setup) (g : Graph) (target x : ℕ) : Type 0 where
   pub is : TargetSet loss s g target x
   pub minimal : (y : ℕ) → ProperlyWithin y x → Derives loss g target y → ⊥

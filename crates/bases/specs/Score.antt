@@ -41,7 +41,7 @@ pub record LeastOver (P : ℕ → Type 0) (sum : ℕ → ℕ) (r : ℕ) : Type 0
 abbrev pub Score : Bool → Setup → Graph → ℕ → ℕ → Type 0
 Score loss s g target r = LeastOver (TargetSet loss s g target) (sumOf loss s) r
 
--- The same over a list: never where it is empty, else the least sum over its sets.
+-- r is the score over a list of sets: never where the list is empty, else the least sum over its sets.
 abbrev pub ScoreOver : Bool → Setup → List ℕ → ℕ → Type 0
 ScoreOver loss s l r = LeastOver (Listed l) (sumOf loss s) r
 

@@ -50,8 +50,8 @@ pub fn values_of(s: Setup, loss: bool) -> [u64; 64]
 }
 
 // The least sum of start values, or for a loss of loss values, over all sets from which the target
-// has a derivation: it is found among the minimal ones. The graph is the setup's, or that without
-// recovery.
+// has a derivation: it is found among the minimal sets. The graph is the setup's own, or the one
+// without recovery.
 pub fn score_of(s: Setup, graph: Graph, loss: bool, target: usize) -> u64
     requires { ⌜ WellFormed s × (target < 64) ⌝ }
     ensures { λ r. ⌜ ScoreBoth loss s graph target r ⌝ }
@@ -84,7 +84,7 @@ pub fn both_families(
     families::count_members(minimal)
 }
 
-// The minimal ones alone.
+// The family of the target's minimal sets, which are the target's base, and their number.
 pub fn base_family(
     s: Setup,
     graph: Graph,

@@ -23,7 +23,7 @@ pub fn lowest_colour(rows: Rows, held: VertexSet) -> usize
     8
 }
 
-// Has the vertex a colour, and needs every colour of it a lost vertex?
+// Has a vertex with these rows a colour, and does each of its colours need a lost vertex?
 fn all_broken(rows: Rows, lost: VertexSet) -> bool
     ensures { λ r. ⌜ Decides (AllBroken rows (Member (lost .0))) r ⌝ }
 {
@@ -41,7 +41,7 @@ fn all_broken(rows: Rows, lost: VertexSet) -> bool
     coloured
 }
 
-// Is the vertex with these rows opened by what is held, or for a loss lost?
+// Is a vertex with these rows opened by what is held or, for a loss, lost once this is lost?
 fn admits(loss: bool, rows: Rows, held: VertexSet) -> bool
     ensures { λ r. ⌜ Decides (Admits loss rows (Member (held .0))) r ⌝ }
 {
@@ -52,7 +52,8 @@ fn admits(loss: bool, rows: Rows, held: VertexSet) -> bool
     }
 }
 
-// One pass over the vertices; what it takes in may help the next ones at once.
+// One pass over the vertices. A vertex that is taken in helps the vertices behind it in the same
+// pass.
 fn pass(loss: bool, graph: Graph, s: VertexSet) -> VertexSet
     ensures { λ r. ⌜ Passed loss graph (s .0) (r .0) ⌝ }
 {
@@ -66,7 +67,7 @@ fn pass(loss: bool, graph: Graph, s: VertexSet) -> VertexSet
     r
 }
 
-// Passes until nothing is new.
+// The closure of a set: passes are made until one adds nothing.
 pub fn closure(loss: bool, graph: Graph, s: VertexSet) -> VertexSet
     ensures { λ r. ⌜ Closure (ruleOf loss graph) (s .0) (r .0) ⌝ }
 {

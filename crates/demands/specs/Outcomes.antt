@@ -24,7 +24,7 @@ pub record RefusedWith (numbers : List ℕ) (number : ℕ) (values : List ℕ) (
   pub none : values ≡ []
   pub kept : exit ≡ entry
 
--- A call gives the one or the other; an answer has values and a refusal has none, so never both.
+-- A call gives an answer or a refusal; an answer has values and a refusal has none, so never both.
 abbrev pub Outcome : List ℕ → ℕ → List ℕ → List (List ℕ) → List (List ℕ) → Type 0
 Outcome numbers number values entry exit = Answered number values ⊎ RefusedWith numbers number values entry exit
 
@@ -34,13 +34,13 @@ pub record Settled (numbers : List ℕ) (Call : ℕ → List ℕ → Type 0) (nu
   pub meets : Call number values
   pub only : (n : ℕ) (v : List ℕ) → Call n v → Same n number v values
 
--- The way in likewise, with its two lent lists: 12, 13, 14, 15.
+-- The way in, with its two lent lists, has an outcome that meets its contract, and no second one: 12, 13, 14, 15.
 pub record SettledWay (s : Setup) (target set number : ℕ) (values entry exit entry′ exit′ : List ℕ) : Type 0 where
   pub outcome : Outcome (12 ∷ 13 ∷ 14 ∷ 15 ∷ []) number values (entry ∷ entry′ ∷ []) (exit ∷ exit′ ∷ [])
   pub meets : WayCall s target set number values entry exit entry′ exit′
   pub only : (n : ℕ) (v x y : List ℕ) → WayCall s target set n v entry x entry′ y → SameWay n number v values x exit y exit′
 
--- Both lists likewise, with the lent list: 12, 13, 15.
+-- The call for both lists, with the lent list, has an outcome that meets its contract, and no second one: 12, 13, 15.
 pub record SettledLists (s : Setup) (target number : ℕ) (values entry exit : List ℕ) : Type 0 where
   pub outcome : Outcome (12 ∷ 13 ∷ 15 ∷ []) number values (entry ∷ []) (exit ∷ [])
   pub meets : BasesCall s target number values entry exit

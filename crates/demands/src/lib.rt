@@ -1,5 +1,6 @@
 // Demands 1 and 2, as the contracts of functions that make the offered calls on any sheet, item,
-// setup, set, vertices, handed-in lists and lent lists. Demand 3 is that of `answers::demand_three`.
+// setup, set, vertices, handed-in lists and lent lists. Demand 3 is the contract of
+// `answers::demand_three`.
 ghost use mathlib.Core.Path.{_≡_};
 ghost use mathlib.Core.Bool.{true, false};
 ghost use Rattle.vertex_set.specs.Set.{Decides};
@@ -40,7 +41,8 @@ pub struct SheetAnswers {
     pub risk: u64,
 }
 
-// What the calls answer, all on one input. An item's name is not among them: it is a part of the sheet.
+// What the calls answer, all on one input. An item's name is not here: it is a part of the sheet,
+// which `demands_of_name` hands back.
 pub struct Answers {
     pub sets: SetAnswers,
     pub lists: AllAnswers,
@@ -48,7 +50,7 @@ pub struct Answers {
     pub sheet: SheetAnswers,
 }
 
-// Closure, lost set and way in.
+// Asks for closure, lost set and way in.
 fn ask_sets(
     s: Setup,
     set: VertexSet,
@@ -66,7 +68,7 @@ fn ask_sets(
     SetAnswers { closure, lost, way }
 }
 
-// The findings, and question 12.
+// Asks for the three findings, and question 12.
 fn ask_findings(s: Setup, target: usize, other: usize) -> FindingAnswers
     ensures backdoor { λ r. ⌜ BackdoorCall s target (findingNumber (r .backdoor)) (findingValues (r .backdoor)) ⌝ }
     ensures idle { λ r. ⌜ IneffectiveCall s target (findingNumber (r .idle)) (findingValues (r .idle)) ⌝ }
@@ -85,7 +87,7 @@ fn ask_findings(s: Setup, target: usize, other: usize) -> FindingAnswers
     }
 }
 
-// The calls on a sheet's bytes.
+// Makes the calls on a sheet's bytes.
 fn ask_sheet(sheet: &[u8], item: u64) -> SheetAnswers
     ensures reading { λ r. ⌜ Reads (now (sheet .entry)) (r .reading) ⌝ }
     ensures asked { λ r. ⌜ r .reading ≡ readSheet (now (sheet .entry)) ⌝ }
@@ -102,7 +104,7 @@ fn ask_sheet(sheet: &[u8], item: u64) -> SheetAnswers
     }
 }
 
-// Demand 2, about the code: whatever the calls answer together is as it states.
+// Demand 2, about the code: whatever the calls answer together is as the demand states.
 pub fn demand_two(
     sheet: &[u8],
     item: u64,
@@ -130,7 +132,8 @@ pub fn demand_two(
     }
 }
 
-// Demand 1, about the code: what meets the contracts is an answer or one refusal, and the only one.
+// Demand 1, about the code: each call gives its answer or one refusal, and nothing else meets its
+// contract.
 pub fn demand_one(
     sheet: &[u8],
     item: u64,

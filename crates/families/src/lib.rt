@@ -1,5 +1,5 @@
-// Families of subsets of at most 14 chosen vertices, as truth tables: bit m % 64 of word m / 64 says
-// whether the mask m is in. No graph is in sight here.
+// Families of subsets of at most 14 chosen vertices, as truth tables: bit m % 64 of word m / 64
+// says whether the mask m is a member. Nothing here depends on a graph.
 ghost use mathlib.Core.Path.{_≡_};
 ghost use Prim.Native.Nat.{_≤_, _<_};
 ghost use lib.ListN.{length};
@@ -24,7 +24,7 @@ pub fn count_members(f: &[u64]) -> usize
     n
 }
 
-// The lanes of a word that have one bit more than a lane of x.
+// The lanes whose number is that of a lane in x with one bit more.
 fn steps_in_word(x: u64) -> u64
     ensures { λ r. ⌜ StepsInWord x r ⌝ }
 {
@@ -37,7 +37,7 @@ fn steps_in_word(x: u64) -> u64
     a | b | c | d | e | g
 }
 
-// The lanes of the words whose number is b without one of its bits.
+// The lanes that are in some word of the family whose number is b without one of its bits.
 fn steps_to_word(f: &[u64], b: usize) -> u64
     requires { ⌜ length (now f) ≡ familyWords ⌝ }
     requires { ⌜ b < familyWords ⌝ }
@@ -54,7 +54,7 @@ fn steps_to_word(f: &[u64], b: usize) -> u64
     lanes
 }
 
-// The lanes of word b that are in the family, with nothing in it that has one bit fewer.
+// The lanes of word b whose masks are members of the family, while no mask with one bit fewer is.
 fn least_word(f: &[u64], b: usize) -> u64
     requires { ⌜ length (now f) ≡ familyWords ⌝ }
     requires { ⌜ b < familyWords ⌝ }
@@ -77,8 +77,8 @@ pub fn minimal_members(f: &[u64], out: &mut [u64])
     }
 }
 
-// Keeps the family's minimal members alone. Each word is judged by itself and words of smaller numbers,
-// so the last one goes first and no copy is needed.
+// Keeps the family's minimal members alone. Each word is judged by itself and by words of smaller
+// numbers, so the last word goes first and no copy is needed.
 pub fn keep_minimal(f: &mut [u64])
     requires { ⌜ length (now f) ≡ familyWords ⌝ }
     ensures { λ _. ⌜ MinimalMembers (now (f .entry)) (now (f .exit)) ⌝ }
@@ -90,7 +90,7 @@ pub fn keep_minimal(f: &mut [u64])
     }
 }
 
-// The mask of a set x of chosen vertices. It goes from one chosen vertex to the next, lowest first.
+// The mask of a set x of chosen vertices, gathered from the lowest chosen vertex to the highest.
 pub fn mask_of(chosen: VertexSet, x: u64) -> usize
     requires { ⌜ ones (chosen .0) ≤ 14 ⌝ }
     ensures { λ r. ⌜ MaskOf (chosen .0) x r ⌝ }

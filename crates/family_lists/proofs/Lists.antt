@@ -4,14 +4,14 @@ use mathlib.Core.Path.{_≡_, refl, sym, ap, _∙_, subst}
 use mathlib.Core.Bool.{Bool, true, false}
 use mathlib.Core.Logic.{⊎-elim}
 use mathlib.Core.List.{List, [], _∷_, _++_, map, map-map, map-append, append-nil, append-assoc}
-use Prim.Native.Nat.{ℕ, suc, _+_, _-_, _*_, _/_, _%_, _^_, _≤_, _<_}
+use Prim.Native.Nat.{ℕ, _+_, _-_, _*_, _/_, _%_, _^_, _≤_, _<_}
 use native.Mathlib.Numerals.{add-one}
 use native.Mathlib.Omega.{arith}
 use lib.Bits.{bitAnd, and-le-l}
 use lib.Count.{ones, onesIn, ones-cat, ones-le, trailingZeros}
 use lib.Dec.{eqb}
-use lib.ListN.{length, getD, take, drop, set, length-append, length-map, length-set, drop-of-length-le}
-use lib.Seq.{sets, length-sets, drop-cons, drop-length, getD-take, getD-set-same, getD-set-other, take-suc-set, take-set-le, length-take-le}
+use lib.ListN.{length, getD, take, drop, set, length-map, length-set, drop-of-length-le}
+use lib.Seq.{drop-cons, drop-length, getD-take, getD-set-same, getD-set-other, take-suc-set, take-set-le, length-take-le}
 use borrow.Author.Tests.{eqb-true, eqb-false, eq-eqb, ne-eqb}
 use Rattle.vertex_set.specs.Set.{Member, Iff}
 use Rattle.vertex_set.proofs.Cases.{byTest, same-or}
@@ -20,7 +20,9 @@ use Rattle.vertex_set.proofs.Sets.{none-in-zero}
 use Rattle.vertex_set.proofs.Places.{places, places-none, places-and, listed-places, length-places, isIn, lowest}
 use Rattle.vertex_set.proofs.Shifts.{all, all-at}
 use Rattle.vertex_set.proofs.Sorted.{map-same, only-append, only-map, only-same}
-use Rattle.family_lists.specs.Inner.Tables.{Layer, LanesOfSize, masksIn, rising, ofWords, Occupied, ofSize, sumBy, TablesFit, Wrote}
+use Rattle.written.specs.Inner.{Wrote}
+use Rattle.written.proofs.Writing.{Writing, writing-part, writing-room, writing-end, wrote-one}
+use Rattle.family_lists.specs.Inner.Tables.{Layer, LanesOfSize, masksIn, rising, ofWords, Occupied, ofSize, sumBy, TablesFit}
 
 -- ---- the lanes of a size
 
@@ -78,47 +80,6 @@ lanes-of-layer b s r h =
           let f = mask-ones b i l in
           record { to = λ m. f ∙ c .to m; from = λ e. c .from (sym f ∙ e) };
     }
-
--- ---- writing a list part by part
-
--- Of the list `all`, which goes to `at` and behind, `rest` is still to be written, from `next` on.
-pub record Writing (entry : List ℕ) (at : ℕ) (all rest out : List ℕ) (next : ℕ) : Type 0 where
-  pub long : length out ≡ length entry
-  pub count : next + length rest ≡ at + length all
-  pub value : sets out next rest ≡ sets entry at all
-
-pub writing-none : (entry : List ℕ) (at : ℕ) (all : List ℕ) → Writing entry at all all entry at
-writing-none entry at all = record { long = refl; count = refl; value = refl }
-
-sets-append : (l : List ℕ) (i : ℕ) (xs ys : List ℕ) → sets l i (xs ++ ys) ≡ sets (sets l i xs) (i + length xs) ys
-sets-append l i [] ys = let e : i + 0 ≡ i = omega arith in rw e
-sets-append l i (x ∷ xs) ys =
-    let e : i + suc (length xs) ≡ suc i + length xs = omega arith in
-    rw e (sets-append (set l i x) (suc i) xs ys)
-
-pub writing-part : (entry : List ℕ) (at : ℕ) (all xs ys out : List ℕ) (next : ℕ) (after : List ℕ) (r : ℕ) → Writing entry at all (xs ++ ys) out next
-    → Wrote out next xs after r → Writing entry at all ys after r
-writing-part entry at all xs ys out next after r w p =
-    let a = length-append xs ys in
-    rw (p .exit, p .next)
-    (record {
-      long = length-sets out next xs ∙ w .long;
-      count = omega (arith, w .count);
-      value = sym (sets-append out next xs ys) ∙ w .value;
-    })
-
--- there is room for the next part
-pub writing-room : (entry : List ℕ) (at : ℕ) (all xs ys out : List ℕ) (next : ℕ) → Writing entry at all (xs ++ ys) out next → at + length all ≤ length entry
-    → next + length xs ≤ length out
-writing-room entry at all xs ys out next w room = omega (arith, length-append xs ys, w .long, w .count)
-
-pub wrote-one : (out : List ℕ) (next x : ℕ) → Wrote out next (x ∷ []) (set out next x) (next + 1)
-wrote-one out next x = record { exit = refl; next = refl }
-
-pub writing-end : (entry : List ℕ) (at : ℕ) (all rest out : List ℕ) (next : ℕ) → rest ≡ [] → Writing entry at all rest out next → Wrote entry at all out next
-writing-end entry at all rest out next e w =
-    let v = rw e at w in
-    record { exit = v .value; next = omega (arith, v .count) }
 
 -- ---- one word's sums
 

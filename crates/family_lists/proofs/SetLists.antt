@@ -19,9 +19,10 @@ use Rattle.families.specs.Inner.Exact.{OnChosen}
 use Rattle.families.proofs.Masks.{spread, set-of, set-before, set-within}
 use Rattle.sums.specs.Inner.Sums.{sumAt, WeightsOf, SumsFit, SumTable}
 use Rattle.sums.proofs.Weights.{at-split}
+use Rattle.written.specs.Inner.{Wrote}
+use Rattle.written.proofs.Writing.{Writing, writing-part, writing-room, writing-end}
 use Rattle.family_lists.specs.Inner.Lists.{ListOf, WroteSets}
-use Rattle.family_lists.specs.Inner.Tables.{TablesFit, Wrote, sumBy, rising, ofSize, bySize}
-use Rattle.family_lists.proofs.Lists.{Writing, writing-room, writing-part, writing-end}
+use Rattle.family_lists.specs.Inner.Tables.{TablesFit, sumBy, rising, ofSize, bySize}
 use Rattle.family_lists.proofs.Order.{listed-members, sorted-rising, Words, length-rising, member-small, listed-by-size, sorted-by-size, length-by-size}
 
 -- The masks of the family's members, by size.

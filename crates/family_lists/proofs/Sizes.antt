@@ -16,7 +16,9 @@ use Rattle.vertex_set.proofs.Cases.{same-or, false-true}
 use Rattle.vertex_set.proofs.Sets.{none-in-zero, member-below, in-or, meets-test, meets-not}
 use Rattle.vertex_set.proofs.Sorted.{listed-append}
 use Rattle.families.specs.Inner.Family.{In}
-use Rattle.family_lists.specs.Inner.Tables.{Layer, masksIn, rising, ofWords, Occupied, Joined, SomeOfSize, ofSize, Wrote}
+use Rattle.written.specs.Inner.{Wrote}
+use Rattle.written.proofs.Writing.{wrote-none}
+use Rattle.family_lists.specs.Inner.Tables.{Layer, masksIn, rising, ofWords, Occupied, Joined, SomeOfSize, ofSize}
 use Rattle.family_lists.proofs.Lists.{mask-ones}
 use Rattle.family_lists.proofs.Order.{listed-masks, listed-members, listed-of-size, member-small}
 
@@ -161,12 +163,12 @@ unlisted [] h = refl
 unlisted (x ∷ l) h = absurd (h x (inl refl))
 
 -- nothing is to be written of it
-pub wrote-none : (N : ℕ → ℕ) (f joined out : List ℕ) (next s : ℕ) (r : Bool) → length f ≡ 256 → Joined f joined → SomeOfSize joined s r → r ≡ false
+pub wrote-no-size : (N : ℕ → ℕ) (f joined out : List ℕ) (next s : ℕ) (r : Bool) → length f ≡ 256 → Joined f joined → SomeOfSize joined s r → r ≡ false
     → Wrote out next (map N (ofSize s (rising 0 f))) out next
-wrote-none N f joined out next s r e j o q =
+wrote-no-size N f joined out next s r e j o q =
     let none : ofSize s (rising 0 f) ≡ [] =
     unlisted (ofSize s (rising 0 f))
     (λ m l.
     let p = listed-of-size (rising 0 f) s m .to l in
     o .each f e j .no q (record { mask = m; is = listed-members f m .to (p .0); bits = p .1 })) in
-    rw none (record { exit = refl; next = omega arith })
+    rw none (wrote-none out next)

@@ -1,17 +1,18 @@
-// The sets of a family's members: their list in order. A mask's set number is a sum, of its vertices'
-// powers of 2, and goes by two tables of sums.
+// The sets of a family's members, listed in order. The number of a mask's set is the sum of its
+// vertices' powers of 2, and is found by two tables of sums.
 ghost use mathlib.Core.Path.{_≡_};
 ghost use mathlib.Core.List.{map};
 ghost use Prim.Native.Nat.{_+_, _≤_, _<_};
 ghost use lib.ListN.{length};
 ghost use lib.Count.{ones};
 ghost use Rattle.families.specs.Inner.Family.{size, familyWords};
+ghost use Rattle.written.specs.Inner.{Wrote};
 ghost use Rattle.family_lists.specs.Inner.Lists.{Writable, WroteSets};
-ghost use Rattle.family_lists.specs.Inner.Tables.{Layer, LanesOfSize, TablesFit, Wrote, masksIn, rising, Occupied, Joined, SomeOfSize, ofSize, bySize, sumBy};
+ghost use Rattle.family_lists.specs.Inner.Tables.{Layer, LanesOfSize, TablesFit, masksIn, rising, Occupied, Joined, SomeOfSize, ofSize, bySize, sumBy};
 use families::WORDS;
 use vertex_set::VertexSet;
 
-// At k the lanes of a word whose number has k bits.
+// At place k stand the lanes of a word whose numbers have k bits.
 const LAYERS: [u64; 7] = [
     0x0000_0000_0000_0001,
     0x0000_0001_0001_0116,
@@ -22,7 +23,7 @@ const LAYERS: [u64; 7] = [
     0x8000_0000_0000_0000,
 ];
 
-// The lanes whose numbers have k bits fewer than s.
+// The lanes whose numbers have s - k bits; none where k is above s.
 fn layer(k: usize, s: usize) -> u64
     ensures { λ r. ⌜ Layer k s r ⌝ }
 {
@@ -62,7 +63,8 @@ fn put_word(y: u64, b: usize, low: &[u64], high: &[u64], out: &mut [u64], at: us
     next
 }
 
-// Does so for those of the masks of word b in the lanes of x that have s bits.
+// Of the masks of word b in the lanes of x, writes the sums of those that have s bits, from `at`
+// on, and gives the next place.
 fn put_sized(
     x: u64,
     b: usize,
@@ -81,7 +83,8 @@ fn put_sized(
     put_word(x & lanes, b, low, high, out, at)
 }
 
-// The numbers of the family's words that are not empty, written to index, and how many there are.
+// Writes the numbers of the family's words that are not empty to the front of `index`, and gives
+// their count. By them the other loops pass over empty words.
 fn occupied_words(f: &[u64], index: &mut [usize]) -> usize
     requires { ⌜ length (now f) ≡ familyWords ⌝ }
     requires { ⌜ length (now index) ≡ familyWords ⌝ }
@@ -98,7 +101,8 @@ fn occupied_words(f: &[u64], index: &mut [usize]) -> usize
     n
 }
 
-// Does so for the family's members that have s bits. All members are in the first n words of index.
+// Writes the sums of the family's members that have s bits, from `at` on, and gives the next place.
+// All members are in the words whose numbers stand in the first n places of `index`.
 fn put_size(
     f: &[u64],
     index: &[usize],
@@ -123,8 +127,8 @@ fn put_size(
     next
 }
 
-// At k the lanes that are in some word of the family whose number has k bits.
-// All members are in the first n words of index.
+// At place k stand the lanes that are in some word of the family whose number has k bits. All
+// members are in the words whose numbers stand in the first n places of `index`.
 fn joined_words(f: &[u64], index: &[usize], n: usize) -> [u64; 9]
     requires { ⌜ length (now f) ≡ familyWords ⌝ }
     requires { ⌜ Occupied (now f) (now index) n ⌝ }
@@ -139,7 +143,8 @@ fn joined_words(f: &[u64], index: &[usize], n: usize) -> [u64; 9]
     joined
 }
 
-// Does the family whose words are joined so have a member of s bits?
+// Has the family a member of s bits? `joined` has at place k the lanes that are in some word of the
+// family whose number has k bits.
 fn some_of_size(joined: [u64; 9], s: usize) -> bool
     ensures { λ r. ⌜ SomeOfSize joined s r ⌝ }
 {
@@ -152,7 +157,8 @@ fn some_of_size(joined: [u64; 9], s: usize) -> bool
     false
 }
 
-// Does so for all of the family's members, fewer bits first. Sizes that no member has are passed over.
+// Writes the sums of all members of the family to the front of `out`, fewer bits first, and gives
+// their number. Sizes that no member has are passed over.
 fn put_all(f: &[u64], low: &[u64], high: &[u64], out: &mut [u64]) -> usize
     requires { ⌜ length (now f) ≡ familyWords ⌝ }
     requires { ⌜ TablesFit (now low) (now high) ⌝ }
@@ -172,8 +178,9 @@ fn put_all(f: &[u64], low: &[u64], high: &[u64], out: &mut [u64]) -> usize
     next
 }
 
-// Writes the sets of the family's members to the front of out, fewer vertices first and then the
-// smaller set number, and gives their number. A set's number is the sum of its vertices' powers of 2.
+// Writes the sets of the family's members to the front of `out`, fewer vertices first and then the
+// smaller set number, and gives the count of sets. The number of a set is the sum of its vertices'
+// powers of 2.
 pub fn write_sets(f: &[u64], chosen: VertexSet, out: &mut [u64]) -> usize
     requires { ⌜ Writable (chosen .0) (now f) (length (now out)) ⌝ }
     ensures { λ r. ⌜ WroteSets (chosen .0) (now (f .entry)) (now (out .entry)) r (now (out .exit)) ⌝ }

@@ -21,7 +21,7 @@ abbrev pub findingNumber : FindingAnswer → ℕ
 findingNumber (Is b) = 0
 findingNumber (Refused q) = q
 
--- Its values: one for yes or no, and none for a refusal.
+-- The values of an answer: one for yes or no, and none for a refusal.
 abbrev pub findingValues : FindingAnswer → List ℕ
 findingValues (Is b) = yesNo b ∷ []
 findingValues (Refused q) = []

@@ -15,7 +15,7 @@ pub enum FindingAnswer {
     Refused(u64),
 }
 
-// The security score of v in a graph: the setup's, or that without recovery.
+// The security score of v in the setup's own graph, or in the graph without recovery.
 fn security_in(s: Setup, graph: Graph, v: usize) -> SecurityScore
     requires { ⌜ Asked s v ⌝ }
     ensures { λ r. ⌜ Score false s graph v (r .0) ⌝ }
@@ -24,7 +24,7 @@ fn security_in(s: Setup, graph: Graph, v: usize) -> SecurityScore
     SecurityScore::of(r)
 }
 
-// Its recoverability score there.
+// The recoverability score of v in the setup's own graph, or in the graph without recovery.
 fn recoverability_in(s: Setup, graph: Graph, v: usize) -> RecoverabilityScore
     requires { ⌜ Asked s v ⌝ }
     ensures { λ r. ⌜ Score true s graph v (r .0) ⌝ }
@@ -55,7 +55,7 @@ fn find_ineffective(s: Setup, v: usize) -> bool
     score.at_most(without)
 }
 
-// Ranks first: where they are no finding, no score is asked.
+// The ranks are compared first: where v has not the higher rank, no score has to be worked out.
 fn find_inconsistent(s: Setup, v: usize, w: usize) -> bool
     requires { ⌜ Asked s v × (w < s .count) ⌝ }
     ensures { λ r. ⌜ FindsInconsistent s v w r ⌝ }
@@ -71,7 +71,7 @@ fn find_inconsistent(s: Setup, v: usize, w: usize) -> bool
     false
 }
 
-// Has v a backdoor: is its security score below that without recovery?
+// Has v a backdoor: is its security score below its score without recovery?
 pub fn has_backdoor(s: Setup, v: usize) -> FindingAnswer
     ensures { λ r. ⌜ BackdoorCall s v (findingNumber r) (findingValues r) ⌝ }
 {

@@ -1,4 +1,6 @@
-// The lanes of a table: the bits at one place of all its families are one set of vertices. In which of them is a vertex opened, or lost?
+// Lanes of a table: the bits at one place of all its families are one set of vertices, a lane. A
+// word operation works on 64 lanes at once, and finds those in which a vertex is opened or, with
+// loss, lost.
 ghost use mathlib.Core.Path.{_≡_};
 ghost use lib.ListN.{length};
 ghost use Rattle.vertex_set.specs.Set.{Member};
@@ -11,7 +13,7 @@ use setup::Rows;
 
 pub const COLOURS: usize = 8;
 
-// A word with the masks of all its places.
+// The word that has all 64 lanes.
 const ALL: u64 = 0xFFFF_FFFF_FFFF_FFFF;
 
 // All vertices that some colour of these rows needs.
@@ -25,7 +27,8 @@ pub fn needed(rows: Rows) -> u64
     s
 }
 
-// The masks whose sets have every vertex of the row or, with any, some vertex. The row has one.
+// The masks whose sets have every vertex of the row or, with `any`, some vertex of the row. The row
+// is not empty.
 fn scan(w: &[u64], row: u64, any: bool, out: &mut [u64])
     requires { ⌜ (row ≡ 0 → ⊥) ⌝ }
     requires { ⌜ length (now w) ≡ tableWords ⌝ }
@@ -44,8 +47,9 @@ fn scan(w: &[u64], row: u64, any: bool, out: &mut [u64])
     }
 }
 
-// The family gains the masks whose sets have the whole row or, with loss, keeps those whose sets have a vertex of it. An empty row is
-// no colour: it gives no mask, and takes none away.
+// Takes one colour in: the family gains the masks whose sets have the whole row or, with loss,
+// keeps only those whose sets have a vertex of the row. An empty row is no colour: it gives no
+// mask, and takes none away.
 fn take_colour(w: &[u64], row: u64, loss: bool, out: &mut [u64])
     requires { ⌜ length (now w) ≡ tableWords ⌝ }
     requires { ⌜ length (now out) ≡ familyWords ⌝ }
@@ -59,14 +63,16 @@ fn take_colour(w: &[u64], row: u64, loss: bool, out: &mut [u64])
     words::merge_in(!loss, out, &part);
 }
 
-// Each word of a family before any colour is taken: gaining begins with no mask, keeping with all.
+// Each word of a family before any colour is taken in: gaining begins with no mask, keeping with
+// all.
 fn untaken(loss: bool) -> u64
     ensures { λ r. ⌜ r ≡ untakenWord loss ⌝ }
 {
     if loss { ALL } else { 0 }
 }
 
-// The masks by whose sets a vertex with these rows is opened or, with loss, lost. A vertex that has no colour is neither.
+// The masks by whose sets a vertex with these rows is opened or, with loss, lost. A vertex without
+// a colour is neither.
 pub fn admitted(w: &[u64], rows: Rows, loss: bool, out: &mut [u64])
     requires { ⌜ length (now w) ≡ tableWords ⌝ }
     requires { ⌜ length (now out) ≡ familyWords ⌝ }

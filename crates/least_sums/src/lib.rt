@@ -33,7 +33,7 @@ fn least_in_word(y: u64, b: usize, low: &[u64], high: &[u64], best: u64) -> u64
     least
 }
 
-// The least sum over the family's members by two tables of sums, and NEVER where there is none.
+// The least sum over the family's members by two tables of sums; NEVER for an empty family.
 pub fn least_by(f: &[u64], low: &[u64], high: &[u64]) -> u64
     requires { ⌜ length (now f) ≡ familyWords ⌝ }
     requires { ⌜ TablesFit (now low) (now high) ⌝ }
@@ -49,7 +49,8 @@ pub fn least_by(f: &[u64], low: &[u64], high: &[u64]) -> u64
     least
 }
 
-// The two tables of sums of values, which serve all families on the chosen vertices.
+// Fills two tables with sums of the chosen vertices' values. They serve every family on these
+// vertices.
 pub fn sum_tables(chosen: VertexSet, values: [u64; 64], low: &mut [u64], high: &mut [u64])
     requires { ⌜ Summable (chosen .0) (λ (v : ℕ). getD values v 0) ⌝ }
     requires { ⌜ length (now low) ≡ 128 ⌝ }
@@ -61,7 +62,7 @@ pub fn sum_tables(chosen: VertexSet, values: [u64; 64], low: &mut [u64], high: &
     sums::fill_sums(weights, 7, high);
 }
 
-// The least sum of values over the sets of the family's members, and NEVER where there is none.
+// The least sum of values over the sets of the family's members; NEVER for an empty family.
 pub fn least_sum(f: &[u64], chosen: VertexSet, values: [u64; 64]) -> u64
     requires { ⌜ length (now f) ≡ familyWords ⌝ }
     requires { ⌜ Summable (chosen .0) (λ (v : ℕ). getD values v 0) ⌝ }

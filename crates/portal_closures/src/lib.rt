@@ -1,4 +1,5 @@
-// The portal's calls on a setup and a set of its items, for C: question 12, closures, lost sets, ways in.
+// The portal's calls on a setup and a set of its items, for C: question 12, closure, lost set and
+// way in.
 ghost use mathlib.Core.List.{[], _∷_};
 ghost use Rattle.derivations.specs.Access.{AccessFrom};
 ghost use Rattle.derivations.specs.Lockout.{LockoutFrom};

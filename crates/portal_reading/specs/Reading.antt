@@ -6,7 +6,7 @@ use lib.ListN.{length, take, drop}
 use Rattle.sheet_format.specs.Read.{readSheet}
 use Rattle.sheet_format.specs.Names.{nameOf, nameStart}
 use Rattle.setup.specs.Calls.{written}
-use Rattle.portal_setup.specs.Words.{wordsOf}
+use Rattle.portal_setup.specs.Words.{setupIn, wordsOf}
 
 -- 10000 for version 1.0.0 of the calls, two digits for each of the last two parts.
 abbrev pub version : ℕ
@@ -31,3 +31,8 @@ pub record NameCall (text : List ℕ) (item number start size : ℕ) : Type 0 wh
   pub begins : start ≡ nameStart text item
   pub long : size ≡ length (nameOf text item)
   pub bytes : take size (drop start text) ≡ nameOf text item
+
+-- What is read is what is asked: the words that reading writes say the sheet's setup.
+abbrev pub SaysSetup : Type 0
+SaysSetup = (text : List ℕ) (number line : ℕ) (entry exit : List ℕ) → ReadingCall text number line entry exit → 1281 ≤ length entry
+    → setupIn exit ≡ readSheet text .setup

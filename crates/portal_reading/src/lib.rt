@@ -1,4 +1,5 @@
-// The portal's calls on a sheet's bytes, for C: reading it, and an item's name; and which version of the calls this is.
+// The portal's calls on a sheet's bytes, for C: reading the sheet, and an item's name. Beside them
+// the version of the portal's calls.
 ghost use mathlib.Core.Path.{_≡_};
 ghost use Rattle.portal_reading.specs.Reading.{version, ReadingCall, NameCall};
 use portal_results::PortalPart;
@@ -17,8 +18,8 @@ pub extern "C" fn portal_version() -> u64
     VERSION
 }
 
-// Reads a sheet: its number and line; the setup's words go to the front of the lent buffer. The sheet's own questions come
-// before question 15, which is that of the buffer.
+// Reads a sheet: its number and line; the setup's words go to the front of the lent buffer. The
+// sheet's own questions come before question 15, which asks for the buffer's room.
 #[no_mangle]
 pub extern "C" fn portal_read(sheet: &[u8], setup: &mut [u64]) -> PortalReading
     ensures { λ r. ⌜ ReadingCall (now (sheet .entry)) (r .number) (r .line) (now (setup .entry)) (now (setup .exit)) ⌝ }

@@ -1,5 +1,6 @@
-// The structs that C gets, and the answers that they are made of. The first field is the answer's number: 0, or that of the
-// refusal. The fields behind it have the answer's values, and 0 where it has none.
+// The structs that C gets, and how answers become structs. The first field is the answer's number:
+// 0, or that of the refusal. The fields behind the number have the answer's values, and 0 where
+// there is no value.
 ghost use mathlib.Core.List.{[], _∷_};
 ghost use Rattle.access.specs.Answers.{numberOf, valuesOf, wayNumber, wayValues};
 ghost use Rattle.answers.specs.Answers.{basesNumber, basesValues, scoreNumber, scoreValues, riskNumber, riskValues, marksNumber, marksValues};

@@ -1,2 +1,3 @@
 pub mod Filling
+pub mod Saying
 pub mod Writing

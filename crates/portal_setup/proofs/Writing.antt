@@ -6,9 +6,9 @@ use Prim.Native.Nat.{ℕ, suc, _+_, _≤_, _<_}
 use native.Mathlib.Numerals.{add-one}
 use native.Mathlib.Omega.{arith}
 use lib.ListN.{length, getD, set, drop, length-set, length-append}
-use lib.Seq.{paste, paste-zero, paste-suc, sets-eq, take-length, drop-length, drop-cons, length-sets}
-use Rattle.family_lists.specs.Inner.Tables.{Wrote}
-use Rattle.family_lists.proofs.Lists.{Writing, writing-none, writing-part, writing-end, wrote-one}
+use lib.Seq.{paste, paste-zero, paste-suc, sets-eq, take-length, drop-length, drop-cons}
+use Rattle.written.specs.Inner.{Wrote}
+use Rattle.written.proofs.Writing.{Writing, writing-none, writing-part, writing-end, wrote-one, wrote-length, wrote-then}
 use Rattle.portal_setup.specs.Words.{flat}
 use Rattle.portal_setup.specs.Inner.{WroteAll}
 
@@ -66,15 +66,14 @@ all-one d at x = record { long = refl; wrote = wrote-one d at x }
 
 module _ (n : ℕ) (d : List ℕ) (at : ℕ) (xs out : List ℕ) (next : ℕ) (w : WroteAll n d at xs out next) where
   pub all-long : length out ≡ length d
-  all-long = ap length (w .wrote .exit) ∙ length-sets d at xs
+  all-long = wrote-length d at xs out next (w .wrote)
 
   pub all-next : next ≡ at + n
   all-next = w .wrote .next ∙ ap (λ (k : ℕ). at + k) (w .long)
 
   pub all-then : (m : ℕ) (ys after : List ℕ) (r : ℕ) → WroteAll m out next ys after r → WroteAll (n + m) d at (xs ++ ys) after r
   all-then m ys after r v =
-      let p = writing-part d at (xs ++ ys) xs ys d at out next (writing-none d at (xs ++ ys)) (w .wrote) in
       let a = length-append xs ys in
       let l = w .long in
       let k = v .long in
-      record { long = omega arith; wrote = record { exit = v .wrote .exit ∙ p .value; next = v .wrote .next ∙ p .count } }
+      record { long = omega arith; wrote = wrote-then d at xs out next (w .wrote) ys after r (v .wrote) }

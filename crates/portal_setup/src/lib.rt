@@ -1,8 +1,9 @@
-// A setup as plain numbers, as C hands it over and gets it: every buffer says one, malformed ones too.
+// A setup as plain numbers, as C hands it over and gets it. Every buffer says some setup, if
+// perhaps a malformed one, so that question 12 is asked of each.
 ghost use mathlib.Core.Path.{_≡_};
 ghost use Prim.Native.Nat.{_+_, _≤_, _<_};
 ghost use lib.ListN.{length};
-ghost use Rattle.family_lists.specs.Inner.Tables.{Wrote};
+ghost use Rattle.written.specs.Inner.{Wrote};
 ghost use Rattle.portal_setup.specs.Inner.{WroteAll};
 ghost use Rattle.portal_setup.specs.Words.{wordAt, kindIn, valueIn, vertexIn, rowsIn, graphIn, setupIn, kindWord, valueWord, vertexWords, verticesWords, graphWords, wordsOf};
 use setup::Graph;
@@ -15,7 +16,7 @@ use setup::Vertex;
 // The number that stands for a blank.
 const BLANK: u64 = 0xFFFF_FFFF_FFFF_FFFF;
 
-// Where the rows of the graph begin, and those of the recovery edges.
+// Where among the words the rows of the graph begin, and where the rows of the recovery edges do.
 const GRAPH: usize = 257;
 
 const RECOVERY: usize = 769;
@@ -182,7 +183,7 @@ fn put_graph(g: Graph, out: &mut [u64], at: usize) -> usize
     next
 }
 
-// Writes the words that say the setup.
+// Writes the words that say the setup, from `at` on, and gives the next place.
 pub fn put_setup(s: Setup, out: &mut [u64], at: usize) -> usize
     requires { ⌜ at + 1281 ≤ length (now out) ⌝ }
     ensures { λ r. ⌜ WroteAll 1281 (now (out .entry)) at (wordsOf s) (now (out .exit)) r ⌝ }

@@ -27,7 +27,7 @@ setsOfSize test (suc n) (suc k) =
     let more = less ++ map (λ x. 2 ^ n + x) (setsOfSize test n k) in
     cond (test n) more less
 
--- Those of at most k vertices, fewer vertices first.
+-- The sets of at most k vertices below n that pass the test, fewer vertices first.
 unfoldable pub setsUpTo : (ℕ → Bool) → ℕ → ℕ → List ℕ
 setsUpTo test n zero = setsOfSize test n zero
 setsUpTo test n (suc k) = setsUpTo test n k ++ setsOfSize test n (suc k)
@@ -38,7 +38,7 @@ setsOf loss s = setsUpTo (isChosen loss s) (s .count) (s .count)
 
 -- ---- the base
 
--- `TargetSet loss s g target`: those from which the target has a derivation.
+-- `TargetSet loss s g target`: the sets from which the target has a derivation.
 unfoldable pub targetSetsOf : Bool → Setup → Graph → ℕ → List ℕ
 targetSetsOf loss s g target = those (derivesOf loss (s .count) g target) (setsOf loss s)
 
@@ -46,7 +46,7 @@ targetSetsOf loss s g target = those (derivesOf loss (s .count) g target) (setsO
 unfoldable pub isMinimal : Bool → Setup → Graph → ℕ → ℕ → Bool
 isMinimal loss s g target x = not (some (λ v. isMember x v && derivesOf loss (s .count) g target (x - 2 ^ v)) (s .count))
 
--- `Base loss s g target`: the minimal ones.
+-- `Base loss s g target`: the minimal sets among the target sets.
 unfoldable pub baseOf : Bool → Setup → Graph → ℕ → List ℕ
 baseOf loss s g target = those (isMinimal loss s g target) (targetSetsOf loss s g target)
 

@@ -1,23 +1,12 @@
 -- Writing a text part by part.
 -- Assumes nothing.
-use mathlib.Core.Path.{_≡_, refl, sym, ap, _∙_}
+use mathlib.Core.Path.{_≡_, refl, sym, _∙_}
 use mathlib.Core.List.{List, [], _++_, append-assoc}
-use Prim.Native.Nat.{ℕ, _+_, _≤_}
-use native.Mathlib.Omega.{arith}
+use Prim.Native.Nat.{ℕ, _≤_}
 use lib.ListN.{length}
-use lib.Seq.{length-sets}
-use Rattle.family_lists.specs.Inner.Tables.{Wrote}
-use Rattle.report_fields.proofs.Writing.{wrote-then}
+use Rattle.written.specs.Inner.{Wrote}
+use Rattle.written.proofs.Writing.{wrote-none, wrote-length, wrote-then}
 use Rattle.report_facts.specs.Inner.Parts.{Part}
-
-pub wrote-none : (entry : List ℕ) (at : ℕ) → Wrote entry at [] entry at
-wrote-none entry at = record { exit = refl; next = omega arith }
-
-pub wrote-length : (entry : List ℕ) (at : ℕ) (xs exit : List ℕ) (r : ℕ) → Wrote entry at xs exit r → length exit ≡ length entry
-wrote-length entry at xs exit r w = ap length (w .exit) ∙ length-sets entry at xs
-
-pub wrote-inside : (entry : List ℕ) (at : ℕ) (xs exit : List ℕ) (r : ℕ) → Wrote entry at xs exit r → at + length xs ≤ length entry → r ≤ length exit
-wrote-inside entry at xs exit r w h = let l = wrote-length entry at xs exit r w in let n = w .next in omega arith
 
 pub part-none : (entry : List ℕ) (at : ℕ) (text : List ℕ) → at ≤ length entry → Part entry at text text entry at
 part-none entry at text h = record { part = []; split = refl; wrote = wrote-none entry at; inside = h }

@@ -1,5 +1,4 @@
-// What the report's rows say of each vertex: the type, and what is meant by it. The values are worked
-// out once for the whole report.
+// What the report's rows say of each vertex. The facts are worked out once for the whole report.
 use scores::RecoverabilityScore;
 use scores::SecurityScore;
 use vertex_set::VertexSet;

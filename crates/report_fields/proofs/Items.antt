@@ -14,8 +14,8 @@ use Rattle.vertex_set.specs.Set.{Within}
 use Rattle.vertex_set.proofs.Cases.{same-or}
 use Rattle.vertex_set.proofs.Sets.{within-refl, within-trans}
 use Rattle.vertex_set.proofs.Places.{places, places-none, lowest, removed-within}
-use Rattle.family_lists.specs.Inner.Tables.{Wrote}
-use Rattle.family_lists.proofs.Lists.{Writing, writing-none, writing-part, writing-room, writing-end}
+use Rattle.written.specs.Inner.{Wrote}
+use Rattle.written.proofs.Writing.{Writing, writing-none, writing-part, writing-room, writing-end}
 use Rattle.report_text.specs.Rows.{joined, setText}
 use Rattle.report_text.proofs.Items.{namesOf, set-text}
 use Rattle.report_fields.specs.Inner.Writing.{plus}

@@ -17,7 +17,8 @@ struct Scores {
     risks: [RecoverabilityScore; 64],
 }
 
-// Those with recovery, and which vertices recovery weakens (a backdoor) or does not help (idle).
+// The scores and risks with recovery, the vertices that recovery weakens (`back`, a backdoor) and
+// those that it does not help (`idle`).
 struct Findings {
     scores: [SecurityScore; 64],
     risks: [RecoverabilityScore; 64],
@@ -35,7 +36,8 @@ fn scores_with(s: Setup, graph: Graph, opening: &mut [u64], lockout: &mut [u64])
     Scores { scores, risks }
 }
 
-// First without recovery, then with it in the same tables.
+// Compares the scores and risks with those without recovery. The tables are filled without recovery
+// first, so that the ones with recovery are left in them.
 fn findings_of(s: Setup, opening: &mut [u64], lockout: &mut [u64]) -> Findings
     requires { ⌜ CanFill s (now opening) (now lockout) ⌝ }
     ensures { λ r. ⌜ FindingsOf s (now (opening .exit)) (now (lockout .exit)) r ⌝ }
@@ -58,8 +60,8 @@ fn findings_of(s: Setup, opening: &mut [u64], lockout: &mut [u64]) -> Findings
     }
 }
 
-// The facts of a sheet's setup. Each of the four tables of closures is filled once and cut down to the
-// bases; those with recovery are left in `opening` and `lockout`.
+// The facts of a sheet's setup. Each of the four tables of closures is filled once and cut down to
+// the bases; the two with recovery are left in `opening` and `lockout`.
 pub fn facts_of(sheet: &[u8], s: Setup, opening: &mut [u64], lockout: &mut [u64]) -> Facts
     requires { ⌜ WellFormed s × HasNames (now sheet) s ⌝ }
     requires { ⌜ (length (now opening) ≡ 16384) × (length (now lockout) ≡ 16384) ⌝ }

@@ -11,8 +11,8 @@ use Rattle.vertex_set.specs.Set.{Member, Within}
 use Rattle.vertex_set.specs.Order.{Listed}
 use Rattle.vertex_set.proofs.Sets.{within-refl, within-trans}
 use Rattle.vertex_set.proofs.Places.{places, places-none, lowest, removed-within, length-places, listed-places}
-use Rattle.family_lists.specs.Inner.Tables.{Wrote}
-use Rattle.family_lists.proofs.Lists.{Writing, writing-none, writing-part, writing-room, writing-end}
+use Rattle.written.specs.Inner.{Wrote}
+use Rattle.written.proofs.Writing.{Writing, writing-none, writing-part, writing-room, writing-end}
 use Rattle.report_text.specs.Rows.{textsOf, pairRow}
 use Rattle.report_text.proofs.Items.{items-places}
 use Rattle.report_text.proofs.Lengths.{pair-row-short}

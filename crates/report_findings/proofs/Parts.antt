@@ -14,7 +14,7 @@ use Rattle.vertex_set.proofs.Cases.{byTest}
 use Rattle.vertex_set.proofs.Decisions.{decide-iff}
 use Rattle.scores.specs.Inner.Lists.{securityAt, recoverabilityAt}
 use Rattle.setup.specs.declared.Setup.{Setup}
-use Rattle.family_lists.specs.Inner.Tables.{Wrote}
+use Rattle.written.specs.Inner.{Wrote}
 use Rattle.reference.specs.Tests.{those, isMember}
 use Rattle.reference.proofs.Tests.{by-decision, decide-and, decide-member}
 use Rattle.findings.proofs.Unique.{decided-once}

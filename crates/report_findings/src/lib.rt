@@ -2,7 +2,7 @@
 // out of rank.
 ghost use Prim.Native.Nat.{_+_, _≤_};
 ghost use lib.ListN.{length};
-ghost use Rattle.family_lists.specs.Inner.Tables.{Wrote};
+ghost use Rattle.written.specs.Inner.{Wrote};
 ghost use Rattle.sheet_format.specs.Names.{nameOf};
 ghost use Rattle.report_fields.specs.Inner.Writing.{NamePlace, NamePlaces};
 ghost use Rattle.report_facts.specs.Texts.{scoreAt, pairsAt};
@@ -10,7 +10,7 @@ ghost use Rattle.report_findings.specs.Inner.Parts.{PartReady, WrotePart
 use report_facts::Facts;
 use report_rows::ScoreRow;
 
-// The score row of vertex v; nothing where it is no account.
+// Writes the score row of vertex v; nothing where v is no account.
 pub fn put_score_of(facts: Facts, v: usize, sheet: &[u8], out: &mut [u8], at: usize) -> usize
     requires { ⌜ PartReady (now sheet) facts v (now out) at ⌝ }
     ensures { λ r. ⌜ WrotePart scoreAt (now (sheet .entry)) facts v (now (out .entry)) at (now (out .exit)) r ⌝ }
@@ -36,7 +36,7 @@ pub fn put_score_of(facts: Facts, v: usize, sheet: &[u8], out: &mut [u8], at: us
     at
 }
 
-// A row for each vertex of the set x, with v above.
+// Writes a row for each vertex of the set x, with v above.
 fn put_pairs(
     v: usize,
     x: u64,
@@ -62,7 +62,7 @@ fn put_pairs(
     next
 }
 
-// The pairs with vertex v above; nothing where it is no account.
+// Writes the pairs with vertex v above; nothing where v is no account.
 pub fn put_pairs_of(facts: Facts, v: usize, sheet: &[u8], out: &mut [u8], at: usize) -> usize
     requires { ⌜ PartReady (now sheet) facts v (now out) at ⌝ }
     ensures { λ r. ⌜ WrotePart pairsAt (now (sheet .entry)) facts v (now (out .entry)) at (now (out .exit)) r ⌝ }

@@ -13,12 +13,13 @@ use Rattle.setup.specs.Bounds.{largest}
 use Rattle.vertex_set.specs.Order.{sumOver}
 use Rattle.vertex_set.proofs.Cases.{less-or}
 use Rattle.vertex_set.proofs.Sums.{sum-bound}
-use Rattle.family_lists.specs.Inner.Tables.{Wrote}
+use Rattle.written.specs.Inner.{Wrote}
+use Rattle.written.proofs.Writing.{wrote-inside}
 use Rattle.report_text.specs.Rows.{textsOf, setRow}
 use Rattle.sheet_format.specs.Names.{nameOf}
 use Rattle.report_text.proofs.Lengths.{set-row-length}
 use Rattle.report_facts.specs.Inner.Parts.{Part}
-use Rattle.report_facts.proofs.Parts.{part-none, part-one, part-then, part-length, wrote-inside}
+use Rattle.report_facts.proofs.Parts.{part-none, part-one, part-then, part-length}
 use Rattle.report_lists.specs.Inner.Lists.{RowsReady, rowOf, rowsFrom, RowsWent}
 
 sum-small : (values : List ℕ) (x : ℕ) → ((v : ℕ) → getD values v 0 ≤ largest) → sumOver (λ (v : ℕ). getD values v 0) x < 100000000

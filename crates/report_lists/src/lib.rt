@@ -6,7 +6,7 @@ ghost use Rattle.report_lists.specs.Inner.Lists.{RowsReady, RowsWent, Ca
 use report_rows::SetRow;
 use vertex_set::VertexSet;
 
-// No row is longer.
+// No row of a list has more bytes.
 const LONGEST: usize = 272;
 
 // The next row to write, and the place of its first byte.
@@ -15,7 +15,7 @@ pub struct RowsStep {
     pub at: usize,
 }
 
-// The rows of a list from row i on, as long as they fit.
+// Writes the rows of a list from row i on, as long as there is room for the longest row.
 pub fn put_rows(
     loss: bool,
     target: usize,
@@ -53,8 +53,8 @@ pub fn put_rows(
     RowsStep { row, at: next }
 }
 
-// The list with number k, written to the front of `list`, and its length. A vertex that is no
-// account has none.
+// Writes the list with number k to the front of `list`, and gives its length. A vertex that is no
+// account has no sets.
 pub fn load(
     k: usize,
     accounts: VertexSet,

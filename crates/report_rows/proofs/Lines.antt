@@ -6,10 +6,10 @@ use Prim.Native.Nat.{ℕ, suc, _+_, _≤_, _<_}
 use native.Mathlib.Omega.{arith}
 use lib.ListN.{length, getD, drop}
 use lib.Seq.{drop-cons, drop-length}
-use Rattle.family_lists.specs.Inner.Tables.{Wrote}
-use Rattle.family_lists.proofs.Lists.{Writing, writing-none, writing-part, writing-room, writing-end}
+use Rattle.written.specs.Inner.{Wrote}
+use Rattle.written.proofs.Writing.{Writing, writing-none, writing-part, writing-room, writing-end}
 use Rattle.sheet_format.specs.Rows.{lineText}
-use Rattle.report_fields.specs.Inner.Writing.{ended}
+use Rattle.writing.specs.Inner.{ended}
 
 -- i fields of the line stand, each with the byte behind it.
 abbrev pub LineWriting : List (List ℕ) → List ℕ → ℕ → ℕ → List ℕ → ℕ → Type 0

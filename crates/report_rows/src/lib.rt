@@ -2,7 +2,7 @@
 // on and gives the next place; every other byte stays as it was.
 ghost use Prim.Native.Nat.{_+_, _≤_};
 ghost use lib.ListN.{length};
-ghost use Rattle.family_lists.specs.Inner.Tables.{Wrote};
+ghost use Rattle.written.specs.Inner.{Wrote};
 ghost use Rattle.report_text.specs.Rows.{setRow, scoreRow, pairRow, refusedRow};
 ghost use Rattle.sheet_format.specs.Names.{nameOf};
 ghost use Rattle.report_fields.specs.Inner.Writing.{NamePlace, NamePlaces};
@@ -36,8 +36,8 @@ pub fn put_set_row(
     let size = u64::count_ones(row.set) as u64;
     let mut next = report_fields::put_name_field(row.target, SPACE, sheet, from, to, out, at);
     next = report_fields::put_way(row.loss, SPACE, out, next);
-    next = report_fields::put_number(size, SPACE, out, next);
-    next = report_fields::put_number(row.sum, SPACE, out, next);
+    next = writing::put_number(size, SPACE, out, next);
+    next = writing::put_number(row.sum, SPACE, out, next);
     report_fields::put_set_field(row.set, LF, sheet, from, to, out, next)
 }
 
@@ -94,7 +94,7 @@ pub fn put_refused_row(number: u64, line: u64, out: &mut [u8], at: usize) -> usi
     requires { ⌜ at + length (refusedRow number line) ≤ length (now out) ⌝ }
     ensures { λ r. ⌜ Wrote (now (out .entry)) at (refusedRow number line) (now (out .exit)) r ⌝ }
 {
-    let mut next = report_fields::put_field(b"refused", SPACE, out, at);
-    next = report_fields::put_number(number, SPACE, out, next);
-    report_fields::put_number(line, LF, out, next)
+    let mut next = writing::put_field(b"refused", SPACE, out, at);
+    next = writing::put_number(number, SPACE, out, next);
+    writing::put_number(line, LF, out, next)
 }

@@ -1,5 +1,5 @@
-// What the report needs of a table of closures: it is filled once and cut down to the minimal sets, and
-// then every vertex's score and list are read from it.
+// What the report needs of a table of closures: it is filled once and cut down to the minimal sets,
+// and then every vertex's score and list are read from it.
 ghost use mathlib.Core.Bool.{true, false};
 ghost use mathlib.Core.Path.{_≡_};
 ghost use Prim.Native.Nat.{ℕ, _<_};
@@ -15,8 +15,8 @@ use setup::Graph;
 use setup::Setup;
 use vertex_set::VertexSet;
 
-// The target's base, read from the table: its sets stand at the front of out, and their number is the
-// answer.
+// The target's base, read from the table: its sets stand at the front of out, and their number is
+// the answer.
 pub fn list_from(w: &[u64], chosen: VertexSet, target: usize, out: &mut [u64]) -> usize
     requires { ⌜ CanRead (now w) (chosen .0) target (now out) ⌝ }
     ensures { λ r. ⌜ Listing (now (w .entry)) (chosen .0) target r (now (out .exit)) ⌝ }
@@ -53,7 +53,8 @@ fn keep_base(w: &mut [u64], target: usize, low: &[u64], high: &[u64]) -> u64
     least_sums::least_by(&w[from..from + WORDS], low, high)
 }
 
-// Does so for all vertices. The least sums are their scores.
+// Keeps the minimal members of every vertex's family in the table, and writes the least sums, which
+// are the scores, to `out`.
 fn keep_bases(w: &mut [u64], low: &[u64], high: &[u64], out: &mut [u64])
     requires { ⌜ length (now w) ≡ 16384 ⌝ }
     requires { ⌜ TablesFit (now low) (now high) ⌝ }
@@ -65,9 +66,9 @@ fn keep_bases(w: &mut [u64], low: &[u64], high: &[u64], out: &mut [u64])
     }
 }
 
-// Fills the table of the graph and the initial vertices or, with loss, the losable ones, and makes it
-// the table of their bases; out gets the scores of all vertices. The graph is the setup's, or that
-// without recovery.
+// Fills the table of the graph and the initial vertices or, with loss, the losable ones, and makes
+// it the table of their bases; out gets the scores of all vertices. The graph is the setup's, or
+// that without recovery.
 fn scores_in(s: Setup, graph: Graph, loss: bool, w: &mut [u64], out: &mut [u64])
     requires { ⌜ CanScore s (now w) ⌝ }
     requires { ⌜ length (now out) ≡ 64 ⌝ }
@@ -116,7 +117,8 @@ pub fn security_in(s: Setup, graph: Graph, w: &mut [u64]) -> [SecurityScore; 64]
     security_of(numbers)
 }
 
-// The recoverability scores of all vertices in the graph; w becomes the table of their lockout sets.
+// The recoverability scores of all vertices in the graph; w becomes the table of their lockout
+// sets.
 pub fn recoverability_in(s: Setup, graph: Graph, w: &mut [u64]) -> [RecoverabilityScore; 64]
     requires { ⌜ CanScore s (now w) ⌝ }
     ensures { λ r. ⌜ Scored true s graph (now (w .exit)) (λ (v : ℕ). recoverabilityAt r v) ⌝ }

@@ -79,7 +79,7 @@ pub fn idle_places(
     r
 }
 
-// Is the rank above the other one, and the score at most the other one?
+// Is the rank above the other rank, and the score at most the other score?
 fn is_above(rank: u64, other: u64, score: SecurityScore, than: SecurityScore) -> bool
     ensures { λ r. ⌜ Decides (Above rank other (score .0) (than .0)) r ⌝ }
 {
@@ -107,7 +107,7 @@ fn below_one(accounts: VertexSet, ranks: [u64; 64], scores: [SecurityScore; 64],
     accounts.0 & r.0
 }
 
-// The same for each vertex.
+// For each vertex v the accounts that are out of rank with v above.
 pub fn below_all(accounts: VertexSet, ranks: [u64; 64], scores: [SecurityScore; 64]) -> [u64; 64]
     ensures { λ r. ⌜ BelowAll (accounts .0) ranks scores r ⌝ }
 {

@@ -36,8 +36,8 @@ fn no_facts() -> Facts {
     }
 }
 
-// Reads the sheet, and works out what its report needs. The tables of closures are left in `opening`
-// and `lockout`; a refused sheet leaves both as they were.
+// Reads the sheet, and works out what its report needs. The tables of closures are left in
+// `opening` and `lockout`; a refused sheet leaves both as they were.
 pub fn begin(sheet: &[u8], opening: &mut [u64], lockout: &mut [u64]) -> Report
     requires { ⌜ (length (now opening) ≡ 16384) × (length (now lockout) ≡ 16384) ⌝ }
     ensures { λ r. ⌜ Begun (now (sheet .entry)) r (now (opening .entry)) (now (lockout .entry)) (now (opening .exit)) (now (lockout .exit)) ⌝ }

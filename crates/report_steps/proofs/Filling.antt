@@ -7,11 +7,12 @@ use native.Mathlib.Omega.{arith}
 use lib.ListN.{length, take}
 use lib.Seq.{sets-eq, take-append-seam}
 use Rattle.setup.specs.declared.Setup.{Setup}
-use Rattle.family_lists.specs.Inner.Tables.{Wrote}
+use Rattle.written.specs.Inner.{Wrote}
+use Rattle.written.proofs.Writing.{wrote-length}
 use Rattle.sheet_format.specs.Names.{nameOf}
 use Rattle.report_facts.specs.declared.Facts.{Facts}
 use Rattle.report_facts.specs.Inner.Parts.{Part}
-use Rattle.report_facts.proofs.Parts.{part-none, part-then, part-length, wrote-length}
+use Rattle.report_facts.proofs.Parts.{part-none, part-then, part-length}
 use Rattle.report_steps.specs.declared.Cursor.{Cursor}
 use Rattle.report_steps.specs.declared.Cursor.the-variants as cursor
 use Rattle.report_steps.specs.declared.Step.{Step}

@@ -12,14 +12,15 @@ use Rattle.vertex_set.specs.Set.{Decides}
 use Rattle.vertex_set.proofs.Cases.{less-or, false-true}
 use Rattle.setup.specs.declared.Setup.{Setup}
 use Rattle.bases.proofs.Formed.{few}
-use Rattle.family_lists.specs.Inner.Tables.{Wrote}
+use Rattle.written.specs.Inner.{Wrote}
+use Rattle.written.proofs.Writing.{wrote-inside}
 use Rattle.report_text.specs.Rows.{listHeader, scoreHeader, pairHeader, refusedRow}
 use Rattle.sheet_format.specs.Names.{nameOf}
 use Rattle.report_text.proofs.Lengths.{refused-row-length}
 use Rattle.report_facts.specs.declared.Facts.{Facts}
 use Rattle.report_facts.specs.Inner.Facts.{FactsOf, TablesOf}
 use Rattle.report_facts.specs.Texts.{slotList, scoreAt, pairsAt}
-use Rattle.report_facts.proofs.Parts.{part-none, part-one, wrote-inside}
+use Rattle.report_facts.proofs.Parts.{part-none, part-one}
 use Rattle.report_findings.specs.Inner.Parts.{PartReady, WrotePart}
 use Rattle.report_lists.specs.declared.RowsStep.{RowsStep}
 use Rattle.report_lists.specs.Inner.Lists.{CanLoad, Loaded}

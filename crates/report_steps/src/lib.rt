@@ -42,7 +42,7 @@ fn values_by(loss: bool, facts: Facts) -> [u64; 64]
     facts.starts
 }
 
-// Rows of the list with number k, from row i on.
+// Writes rows of the list with number k, from row i on, as far as there is room.
 fn put_list(
     facts: Facts,
     k: usize,
@@ -64,8 +64,8 @@ fn put_list(
     report_lists::put_rows(loss, k / 2, list, i, n, &values, sheet, &from, &to, out, at)
 }
 
-// Rows of the list with number k; where all stand, the next list, and behind the last list the
-// header of the scores.
+// Writes rows of the list with number k. Where all of them stand, loads the next list or, behind
+// the last list, writes the header of the scores.
 fn step_lists(
     facts: Facts,
     k: usize,
@@ -99,12 +99,12 @@ fn step_lists(
         let cursor = Cursor::Lists(next, 0, m);
         return Step { cursor, at };
     }
-    let behind = report_fields::put_text(b"\ntarget score risk back idle\n", out, at);
+    let behind = writing::put_text(b"\ntarget score risk back idle\n", out, at);
     let cursor = Cursor::Scores(0);
     Step { cursor, at: behind }
 }
 
-// The score row of vertex v, and behind the last vertex the header of the pairs.
+// Writes the score row of vertex v or, behind the last vertex, the header of the pairs.
 fn step_scores(facts: Facts, v: usize, sheet: &[u8], out: &mut [u8], at: usize) -> Step
     requires { ⌜ SectionGoing (now sheet) facts v (now out) at ⌝ }
     ensures { λ r. ⌜ ScoresWent (now (sheet .entry)) facts v (now (out .entry)) at (now (out .exit)) r ⌝ }
@@ -114,12 +114,12 @@ fn step_scores(facts: Facts, v: usize, sheet: &[u8], out: &mut [u8], at: usize) 
         let cursor = Cursor::Scores(v + 1);
         return Step { cursor, at: next };
     }
-    let next = report_fields::put_text(b"\nabove below\n", out, at);
+    let next = writing::put_text(b"\nabove below\n", out, at);
     let cursor = Cursor::Pairs(0);
     Step { cursor, at: next }
 }
 
-// The pairs with vertex v above, and behind the last vertex nothing more.
+// Writes the pairs with vertex v above. Behind the last vertex the report is at its end.
 fn step_pairs(facts: Facts, v: usize, sheet: &[u8], out: &mut [u8], at: usize) -> Step
     requires { ⌜ SectionGoing (now sheet) facts v (now out) at ⌝ }
     ensures { λ r. ⌜ PairsWent (now (sheet .entry)) facts v (now (out .entry)) at (now (out .exit)) r ⌝ }
@@ -133,7 +133,7 @@ fn step_pairs(facts: Facts, v: usize, sheet: &[u8], out: &mut [u8], at: usize) -
     Step { cursor, at }
 }
 
-// The next part of the report.
+// Writes the next part of the report.
 fn advance(
     facts: Facts,
     cursor: Cursor,
@@ -153,7 +153,7 @@ fn advance(
             let accounts = facts.accounts;
             let initial = facts.initial;
             let losable = facts.losable;
-            let next = report_fields::put_text(b"target way size sum items\n", out, at);
+            let next = writing::put_text(b"target way size sum items\n", out, at);
             let n = report_lists::load(0, accounts, initial, losable, opening, lockout, list);
             let first = Cursor::Lists(0, 0, n);
             return Step {
@@ -199,7 +199,8 @@ pub fn going(cursor: Cursor) -> bool
     }
 }
 
-// As many parts of the report as fit; the place behind them is in the answer.
+// Writes parts of the report to the front of `out`, as long as there is room for any step, and says
+// where the report goes on.
 pub fn fill(
     facts: Facts,
     cursor: Cursor,

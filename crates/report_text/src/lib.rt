@@ -1,1 +1,1 @@
-// The report's text for the bytes of a sheet. The definitions stand in specs/; there is no code here.
+// The report's text for the bytes of a sheet. The definitions stand in specs/; no code is here.

@@ -1,5 +1,5 @@
-// The two kinds of score, each a type of its own, so that no code compares or adds one of each. Their
-// numbers are private: outside of this crate a score is made by `of`, compared by `below` and
+// The two kinds of score, each a type of its own, so that no code compares or adds one of each.
+// Their numbers are private: outside of this crate a score is made by `of`, compared by `below` and
 // `at_most`, and told by `number`.
 ghost use mathlib.Core.Path.{_≡_};
 ghost use Prim.Native.Nat.{_≤_, _<_};
@@ -8,8 +8,8 @@ ghost use Rattle.vertex_set.specs.Set.{Decides};
 // Never, the score of an account that no set opens: 2^62, above every sum.
 pub const NEVER: u64 = 0x4000_0000_0000_0000;
 
-// Document 01's score, document 003's security score. It is never added to, nor compared with, the
-// other kind.
+// Document 01's score, document 003's security score. It is never added to, nor compared with, a
+// recoverability score.
 pub struct SecurityScore(u64);
 
 impl SecurityScore {

@@ -35,7 +35,7 @@ pub struct Vertex {
     pub rank: u64,
 }
 
-// The sets of vertices that one vertex needs, one a colour.
+// The sets of vertices that one vertex needs, one set for each colour.
 pub struct Rows {
     pub needs: [u64; 8],
 }
@@ -57,7 +57,7 @@ pub struct Setup {
     pub recovery: Graph,
 }
 
-// The start value, or for a loss the loss value.
+// The value by which a vertex counts: its start value, or for a loss its loss value.
 pub fn value_of(loss: bool, x: Vertex) -> Value
     ensures { λ r. ⌜ r ≡ valueOf loss x ⌝ }
 {

@@ -1,4 +1,4 @@
-// A sheet (document 01): what it says, or the first question whose answer is no; and its items' names.
+// A sheet (document 01): what it says, or the first question whose answer is no; and item names.
 use setup::Setup;
 use sheet_format::Reading;
 use sheet_items::Items;

@@ -160,7 +160,8 @@ fn print_edges(text: &[u8], setup: Setup) {
     }
 }
 
-// The answer, and the rows that the setup states: items in order, edges by target, colour and source.
+// Tells the answer, and the rows that the setup states: items in order, edges by target, colour and
+// source.
 fn show(label: &[u8], text: &[u8]) {
     tell(label, text);
     let reading = sheet::read_sheet(text);
@@ -184,7 +185,8 @@ fn byte_of(b: u8) -> u8
     if b == b';' { sheet_fields::LF } else { b }
 }
 
-// Puts a part into the text from `at` on, as far as there is room, and hands back the place behind it.
+// Puts a part into the text from `at` on, as far as there is room, and hands back the place behind
+// the part.
 fn put(text: &mut [u8], at: usize, part: &[u8]) -> usize
     ensures { λ r. ⌜ Counts r (now (text .exit)) ⌝ }
 {
@@ -223,7 +225,7 @@ fn show_sheet(label: &[u8], items: &[u8], edges: &[u8]) {
     show(label, &text[..end]);
 }
 
-// Item rows from line 2 on, and no edges.
+// Tells of a sheet with these item rows, from line 2 on, and no edges.
 fn tell_items(label: &[u8], items: &[u8]) {
     tell_sheet(label, items, b"");
 }
@@ -246,7 +248,7 @@ fn tell_case(above: &[u8], case: &[u8], below: &[u8]) {
     }
 }
 
-// Each of the cases stands alone between these parts of a sheet.
+// Tells of each case, one to a line, alone between the two parts of a sheet.
 fn tell_each(above: &[u8], cases: &[u8], below: &[u8]) {
     let mut at = 0;
     while at < cases.len() {
@@ -256,7 +258,7 @@ fn tell_each(above: &[u8], cases: &[u8], below: &[u8]) {
     }
 }
 
-// Item rows from line 2 on, and no edges.
+// Tells of each case as the item rows, from line 2 on, of a sheet without edges.
 fn tell_each_item(cases: &[u8]) {
     tell_each(
         b"name kind start loss rank\n",
@@ -265,7 +267,7 @@ fn tell_each_item(cases: &[u8]) {
     );
 }
 
-// Edge rows from line 6 on, below the items p and q.
+// Tells of each case as the edge rows, from line 6 on, below the items p and q.
 fn tell_each_edge(cases: &[u8]) {
     tell_each(
         b"name kind start loss rank\np c - - 0\nq a - - 0\n\nfrom to colour rec\n",
@@ -274,7 +276,7 @@ fn tell_each_edge(cases: &[u8]) {
     );
 }
 
-// The lines from line 4 on, below one item.
+// Tells of each case as the lines from line 4 on, below one item.
 fn tell_each_behind(cases: &[u8]) {
     tell_each(b"name kind start loss rank\np c - - 0\n\n", cases, b"\n");
 }

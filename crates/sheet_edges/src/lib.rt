@@ -59,7 +59,8 @@ fn refuse(number: u64, line: u64) -> Edges
     }
 }
 
-// The edge rows, from `start` to the end, below `count` item rows; the line `first` begins at `start`.
+// Reads the edge rows below `count` item rows, from `start`, where the line `first` begins, to the
+// end of the sheet.
 pub fn read_edges(
     s: &[u8],
     start: usize,

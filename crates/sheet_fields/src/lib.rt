@@ -15,7 +15,7 @@ pub const LF: u8 = 10;
 
 const DASH: u8 = 45;
 
-// Above the largest number that a sheet may have.
+// One above the largest number that a sheet may have.
 const TOO_LARGE: u64 = setup::MAX_VALUE + 1;
 
 // The longest name, and how many of its bytes one number of its key holds.
@@ -23,7 +23,7 @@ const NAME_BYTES: usize = 16;
 
 const WORD_BYTES: usize = 8;
 
-// A name as two numbers.
+// A name as two numbers, so that two names are compared without a loop.
 pub struct Key {
     pub low: u64,
     pub high: u64,
@@ -170,7 +170,8 @@ fn with_digit(n: u64, b: u8) -> u64
     if next < TOO_LARGE { next } else { TOO_LARGE }
 }
 
-// Any length: the value never wraps.
+// The number that a field states; TOO_LARGE where it is larger or the field is no number. The field
+// may have any length: the value is kept from growing further, and never overflows.
 pub fn read_number(f: &[u8]) -> u64
     ensures { λ r. ⌜ r ≡ cappedNumber (now (f .entry)) ⌝ }
 {
@@ -189,7 +190,7 @@ pub fn read_number(f: &[u8]) -> u64
     n
 }
 
-// `c` or `a`
+// A kind: `c` for a credential, `a` for an account.
 pub fn read_kind(f: &[u8]) -> KindField
     ensures { λ r. ⌜ ReadsKind (now (f .entry)) r ⌝ }
 {
@@ -211,7 +212,7 @@ pub fn read_kind(f: &[u8]) -> KindField
     }
 }
 
-// `-` or a number up to 1,000,000
+// A start or loss value: `-`, or a number up to 1,000,000.
 pub fn read_value(f: &[u8]) -> ValueField
     ensures { λ r. ⌜ ReadsValue (now (f .entry)) r ⌝ }
 {
@@ -263,7 +264,7 @@ fn key_of(name: &[u8]) -> Key
     }
 }
 
-// A name of 1 to 16 of a-z, 0-9, `_`
+// A name: 1 to 16 bytes of a-z, 0-9 and `_`.
 pub fn read_name(f: &[u8]) -> NameField
     ensures { λ r. ⌜ ReadsName (now (f .entry)) r ⌝ }
 {

@@ -25,11 +25,11 @@ rowOfItem text i = getD (linesOf text) (suc i) []
 unfoldable pub hasItem : List ℕ → ℕ → Bool
 hasItem text i = eqb (readSheet text .number) 0 && ltb i (readSheet text .setup .count)
 
--- The name; nothing for a refused sheet or an item that isn't there.
+-- The name of item i; nothing for a refused sheet or an item that isn't there.
 unfoldable pub nameOf : List ℕ → ℕ → List ℕ
 nameOf text i = cond (hasItem text i) (field (fieldsOf (rowOfItem text i)) 0) []
 
--- Where it begins; at the sheet's start for a refused sheet or an item that isn't there.
+-- Where the name of item i begins; at the sheet's start for a refused sheet or an item that isn't there.
 unfoldable pub nameStart : List ℕ → ℕ → ℕ
 nameStart text i = cond (hasItem text i) (lineStart (linesOf text) (suc i)) 0
 

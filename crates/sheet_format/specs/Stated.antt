@@ -50,10 +50,10 @@ pub record Stated (d : Doc) (s : Setup) : Type 0 where
   pub unused : (v : ℕ) → s .count ≤ v → vertexAt s v ≡ unusedVertex
   pub emptyRows : (v c : ℕ) → s .count ≤ v → (row (s .graph) v c ≡ 0) × (row (s .recovery) v c ≡ 0)
 
--- Valid rows state their setup ..
+-- Valid rows state the setup that they yield.
 abbrev pub StatedByRows : Type 0
 StatedByRows = (d : Doc) → Valid d → Stated d (setupOf d)
 
--- .. and no other: rows state at most one setup.
+-- Rows state at most one setup.
 abbrev pub StatedUnique : Type 0
 StatedUnique = (d : Doc) (s t : Setup) → Stated d s → Stated d t → s ≡ t

@@ -3,7 +3,8 @@ use setup::Vertex;
 ghost use mathlib.Core.Path.{_≡_};
 ghost use Rattle.sheet_items.specs.Inner.Items.{ReadsItems};
 
-// What the first lines come to: all up to the second header.
+// What the lines of items come to: the items and the keys of their names, or the number and line of
+// the first no. The reading of these lines has stopped at the place `at`.
 pub struct Items {
     pub number: u64,
     pub line: u64,
@@ -37,7 +38,7 @@ fn stop(
     }
 }
 
-// The item rows, from `start` to the empty line.
+// Reads the item rows, from `start` to the empty line.
 pub fn read_items(s: &[u8], start: usize) -> Items
     ensures { λ r. ⌜ ReadsItems (now (s .entry)) start r ⌝ }
 {

@@ -4,7 +4,7 @@ ghost use Rattle.sheet_format.specs.Text.{sameText};
 ghost use Rattle.sheet_format.specs.Rows.{firstHeader, secondHeader};
 ghost use Rattle.sheet_format.specs.Questions.{isTextByte, question2, question3};
 
-// The bytes that a text has beside LF.
+// Beside LF a text has the bytes from the first to the last of these.
 const FIRST_BYTE: u8 = 32;
 
 const LAST_BYTE: u8 = 126;
@@ -21,7 +21,7 @@ fn is_text_byte(b: u8) -> bool
     b <= LAST_BYTE
 }
 
-// Question 2.
+// Question 2: has the text a byte, only LF and bytes 32 to 126, and LF last?
 pub fn is_text(s: &[u8]) -> bool
     ensures { λ r. ⌜ r ≡ question2 (now (s .entry)) ⌝ }
 {

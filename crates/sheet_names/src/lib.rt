@@ -1,5 +1,5 @@
-// Where the names of a sheet's items stand. For a sheet that is known to be accepted: a name is
-// found with no second reading.
+// Where the names of a sheet's items stand, for callers that know the sheet to be accepted: a name
+// is then found without a second reading.
 ghost use mathlib.Core.Path.{_≡_};
 ghost use Prim.Native.Nat.{_≤_, _<_};
 ghost use Rattle.sheet_format.specs.Text.{linesOf};

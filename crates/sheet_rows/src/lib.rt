@@ -31,8 +31,8 @@ pub const UNUSED: Vertex = Vertex {
     rank: 0,
 };
 
-// In each answer here `number` is that of the first question whose answer is no, or 0. Where it is
-// not 0, the other fields say nothing.
+// In each answer of this crate `number` is that of the first question whose answer is no, or 0.
+// Where it is not 0, the other fields say nothing.
 pub struct VertexFields {
     pub number: u64,
     pub vertex: Vertex,
@@ -142,7 +142,8 @@ fn no_item(number: u64) -> ItemLine
     }
 }
 
-// A name, and the fields behind it.
+// Joins an item's name and the fields behind the name. Question 4 of these fields is asked before
+// question 5 of the name.
 fn join_item(name: NameField, fields: VertexFields) -> ItemLine
     ensures { λ r. ⌜ JoinsItem name fields r ⌝ }
 {
@@ -225,7 +226,7 @@ fn no_taken(number: u64) -> TakenItem
     }
 }
 
-// Question 7 of an item row below `count` others; `starts` and `losses` count it.
+// Question 7 of an item row below `count` others; `starts` and `losses` count this row too.
 fn has_room(count: usize, starts: usize, losses: usize) -> bool
     ensures { λ r. ⌜ r ≡ (leb (suc count) 64 && leb starts 14 && leb losses 14) ⌝ }
 {
@@ -351,7 +352,7 @@ fn no_ends(number: u64) -> TakenEdge
     }
 }
 
-// An edge row below `count` item rows.
+// Reads an edge row and finds its two items among the `count` item rows above.
 pub fn take_edge(l: &[u8], low: &[u64], high: &[u64], count: usize) -> TakenEdge
     requires { ⌜ (count ≤ length (now low)) × (count ≤ length (now high)) ⌝ }
     ensures { λ r. ⌜ TakesEdge (now (l .entry)) (now (low .entry)) (now (high .entry)) count r ⌝ }

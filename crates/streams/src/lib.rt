@@ -1,6 +1,6 @@
-// Reading all of an input and writing all of some bytes, by as many calls of the system's `read` and
-// `write` as it takes, and telling where one fails. `errno` then has the failed call's reason, since no
-// other call is made after it.
+// Reading all of an input and writing all of some bytes, by as many calls of the system's `read`
+// and `write` as it takes, and telling where one fails. `errno` then has the failed call's reason,
+// since no other call is made after it.
 ghost use mathlib.Core.Path.{_≡_};
 ghost use Prim.Native.Nat.{_≤_};
 ghost use lib.ListN.{length};
@@ -71,8 +71,8 @@ pub fn read_whole(fd: i32, buf: &mut [u8]) -> Input
     ensures { λ r. ⌜ ReadInto (now (buf .exit)) r ⌝ }
 {
     let mut done = 0;
-    // How often an interrupted read may still be made again: more than any run uses up, and a bound,
-    // since a loop has to be seen to end.
+    // How often an interrupted read may still be made again: more than any run uses up, and a
+    // bound, since a loop has to be seen to end.
     let mut asks = u64::MAX;
     while done < buf.len() {
         match read_once(fd, buf, done) {
@@ -95,7 +95,8 @@ pub fn write_whole(fd: i32, bytes: &[u8]) -> usize
     ensures { λ r. ⌜ r ≤ length (now (bytes .entry)) ⌝ }
 {
     let mut done = 0;
-    // How often an interrupted write may still be made again, as for reads.
+    // How often an interrupted write may still be made again: more than any run uses up, and a
+    // bound, since a loop has to be seen to end.
     let mut asks = u64::MAX;
     while done < bytes.len() {
         match write_once(fd, bytes, done) {

@@ -1,4 +1,5 @@
-// Tables of sums: the weights of at most 14 chosen vertices, and their sums over seven bits of a mask.
+// Sums of the weights of at most 14 chosen vertices. A table has the sums over seven bits of a
+// mask, so that two tables of 128 places serve all 2^14 masks.
 ghost use mathlib.Core.Path.{_≡_};
 ghost use Prim.Native.Nat.{ℕ, _≤_};
 ghost use lib.ListN.{length, getD};
@@ -6,7 +7,7 @@ ghost use lib.Count.{ones};
 ghost use Rattle.sums.specs.Inner.Sums.{Singles, WeightsOf, SumsFit, SumTable};
 use vertex_set::VertexSet;
 
-// At v the number of the set that has v alone.
+// At place v stands the number of the set whose only vertex is v.
 pub fn singles() -> [u64; 64]
     ensures { λ r. ⌜ Singles r ⌝ }
 {
@@ -18,7 +19,7 @@ pub fn singles() -> [u64; 64]
     values
 }
 
-// The values of the chosen vertices, by their numbers among them; 0 beyond.
+// The values of the chosen vertices, lowest vertex first; the places behind them have 0.
 pub fn weights_of(chosen: VertexSet, values: [u64; 64]) -> [u64; 14]
     requires { ⌜ ones (chosen .0) ≤ 14 ⌝ }
     ensures { λ r. ⌜ WeightsOf (chosen .0) (λ (v : ℕ). getD values v 0) r ⌝ }
@@ -36,7 +37,8 @@ pub fn weights_of(chosen: VertexSet, values: [u64; 64]) -> [u64; 14]
     weights
 }
 
-// The sums of seven weights, the first of them at `from`: at k the sum of those at the bits of k.
+// Fills the table with the sums of the seven weights from `from` on: at place k stands the sum of
+// the weights at the bits of k.
 pub fn fill_sums(weights: [u64; 14], from: usize, table: &mut [u64])
     requires { ⌜ from ≤ 7 ⌝ }
     requires { ⌜ SumsFit weights ⌝ }

@@ -1,4 +1,5 @@
-// Tables of all subsets: for a graph and a set of chosen vertices, all masks at once.
+// Tables of all subsets: what each subset of the chosen vertices opens or, with loss, takes away in
+// a graph is worked out for all subsets at once.
 ghost use mathlib.Core.Path.{_≡_};
 ghost use Prim.Native.Nat.{_+_, _*_, _<_};
 ghost use lib.ListN.{length};
@@ -18,7 +19,8 @@ use vertex_set::VertexSet;
 // A table has the words of a family for each vertex.
 pub const TABLE: usize = VERTICES * WORDS;
 
-// The vertex v, which has these rows, is added to each lane that admits it. Was one new?
+// Adds the vertex v, which has these rows, to each lane that admits it, and says whether a lane has
+// grown.
 fn step(w: &mut [u64], v: usize, rows: Rows, loss: bool) -> bool
     requires { ⌜ length (now w) ≡ tableWords ⌝ }
     requires { ⌜ v < 64 ⌝ }
@@ -30,7 +32,8 @@ fn step(w: &mut [u64], v: usize, rows: Rows, loss: bool) -> bool
     words::join(&mut w[a..a + WORDS], &gains)
 }
 
-// A vertex of todo: the lowest one that is in after too, else the lowest of all, so that the vertices take turns.
+// The vertex of `todo` that is looked at next: the lowest that is in `after` too, else the lowest
+// of all. So the vertices take turns.
 fn next(todo: u64, after: u64) -> usize
     requires { ⌜ (todo ≡ 0 → ⊥) ⌝ }
     ensures { λ r. ⌜ VertexOf todo r ⌝ }
@@ -42,7 +45,7 @@ fn next(todo: u64, after: u64) -> usize
     words::lowest(later)
 }
 
-// The needed vertices of each vertex.
+// For each vertex the set of all vertices that its colours need.
 fn all_needed(graph: Graph, needs: &mut [u64])
     requires { ⌜ length (now needs) ≡ 64 ⌝ }
     ensures { λ _. ⌜ AllNeeded graph (now (needs .exit)) ⌝ }
@@ -52,7 +55,7 @@ fn all_needed(graph: Graph, needs: &mut [u64])
     }
 }
 
-// The vertices that need v.
+// The set of the vertices that need v; `needs` has for each vertex those that it needs.
 fn users(needs: &[u64], v: usize) -> u64
     requires { ⌜ length (now needs) ≡ 64 ⌝ }
     requires { ⌜ v < 64 ⌝ }
@@ -66,7 +69,7 @@ fn users(needs: &[u64], v: usize) -> u64
     r
 }
 
-// The number of chosen vertices below v.
+// The number of chosen vertices below v: for a chosen v, its bit in every mask.
 fn place_among(chosen: u64, v: usize) -> usize
     requires { ⌜ v < 64 ⌝ }
     ensures { λ r. ⌜ r ≡ rank chosen v ⌝ }
@@ -75,7 +78,7 @@ fn place_among(chosen: u64, v: usize) -> usize
     u64::count_ones(chosen % (one << v)) as usize
 }
 
-// The family of the masks that pick v.
+// The family of the masks whose sets have the vertex v.
 fn start_family(d: &mut [u64], chosen: VertexSet, v: usize)
     requires { ⌜ length (now d) ≡ familyWords ⌝ }
     requires { ⌜ v < 64 ⌝ }
@@ -100,7 +103,8 @@ fn start(chosen: VertexSet, w: &mut [u64])
     }
 }
 
-// Each lane grows to what is derivable from it. A vertex is looked at again when one that it needs has grown; they take turns.
+// Each lane grows to what is derivable from it. A vertex is looked at again only when a vertex that
+// it needs has been added to some lane; the vertices take turns.
 fn settle(graph: Graph, loss: bool, w: &mut [u64])
     requires { ⌜ length (now w) ≡ tableWords ⌝ }
     ensures { λ _. ⌜ Closed (ruleOf loss graph) (now (w .entry)) (now (w .exit)) ⌝ }
@@ -119,7 +123,8 @@ fn settle(graph: Graph, loss: bool, w: &mut [u64])
     }
 }
 
-// The table of the graph and the chosen vertices: which vertices are opened by which mask's set or, with loss, lost by its loss.
+// Fills the table of the graph and the chosen vertices. It says of each vertex and mask whether the
+// mask's set opens the vertex or, with loss, whether the loss of that set takes the vertex away.
 pub fn fill(graph: Graph, chosen: VertexSet, loss: bool, w: &mut [u64])
     requires { ⌜ length (now w) ≡ tableWords ⌝ }
     ensures { λ _. ⌜ length (now (w .exit)) ≡ tableWords ⌝ }

@@ -28,7 +28,7 @@ pub record Decides (P : Type 0) (r : Bool) : Type 0 where
   pub yes : r ≡ true → P
   pub no : r ≡ false → P → ⊥
 
--- Each of the two follows from the other.
+-- Each of the two statements follows from the other.
 pub record Iff (P Q : Type 0) : Type 0 where
   pub to : P → Q
   pub from : Q → P

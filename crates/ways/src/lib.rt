@@ -11,7 +11,8 @@ struct NextStep {
     colour: usize,
 }
 
-// The lowest-numbered vertex that is not held and has a complete colour, with its lowest one.
+// The lowest-numbered vertex that is not held and has a complete colour, with the lowest complete
+// colour of that vertex.
 fn lowest_step(graph: Graph, held: VertexSet) -> NextStep
     ensures { λ r. ⌜ StepFound graph (Member (held .0)) (r .found) (record { vertex = r .vertex; colour = r .colour }) ⌝ }
 {
@@ -41,7 +42,8 @@ pub struct WayCount {
     pub count: usize,
 }
 
-// How many steps the way in has, without writing it.
+// How many steps the way in has. They are counted before any is written, so that lists which are
+// too short can stay as they were.
 pub fn count_way(graph: Graph, target: usize, set: VertexSet) -> WayCount
     ensures { λ r. ⌜ WayFound graph target (set .0) (r .found) (r .count) ⌝ }
 {

@@ -1,5 +1,5 @@
-// Families of masks as words: bit i of word b is the mask b * 64 + i. The word operations on whole families, and sets of vertices
-// that are taken apart.
+// Families of masks as words: bit i of word b stands for the mask b * 64 + i. Here are the
+// operations on whole families, and those by which a loop takes a set of vertices apart.
 ghost use mathlib.Core.Path.{_≡_};
 ghost use Prim.Native.Nat.{_+_, _*_, _<_};
 ghost use lib.ListN.{length};
@@ -18,7 +18,7 @@ pub fn set_all(d: &mut [u64], x: u64)
     }
 }
 
-// The family becomes the other.
+// The family becomes a copy of the other.
 pub fn copy_in(d: &mut [u64], s: &[u64])
     requires { ⌜ length (now d) ≡ familyWords ⌝ }
     requires { ⌜ length (now s) ≡ familyWords ⌝ }
@@ -63,7 +63,7 @@ pub fn join(d: &mut [u64], s: &[u64]) -> bool
     fresh != 0
 }
 
-// The words of the masks that have the bit k, for the six bits within a word.
+// For each of the six bits within a word, the lanes whose number has the bit.
 const PATTERNS: [u64; 6] = [
     0xAAAA_AAAA_AAAA_AAAA,
     0xCCCC_CCCC_CCCC_CCCC,
@@ -90,7 +90,7 @@ pub fn start_words(d: &mut [u64], k: usize)
     }
 }
 
-// The lowest vertex of a set that has one.
+// The lowest vertex of a set that is not empty.
 pub fn lowest(s: u64) -> usize
     requires { ⌜ (s ≡ 0 → ⊥) ⌝ }
     ensures { λ r. ⌜ VertexOf s r ⌝ }
@@ -98,7 +98,7 @@ pub fn lowest(s: u64) -> usize
     u64::trailing_zeros(s) as usize
 }
 
-// The set without a vertex of it.
+// The set without v, which is one of its vertices.
 pub fn without(s: u64, v: usize) -> u64
     requires { ⌜ VertexOf s v ⌝ }
     ensures { λ r. ⌜ Without s v r ⌝ }

@@ -81,7 +81,7 @@ bench =
       };
     }
 
--- Its vertices.
+-- The vertices of document 01's sheet.
 abbrev pub ordpw : ℕ
 ordpw = 0
 

@@ -57,10 +57,32 @@ pub fn compare_setup(
     depth: Depth,
 ) -> Result<bool, Box<Difference>> {
     let Some(words) = words_of(setup) else { return Ok(false) };
+    let words = in_other_words(rng, words);
     let subject = Subject { label, sheet, setup: Some(setup) };
     let calls = Calls::new(setup);
     Compare { subject, words, calls: &calls, rng, depth }.all()?;
     Ok(true)
+}
+
+/// The same setup in a buffer without the zeros at its end, in one with anything behind it, or with
+/// any number but 0 and 1 for the kind of an account.
+fn in_other_words(rng: &mut Rng, mut words: Vec<u64>) -> Vec<u64> {
+    match rng.below(6) {
+        0 => {
+            let last = words.iter().rposition(|&word| word != 0);
+            words.truncate(last.map_or(0, |last| last + 1));
+        }
+        1 => {
+            let behind = 1 + rng.below(5);
+            words.extend(probes::lent_sets(rng, behind));
+        }
+        2 => {
+            let kinds = words.iter_mut().skip(1).step_by(4).take(PLACES);
+            kinds.filter(|kind| **kind == 1).for_each(|kind| *kind = rng.number() | 2);
+        }
+        _ => {}
+    }
+    words
 }
 
 struct Compare<'a> {

@@ -8,6 +8,7 @@ use Rattle.bases.proofs.Readers.{FilledBelow, filled-none, filled-more,
 use Rattle.bases.proofs.values_of.Statement.{statement}
 use Rattle.bases.proofs.values_of.Tie as tie
 
+-- r has 64 places, and those before v have the values of their vertices.
 abbrev Inv-loop : tie.InvT-loop
 Inv-loop loss s r₀ v₀ r v = (v ≤ 64) × FilledBelow (pointsAt loss s) 64 v r
 

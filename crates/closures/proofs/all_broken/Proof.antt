@@ -9,6 +9,7 @@ use Rattle.closures.proofs.Colours.{BrokenBelow, broken-none, broken-em
 use Rattle.closures.proofs.all_broken.Statement.{statement}
 use Rattle.closures.proofs.all_broken.Tie as tie
 
+-- Every colour before c needs a lost vertex; where `coloured` is true there is a colour, and else none stands before c.
 abbrev Inv-loop : tie.InvT-loop
 Inv-loop lost rows coloured₀ c₀ coloured c = (c ≤ 8) × BrokenBelow rows (Member (lost .0)) c coloured
 

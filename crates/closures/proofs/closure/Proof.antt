@@ -6,6 +6,7 @@ use Rattle.closures.proofs.Passes.{Grown, grown-none, grown-more, grown
 use Rattle.closures.proofs.closure.Statement.{statement}
 use Rattle.closures.proofs.closure.Tie as tie
 
+-- r has the vertices of s, and only vertices with a derivation from s.
 abbrev Inv-loop : tie.InvT-loop
 Inv-loop loss graph r₀ r = Grown loss graph (r₀ .0) (r .0)
 

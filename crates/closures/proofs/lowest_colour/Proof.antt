@@ -9,6 +9,7 @@ use Rattle.closures.proofs.Colours.{NoneBelow, lowest-found, lowest-non
 use Rattle.closures.proofs.lowest_colour.Statement.{statement}
 use Rattle.closures.proofs.lowest_colour.Tie as tie
 
+-- No colour before c is complete.
 abbrev Inv-loop : tie.InvT-loop
 Inv-loop held rows c₀ c = (c ≤ 8) × NoneBelow rows (Member (held .0)) c
 

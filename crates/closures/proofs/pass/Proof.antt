@@ -8,6 +8,7 @@ use Rattle.closures.proofs.Passes.{PassedBelow, pass-none, pass-more, p
 use Rattle.closures.proofs.pass.Statement.{statement}
 use Rattle.closures.proofs.pass.Tie as tie
 
+-- r has the vertices of s and each vertex before v that s admits, and only vertices with a derivation from s.
 abbrev Inv-loop : tie.InvT-loop
 Inv-loop loss graph r₀ v₀ r v = (v ≤ 64) × PassedBelow loss graph (r₀ .0) v (r .0)
 

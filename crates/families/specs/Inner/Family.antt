@@ -5,11 +5,11 @@ use lib.ListN.{getD}
 use lib.Count.{ones}
 use Rattle.vertex_set.specs.Set.{Member, Within, ProperlyWithin, Iff}
 
--- The words of a family,
+-- The number of words that a family has.
 abbrev pub familyWords : ℕ
 familyWords = 256
 
--- and the masks of which it has a bit.
+-- The number of masks: a family has a bit for each.
 abbrev pub masks : ℕ
 masks = 16384
 

@@ -5,10 +5,10 @@ use Prim.Native.Nat.{_-_, _≤_}
 use native.Mathlib.Omega.{arith}
 use borrow.Author.Needs.{needs}
 use Rattle.family_lists.specs.Inner.Tables.{sumBy}
-use Rattle.family_lists.proofs.Lists.{writing-none}
+use Rattle.written.proofs.Writing.{writing-none}
 use Rattle.family_lists.proofs.Order.{Words}
 use Rattle.family_lists.proofs.SetLists.{AllWriting, all-room, all-next, all-end}
-use Rattle.family_lists.proofs.Sizes.{wrote-none}
+use Rattle.family_lists.proofs.Sizes.{wrote-no-size}
 use Rattle.family_lists.proofs.put_all.Statement.{statement}
 use Rattle.family_lists.proofs.put_all.Tie as tie
 
@@ -80,7 +80,7 @@ loop-again c =
       all-next N (s .args .f .now) (s .args .out .now) (b .loop .out) (b .loop .next) (b .loop .s) (b .loop .inv .1) (t .loop-test .taken) _ _
           (⊎-elim (λ w. rw (w .6, w .7) (w .3 .ensures))
           (λ w. rw (w .1, w .2)
-          (wrote-none N (s .args .f .now) _ (b .loop .out) (b .loop .next) (b .loop .s) _ (s .pre .0) (b .before .joined-words .ensures)
+          (wrote-no-size N (s .args .f .now) _ (b .loop .out) (b .loop .next) (b .loop .s) _ (s .pre .0) (b .before .joined-words .ensures)
           (o .some-of-size .ensures) (w .0 .left))) (c .if1 .came)),
     )
 

@@ -5,7 +5,8 @@ use native.Mathlib.Omega.{arith}
 use lib.ListN.{getD, take}
 use borrow.Author.Needs.{needs}
 use Rattle.family_lists.specs.Inner.Tables.{sumBy}
-use Rattle.family_lists.proofs.Lists.{SizeWriting, writing-none, size-room, size-next, size-end}
+use Rattle.written.proofs.Writing.{writing-none}
+use Rattle.family_lists.proofs.Lists.{SizeWriting, size-room, size-next, size-end}
 use Rattle.family_lists.proofs.put_size.Statement.{statement}
 use Rattle.family_lists.proofs.put_size.Tie as tie
 

@@ -6,7 +6,6 @@ use Prim.Native.Nat.{ℕ, zero, suc, _+_, _*_, _/_, _%_, _^_, _≤_, _<_}
 use lib.Count.{ones}
 use lib.Dec.{eqb}
 use lib.ListN.{length, getD, take}
-use lib.Seq.{sets}
 use Rattle.vertex_set.specs.Set.{Member, Iff, Decides}
 use Rattle.vertex_set.proofs.Places.{places}
 use Rattle.vertex_set.proofs.Sorted.{only}
@@ -51,15 +50,15 @@ pub record HasSize (f : List ℕ) (s : ℕ) : Type 0 where
   pub is : In f mask
   pub bits : ones mask ≡ s
 
--- r says whether the family of 256 words that is joined so, whichever it is, has a member of s bits.
+-- r says whether the family that `joined` was made of, whichever it is, has a member of s bits.
 pub record SomeOfSize (joined : List ℕ) (s : ℕ) (r : Bool) : Type 0 where
   pub each : (f : List ℕ) → length f ≡ familyWords → Joined f joined → Decides (HasSize f s) r
 
--- Those of the masks that have s bits.
+-- The masks of the list l that have s bits.
 abbrev pub ofSize : ℕ → List ℕ → List ℕ
 ofSize s l = only (λ (m : ℕ). eqb (ones m) s) l
 
--- Those that have s bits, then those that have one more, and so on, n sizes in all.
+-- The masks of the list l that have s bits, then those that have one bit more, and so on, n sizes in all.
 abbrev pub bySize : List ℕ → ℕ → ℕ → List ℕ
 bySize l s zero = []
 bySize l s (suc n) = ofSize s l ++ bySize l (suc s) n
@@ -68,13 +67,8 @@ bySize l s (suc n) = ofSize s l ++ bySize l (suc s) n
 abbrev pub sumBy : List ℕ → List ℕ → ℕ → ℕ
 sumBy low high m = getD high (m / 128) 0 + getD low (m % 128) 0
 
--- No such sum is too large for a word.
+-- No sum that the two tables give is too large for a word.
 pub record TablesFit (low high : List ℕ) : Type 0 where
   pub long-low : length low ≡ 128
   pub long-high : length high ≡ 128
   pub fits : (m : ℕ) → m < masks → sumBy low high m < 2 ^ 64
-
--- From `at` on stand the numbers xs, and r is the next place.
-pub record Wrote (entry : List ℕ) (at : ℕ) (xs after : List ℕ) (r : ℕ) : Type 0 where
-  pub exit : after ≡ sets entry at xs
-  pub next : r ≡ at + length xs

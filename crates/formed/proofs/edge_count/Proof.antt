@@ -11,6 +11,7 @@ use Rattle.setup.proofs.Counts.{total-more}
 use Rattle.formed.proofs.edge_count.Statement.{statement}
 use Rattle.formed.proofs.edge_count.Tie as tie
 
+-- n is the number of edges into the vertices before v, which is at most 512 for each of them.
 abbrev Inv-loop : tie.InvT-loop
 Inv-loop g n₀ v₀ n v = (v ≤ 64) × (n ≡ total (λ r. total ones (r .needs)) (take v (g .rows))) × (n ≤ 512 * v)
 

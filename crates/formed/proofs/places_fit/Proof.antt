@@ -9,6 +9,7 @@ use Rattle.vertex_set.proofs.Decisions.{decide-yes, decide-no}
 use Rattle.formed.proofs.places_fit.Statement.{statement}
 use Rattle.formed.proofs.places_fit.Tie as tie
 
+-- At each place before v the vertex and its rows are as a place in use, or one not in use, has them.
 abbrev Inv-loop : tie.InvT-loop
 Inv-loop s graph recovery v₀ v = (v ≤ 64) × ((k : ℕ) → k < v → PlaceFits s k)
 

@@ -12,6 +12,7 @@ use Rattle.setup.proofs.Counts.{total-more}
 use Rattle.formed.proofs.row_sizes.Statement.{statement}
 use Rattle.formed.proofs.row_sizes.Tie as tie
 
+-- n is the size of the rows before c, all together, which is at most 64 for each of them.
 abbrev Inv-loop : tie.InvT-loop
 Inv-loop rows n₀ c₀ n c = (c ≤ 8) × (n ≡ total ones (take c (rows .needs))) × (n ≤ 64 * c)
 

@@ -8,6 +8,7 @@ use Rattle.vertex_set.proofs.Decisions.{decide-yes, decide-no}
 use Rattle.formed.proofs.rows_fit.Statement.{statement}
 use Rattle.formed.proofs.rows_fit.Tie as tie
 
+-- Each row before c lies within the bound, and its recovery row lies within the row.
 abbrev Inv-loop : tie.InvT-loop
 Inv-loop bound rows recovery c₀ c = (c ≤ 8) × FitBelow (bound .0) rows recovery c
 

@@ -19,17 +19,17 @@ tableWords = 64 * familyWords
 unfoldable pub Lane : List ℕ → ℕ → ℕ → Vertices
 Lane w b i v = Member (getD w (v * familyWords + b) 0) i
 
--- Q holds at all places of S,
+-- Q holds at all places of S.
 pub record AllOf (S Q : ℕ → Type 0) : Type 0 where
   pub each : (v : ℕ) → S v → Q v
 
--- or at some place of S.
+-- Q holds at some place of S.
 pub record SomeOf (S Q : ℕ → Type 0) : Type 0 where
   pub place : ℕ
   pub is : S place
   pub has : Q place
 
--- All or, with any, some.
+-- Q holds at all places of S or, with any, at some place of S.
 unfoldable pub Over : Bool → (ℕ → Type 0) → (ℕ → Type 0) → Type 0
 Over false S Q = AllOf S Q
 Over true S Q = SomeOf S Q
@@ -43,7 +43,7 @@ Colour true lost row = Broken lost row
 abbrev pub Takes : Bool → Type 0 → Vertices → ℕ → Type 0
 Takes loss was held row = Merged (not loss) was (Colour loss held row)
 
--- The word before any colour is taken.
+-- Each word of a family before any colour is taken in: empty or, with loss, full.
 abbrev pub untakenWord : Bool → ℕ
 untakenWord false = 0
 untakenWord true = 2 ^ 64 - 1

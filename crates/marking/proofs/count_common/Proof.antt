@@ -11,6 +11,7 @@ use Rattle.marking.proofs.Seeing.{meet-next, meet-end, and-ones}
 use Rattle.marking.proofs.count_common.Statement.{statement}
 use Rattle.marking.proofs.count_common.Tie as tie
 
+-- n, at most 64 for each word before b, and the common masks of the words from b on make all common masks.
 abbrev Inv-loop : tie.InvT-loop
 Inv-loop f g n₀ b₀ n b = (b ≤ 256) × (n ≤ 64 * b) × (n + size (drop b (meet f g)) ≡ size (meet f g))
 

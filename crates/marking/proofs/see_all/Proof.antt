@@ -8,6 +8,7 @@ use Rattle.marking.proofs.Seeing.{seen-end}
 use Rattle.marking.proofs.see_all.Statement.{statement}
 use Rattle.marking.proofs.see_all.Tie as tie
 
+-- The table has just the masks of the first i handed-in sets, as far as these are sets of chosen vertices.
 abbrev Inv-loop : tie.InvT-loop
 Inv-loop handed chosen seen₀ i₀ i-end seen i = (i ≤ i-end) × (i-end ≡ length handed) × Seen (chosen .0) (take i handed) seen
 

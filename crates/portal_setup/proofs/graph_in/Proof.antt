@@ -7,6 +7,7 @@ use Rattle.portal_setup.proofs.Filling.{Filled, filled-none, filled-mor
 use Rattle.portal_setup.proofs.graph_in.Statement.{statement}
 use Rattle.portal_setup.proofs.graph_in.Tie as tie
 
+-- The graph has 64 places, and the rows of those before v are the ones that the words say.
 abbrev Inv-loop : tie.InvT-loop
 Inv-loop words at r₀ v₀ r v = (v ≤ 64) × Filled (λ (k : ℕ). rowsIn words (at + 8 * k)) 64 v (r .rows)
 

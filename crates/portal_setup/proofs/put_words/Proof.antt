@@ -7,6 +7,7 @@ use Rattle.portal_setup.proofs.Writing.{Copied, copied-none, copied-mor
 use Rattle.portal_setup.proofs.put_words.Statement.{statement}
 use Rattle.portal_setup.proofs.put_words.Tie as tie
 
+-- The first i words stand from `at` on, and every other place is as it was.
 abbrev Inv-loop : tie.InvT-loop
 Inv-loop words out₀ at i₀ i-end out i = (i ≤ length words) × (i-end ≡ length words) × Copied out₀ at words out i
 

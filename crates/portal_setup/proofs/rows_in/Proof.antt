@@ -7,6 +7,7 @@ use Rattle.portal_setup.proofs.Filling.{Filled, filled-none, filled-mor
 use Rattle.portal_setup.proofs.rows_in.Statement.{statement}
 use Rattle.portal_setup.proofs.rows_in.Tie as tie
 
+-- There are eight rows, and those before c are the ones that the words say.
 abbrev Inv-loop : tie.InvT-loop
 Inv-loop words at r₀ c₀ r c = (c ≤ 8) × Filled (λ (k : ℕ). wordAt words (at + k)) 8 c (r .needs)
 

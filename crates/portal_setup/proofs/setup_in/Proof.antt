@@ -7,6 +7,7 @@ use Rattle.portal_setup.proofs.Filling.{Filled, filled-none, filled-mor
 use Rattle.portal_setup.proofs.setup_in.Statement.{statement}
 use Rattle.portal_setup.proofs.setup_in.Tie as tie
 
+-- Count and graphs are as before the loop, and the vertices before v are the ones that the words say.
 abbrev Inv-loop : tie.InvT-loop
 Inv-loop words count s₀ v₀ s v = (v ≤ 64) × (s .count ≡ s₀ .count) × (s .graph ≡ s₀ .graph) × (s .recovery ≡ s₀ .recovery) × Filled (vertexIn words) 64 v (s .vertices)
 

@@ -8,6 +8,7 @@ use Rattle.report.proofs.Printing.{Printing, printing-begun, printing-m
 use Rattle.report.proofs.print_report.Statement.{statement}
 use Rattle.report.proofs.print_report.Tie as tie
 
+-- The report can go on at the cursor, and the tables, the list and the bytes that go out have their lengths.
 abbrev Inv-loop : tie.InvT-loop
 Inv-loop sheet opening lockout list₀ out₀ facts cursor₀ t11 list out cursor = Printing sheet facts opening lockout list out cursor
 

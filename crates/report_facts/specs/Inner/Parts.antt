@@ -3,7 +3,7 @@ use mathlib.Core.Path.{_≡_}
 use mathlib.Core.List.{List, _++_}
 use Prim.Native.Nat.{ℕ, _≤_}
 use lib.ListN.{length}
-use Rattle.family_lists.specs.Inner.Tables.{Wrote}
+use Rattle.written.specs.Inner.{Wrote}
 
 -- From `at` on, up to r, stands a part of the text `before`; `after` is what is left of it.
 pub record Part (entry : List ℕ) (at : ℕ) (before after exit : List ℕ) (r : ℕ) : Type 0 where

@@ -4,7 +4,7 @@ use mathlib.Core.List.{[], _∷_, append-nil}
 use lib.ListN.{length-append}
 use Rattle.sheet_format.specs.Names.{nameOf}
 use Rattle.report_fields.specs.Inner.Writing.{plus}
-use Rattle.report_fields.proofs.Writing.{wrote-then, room-then}
+use Rattle.written.proofs.Writing.{wrote-then, room-then}
 use borrow.Author.Needs.{needs}
 use Rattle.report_fields.proofs.put_item.Statement.{statement}
 use Rattle.report_fields.proofs.put_item.Tie as tie

@@ -10,6 +10,7 @@ use Rattle.report_fields.proofs.Items.{ItemsWriting, items-none, items-
 use Rattle.report_fields.proofs.put_items.Statement.{statement}
 use Rattle.report_fields.proofs.put_items.Tie as tie
 
+-- The names of the vertices passed are written, and those of the vertices in `rest` go from `next` on.
 abbrev Inv-loop : tie.InvT-loop
 Inv-loop x sheet from to out₀ at one rest₀ next₀ out rest next = ItemsWriting (nameOf sheet) x out₀ at out rest next
 

@@ -3,7 +3,7 @@ use native.Mathlib.Omega.{arith}
 use mathlib.Core.List.{[], _∷_}
 use lib.ListN.{length-append}
 use Rattle.sheet_format.specs.Names.{nameOf}
-use Rattle.report_fields.proofs.Writing.{wrote-then, room-then}
+use Rattle.written.proofs.Writing.{wrote-then, room-then}
 use borrow.Author.Needs.{needs}
 use Rattle.report_fields.proofs.put_name_field.Statement.{statement}
 use Rattle.report_fields.proofs.put_name_field.Tie as tie

@@ -4,7 +4,7 @@ use mathlib.Core.List.{[], _∷_}
 use lib.ListN.{length-append}
 use Rattle.report_text.specs.Rows.{setText}
 use Rattle.sheet_format.specs.Names.{nameOf}
-use Rattle.report_fields.proofs.Writing.{wrote-then, room-then}
+use Rattle.written.proofs.Writing.{wrote-then, room-then}
 use borrow.Author.Needs.{needs}
 use Rattle.report_fields.proofs.put_set_field.Statement.{statement}
 use Rattle.report_fields.proofs.put_set_field.Tie as tie

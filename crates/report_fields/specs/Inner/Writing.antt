@@ -1,7 +1,7 @@
 -- Inner: what the functions that write rows ask for and write.
 use mathlib.Core.Path.{_≡_}
 use mathlib.Core.Bool.{Bool, true, false}
-use mathlib.Core.List.{List, [], _∷_, _++_}
+use mathlib.Core.List.{List, [], _∷_}
 use Prim.Native.Nat.{ℕ, _-_, _≤_, _<_}
 use lib.ListN.{length, take, drop, getD}
 use Rattle.vertex_set.specs.Set.{Member}
@@ -18,10 +18,6 @@ pub record NamePlace (sheet from to : List ℕ) (v : ℕ) : Type 0 where
 -- So does the name of each vertex of the set x.
 pub record NamePlaces (sheet from to : List ℕ) (x : ℕ) : Type 0 where
   pub each : (v : ℕ) → Member x v → NamePlace sheet from to v
-
--- A field and the byte behind it.
-abbrev pub ended : List ℕ → ℕ → List ℕ
-ended f e = f ++ (e ∷ [])
 
 -- A `+` where another name follows.
 abbrev pub plus : Bool → List ℕ

@@ -10,6 +10,7 @@ use Rattle.report_findings.proofs.Pairs.{PairsWriting, pairs-none, pair
 use Rattle.report_findings.proofs.put_pairs.Statement.{statement}
 use Rattle.report_findings.proofs.put_pairs.Tie as tie
 
+-- The rows of the vertices passed are written, and those of the vertices in `rest` go from `next` on.
 abbrev Inv-loop : tie.InvT-loop
 Inv-loop v x sheet from to out₀ at one rest₀ next₀ out rest next = PairsWriting (nameOf sheet) v x out₀ at out rest next
 

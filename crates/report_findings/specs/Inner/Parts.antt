@@ -3,7 +3,7 @@ use mathlib.Core.List.{List}
 use Prim.Native.Nat.{ℕ, _+_, _≤_, _<_}
 use lib.ListN.{length}
 use Rattle.setup.specs.declared.Setup.{Setup}
-use Rattle.family_lists.specs.Inner.Tables.{Wrote}
+use Rattle.written.specs.Inner.{Wrote}
 use Rattle.report_text.specs.Rows.{textsOf, itemsOf, pairRow}
 use Rattle.sheet_format.specs.Names.{nameOf}
 use Rattle.report_facts.specs.declared.Facts.{Facts}

@@ -7,6 +7,7 @@ use Rattle.report_lists.proofs.Rows.{row-fits, RowsWriting, rows-none, 
 use Rattle.report_lists.proofs.put_rows.Statement.{statement}
 use Rattle.report_lists.proofs.put_rows.Tie as tie
 
+-- The rows of the list from row i up to `row` stand from `at` up to `next`; as long as there is none, nothing does.
 abbrev Inv-loop : tie.InvT-loop
 Inv-loop loss target list i n values sheet from to out₀ at row₀ next₀ out row next = RowsWriting (nameOf sheet) loss target values list i n out₀ at out row next
 

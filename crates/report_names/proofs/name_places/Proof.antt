@@ -11,6 +11,7 @@ use Rattle.report_names.proofs.Places.{NamesSoFar, names-none, line-sto
 use Rattle.report_names.proofs.name_places.Statement.{statement}
 use Rattle.report_names.proofs.name_places.Tie as tie
 
+-- The names of the items before v have their places, and the row of item v begins at `at`.
 abbrev Inv-loop : tie.InvT-loop
 Inv-loop sheet count from₀ to₀ at₀ v₀ from to at v = (v ≤ count) × NamesSoFar sheet from to v at
 

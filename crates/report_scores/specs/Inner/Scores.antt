@@ -32,7 +32,7 @@ pub record BaseAt (r : Rule) (chosen v : ℕ) (m : List ℕ) : Type 0 where
   pub isFamily : FamilyOf r chosen v family
   pub isMinimal : MinimalMembers family m
 
--- w is the table of bases of the rule r and the chosen vertices: such a family for each vertex.
+-- w is the table of bases of the rule r and the chosen vertices: for each vertex the family of its minimal masks.
 pub record BaseTable (r : Rule) (chosen : ℕ) (w : List ℕ) : Type 0 where
   pub words : length w ≡ 16384
   pub each : (v : ℕ) → v < 64 → BaseAt r chosen v (wordsAt w v)
@@ -72,13 +72,13 @@ pub record Kept (f low high m : List ℕ) (r : ℕ) : Type 0 where
   pub minimal : MinimalMembers f m
   pub least : LeastBy m low high r
 
--- So it is at the target, and the words of every other vertex are as before.
+-- The target's family is cut down to its minimal members, r is the least sum over them, and the words of every other vertex are as before.
 pub record KeptAt (entry low high : List ℕ) (target r : ℕ) (exit : List ℕ) : Type 0 where
   pub words : length exit ≡ 16384
   pub own : Kept (wordsAt entry target) low high (wordsAt exit target) r
   pub other : (v : ℕ) → v < 64 → (v ≡ target → ⊥) → wordsAt exit v ≡ wordsAt entry v
 
--- So it is at each vertex, and out has the least sums.
+-- Each vertex's family is cut down to its minimal members, and out has the least sums over them.
 pub record KeptAll (entry low high exit out : List ℕ) : Type 0 where
   pub words : length exit ≡ 16384
   pub long : length out ≡ 64

@@ -12,6 +12,7 @@ use Rattle.report_sets.proofs.Sets.{passing-none, passing-more, passing
 use Rattle.report_sets.proofs.accounts_of.Statement.{statement}
 use Rattle.report_sets.proofs.accounts_of.Tie as tie
 
+-- r is the set of the accounts among the vertices before v.
 abbrev Inv-loop : tie.InvT-loop
 Inv-loop s r₀ v₀ r v = (v ≤ 64) × Passing (λ i. isAccount s i ≡ true) v (r .0)
 

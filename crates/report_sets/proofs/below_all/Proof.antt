@@ -7,6 +7,7 @@ use Rattle.report_sets.proofs.Sets.{EachBelow, each-none, each-more}
 use Rattle.report_sets.proofs.below_all.Statement.{statement}
 use Rattle.report_sets.proofs.below_all.Tie as tie
 
+-- Each place before v has the accounts that are out of rank with the vertex of that number above.
 abbrev Inv-loop : tie.InvT-loop
 Inv-loop accounts ranks scores r₀ v₀ r v = (v ≤ 64) × EachBelow (BelowOne (accounts .0) ranks scores) v r
 

@@ -11,6 +11,7 @@ use Rattle.report_sets.proofs.Sets.{passing-none, passing-more, passing
 use Rattle.report_sets.proofs.below_one.Statement.{statement}
 use Rattle.report_sets.proofs.below_one.Tie as tie
 
+-- r is the set of the vertices before w, accounts or not, that have a lower rank than v and at least its score.
 abbrev Inv-loop : tie.InvT-loop
 Inv-loop accounts v ranks scores rank score r₀ w₀ r w = (w ≤ 64) × Passing (λ (i : ℕ). Above rank (getD ranks i 0) (score .0) (securityAt scores i)) w (r .0)
 

@@ -10,6 +10,7 @@ use Rattle.report_sets.proofs.Sets.{passing-none, passing-more, passing
 use Rattle.report_sets.proofs.idle_places.Statement.{statement}
 use Rattle.report_sets.proofs.idle_places.Tie as tie
 
+-- r is the set of the vertices before v whose risk is at most that without recovery.
 abbrev Inv-loop : tie.InvT-loop
 Inv-loop risks without r₀ v₀ r v = (v ≤ 64) × Passing (λ i. recoverabilityAt (risks) i ≤ recoverabilityAt (without) i) v (r .0)
 

@@ -7,6 +7,7 @@ use Rattle.bases.proofs.Readers.{FilledBelow, filled-none, filled-more}
 use Rattle.report_sets.proofs.ranks_of.Statement.{statement}
 use Rattle.report_sets.proofs.ranks_of.Tie as tie
 
+-- r has 64 places, and those before v have the ranks of their vertices.
 abbrev Inv-loop : tie.InvT-loop
 Inv-loop s r₀ v₀ r v = (v ≤ 64) × FilledBelow (λ i. vertexAt s i .rank) 64 v r
 

@@ -10,6 +10,7 @@ use Rattle.report_sets.proofs.Sets.{passing-none, passing-more, passing
 use Rattle.report_sets.proofs.weaker_places.Statement.{statement}
 use Rattle.report_sets.proofs.weaker_places.Tie as tie
 
+-- r is the set of the vertices before v whose score is below that without recovery.
 abbrev Inv-loop : tie.InvT-loop
 Inv-loop scores without r₀ v₀ r v = (v ≤ 64) × Passing (λ i. securityAt (scores) i < securityAt (without) i) v (r .0)
 

@@ -37,15 +37,15 @@ pub record Above (rank other score than : ℕ) : Type 0 where
   pub ranks : other < rank
   pub scores : score ≤ than
 
--- w is one of the accounts, its rank is below that of v, and its score is not.
+-- w is one of the accounts, the rank of w is below that of v, and the score of w is not below that of v.
 pub record OutOfRank (accounts : ℕ) (ranks : List ℕ) (scores : List SecurityScore) (v w : ℕ) : Type 0 where
   pub account : Member accounts w
   pub above : Above (getD ranks v 0) (getD ranks w 0) (securityAt scores v) (securityAt scores w)
 
--- r is the set of these.
+-- r is the set of the accounts that are out of rank with v above.
 abbrev pub BelowOne : ℕ → List ℕ → List SecurityScore → ℕ → ℕ → Type 0
 BelowOne accounts ranks scores v r = Passing (OutOfRank accounts ranks scores v) 64 r
 
--- r has such a set for each vertex.
+-- r has for each vertex v the set of the accounts that are out of rank with v above.
 pub record BelowAll (accounts : ℕ) (ranks : List ℕ) (scores : List SecurityScore) (r : List ℕ) : Type 0 where
   pub each : (v : ℕ) → v < 64 → BelowOne accounts ranks scores v (getD r v 0)

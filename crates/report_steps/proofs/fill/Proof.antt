@@ -5,6 +5,7 @@ use Rattle.report_steps.proofs.Filling.{Filling, filling-none, filling-
 use Rattle.report_steps.proofs.fill.Statement.{statement}
 use Rattle.report_steps.proofs.fill.Tie as tie
 
+-- What the loop has written and what is left of the report at c make what was left before the loop; the report can go on at c.
 abbrev Inv-loop : tie.InvT-loop
 Inv-loop facts sheet opening lockout list₀ out₀ c₀ at₀ list out c at = Filling sheet facts opening lockout list₀ c₀ out₀ at₀ list out c at
 

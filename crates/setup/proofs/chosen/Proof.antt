@@ -11,6 +11,7 @@ use Rattle.setup.proofs.Counts.{ChosenBelow, chosen-none, chosen-more, 
 use Rattle.setup.proofs.chosen.Statement.{statement}
 use Rattle.setup.proofs.chosen.Tie as tie
 
+-- r is the set of the initial or, with loss, losable vertices before v, and its size is the number of values before v.
 abbrev Inv-loop : tie.InvT-loop
 Inv-loop loss s r₀ v₀ r v = (v ≤ 64) × ChosenBelow loss s v (r .0)
 

@@ -10,6 +10,7 @@ use Rattle.setup.proofs.Recovery.{LessBelow, less-more, less-all}
 use Rattle.setup.proofs.rows_less.Statement.{statement}
 use Rattle.setup.proofs.rows_less.Tie as tie
 
+-- r has eight rows, and each of those before c is the row less the recovery row.
 abbrev Inv-loop : tie.InvT-loop
 Inv-loop rows recovery r₀ c₀ r c = (c ≤ 8) × LessBelow rows recovery r c
 

@@ -3,6 +3,7 @@ use Prim.Native.Nat.{_≤_, _-_, _*_}
 use Rattle.sheet_cases.proofs.edges_in.Statement.{statement}
 use Rattle.sheet_cases.proofs.edges_in.Tie as tie
 
+-- n is at most 512 for each vertex before v, so that no sum overflows.
 abbrev Inv-loop : tie.InvT-loop
 Inv-loop graph n₀ v₀ n v = (v ≤ 64) × (n ≤ 512 * v)
 

@@ -8,6 +8,7 @@ use native.Mathlib.Omega.{arith}
 use Rattle.sheet_cases.proofs.edges_into.Statement.{statement}
 use Rattle.sheet_cases.proofs.edges_into.Tie as tie
 
+-- n is at most 64 for each row before c, so that no sum overflows.
 abbrev Inv-loop : tie.InvT-loop
 Inv-loop rows n₀ c₀ n c = (c ≤ 8) × (n ≤ 64 * c)
 

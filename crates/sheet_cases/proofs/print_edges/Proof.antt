@@ -3,6 +3,7 @@ use Prim.Native.Nat.{_≤_, _-_}
 use Rattle.sheet_cases.proofs.print_edges.Statement.{statement}
 use Rattle.sheet_cases.proofs.print_edges.Tie as tie
 
+-- v is at most 64, so that it is a place of both graphs as long as the loop goes on.
 abbrev Inv-loop : tie.InvT-loop
 Inv-loop text graph recovery v₀ v = v ≤ 64
 

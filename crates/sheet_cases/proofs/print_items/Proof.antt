@@ -3,6 +3,7 @@ use Prim.Native.Nat.{_≤_, _-_}
 use Rattle.sheet_cases.proofs.print_items.Statement.{statement}
 use Rattle.sheet_cases.proofs.print_items.Tie as tie
 
+-- i is at most 64, so that it is a place of the setup as long as the loop goes on.
 abbrev Inv-loop : tie.InvT-loop
 Inv-loop text setup i₀ i = i ≤ 64
 

@@ -3,6 +3,7 @@ use Prim.Native.Nat.{_≤_, _-_}
 use Rattle.sheet_cases.proofs.print_row.Statement.{statement}
 use Rattle.sheet_cases.proofs.print_row.Tie as tie
 
+-- `from` is at most 64, so that it is a bit of both rows as long as the loop goes on.
 abbrev Inv-loop : tie.InvT-loop
 Inv-loop text to colour needed marked from₀ from = from ≤ 64
 

@@ -3,6 +3,7 @@ use Prim.Native.Nat.{_≤_, _-_}
 use Rattle.sheet_cases.proofs.print_rows.Statement.{statement}
 use Rattle.sheet_cases.proofs.print_rows.Tie as tie
 
+-- c is at most 8, so that it is a colour as long as the loop goes on.
 abbrev Inv-loop : tie.InvT-loop
 Inv-loop text to rows marks c₀ c = c ≤ 8
 

@@ -6,6 +6,7 @@ use lib.ListN.{length}
 use Rattle.sheet_cases.proofs.put.Statement.{statement}
 use Rattle.sheet_cases.proofs.put.Tie as tie
 
+-- The text keeps its length, and `next` lies within it.
 abbrev Inv-loop : tie.InvT-loop
 Inv-loop text₀ at part next₀ i₀ text next i = (length text ≡ length text₀) × (next ≤ length text)
 

@@ -6,6 +6,7 @@ use Rattle.sheet_cases.proofs.Parts.{counts}
 use Rattle.sheet_cases.proofs.put_items.Statement.{statement}
 use Rattle.sheet_cases.proofs.put_items.Tie as tie
 
+-- The text keeps its length, and `next` lies within it.
 abbrev Inv-loop : tie.InvT-loop
 Inv-loop text₀ at count next₀ i₀ text next i = (length text ≡ length text₀) × (next ≤ length text)
 

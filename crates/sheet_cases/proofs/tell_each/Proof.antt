@@ -6,6 +6,7 @@ use Rattle.sheet_fields.proofs.Cutting.{until-le}
 use Rattle.sheet_cases.proofs.tell_each.Statement.{statement}
 use Rattle.sheet_cases.proofs.tell_each.Tie as tie
 
+-- Nothing has to hold here: the loop prints, and ends because `at` grows.
 abbrev Inv-loop : tie.InvT-loop
 Inv-loop above cases below at₀ at = Unit {0}
 

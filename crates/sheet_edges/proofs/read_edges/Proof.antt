@@ -9,6 +9,7 @@ use Rattle.sheet_edges.proofs.EdgeRows.{Loop, no-edges, so-far-none, ov
 use Rattle.sheet_edges.proofs.read_edges.Statement.{statement}
 use Rattle.sheet_edges.proofs.read_edges.Tie as tie
 
+-- The rows above the place `at`, at most 256, make both graphs, and the reading of all rows is that of the rows from there on.
 abbrev Inv-loop : tie.InvT-loop
 Inv-loop s start first low high count graph₀ recovery₀ edges₀ at₀ graph recovery edges at = Loop s start first low high count graph recovery edges at
 

@@ -8,6 +8,7 @@ use Rattle.sheet_fields.proofs.Scans.{until-here, until-next, until-end
 use Rattle.sheet_fields.proofs.find.Statement.{statement}
 use Rattle.sheet_fields.proofs.find.Tie as tie
 
+-- The next b from `at` on is the next b from i on.
 abbrev Inv-loop : tie.InvT-loop
 Inv-loop s at b i₀ i = (at + until b (drop at s) ≡ i + until b (drop i s))
 

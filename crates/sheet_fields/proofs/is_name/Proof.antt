@@ -9,6 +9,7 @@ use Rattle.sheet_fields.proofs.Names.{name-none, name-long, name-bytes}
 use Rattle.sheet_fields.proofs.is_name.Statement.{statement}
 use Rattle.sheet_fields.proofs.is_name.Tie as tie
 
+-- The field is a name exactly if the bytes from i on are bytes of a name.
 abbrev Inv-loop : tie.InvT-loop
 Inv-loop f i₀ i = (isName f ≡ all isNameByte (drop i f))
 

@@ -8,6 +8,7 @@ use Rattle.sheet_fields.proofs.Packing.{packed-back, packed-fits, packe
 use Rattle.sheet_fields.proofs.pack.Statement.{statement}
 use Rattle.sheet_fields.proofs.pack.Tie as tie
 
+-- n is the number that the bytes from i on make.
 abbrev Inv-loop : tie.InvT-loop
 Inv-loop f n₀ i₀ n i = (i ≤ length f) × (n ≡ packed (drop i f))
 

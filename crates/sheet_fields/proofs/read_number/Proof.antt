@@ -8,6 +8,7 @@ use Rattle.sheet_fields.proofs.Numbers.{cappedRun, run-next, run-end, n
 use Rattle.sheet_fields.proofs.read_number.Statement.{statement}
 use Rattle.sheet_fields.proofs.read_number.Tie as tie
 
+-- n, at most TOO_LARGE, is what the bytes before i come to, and with the bytes from i on it becomes the field's number.
 abbrev Inv-loop : tie.InvT-loop
 Inv-loop f n₀ i₀ n i = (n ≤ tooLarge) × (cappedNumber f ≡ cappedRun n (drop i f))
 

@@ -16,7 +16,7 @@ tooLarge = largest + 1
 unfoldable pub cappedNumber : List ℕ → ℕ
 cappedNumber f = cond (isNumber f) (min (numberOf f) tooLarge) tooLarge
 
--- The same with one more digit behind a number n.
+-- The number n with the digit b behind it, or `tooLarge` where that is larger or b is no digit.
 unfoldable pub cappedStep : ℕ → ℕ → ℕ
 cappedStep n b = cond (isDigit b) (min (n * 10 + (b - 48)) tooLarge) tooLarge
 

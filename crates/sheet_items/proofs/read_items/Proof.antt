@@ -1,4 +1,4 @@
--- `sheet_lines::read_items` meets its contract: each turn takes in the row of one line, and each way out says why the reading of item rows stops.
+-- `sheet_items::read_items` meets its contract: each turn takes in the row of one line, and each way out says why the reading of item rows stops.
 -- Assumes nothing.
 use Rattle.sheet_items.specs.Inner.Items.{ReadsItems}
 use borrow.Author.Needs.{needs}
@@ -11,6 +11,7 @@ use Rattle.sheet_items.proofs.ItemRows.{SoFar, so-far-none, over, none,
 use Rattle.sheet_items.proofs.read_items.Statement.{statement}
 use Rattle.sheet_items.proofs.read_items.Tie as tie
 
+-- The rows above the place `at` are kept and counted, and the reading of all rows is that of the rows from there on.
 abbrev Inv-loop : tie.InvT-loop
 Inv-loop s start vertices₀ low₀ high₀ count₀ starts₀ losses₀ at₀ vertices low high count starts losses at =
     SoFar s start vertices low high count starts losses at

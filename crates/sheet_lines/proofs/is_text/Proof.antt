@@ -11,6 +11,7 @@ use Rattle.sheet_lines.proofs.Texts.{text-none, text-byte, text-end}
 use Rattle.sheet_lines.proofs.is_text.Statement.{statement}
 use Rattle.sheet_lines.proofs.is_text.Tie as tie
 
+-- All bytes of the text are text bytes exactly if those from i on are.
 abbrev Inv-loop : tie.InvT-loop
 Inv-loop s n i₀ i = (i ≤ length s) × (all isTextByte s ≡ all isTextByte (drop i s))
 

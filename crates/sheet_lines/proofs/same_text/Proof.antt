@@ -8,6 +8,7 @@ use Rattle.sheet_lines.proofs.Texts.{same-length, same-next, same-not, 
 use Rattle.sheet_lines.proofs.same_text.Statement.{statement}
 use Rattle.sheet_lines.proofs.same_text.Tie as tie
 
+-- The texts are the same exactly if they are the same from i on.
 abbrev Inv-loop : tie.InvT-loop
 Inv-loop s t i₀ i = (sameText s t ≡ sameText (drop i s) (drop i t))
 

@@ -11,6 +11,7 @@ use Rattle.sheet_names.proofs.Starts.{start-first, start-over, start-ne
 use Rattle.sheet_names.proofs.line_start.Statement.{statement}
 use Rattle.sheet_names.proofs.line_start.Tie as tie
 
+-- Line k begins where the line k - i of the text from `at` on does.
 abbrev Inv-loop : tie.InvT-loop
 Inv-loop s k at₀ i₀ at i = (i ≤ k) × (at ≤ length s + 1) × (lineStart (linesOf s) k ≡ at + lineStart (linesOf (drop at s)) (k - i))
 

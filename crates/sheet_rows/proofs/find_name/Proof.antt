@@ -8,6 +8,7 @@ use Rattle.sheet_rows.proofs.Tables.{place-here, place-next, place-end}
 use Rattle.sheet_rows.proofs.find_name.Statement.{statement}
 use Rattle.sheet_rows.proofs.find_name.Tie as tie
 
+-- The key's place among all keys is i more than its place among the keys from i on.
 abbrev Inv-loop : tie.InvT-loop
 Inv-loop low high count key i₀ i = (i ≤ count) × (placeOf (take count low) (take count high) (key .low) (key .high) ≡ i + placeOf (drop i (take count low)) (drop i (take count high)) (key .low) (key .high))
 

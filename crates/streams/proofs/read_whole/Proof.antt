@@ -8,6 +8,7 @@ use native.Mathlib.Omega.{arith}
 use Rattle.streams.proofs.read_whole.Statement.{statement}
 use Rattle.streams.proofs.read_whole.Tie as tie
 
+-- What is read fits in the buffer, whose length stays.
 abbrev Inv-loop : tie.InvT-loop
 Inv-loop fd buf₀ done₀ asks₀ buf done asks = (done ≤ length buf) × (length buf ≡ length buf₀)
 

@@ -6,6 +6,7 @@ use native.Mathlib.Omega.{arith}
 use Rattle.streams.proofs.write_whole.Statement.{statement}
 use Rattle.streams.proofs.write_whole.Tie as tie
 
+-- No more bytes are out than there are.
 abbrev Inv-loop : tie.InvT-loop
 Inv-loop fd bytes done₀ asks₀ done asks = done ≤ length bytes
 

@@ -5,6 +5,7 @@ use Rattle.ways.proofs.Ways.{Taken, taken-none, taken-more, taken-all, 
 use Rattle.ways.proofs.count_way.Statement.{statement}
 use Rattle.ways.proofs.count_way.Tie as tie
 
+-- `count` steps are taken, and with every way on from what is held now they make a way from the set.
 abbrev Inv-loop : tie.InvT-loop
 Inv-loop graph target held₀ count₀ held count = Taken graph target (held₀ .0) (held .0) count
 

@@ -10,6 +10,7 @@ use Rattle.derivations.proofs.Admits.{step-admits, admits-place}
 use Rattle.ways.proofs.lowest_step.Statement.{statement}
 use Rattle.ways.proofs.lowest_step.Tie as tie
 
+-- Every vertex before v that has a complete colour is held.
 abbrev Inv-loop : tie.InvT-loop
 Inv-loop held graph v₀ v = (v ≤ 64) × PassedOver graph (held .0) v
 

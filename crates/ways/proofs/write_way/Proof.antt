@@ -5,6 +5,7 @@ use Rattle.ways.proofs.Ways.{Writing, writing-none, writing-fits, writi
 use Rattle.ways.proofs.write_way.Statement.{statement}
 use Rattle.ways.proofs.write_way.Tie as tie
 
+-- The first i steps of the way in are written, and the others lead from what is held now to the target.
 abbrev Inv-loop : tie.InvT-loop
 Inv-loop graph target vertices₀ colours₀ held₀ i₀ vertices colours held i = Writing graph target (held₀ .0) (held .0) i vertices₀ vertices colours₀ colours
 

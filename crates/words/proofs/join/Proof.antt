@@ -1,4 +1,4 @@
--- `words::join` meets its contract. The invariant: as for `or_in`, and `fresh` is 0 exactly while no word has changed.
+-- `words::join` meets its contract. The invariant: the words before b have gained those of s, the others are as they were, and `fresh` is 0 exactly while no word has changed.
 -- Assumes nothing.
 use Prim.Native.Nat.{_-_}
 use borrow.Author.Needs.{needs}

@@ -8,6 +8,7 @@ use Rattle.words.proofs.Starts.{patterns, start-low, start-high}
 use Rattle.words.proofs.start_words.Statement.{statement}
 use Rattle.words.proofs.start_words.Tie as tie
 
+-- The words before b are all ones where their number has the bit k - 6, and 0 where not; the others are as they were.
 abbrev Inv-loop : tie.InvT-loop
 Inv-loop d₀ k j b₀ d b = Mapped (λ n. n / 2 ^ (k - 6) % 2 * (2 ^ 64 - 1)) d₀ d b
 

@@ -1,11 +1,11 @@
--- `report_fields::put_field` meets its contract: the text, then the byte behind it.
+-- `writing::put_field` meets its contract: the text, then the byte behind it.
 use native.Mathlib.Omega.{arith}
 use mathlib.Core.List.{[], _∷_}
 use lib.ListN.{length-append}
-use Rattle.report_fields.proofs.Writing.{wrote-then, room-then}
+use Rattle.written.proofs.Writing.{wrote-then, room-then}
 use borrow.Author.Needs.{needs}
-use Rattle.report_fields.proofs.put_field.Statement.{statement}
-use Rattle.report_fields.proofs.put_field.Tie as tie
+use Rattle.writing.proofs.put_field.Statement.{statement}
+use Rattle.writing.proofs.put_field.Tie as tie
 
 put-text-requires : tie.Need-put-text-requires
 put-text-requires c κs =

@@ -1,19 +1,20 @@
--- `report_fields::put_digits` meets its contract: the digits before the last are written first; the number falls at each call.
+-- `writing::put_digits` meets its contract: the digits before the last are written first; the number falls at each call.
 use borrow.Author.Needs.{needs}
 use native.Mathlib.Omega.{arith}
-use Rattle.report_fields.proofs.Writing.{decimal-one, decimal-more, wrote-then, room-then}
+use Rattle.written.proofs.Writing.{wrote-then, room-then}
+use Rattle.writing.proofs.Texts.{decimal-one, decimal-more}
 use Prim.Native.Nat.{ℕ, _+_, _/_, _%_, _<_}
 use mathlib.Core.List.{[], _∷_}
 use lib.ListN.{length-append}
 use Rattle.sheet_format.specs.Fields.{decimal}
 use borrow.Fn.Kinds.{In}
 use borrow.Fn.PlainCycle.{Measures, is, falls, and}
-use Rattle.report_fields.proofs.put_digits.Reads as put-digits
-use Rattle.report_fields.proofs.put_digits.Kinds as put-digits-kinds
-use Rattle.report_fields.proofs.+put_digits.Lts-put_digits as put-digits-lts
-use Rattle.report_fields.proofs.put_byte.Reads as put-byte-reads
-use Rattle.report_fields.proofs.+put_digits.{statement}
-use Rattle.report_fields.proofs.+put_digits.Tie.{close}
+use Rattle.writing.proofs.put_digits.Reads as put-digits
+use Rattle.writing.proofs.put_digits.Kinds as put-digits-kinds
+use Rattle.writing.proofs.+put_digits.Lts-put_digits as put-digits-lts
+use Rattle.writing.proofs.put_byte.Reads as put-byte-reads
+use Rattle.writing.proofs.+put_digits.{statement}
+use Rattle.writing.proofs.+put_digits.Tie.{close}
 
 abbrev μ-put-digits : Measures 1 put-digits-kinds.ps ℕ
 μ-put-digits κs a = a .0

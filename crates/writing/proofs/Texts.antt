@@ -7,28 +7,13 @@ use Prim.Native.Nat.{ℕ, zero, suc, _+_, _/_, _%_, _^_, _≤_, _<_}
 use native.Mathlib.Nat.{pow-suc}
 use native.Mathlib.Numerals.{add-one}
 use native.Mathlib.Omega.{arith}
-use lib.ListN.{length, getD, set, drop, length-append}
-use lib.Seq.{drop-cons, drop-length, length-sets}
+use lib.ListN.{length, getD, set, drop}
+use lib.Seq.{drop-cons, drop-length}
 use borrow.Author.Tests.{lt-ltb, le-ltb}
 use Rattle.vertex_set.proofs.Cases.{less-or}
-use Rattle.family_lists.specs.Inner.Tables.{Wrote}
-use Rattle.family_lists.proofs.Lists.{Writing, writing-none, writing-part, writing-end, wrote-one}
+use Rattle.written.specs.Inner.{Wrote}
+use Rattle.written.proofs.Writing.{Writing, writing-none, writing-part, writing-end, wrote-one}
 use Rattle.sheet_format.specs.Fields.{digitsIn, decimal}
-
--- ---- two writes, one after the other
-
-module _ (entry : List ℕ) (at : ℕ) (xs out : List ℕ) (next : ℕ) (w : Wrote entry at xs out next) where
-  pub wrote-then : (ys after : List ℕ) (r : ℕ) → Wrote out next ys after r → Wrote entry at (xs ++ ys) after r
-  wrote-then ys after r v =
-      let p = writing-part entry at (xs ++ ys) xs ys entry at out next (writing-none entry at (xs ++ ys)) w in
-      record { exit = v .exit ∙ p .value; next = v .next ∙ p .count }
-
-  -- there is room for the second
-  pub room-then : (ys : List ℕ) → at + length (xs ++ ys) ≤ length entry → next + length ys ≤ length out
-  room-then ys h =
-      let l = length-append xs ys in
-      let o = ap length (w .exit) ∙ length-sets entry at xs in
-      omega (arith, w .next)
 
 -- ---- a text
 

@@ -1,13 +1,14 @@
--- `report_fields::put_text` meets its contract: the loop writes one byte a turn.
+-- `writing::put_text` meets its contract: the loop writes one byte a turn.
 use borrow.Author.Needs.{needs}
 use Prim.Native.Nat.{_-_, _≤_}
 use mathlib.Core.Path.{_≡_, refl}
 use native.Mathlib.Omega.{arith}
 use lib.ListN.{length}
-use Rattle.report_fields.proofs.Writing.{TextWriting, text-none, text-more, text-end}
-use Rattle.report_fields.proofs.put_text.Statement.{statement}
-use Rattle.report_fields.proofs.put_text.Tie as tie
+use Rattle.writing.proofs.Texts.{TextWriting, text-none, text-more, text-end}
+use Rattle.writing.proofs.put_text.Statement.{statement}
+use Rattle.writing.proofs.put_text.Tie as tie
 
+-- The first i bytes are written, and the others go from at + i on.
 abbrev Inv-loop : tie.InvT-loop
 Inv-loop text out₀ at i₀ i-end out i = (i ≤ length text) × (i-end ≡ length text) × TextWriting text out₀ at out i
 

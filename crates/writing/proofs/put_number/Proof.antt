@@ -1,12 +1,12 @@
--- `report_fields::put_number` meets its contract: the digits, then the byte behind them.
+-- `writing::put_number` meets its contract: the digits, then the byte behind them.
 use native.Mathlib.Omega.{arith}
 use mathlib.Core.List.{[], _∷_}
 use lib.ListN.{length-append}
 use Rattle.sheet_format.specs.Fields.{decimal}
-use Rattle.report_fields.proofs.Writing.{wrote-then, room-then}
+use Rattle.written.proofs.Writing.{wrote-then, room-then}
 use borrow.Author.Needs.{needs}
-use Rattle.report_fields.proofs.put_number.Statement.{statement}
-use Rattle.report_fields.proofs.put_number.Tie as tie
+use Rattle.writing.proofs.put_number.Statement.{statement}
+use Rattle.writing.proofs.put_number.Tie as tie
 
 put-digits-requires : tie.Need-put-digits-requires
 put-digits-requires c κs =

@@ -1296,6 +1296,16 @@ def NameCall(text, item, number, start, size):
     return refused_ and noItem and accepted_ and begins and long and bytes_
 
 
+def SaysSetup(texts, numbers, lines, entry, exits):
+    return all(
+        implies(lambda: ReadingCall(text, number, line, entry, exit) and 1281 <= len(entry), lambda: setupIn(exit) == readSheet(text).setup)
+        for text in texts
+        for number in numbers
+        for line in lines
+        for exit in exits
+    )
+
+
 # ---- portal_closures/Check
 
 
@@ -1303,3 +1313,63 @@ def CheckCall(s, r):
     yes = implies(lambda: WellFormed(s), lambda: r == 0)
     no = implies(lambda: not WellFormed(s), lambda: r == 12)
     return yes and no
+
+
+# ---- portal_determined/Determined: of all pairs of the results that are handed to them
+
+
+def OneResult(Call, results, candidates):
+    return all(
+        implies(lambda: len(f) == len(f_) and Told(Call, n, f, candidates) and Told(Call, n_, f_, candidates), lambda: Same(n, n_, f, f_))
+        for n, f in results
+        for n_, f_ in results
+    )
+
+
+def SetupCallsDetermined(words, set_, target, other, sets, a, b, numbers, results, values, ways, lists):
+    s = setupIn(words)
+    check = all(implies(lambda: CheckCall(s, r) and CheckCall(s, r_), lambda: r == r_) for r in numbers for r_ in numbers)
+    closure = OneResult(lambda n, v: SetCall(AccessFrom, s, set_, n, v), results, values)
+    lost = OneResult(lambda n, v: SetCall(LockoutFrom, s, set_, n, v), results, values)
+    wayIn = all(
+        implies(
+            lambda: len(f) == len(f_)
+            and Told(lambda n, v: WayCall(s, target, set_, n, v, a, x, a, y), n, f, values)
+            and Told(lambda n, v: WayCall(s, target, set_, n, v, a, x_, a, y_), n_, f_, values),
+            lambda: SameWay(n, n_, f, f_, x, x_, y, y_),
+        )
+        for n, f, x, y in ways
+        for n_, f_, x_, y_ in ways
+    )
+    lists_ = all(
+        implies(
+            lambda: len(f) == len(f_)
+            and Told(lambda n, v: BasesCall(s, target, n, v, b, x), n, f, values)
+            and Told(lambda n, v: BasesCall(s, target, n, v, b, x_), n_, f_, values),
+            lambda: SameBases(n, n_, f, f_, x, x_),
+        )
+        for n, f, x in lists
+        for n_, f_, x_ in lists
+    )
+    score = OneResult(lambda n, v: ScoreCall(False, s, target, n, v), results, values)
+    risk = OneResult(lambda n, v: ScoreCall(True, s, target, n, v), results, values)
+    openings = OneResult(lambda n, v: MarksCall(False, s, target, sets, n, v), results, values)
+    lockouts = OneResult(lambda n, v: MarksCall(True, s, target, sets, n, v), results, values)
+    backdoor = OneResult(lambda n, v: BackdoorCall(s, target, n, v), results, values)
+    idle = OneResult(lambda n, v: IneffectiveCall(s, target, n, v), results, values)
+    outOfRank = OneResult(lambda n, v: InconsistentCall(s, target, other, n, v), results, values)
+    return all((check, closure, lost, wayIn, lists_, score, risk, openings, lockouts, backdoor, idle, outOfRank))
+
+
+def SheetCallsDetermined(text, item, entry, readings, parts):
+    reading = all(
+        implies(lambda: ReadingCall(text, n, l, entry, x) and ReadingCall(text, n_, l_, entry, x_), lambda: n == n_ and l == l_ and x == x_)
+        for n, l, x in readings
+        for n_, l_, x_ in readings
+    )
+    name = all(
+        implies(lambda: NameCall(text, item, n, p, k) and NameCall(text, item, n_, p_, k_), lambda: n == n_ and p == p_ and k == k_)
+        for n, p, k in parts
+        for n_, p_, k_ in parts
+    )
+    return reading and name

@@ -4,7 +4,7 @@ import itertools
 from collections import namedtuple
 
 from executables import Account, Credential, Doc, EdgeRow, Graph, ItemRow, Rows, Setup, Step, Vertex, emptyGraph, lessRecovery, never
-from executables import readSheet, render, setupOf, text, unusedVertex, wordsOf
+from executables import readSheet, render, setupIn, setupOf, text, unusedVertex, wordsOf
 
 H1, H2 = "name kind start loss rank", "from to colour rec"
 BENCH = [H1, "ordpw c 1 2 0", "mailpw c 1 1 0", "token c 3 2 0", "mail a - - 1", "order a - - 3", "", H2]
@@ -568,6 +568,8 @@ def of_readings(D):
         ("not name: no item, and 0", lambda: D.NameCall(sheet, 5, 0, 0, 0), False),
         ("name: refused 5", lambda: D.NameCall(five, 0, 5, 0, 0), True),
         ("not name: 13 before 5", lambda: D.NameCall(five, 0, 13, 0, 0), False),
+        ("says the setup", lambda: D.SaysSetup([sheet, five], [0, 5, 15], [0, 2], lent(1281), [lent(1281), words, none]), True),
+        ("setup in words", lambda: setupIn(words) == bench and setupIn(none) == EMPTY, True),
     ]
 
 
@@ -584,6 +586,24 @@ def of_determined(D):
         ("determined: lists of order", lambda: D.BasesDetermined(bench, ORDER, LENT[:4], base_answers), True),
         ("determined: score of order", lambda: D.ScoreDetermined(False, bench, ORDER, answers), True),
         ("determined: marks of B7", lambda: D.MarksDetermined(False, bench, ORDER, [2, 2, 6, 4], mark_answers), True),
+    ]
+
+
+def of_results(D):
+    """That the contracts of the calls for C determine their results."""
+    values = [[], [0], [1], [3], [26], [1, 2], [2, 2], [1, 1, 1, 1, 1], [0, 1, 3, 0, 2]]
+    results = [(0, f) for f in ([0], [1], [3], [26], [1, 1, 1, 1, 1])] + [(12, [0]), (13, [0])]
+    lent, out = [9, 9], LENT[:4]
+    ways = [(0, [1, 2], [3, 4], [0, 1]), (0, [1, 2], [3, 4], lent), (0, [0, 0], lent, lent), (15, [0, 0], lent, lent), (13, [0, 0], lent, lent)]
+    lists = [(0, [2, 2], [2, 5, 3, 6]), (0, [2, 2], [5, 2, 3, 6]), (0, [0, 0], out), (15, [0, 0], out)]
+    handed = (wordsOf(bench), 2, ORDER, MAIL, [2, 2, 6, 4], lent, out, (0, 12), results, values, ways, lists)
+    readings = [(n, l, x) for n in (0, 15) for l in (0, 1) for x in ([9] * 1281, wordsOf(bench))]
+    parts = [(n, p, k) for n in (0, 13) for p in (0, 69, 84) for k in (0, 4, 5)]
+    return [
+        ("determined: one result", lambda: D.OneResult(lambda n, v: n == 0 and v == [7], [(0, [7]), (0, [8]), (1, [0])], [[], [7], [8]]), True),
+        ("not determined: two results", lambda: D.OneResult(lambda n, v: n == 0, [(0, [7]), (0, [8])], [[7], [8]]), False),
+        ("determined: results for bench", lambda: D.SetupCallsDetermined(*handed), True),
+        ("determined: results for bench's sheet", lambda: D.SheetCallsDetermined(text(BENCH), MAIL, [9] * 1281, readings, parts), True),
     ]
 
 
@@ -837,7 +857,7 @@ GROUPS = {
     "far": [of_sets, of_setups, of_well_formed, of_parts, of_full_marks, of_whole],
     "one": [of_one],
     "bench": [of_derivations, of_ways, of_bases, of_scores, of_marks, of_set_calls, of_way_calls, of_base_calls, of_score_calls, of_demand3]
-    + [of_findings, of_portal, of_same, of_told, of_readings, of_determined, of_demands, of_both_demands],
+    + [of_findings, of_portal, of_same, of_told, of_readings, of_determined, of_results, of_demands, of_both_demands],
     "rows": [of_valid_rows, of_rows, of_stated, of_meaning, of_refusals],
     "spare": [of_spare],
     "ring": [of_ring],

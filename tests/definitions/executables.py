@@ -401,6 +401,15 @@ def wordsOf(s):
     return [s.count] + vertices + rows
 
 
+def setupIn(words):
+    blank = 2**64 - 1
+    word = lambda i: getD(words, i, 0)
+    value = lambda n: None if n == blank else n
+    place = lambda v: Vertex(Credential if word(1 + 4 * v) == 0 else Account, value(word(2 + 4 * v)), value(word(3 + 4 * v)), word(4 + 4 * v))
+    graph = lambda at: Graph(tuple(Rows(tuple(word(at + 8 * v + c) for c in range(8))) for v in range(64)))
+    return Setup(word(0), tuple(place(v) for v in range(64)), graph(257), graph(769))
+
+
 # ---- portal_results: an answer's values as the fields of a struct
 
 

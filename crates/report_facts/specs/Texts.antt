@@ -1,4 +1,4 @@
--- Inner: the report's text vertex by vertex. A vertex that is no account has no rows.
+-- The report's text vertex by vertex. A vertex that is no account has no rows.
 use mathlib.Core.Bool.{Bool, cond}
 use mathlib.Core.List.{List, []}
 use Prim.Native.Nat.{ℕ, _/_, _%_}

@@ -12,7 +12,7 @@ pub const NOT_MEASURED: &str = "\
 ## Not measured
 
 - All lists of a sheet by the proved code within one process: no call gives them.
-- Stack use.
+- Stack use, which docs/TRUST.md has by call.
 ";
 
 /// The kinds of sheets, for the document.

@@ -9,7 +9,7 @@ use std::thread;
 /// How many sets are handed in.
 const MANY: usize = 3_000_000;
 
-/// The thread's stack in bytes. Marking ran with 460 KB, and not with 459.
+/// The thread's stack in bytes: less than the header asks for, and more than marking was seen to need.
 const STACK: usize = 480 << 10;
 
 /// An account behind one credential: its list has one set.

@@ -1237,7 +1237,7 @@ def ReportMeaning(s):
     return accounts and in_order and base and items and items_rise and score and less and back and idle and pair and below and below_rise
 
 
-# ---- report_start/Whole: `rest` gives what is left of the report at a place, `places` are the places; the tables as they were and as they are
+# ---- report_writer/Whole: `rest` gives what is left of the report at a place, `places` are the places; the tables as they were and as they are
 
 
 def Begun(rest, report, here, c, refused=False, entry=([], []), exit=([], [])):

@@ -964,7 +964,7 @@ def Decoded(text, item, r):
     return answer and refusal
 
 
-# ---- determined/Determined: of all pairs of the answers that are handed to them
+# ---- demands/Determined: of all pairs of the answers that are handed to them
 
 
 def SetDetermined(loss, s, set_, answers):
@@ -1315,7 +1315,7 @@ def CheckCall(s, r):
     return yes and no
 
 
-# ---- portal_determined/Determined: of all pairs of the results that are handed to them
+# ---- demands/PortalDetermined: of all pairs of the results that are handed to them
 
 
 def OneResult(Call, results, candidates):

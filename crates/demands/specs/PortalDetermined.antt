@@ -10,7 +10,7 @@ use Rattle.access.specs.Answers.{SetCall, WayCall}
 use Rattle.answers.specs.Answers.{BasesCall, ScoreCall, MarksCall}
 use Rattle.findings.specs.Answers.{BackdoorCall, IneffectiveCall, InconsistentCall}
 use Rattle.setup.specs.Calls.{Same}
-use Rattle.determined.specs.Determined.{SameWay, SameBases}
+use Rattle.demands.specs.Determined.{SameWay, SameBases}
 use Rattle.portal_setup.specs.Words.{setupIn}
 use Rattle.portal_results.specs.Told.{Told}
 use Rattle.portal_closures.specs.Check.{CheckCall}

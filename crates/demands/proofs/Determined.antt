@@ -19,8 +19,8 @@ use Rattle.derivations.proofs.Way.{way-unique}
 use Rattle.access.specs.Answers.{WayWritten}
 use Rattle.answers.specs.Answers.{BasesWritten}
 use Rattle.reference.proofs.Unique.{closure-unique, base-unique, score-unique, counts-unique}
-use Rattle.determined.specs.Determined.{SetDetermined, SameWay, WayDetermined, SameBases, BasesDetermined, ScoreDetermined, MarksDetermined}
-use Rattle.determined.proofs.Stable.{stable-number, stable-list, by-cases}
+use Rattle.demands.specs.Determined.{SetDetermined, SameWay, WayDetermined, SameBases, BasesDetermined, ScoreDetermined, MarksDetermined}
+use Rattle.demands.proofs.Stable.{stable-number, stable-list, by-cases}
 
 -- Questions 12 and 13, which all calls with a target ask first.
 pub by-target : (s : Setup) (target : ℕ) {Q : Type 0} → Stable Q → ((WellFormed s → ⊥) → Q) → (WellFormed s → s .count ≤ target → Q)

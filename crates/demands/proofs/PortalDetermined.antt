@@ -11,11 +11,11 @@ use Rattle.formed.specs.WellFormed.{WellFormed}
 use Rattle.sheet_format.specs.Read.{readSheet}
 use Rattle.findings.proofs.Unique.{backdoor-determined, ineffective-determined, inconsistent-determined}
 use Rattle.setup.specs.Calls.{Same}
-use Rattle.determined.proofs.Determined.{set-determined, way-determined, bases-determined, score-determined, marks-determined}
-use Rattle.determined.proofs.Stable.{stable-number, by-cases}
+use Rattle.demands.proofs.Determined.{set-determined, way-determined, bases-determined, score-determined, marks-determined}
+use Rattle.demands.proofs.Stable.{stable-number, by-cases}
 use Rattle.portal_setup.specs.Words.{setupIn}
 use Rattle.portal_results.specs.Told.{filled, Told}
-use Rattle.portal_determined.specs.Determined.{OneResult, SetupCallsDetermined, SheetCallsDetermined}
+use Rattle.demands.specs.PortalDetermined.{OneResult, SetupCallsDetermined, SheetCallsDetermined}
 
 -- ---- what a struct tells
 

@@ -58,7 +58,7 @@ class Edit:
 
 @dataclass
 class Function:
-    """A function, or a constant (`constant`), with the part of its file that may be edited."""
+    """A function, or a constant (`constant`), with the part of its file that may be edited. Its name starts with its module's."""
 
     crate: str
     name: str
@@ -138,17 +138,18 @@ def functions_of(crate, path):
         found = re.match(r"impl\s+(\w+)", line)
         owner = found.group(1) if found else "" if line.startswith("}") else owner
         owners.append(owner)
+    module = "" if path.stem in ("lib", "main") else f"{path.stem}::"
     items = []
     for line, _, name, head, length in functions(lines_of(text)):
         first = line + head.count("\n")
         own = owners[line - 1]
         params, result = parameters(head, own)
-        full = f"{own}::{name}" if own else name
+        full = module + (f"{own}::{name}" if own else name)
         items.append(Function(crate, full, path, offsets[first], offsets[first + length], first + 1, first + length, params, result))
     for found in re.finditer(r"^(?:pub )?const (\w+): ([^=]+) =(.*?);$", text, re.M | re.S):
         start, end = found.span(3)
         first, last = text.count("\n", 0, start) + 1, text.count("\n", 0, end) + 1
-        items.append(Function(crate, found.group(1), path, start, end, first, last, [], found.group(2), True))
+        items.append(Function(crate, module + found.group(1), path, start, end, first, last, [], found.group(2), True))
     return items
 
 
@@ -164,11 +165,12 @@ def shapes_of(crates):
             for name, body in re.findall(r"enum (\w+) \{([^}]*)\}", text):
                 shapes.enums[name] = [part.partition("(")[::2] for part in split_list(body)]
             for item in functions_of(crate, path):
+                name = item.name.removeprefix(f"{path.stem}::")
                 if item.constant:
                     value = re.fullmatch(r"\s*([0-9][0-9A-Fa-fx_]*)\s*", path.read_text(encoding="utf-8")[item.start : item.end])
-                    shapes.constants[item.name] = (item.result, value and int(value.group(1).replace("_", ""), 0), crate)
+                    shapes.constants[name] = (item.result, value and int(value.group(1).replace("_", ""), 0), crate)
                 else:
-                    shapes.results[item.name] = item.result
+                    shapes.results[name] = item.result
     return shapes
 
 

@@ -59,7 +59,7 @@ believed -= {file for file in believed if file.startswith("worked_examples/")}
 faults += [f"docs/TRUST.md does not list {file}" for file in sorted(believed - {file for file, _ in counts})]
 faults += [f"docs/TRUST.md lists {file}, which is inner" for file, _ in counts if file not in believed]
 # None of them cites an inner one, but for the statement that the printed parts are the whole report, as TRUST.md says.
-citing = {file for file in believed if "specs.Inner" in read(f"crates/{file}")} - {"report_start/specs/Whole.antt"}
+citing = {file for file in believed if "specs.Inner" in read(f"crates/{file}")} - {"report_writer/specs/Whole.antt"}
 faults += [f"{file} rests on an inner definition" for file in sorted(citing)]
 numbers = dict(zip(FEWEST, (len(files), len(names), len(calls), len(counts))))
 faults += [f"only {numbers[what]} {what}" for what in FEWEST if numbers[what] < FEWEST[what]]

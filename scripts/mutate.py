@@ -173,7 +173,8 @@ def calls_of(items):
 
 def proof_homes(function):
     """Where the proof of a function stands, or of one that calls itself; nowhere where the prover finds it by itself."""
-    return [f"proofs/{function.name.replace('::', '/')}/", f"proofs/+{function.name}/"]
+    folder, _, last = function.name.replace("::", "/").rpartition("/")
+    return [f"proofs/{folder}/{name}/".replace("//", "/") for name in (last, f"+{last}")]
 
 
 def has_proof(function):
@@ -252,8 +253,12 @@ def settle(said, trial, alone):
 
 def drop_rejected(said, batch):
     """The trials whose edit the front end rejects, by the lines of its errors."""
-    lines = {int(found.group(4)) for found in ERROR.finditer(said) if found.group(3).startswith("src/")}
-    return [t for t in batch if any(t.function.first <= line <= t.function.last for line in lines)]
+    places = {(found.group(3), int(found.group(4))) for found in ERROR.finditer(said) if found.group(3).startswith("src/")}
+
+    def has(function, file, line):
+        return file == f"src/{function.path.name}" and function.first <= line <= function.last
+
+    return [t for t in batch if any(has(t.function, file, line) for file, line in places)]
 
 
 def keep_said(crate, said):
@@ -367,7 +372,7 @@ def read_notes():
     """What is said of survivors: lines `CRATE FUNCTION: WHY`, or `CRATE FUNCTION: AFTER => WHY` of one edit."""
     notes = {}
     for line in NOTES.read_text(encoding="utf-8").splitlines() if NOTES.is_file() else []:
-        found = re.fullmatch(r"(\w+) ((?:const )?\w+(?:::\w+)?): (?:`(.*)` => )?(.*)", line)
+        found = re.fullmatch(r"(\w+) ((?:const )?\w+(?:::\w+)*): (?:`(.*)` => )?(.*)", line)
         if found and not line.startswith("#"):
             notes[(found.group(1), found.group(2), found.group(3))] = found.group(4)
     return notes
@@ -408,7 +413,7 @@ Written by `scripts/mutate.py` (`make mutate`); docs/TESTING.md says what is don
 
 "Where" is the place of the first error about the edited function, or `search` where it has no proof file and the prover finds no proof by
 itself. A crate is tried again when its own files, or the code or definitions of a crate below it, have changed: the sum beside its name
-tells. Not tried yet: {untried}.
+tells; "moved" says that its functions were tried in the crates that became its modules. Not tried yet: {untried}.
 """
 
 

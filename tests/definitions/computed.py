@@ -26,7 +26,7 @@ FIRST = {
     "reference": ["B"],
     "report_text": ["report-"],
     "report_facts": ["rest-of-"],
-    "report_steps": ["rest-of-"],
+    "report_writer": ["rest-of-"],
     "portal_setup": ["words-"],
     "portal_results": ["told-"],
     "portal_reading": ["told-"],

@@ -11,7 +11,7 @@ import scratch
 DATA = blocks.HERE / "declared.txt"
 SOURCE = (blocks.HERE / "definitions.py").read_text()
 # where Python's name is another, since the names of all files stand in one
-NAMES = {("report_start/Whole", "Run"): "WholeRun"}
+NAMES = {("report_writer/Whole", "Run"): "WholeRun"}
 
 
 def module(text):
@@ -53,8 +53,8 @@ def looked_for(block):
 
 # Files that stand on those of the scratch crate.
 ABOVE = """
-answers/Demand3 sheet_format/Meaning portal/Portal determined/Determined demands/Outcomes demands/Sheets demands/Demands reference/Meaning
-report_text/Meaning report_steps/Inner/Steps report_start/Whole portal_closures/Check portal_determined/Determined
+answers/Demand3 sheet_format/Meaning portal/Portal demands/Determined demands/Outcomes demands/Sheets demands/Demands reference/Meaning
+report_text/Meaning report_writer/Inner/Steps report_writer/Whole portal_closures/Check demands/PortalDetermined
 """.split()
 # What Whole cites of the report's steps, with the same type and nothing known: no alteration is about it, and what it says need not be believed.
 AT = """-- What is known at a place of the report: nothing, here.
@@ -62,7 +62,7 @@ use mathlib.Core.List.{List}
 use Prim.Native.Nat.{ℕ}
 use Rattle.setup.specs.declared.Setup.{Setup}
 use Rattle.report_facts.specs.declared.Facts.{Facts}
-use Rattle.report_steps.specs.declared.Cursor.{Cursor}
+use Rattle.report_writer.specs.declared.steps.Cursor.{Cursor}
 
 abbrev pub At : List ℕ → Setup → Facts → List ℕ → List ℕ → List ℕ → Cursor → Type 0
 At sheet s f opening lockout list c = Unit {0}
@@ -75,7 +75,7 @@ def typed():
     bad = rounds = 0
     while left:
         now = {(b["file"], b["name"]): b for b in reversed(left)}
-        texts = {"report_steps/Inner/Steps": AT}
+        texts = {"report_writer/Inner/Steps": AT}
         for (file, name), b in now.items():
             texts[file] = blocks.replaced(texts.get(file) or blocks.source(file).read_text(), name, b["old"], b["new"])
         run = subprocess.run(["rt", "check", str(scratch.write("typed", texts, scratch.NO_EXAMPLES, ABOVE))], capture_output=True, text=True)

@@ -964,7 +964,7 @@ def Decoded(text, item, r):
     return answer and refusal
 
 
-# ---- determined/Determined: of all pairs of the answers that are handed to them
+# ---- demands/Determined: of all pairs of the answers that are handed to them
 
 
 def SetDetermined(loss, s, set_, answers):
@@ -1237,7 +1237,7 @@ def ReportMeaning(s):
     return accounts and in_order and base and items and items_rise and score and less and back and idle and pair and below and below_rise
 
 
-# ---- report_start/Whole: `rest` gives what is left of the report at a place, `places` are the places; the tables as they were and as they are
+# ---- report_writer/Whole: `rest` gives what is left of the report at a place, `places` are the places; the tables as they were and as they are
 
 
 def Begun(rest, report, here, c, refused=False, entry=([], []), exit=([], [])):
@@ -1315,7 +1315,7 @@ def CheckCall(s, r):
     return yes and no
 
 
-# ---- portal_determined/Determined: of all pairs of the results that are handed to them
+# ---- demands/PortalDetermined: of all pairs of the results that are handed to them
 
 
 def OneResult(Call, results, candidates):

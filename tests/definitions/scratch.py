@@ -22,26 +22,26 @@ sheet_format/Text sheet_format/Fields sheet_format/Rows sheet_format/Stated shee
 findings/Findings findings/Answers
 reference/Tests reference/Closures reference/Bases
 report_text/Rows report_text/Report
-report_facts/Texts report_steps/Rest
+report_facts/Texts report_writer/Rest
 portal_setup/Words portal_results/Told portal_reading/Reading
 worked_examples/Sheets worked_examples/Table
 """.split()
 
 # Crates whose types the definitions use, and types of theirs that no definition uses.
-TYPES = "vertex_set setup scores access answers sheet_format findings report_facts report_steps report_start demands".split()
-UNUSED = {"Step"}
+TYPES = "vertex_set setup scores access answers sheet_format findings report_facts report_writer demands".split()
+UNUSED = {"Step", "Names"}
 
 
 def types_of(crate):
-    """The structs and enums of a crate's source, without functions and comments."""
-    text = (ROOT / "crates" / crate / "src" / "lib.rt").read_text()
+    """The structs and enums of a crate's sources, without functions and comments."""
+    text = "\n".join(path.read_text() for path in sorted((ROOT / "crates" / crate / "src").glob("*.rt")))
     found = re.finditer(r"^pub (?:struct|enum) (\w+)(?:\([^)]*\);| \{\n(?:.*\n)*?\})", text, re.M)
     return [re.sub(r"\s*//.*", "", m[0]).replace("setup::", "") for m in found if m[1] not in UNUSED]
 
 
 def renamed(text):
     """A file's text with every project module named as one of the scratch crate."""
-    text = re.sub(r"Rattle·\w+?(?:·specs|·proofs)?\.specs\.declared\.", "Rattle.defs.specs.declared.", text)
+    text = re.sub(r"Rattle·\w+?(?:·specs|·proofs)?\.specs\.declared\.(?:[a-z]\w*\.)?", "Rattle.defs.specs.declared.", text)
     text = re.sub(r"Rattle·(\w+?)(?:·specs|·proofs)?\.specs\.Inner\.(\w+)", r"Rattle.defs.specs.\1_Inner_\2", text)
     return re.sub(r"Rattle·(?!defs·)(\w+?)(?:·specs|·proofs)?\.specs\.(\w+)", r"Rattle.defs.specs.\1_\2", text)
 

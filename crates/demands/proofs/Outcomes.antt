@@ -25,8 +25,8 @@ use Rattle.access.specs.Answers.{SetCall, WayWritten, WayCall}
 use Rattle.answers.specs.Answers.{BasesWritten, BasesCall, ScoreCall, MarksCall}
 use Rattle.findings.specs.Answers.{FindingCall}
 use Rattle.findings.proofs.Unique.{decided-once, all-below, finding-determined}
-use Rattle.determined.proofs.Stable.{stable-number, by-cases}
-use Rattle.determined.proofs.Determined.{by-target, set-determined, way-determined, bases-determined, score-determined, marks-determined}
+use Rattle.demands.proofs.Stable.{stable-number, by-cases}
+use Rattle.demands.proofs.Determined.{by-target, set-determined, way-determined, bases-determined, score-determined, marks-determined}
 use Rattle.demands.specs.Outcomes.{Outcome, Settled, SettledWay, SettledLists, Yielded, SettledQuestion12}
 
 listed-dec : (l : List ℕ) (x : ℕ) → Dec (Listed l x)

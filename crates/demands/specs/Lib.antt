@@ -1,3 +1,5 @@
 pub mod Demands
+pub mod Determined
 pub mod Outcomes
+pub mod PortalDetermined
 pub mod Sheets

@@ -1,6 +1,8 @@
 // Demands 1 and 2, as the contracts of functions that make the offered calls on any sheet, item,
 // setup, set, vertices, handed-in lists and lent lists. Demand 3 is the contract of
-// `answers::demand_three`.
+// `answers::demand_three`. That two answers which meet a call's contract are equal, lent places
+// included, is stated in specs/Determined.antt and, for the calls for C, in
+// specs/PortalDetermined.antt, and proved in the files of these names in proofs/.
 ghost use mathlib.Core.Path.{_≡_};
 ghost use mathlib.Core.Bool.{true, false};
 ghost use Rattle.vertex_set.specs.Set.{Decides};

@@ -6,11 +6,11 @@ use Prim.Native.Nat.{ℕ}
 use lib.ListN.{length}
 use Rattle.sheet_format.specs.Read.{readSheet}
 use Rattle.report_facts.specs.declared.Facts.{Facts}
-use Rattle.report_steps.specs.declared.Cursor.{Cursor}
-use Rattle.report_steps.specs.declared.Step.{Step}
-use Rattle.report_steps.specs.Inner.Steps.{Going, Filled}
-use Rattle.report_start.specs.declared.Report.{Report}
-use Rattle.report_start.specs.Whole.{Begun}
+use Rattle.report_writer.specs.declared.steps.Cursor.{Cursor}
+use Rattle.report_writer.specs.declared.steps.Step.{Step}
+use Rattle.report_writer.specs.Inner.Steps.{Going, Filled}
+use Rattle.report_writer.specs.declared.start.Report.{Report}
+use Rattle.report_writer.specs.Whole.{Begun}
 
 -- The report goes on at the cursor, and the buffers have their lengths.
 pub record Printing (sheet : List ℕ) (f : Facts) (opening lockout list out : List ℕ) (c : Cursor) : Type 0 where

@@ -1,5 +1,7 @@
 // Prints the report of the sheet on standard input (document 01, "Report and portal"). Where the
 // input fails nothing is printed, and where the output fails nothing behind the failure is.
+use report_writer::start;
+use report_writer::steps;
 use streams::Input;
 
 // One byte more than a sheet may have tells that it is too long.
@@ -11,11 +13,11 @@ fn print_report(sheet: &[u8]) {
     let mut lockout = [0u64; 16384];
     let mut list = [0u64; 16384];
     let mut out = io::large_buffer();
-    let report = report_start::begin(sheet, &mut opening, &mut lockout);
+    let report = start::begin(sheet, &mut opening, &mut lockout);
     let facts = report.facts;
     let mut cursor = report.cursor;
-    while report_steps::going(cursor) {
-        let next = report_steps::fill(
+    while steps::going(cursor) {
+        let next = steps::fill(
             facts,
             cursor,
             sheet,

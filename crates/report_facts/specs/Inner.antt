@@ -1,2 +1,5 @@
 pub mod Facts
+pub mod Figures
 pub mod Parts
+pub mod Places
+pub mod Sets

@@ -1,4 +1,10 @@
-// What the report's rows say of each vertex. The facts are worked out once for the whole report.
+// What the report's rows say of each vertex. The facts are worked out once for the whole report, by
+// `figures`, from scores, from `names` (where the items' names stand) and from `sets` (accounts,
+// findings and pairs as sets).
+pub mod figures;
+pub mod names;
+pub mod sets;
+
 use scores::RecoverabilityScore;
 use scores::SecurityScore;
 use vertex_set::VertexSet;

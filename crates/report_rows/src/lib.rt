@@ -1,11 +1,13 @@
 // The rows of the report, written straight into the bytes that go out. Each function writes from `at`
 // on and gives the next place; every other byte stays as it was.
+pub mod fields;
+
 ghost use Prim.Native.Nat.{_+_, _≤_};
 ghost use lib.ListN.{length};
 ghost use Rattle.written.specs.Inner.{Wrote};
 ghost use Rattle.report_text.specs.Rows.{setRow, scoreRow, pairRow, refusedRow};
 ghost use Rattle.sheet_format.specs.Names.{nameOf};
-ghost use Rattle.report_fields.specs.Inner.Writing.{NamePlace, NamePlaces};
+ghost use Rattle.report_rows.specs.Inner.Writing.{NamePlace, NamePlaces};
 
 const LF: u8 = 10;
 
@@ -34,11 +36,11 @@ pub fn put_set_row(
     ensures { λ r. ⌜ Wrote (now (out .entry)) at (setRow (nameOf (now (sheet .entry))) (row .loss) (row .target) (row .set) (row .sum)) (now (out .exit)) r ⌝ }
 {
     let size = u64::count_ones(row.set) as u64;
-    let mut next = report_fields::put_name_field(row.target, SPACE, sheet, from, to, out, at);
-    next = report_fields::put_way(row.loss, SPACE, out, next);
+    let mut next = fields::put_name_field(row.target, SPACE, sheet, from, to, out, at);
+    next = fields::put_way(row.loss, SPACE, out, next);
     next = writing::put_number(size, SPACE, out, next);
     next = writing::put_number(row.sum, SPACE, out, next);
-    report_fields::put_set_field(row.set, LF, sheet, from, to, out, next)
+    fields::put_set_field(row.set, LF, sheet, from, to, out, next)
 }
 
 // A target's score, risk and findings.
@@ -63,11 +65,11 @@ pub fn put_score_row(
     requires { ⌜ at + length (scoreRow (nameOf (now sheet)) (row .target) (row .score) (row .risk) (row .back) (row .idle)) ≤ length (now out) ⌝ }
     ensures { λ r. ⌜ Wrote (now (out .entry)) at (scoreRow (nameOf (now (sheet .entry))) (row .target) (row .score) (row .risk) (row .back) (row .idle)) (now (out .exit)) r ⌝ }
 {
-    let mut next = report_fields::put_name_field(row.target, SPACE, sheet, from, to, out, at);
-    next = report_fields::put_score(row.score, SPACE, out, next);
-    next = report_fields::put_score(row.risk, SPACE, out, next);
-    next = report_fields::put_answer(row.back, SPACE, out, next);
-    report_fields::put_answer(row.idle, LF, out, next)
+    let mut next = fields::put_name_field(row.target, SPACE, sheet, from, to, out, at);
+    next = fields::put_score(row.score, SPACE, out, next);
+    next = fields::put_score(row.risk, SPACE, out, next);
+    next = fields::put_answer(row.back, SPACE, out, next);
+    fields::put_answer(row.idle, LF, out, next)
 }
 
 // `order mail`
@@ -85,8 +87,8 @@ pub fn put_pair_row(
     requires { ⌜ at + length (pairRow (nameOf (now sheet)) v w) ≤ length (now out) ⌝ }
     ensures { λ r. ⌜ Wrote (now (out .entry)) at (pairRow (nameOf (now (sheet .entry))) v w) (now (out .exit)) r ⌝ }
 {
-    let next = report_fields::put_name_field(v, SPACE, sheet, from, to, out, at);
-    report_fields::put_name_field(w, LF, sheet, from, to, out, next)
+    let next = fields::put_name_field(v, SPACE, sheet, from, to, out, at);
+    fields::put_name_field(w, LF, sheet, from, to, out, next)
 }
 
 // `refused 5 2`

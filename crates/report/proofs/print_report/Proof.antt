@@ -2,8 +2,8 @@ use mathlib.Core.Path.{sym}
 use native.Mathlib.Omega.{arith}
 use lib.Seq.{length-take-le}
 use borrow.Author.Needs.{needs}
-use Rattle.report_steps.specs.Inner.Steps.{stepsLeft}
-use Rattle.report_steps.proofs.Filling.{left-some}
+use Rattle.report_writer.specs.Inner.Steps.{stepsLeft}
+use Rattle.report_writer.proofs.Filling.{left-some}
 use Rattle.report.proofs.Printing.{Printing, printing-begun, printing-more}
 use Rattle.report.proofs.print_report.Statement.{statement}
 use Rattle.report.proofs.print_report.Tie as tie

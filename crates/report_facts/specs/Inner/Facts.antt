@@ -15,7 +15,7 @@ use Rattle.bases.specs.Score.{Values}
 use Rattle.reference.specs.Bases.{scoreOf}
 use Rattle.sheet_format.specs.Names.{hasItem, nameOf}
 use Rattle.report_text.specs.Report.{isAccount, isBackdoor, isIdle, isOutOfRank}
-use Rattle.report_fields.specs.Inner.Writing.{NamePlace}
+use Rattle.report_rows.specs.Inner.Writing.{NamePlace}
 use Rattle.report_scores.specs.Inner.Scores.{BaseTable}
 use Rattle.report_facts.specs.declared.Facts.{Facts}
 

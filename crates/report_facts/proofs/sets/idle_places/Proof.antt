@@ -1,0 +1,83 @@
+use borrow.Author.Needs.{needs}
+use Prim.Native.Nat.{_+_, _≤_, _<_, _-_}
+use mathlib.Core.Path.{_≡_, sym, subst}
+use mathlib.Core.Logic.{⊎-elim}
+use native.Mathlib.Omega.{arith}
+use Rattle.vertex_set.specs.declared.VertexSet.{VertexSet}
+use Rattle.scores.specs.Inner.Lists.{recoverabilityAt}
+use Rattle.report_facts.specs.Inner.Sets.{Passing}
+use Rattle.report_facts.proofs.Gathering.{passing-none, passing-more, passing-same}
+use Rattle.report_facts.proofs.sets.idle_places.Statement.{statement}
+use Rattle.report_facts.proofs.sets.idle_places.Tie as tie
+
+-- r is the set of the vertices before v whose risk is at most that without recovery.
+abbrev Inv-loop : tie.InvT-loop
+Inv-loop risks without r₀ v₀ r v = (v ≤ 64) × Passing (λ i. recoverabilityAt (risks) i ≤ recoverabilityAt (without) i) v (r .0)
+
+abbrev μ-loop : tie.MeasureT-loop
+μ-loop risks without r₀ v₀ r v = 64 - v
+
+loop-holds : tie.Need-loop-holds Inv-loop μ-loop
+loop-holds c = (search needs, passing-none _)
+
+mul-risk : tie.Need-mul-risk Inv-loop μ-loop
+mul-risk c = search needs
+
+array-copy-out-risk : tie.Need-array-copy-out-risk Inv-loop μ-loop
+array-copy-out-risk c = search needs
+
+mul-other : tie.Need-mul-other Inv-loop μ-loop
+mul-other c = search needs
+
+array-copy-out-other : tie.Need-array-copy-out-other Inv-loop μ-loop
+array-copy-out-other c = search needs
+
+at-most-requires : tie.Need-at-most-requires Inv-loop μ-loop
+at-most-requires c κs = search needs
+
+insert-requires : tie.Need-insert-requires Inv-loop μ-loop
+insert-requires c κs = search needs
+
+add-v : tie.Need-add-v Inv-loop μ-loop
+add-v c = search needs
+
+loop-less : tie.Need-loop-less Inv-loop μ-loop
+loop-less c = search needs
+
+loop-again : tie.Need-loop-again Inv-loop μ-loop
+loop-again c =
+    let l = c .before .before .before .before .before in
+    let a = l .before .args in
+    let small : l .loop .v < 64 = omega arith in
+    let d = c .before .at-most .ensures in (
+      omega arith,
+      ⊎-elim
+          (λ w. subst (λ (x : VertexSet). Passing (λ i. recoverabilityAt (a .t1) i ≤ recoverabilityAt (a .t2) i) (l .loop .v + 1) (x .0)) (sym (w .2))
+          (passing-more (λ i. recoverabilityAt (a .t1) i ≤ recoverabilityAt (a .t2) i) (l .loop .v) (l .loop .r .0) (l .loop .inv .1) (w .1 .result .0) small (d .yes (w .0 .taken)) (w .1 .ensures)))
+          (λ w. subst (λ (x : VertexSet). Passing (λ i. recoverabilityAt (a .t1) i ≤ recoverabilityAt (a .t2) i) (l .loop .v + 1) (x .0)) (sym (w .1))
+          (passing-same (λ i. recoverabilityAt (a .t1) i ≤ recoverabilityAt (a .t2) i) (l .loop .v) (l .loop .r .0) (l .loop .inv .1) (d .no (w .0 .left))))
+          (c .if1 .came),
+    )
+
+returns : tie.Need-returns Inv-loop μ-loop
+returns c =
+    let e : c .before .loop .v ≡ 64 = omega arith in
+    rw e at (c .before .loop .inv .1)
+
+pub idle-places-spec : {M : Type 1} → statement M
+idle-places-spec =
+    tie.close
+    (tie.spec
+    Inv-loop
+    μ-loop
+    loop-holds
+    mul-risk
+    array-copy-out-risk
+    mul-other
+    array-copy-out-other
+    at-most-requires
+    insert-requires
+    add-v
+    loop-less
+    loop-again
+    returns)

@@ -1,4 +1,0 @@
-pub mod Rest
-pub mod Lists
-pub mod Steps
-pub mod Filling

@@ -1,0 +1,101 @@
+-- Step after step, as long as there is room.
+-- Assumes nothing.
+use mathlib.Core.Path.{_≡_, refl, sym, ap, _∙_}
+use mathlib.Core.List.{List, _++_}
+use Prim.Native.Nat.{ℕ, _+_, _≤_, _<_}
+use native.Mathlib.Omega.{arith}
+use lib.ListN.{length, take}
+use lib.Seq.{sets-eq, take-append-seam}
+use Rattle.setup.specs.declared.Setup.{Setup}
+use Rattle.written.specs.Inner.{Wrote}
+use Rattle.written.proofs.Writing.{wrote-length}
+use Rattle.sheet_format.specs.Names.{nameOf}
+use Rattle.report_facts.specs.declared.Facts.{Facts}
+use Rattle.report_facts.specs.Inner.Parts.{Part}
+use Rattle.report_facts.proofs.Parts.{part-none, part-then, part-length}
+use Rattle.report_writer.specs.declared.steps.Cursor.{Cursor}
+use Rattle.report_writer.specs.declared.steps.Cursor.the-variants as cursor
+use Rattle.report_writer.specs.declared.steps.Step.{Step}
+use Rattle.report_writer.specs.Rest.{restOf}
+use Rattle.report_writer.specs.Inner.Steps.{At, Going, stepsLeft, Went, Filled}
+
+-- Steps were taken from the place c₀ to the place c.
+pub record Filling (sheet : List ℕ) (f : Facts) (opening lockout list₀ : List ℕ) (c₀ : Cursor) (out₀ : List ℕ) (at₀ : ℕ) (list out : List ℕ) (c : Cursor) (at : ℕ) : Type 0 where
+  pub part : (s : Setup) → At sheet s f opening lockout list₀ c₀ → Part out₀ at₀ (restOf (nameOf sheet) s c₀) (restOf (nameOf sheet) s c) out at
+  pub here : (s : Setup) → At sheet s f opening lockout list₀ c₀ → At sheet s f opening lockout list c
+  pub going : Going sheet f opening lockout list c
+  pub inside : at ≤ length out
+  pub less : stepsLeft (f .count) c ≤ stepsLeft (f .count) c₀
+  pub long : length out ≡ length out₀
+  pub longList : length list ≡ length list₀
+
+module _ (sheet : List ℕ) (f : Facts) (opening lockout list₀ : List ℕ) (c₀ : Cursor) (out₀ : List ℕ) (at₀ : ℕ) where
+  pub filling-none : Going sheet f opening lockout list₀ c₀ → at₀ ≤ length out₀ → Filling sheet f opening lockout list₀ c₀ out₀ at₀ list₀ out₀ c₀ at₀
+  filling-none g h =
+      record {
+        part = λ s a. part-none out₀ at₀ _ h;
+        here = λ s a. a;
+        going = g;
+        inside = h;
+        less = omega arith;
+        long = refl;
+        longList = refl;
+      }
+
+  pub filling-more : (list out : List ℕ) (c : Cursor) (at : ℕ) (list′ exit : List ℕ) (r : Step) → Filling sheet f opening lockout list₀ c₀ out₀ at₀ list out c at
+      → length list′ ≡ length list → 0 < stepsLeft (f .count) c → Went sheet f opening lockout list c out at list′ exit r
+      → Filling sheet f opening lockout list₀ c₀ out₀ at₀ list′ exit (r .cursor) (r .at)
+  filling-more list out c at list′ exit r w k z v =
+      let p = v .part (w .going .setup) (w .going .here) in
+      let l = v .less z in
+      let m = w .less in
+      record {
+        part = λ s a. part-then out₀ at₀ _ _ out at (w .part s a) _ exit (r .at) (v .part s (w .here s a));
+        here = λ s a. v .here s (w .here s a);
+        going = record { setup = w .going .setup; here = v .here (w .going .setup) (w .going .here) };
+        inside = p .inside;
+        less = omega arith;
+        long = part-length out at _ _ exit (r .at) p ∙ w .long;
+        longList = k ∙ w .longList;
+      }
+
+-- what a step leaves
+pub went-going : (sheet : List ℕ) (f : Facts) (opening lockout list : List ℕ) (c : Cursor) (entry : List ℕ) (at : ℕ) (list′ exit : List ℕ) (r : Step)
+    → Going sheet f opening lockout list c → Went sheet f opening lockout list c entry at list′ exit r → Going sheet f opening lockout list′ (r .cursor)
+went-going sheet f opening lockout list c entry at list′ exit r g w = record { setup = g .setup; here = w .here (g .setup) (g .here) }
+
+pub went-inside : (sheet : List ℕ) (f : Facts) (opening lockout list : List ℕ) (c : Cursor) (entry : List ℕ) (at : ℕ) (list′ exit : List ℕ) (r : Step)
+    → Going sheet f opening lockout list c → Went sheet f opening lockout list c entry at list′ exit r → r .at ≤ length exit
+went-inside sheet f opening lockout list c entry at list′ exit r g w = w .part (g .setup) (g .here) .inside
+
+-- the bytes that were written from the front on
+front : (entry xs exit : List ℕ) (r : ℕ) → Wrote entry 0 xs exit r → r ≤ length exit → take r exit ≡ xs
+front entry xs exit r w h =
+    let n = w .next in
+    let l = wrote-length entry 0 xs exit r w in
+    let e = w .exit ∙ sets-eq xs entry 0 (omega arith) in
+    let z : 0 + length xs ≡ length xs = omega arith in
+    rw (e, n, z) (take-append-seam xs _)
+
+pub filled : (sheet : List ℕ) (f : Facts) (opening lockout list : List ℕ) (c : Cursor) (entry list₀ out₀ : List ℕ) (first : Step) (list′ out : List ℕ) (d : Cursor) (at : ℕ)
+    → Went sheet f opening lockout list c entry 0 list₀ out₀ first
+    → Filling sheet f opening lockout list₀ (first .cursor) out₀ (first .at) list′ out d at
+    → Filled sheet f opening lockout list c list′ out (record { cursor = d; at = at })
+filled sheet f opening lockout list c entry list₀ out₀ first list′ out d at w v =
+    record {
+      part = λ s a.
+          let p = part-then entry 0 _ _ out₀ (first .at) (w .part s a) _ out at (v .part s (w .here s a)) in
+          p .split ∙ ap (λ y. y ++ restOf (nameOf sheet) s d) (sym (front entry (p .part) out at (p .wrote) (p .inside)));
+      here = λ s a. v .here s (w .here s a);
+      inside = v .inside;
+      less = λ z. let l = w .less z in let m = v .less in omega arith;
+    }
+
+-- where something is left, steps are
+pub left-some : (n : ℕ) (c : Cursor) → (c ≡ cursor.End → ⊥) → 0 < stepsLeft n c
+left-some n cursor.Start h = omega arith
+left-some n (cursor.Lists k i m) h = omega arith
+left-some n (cursor.Scores v) h = omega arith
+left-some n (cursor.Pairs v) h = omega arith
+left-some n (cursor.Refused q l) h = omega arith
+left-some n cursor.End h = absurd (h refl)

@@ -1,0 +1,275 @@
+-- The steps, each with what it writes and where the report goes on.
+-- Assumes nothing.
+use mathlib.Core.Path.{_≡_, refl, sym, ap, subst, _∙_}
+use mathlib.Core.Bool.{true, false}
+use mathlib.Core.List.{List, [], _∷_, _++_, append-nil}
+use mathlib.Core.Logic.{⊎-elim}
+use Prim.Native.Nat.{ℕ, suc, _+_, _*_, _/_, _≤_, _<_}
+use native.Mathlib.Numerals.{add-one}
+use native.Mathlib.Omega.{arith}
+use lib.ListN.{length, take, length-take}
+use Rattle.vertex_set.specs.Set.{Decides}
+use Rattle.vertex_set.proofs.Cases.{less-or, false-true}
+use Rattle.setup.specs.declared.Setup.{Setup}
+use Rattle.bases.proofs.Formed.{few}
+use Rattle.written.specs.Inner.{Wrote}
+use Rattle.written.proofs.Writing.{wrote-inside}
+use Rattle.report_text.specs.Rows.{listHeader, scoreHeader, pairHeader, refusedRow}
+use Rattle.sheet_format.specs.Names.{nameOf}
+use Rattle.report_text.proofs.Lengths.{refused-row-length}
+use Rattle.report_facts.specs.declared.Facts.{Facts}
+use Rattle.report_facts.specs.Inner.Facts.{FactsOf, TablesOf}
+use Rattle.report_facts.specs.Texts.{slotList, scoreAt, pairsAt}
+use Rattle.report_facts.proofs.Parts.{part-none, part-one}
+use Rattle.report_sections.specs.Inner.Parts.{PartReady, WrotePart}
+use Rattle.report_sections.specs.declared.lists.RowsStep.{RowsStep}
+use Rattle.report_sections.specs.Inner.Lists.{CanLoad, Loaded}
+use Rattle.report_writer.specs.declared.steps.Cursor.{Cursor}
+use Rattle.report_writer.specs.declared.steps.Cursor.the-variants as cursor
+use Rattle.report_writer.specs.declared.steps.Step.{Step}
+use Rattle.report_writer.specs.Rest.{rowsFrom, listsFrom, scoresFrom, pairsFrom}
+use Rattle.report_writer.specs.Inner.Steps.{ListAt, ListWent, At, Going, stepsLeft, Went, SectionGoing, ScoresWent, PairsWent}
+use Rattle.report_writer.proofs.Rest.{start-next, list-next, lists-end, rows-end, score-next, scores-end, pairs-next, pairs-end}
+
+-- ---- at which place a step is taken
+
+module _ (sheet : List ℕ) (f : Facts) (opening lockout list : List ℕ) (c d : Cursor) (e : c ≡ d) where
+  pub going-at : Going sheet f opening lockout list c → Going sheet f opening lockout list d
+  going-at g = subst (Going sheet f opening lockout list) e g
+
+  pub went-at : (entry : List ℕ) (at : ℕ) (list′ exit : List ℕ) (r : Step) → Went sheet f opening lockout list d entry at list′ exit r
+      → Went sheet f opening lockout list c entry at list′ exit r
+  went-at entry at list′ exit r w = subst (λ x. Went sheet f opening lockout list x entry at list′ exit r) (sym e) w
+
+-- ---- lists
+
+can-load : (sheet : List ℕ) (s : Setup) (f : Facts) (opening lockout list : List ℕ) (k : ℕ) → FactsOf sheet s f → TablesOf s f opening lockout → k < 2 * s .count
+    → length list ≡ 16384 → CanLoad k (f .initial .0) (f .losable .0) opening lockout list
+can-load sheet s f opening lockout list k h t l room =
+    let m = h .formed .most in
+    record {
+      vertex = omega arith;
+      few = few false s (f .initial .0) (h .formed) (h .initial);
+      fewLosable = few true s (f .losable .0) (h .formed) (h .losable);
+      room = room;
+      graph = s .graph;
+      opens = t .opens;
+      locks = t .locks;
+    }
+
+loaded-here : (sheet : List ℕ) (s : Setup) (f : Facts) (opening lockout : List ℕ) (k m : ℕ) (list : List ℕ) → FactsOf sheet s f → TablesOf s f opening lockout → k < 2 * s .count
+    → Loaded k (f .accounts .0) (f .initial .0) (f .losable .0) opening lockout m list → ListAt sheet s f list k 0 m
+loaded-here sheet s f opening lockout k m list h t l d =
+    record {
+      facts = h;
+      number = l;
+      next = omega arith;
+      most = d .most;
+      room = d .room;
+      here = d .each s (h .formed) (h .initial) (h .losable) (t .opens) (t .locks) (h .accounts (k / 2) (omega arith));
+    }
+
+-- where all rows of a list stand, the next list follows
+list-done : (name : ℕ → List ℕ) (s : Setup) (list : List ℕ) (k i n : ℕ) → i ≤ n → n ≤ i → n ≤ 16384 → length list ≡ 16384 → take n list ≡ slotList s k
+    → rowsFrom name s k i ≡ listsFrom name s (suc k)
+list-done name s list k i n a b m room e = rows-end name s k i (ap length (sym e) ∙ length-take n list ∙ omega arith)
+
+module _ (sheet : List ℕ) (f : Facts) (opening lockout list : List ℕ) (k i n : ℕ) (entry : List ℕ) (at : ℕ) where
+  pub rows-step : (exit : List ℕ) (r : RowsStep) → i < n → ListWent sheet f list k i n entry at exit r
+      → Went sheet f opening lockout list (cursor.Lists k i n) entry at list exit (record { cursor = cursor.Lists k (r .row) n; at = r .at })
+  rows-step exit r l w =
+      record {
+        part = λ s a. w .each s (a .0);
+        here = λ s a.
+            let h = a .0 in
+            (record { facts = h .facts; number = h .number; next = w .most; most = h .most; room = h .room; here = h .here }, a .1);
+        less = λ z. let m = w .more l in let p = w .most in omega arith;
+      }
+
+  pub next-can-load : Going sheet f opening lockout list (cursor.Lists k i n) → k + 1 < 2 * f .count → CanLoad (k + 1) (f .initial .0) (f .losable .0) opening lockout list
+  next-can-load g l =
+      let h = g .here .0 in
+      let e = h .facts .isCount in
+      can-load sheet (g .setup) f opening lockout list (k + 1) (h .facts) (g .here .1) (omega arith) (h .room)
+
+  pub next-step : (m : ℕ) (list′ : List ℕ) → n ≤ i → k + 1 < 2 * f .count → at + 4096 ≤ length entry
+      → Loaded (k + 1) (f .accounts .0) (f .initial .0) (f .losable .0) opening lockout m list′
+      → Went sheet f opening lockout list (cursor.Lists k i n) entry at list′ entry (record { cursor = cursor.Lists (k + 1) 0 m; at = at })
+  next-step m list′ b l room d =
+      record {
+        part = λ s a.
+            let h = a .0 in
+            let e = h .facts .isCount in
+            let q = list-done (nameOf sheet) s list k i n (h .next) b (h .most) (h .room) (h .here) ∙ list-next (nameOf sheet) s (suc k) (omega arith) in
+            rw (q, add-one k) (part-none entry at (rowsFrom (nameOf sheet) s (suc k) 0) (omega arith));
+        here = λ s a.
+            let h = a .0 in
+            let e = h .facts .isCount in
+            (loaded-here sheet s f opening lockout (k + 1) m list′ (h .facts) (a .1) (omega arith) d, a .1);
+        less = λ z. let q = d .most in omega arith;
+      }
+
+  pub header-step : (text exit : List ℕ) (r : ℕ) → text ≡ 10 ∷ scoreHeader → Going sheet f opening lockout list (cursor.Lists k i n) → n ≤ i → 2 * f .count ≤ k + 1
+      → at + length text ≤ length entry → Wrote entry at text exit r
+      → Went sheet f opening lockout list (cursor.Lists k i n) entry at list exit (record { cursor = cursor.Scores 0; at = r })
+  header-step text exit r t g b l room w =
+      record {
+        part = λ s a.
+            let h = a .0 in
+            let e = h .facts .isCount in
+            let u = h .number in
+            let v : suc k ≡ 2 * s .count = omega arith in
+            let q = list-done (nameOf sheet) s list k i n (h .next) b (h .most) (h .room) (h .here) ∙ ap (listsFrom (nameOf sheet) s) v ∙ lists-end (nameOf sheet) s in
+            part-one entry at _ text _ exit r (q ∙ ap (λ y. y ++ scoresFrom (nameOf sheet) s 0) (sym t)) w (wrote-inside entry at text exit r w room);
+        here = λ s a. (a .0 .facts, omega arith);
+        less = λ z.
+            let h = g .here .0 in
+            let e = h .facts .isCount in
+            let u = h .number in
+            let m = h .facts .formed .most in
+            omega arith;
+      }
+
+-- ---- scores and pairs
+
+module _ (sheet : List ℕ) (f : Facts) (v : ℕ) (entry : List ℕ) (at : ℕ) where
+  pub section-ready : SectionGoing sheet f v entry at → v < f .count → PartReady sheet f v entry at
+  section-ready g l = let e = g .facts .isCount in record { setup = g .setup; facts = g .facts; vertex = omega arith; room = g .room }
+
+  pub score-step : (exit : List ℕ) (r : ℕ) → v < f .count → WrotePart scoreAt sheet f v entry at exit r
+      → ScoresWent sheet f v entry at exit (record { cursor = cursor.Scores (v + 1); at = r })
+  score-step exit r l w =
+      record {
+        part = λ s h m.
+            let e = h .isCount in
+            let below : v < s .count = omega arith in
+            rw (add-one v) (part-one entry at _ (scoreAt (nameOf sheet) s v) _ exit r (score-next (nameOf sheet) s v below) (w .each s h below) (w .inside));
+        more = λ b. refl;
+        last = λ b. absurd (omega arith);
+      }
+
+  pub scores-last : (text exit : List ℕ) (r : ℕ) → text ≡ 10 ∷ pairHeader → f .count ≤ v → at + length text ≤ length entry → Wrote entry at text exit r
+      → ScoresWent sheet f v entry at exit (record { cursor = cursor.Pairs 0; at = r })
+  scores-last text exit r t l room w =
+      record {
+        part = λ s h m.
+            let e = h .isCount in
+            let q : v ≡ s .count = omega arith in
+            part-one entry at _ text _ exit r (ap (scoresFrom (nameOf sheet) s) q ∙ scores-end (nameOf sheet) s ∙ ap (λ y. y ++ pairsFrom (nameOf sheet) s 0) (sym t)) w
+            (wrote-inside entry at text exit r w room);
+        more = λ b. absurd (omega arith);
+        last = λ b. refl;
+      }
+
+  pub pairs-step : (exit : List ℕ) (r : ℕ) → v < f .count → WrotePart pairsAt sheet f v entry at exit r
+      → PairsWent sheet f v entry at exit (record { cursor = cursor.Pairs (v + 1); at = r })
+  pairs-step exit r l w =
+      record {
+        part = λ s h m.
+            let e = h .isCount in
+            let below : v < s .count = omega arith in
+            rw (add-one v) (part-one entry at _ (pairsAt (nameOf sheet) s v) _ exit r (pairs-next (nameOf sheet) s v below) (w .each s h below) (w .inside));
+        more = λ b. refl;
+        last = λ b. absurd (omega arith);
+      }
+
+  pub pairs-last : f .count ≤ v → at + 4096 ≤ length entry → PairsWent sheet f v entry at entry (record { cursor = cursor.End; at = at })
+  pairs-last l room =
+      record {
+        part = λ s h m.
+            let e = h .isCount in
+            let q : v ≡ s .count = omega arith in
+            rw (q, pairs-end (nameOf sheet) s) (part-none entry at [] (omega arith));
+        more = λ b. absurd (omega arith);
+        last = λ b. refl;
+      }
+
+module _ (sheet : List ℕ) (f : Facts) (opening lockout list : List ℕ) (v : ℕ) (entry : List ℕ) (at : ℕ) (exit : List ℕ) (r : Step) where
+  pub scores-went : Going sheet f opening lockout list (cursor.Scores v) → ScoresWent sheet f v entry at exit r
+      → Went sheet f opening lockout list (cursor.Scores v) entry at list exit r
+  scores-went g w =
+      record {
+        part = λ s a. w .part s (a .0) (a .1);
+        here = λ s a.
+            let e = a .0 .isCount in
+            ⊎-elim
+            (λ b. subst (At sheet s f opening lockout list) (sym (w .more b)) (a .0, omega arith))
+            (λ b. subst (At sheet s f opening lockout list) (sym (w .last b)) (a .0, omega arith))
+            (less-or v (f .count));
+        less = λ z.
+            let e = g .here .0 .isCount in
+            let m = g .here .0 .formed .most in
+            ⊎-elim (λ b. rw (w .more b) (omega arith)) (λ b. rw (w .last b) (omega arith)) (less-or v (f .count));
+      }
+
+  pub pairs-went : PairsWent sheet f v entry at exit r → Went sheet f opening lockout list (cursor.Pairs v) entry at list exit r
+  pairs-went w =
+      record {
+        part = λ s a. w .part s (a .0) (a .1);
+        here = λ s a.
+            let e = a .0 .isCount in
+            ⊎-elim
+            (λ b. subst (At sheet s f opening lockout list) (sym (w .more b)) (a .0, omega arith))
+            (λ b. subst (At sheet s f opening lockout list) (sym (w .last b)) tt)
+            (less-or v (f .count));
+        less = λ z. ⊎-elim (λ b. rw (w .more b) (omega arith)) (λ b. rw (w .last b) (omega arith)) (less-or v (f .count));
+      }
+
+pub section-scores : (sheet : List ℕ) (f : Facts) (opening lockout list : List ℕ) (v : ℕ) (out : List ℕ) (at : ℕ)
+    → Going sheet f opening lockout list (cursor.Scores v) → at + 4096 ≤ length out → SectionGoing sheet f v out at
+section-scores sheet f opening lockout list v out at g room = record { setup = g .setup; facts = g .here .0; most = g .here .1; room = room }
+
+pub section-pairs : (sheet : List ℕ) (f : Facts) (opening lockout list : List ℕ) (v : ℕ) (out : List ℕ) (at : ℕ)
+    → Going sheet f opening lockout list (cursor.Pairs v) → at + 4096 ≤ length out → SectionGoing sheet f v out at
+section-pairs sheet f opening lockout list v out at g room = record { setup = g .setup; facts = g .here .0; most = g .here .1; room = room }
+
+-- ---- the first step, and that of a refused sheet
+
+module _ (sheet : List ℕ) (f : Facts) (opening lockout list : List ℕ) (entry : List ℕ) (at : ℕ) where
+  pub start-can-load : Going sheet f opening lockout list cursor.Start → CanLoad 0 (f .initial .0) (f .losable .0) opening lockout list
+  start-can-load g =
+      let h = g .here .0 in
+      let z = h .formed .some in
+      can-load sheet (g .setup) f opening lockout list 0 h (g .here .1) (omega arith) (g .here .2)
+
+  pub start-step : (text exit : List ℕ) (r m : ℕ) (list′ : List ℕ) → text ≡ listHeader → at + length text ≤ length entry → Wrote entry at text exit r
+      → Loaded 0 (f .accounts .0) (f .initial .0) (f .losable .0) opening lockout m list′
+      → Went sheet f opening lockout list cursor.Start entry at list′ exit (record { cursor = cursor.Lists 0 0 m; at = r })
+  start-step text exit r m list′ t room w d =
+      record {
+        part = λ s a.
+            let z = a .0 .formed .some in
+            part-one entry at _ text _ exit r
+            (start-next (nameOf sheet) s ∙ ap (λ y. listHeader ++ y) (list-next (nameOf sheet) s 0 (omega arith)) ∙ ap (λ y. y ++ rowsFrom (nameOf sheet) s 0 0) (sym t)) w
+            (wrote-inside entry at text exit r w room);
+        here = λ s a. let z = a .0 .formed .some in (loaded-here sheet s f opening lockout 0 m list′ (a .0) (a .1) (omega arith) d, a .1);
+        less = λ z. let q = d .most in omega arith;
+      }
+
+  pub refused-fits : (number line : ℕ) → Going sheet f opening lockout list (cursor.Refused number line) → at + 4096 ≤ length entry
+      → at + length (refusedRow number line) ≤ length entry
+  refused-fits number line g room = let l = refused-row-length number line (g .here .0) (g .here .1) in omega arith
+
+  pub refused-step : (number line : ℕ) (exit : List ℕ) (r : ℕ) → at + length (refusedRow number line) ≤ length entry → Wrote entry at (refusedRow number line) exit r
+      → Went sheet f opening lockout list (cursor.Refused number line) entry at list exit (record { cursor = cursor.End; at = r })
+  refused-step number line exit r room w =
+      record {
+        part = λ s a. part-one entry at _ (refusedRow number line) [] exit r (sym (append-nil (refusedRow number line))) w (wrote-inside entry at _ exit r w room);
+        here = λ s a. tt;
+        less = λ z. omega arith;
+      }
+
+  pub end-step : at + 4096 ≤ length entry → Went sheet f opening lockout list cursor.End entry at list entry (record { cursor = cursor.End; at = at })
+  end-step room = record { part = λ s a. part-none entry at [] (omega arith); here = λ s a. tt; less = λ z. absurd (omega arith) }
+
+-- ---- is something left?
+
+pub still-going : (c d : Cursor) → c ≡ d → 0 < stepsLeft 0 d → Decides (c ≡ cursor.End → ⊥) true
+still-going c d e l =
+    record {
+      yes = λ t p. let z = ap (stepsLeft 0) (sym e ∙ p) in omega arith;
+      no = λ t. absurd (false-true (sym t));
+    }
+
+pub at-end : (c : Cursor) → c ≡ cursor.End → Decides (c ≡ cursor.End → ⊥) false
+at-end c e = record { yes = λ t. absurd (false-true t); no = λ t h. h e }

@@ -1,4 +1,5 @@
--- How long rows are: at most 272 bytes, with names of at most 16 bytes, at most 14 items in a set, and a sum of at most eight digits.
+-- How long rows are: at most 275 bytes, with names of at most 16 bytes, at most 14 items in a set, and a sum of at most 14 of the largest value;
+-- and one row is as long.
 -- Assumes nothing.
 use mathlib.Core.Path.{_≡_, refl}
 use mathlib.Core.Bool.{Bool, true, false}
@@ -8,16 +9,18 @@ use Prim.Native.Nat.{ℕ, zero, suc, _+_, _-_, _*_, _/_, _%_, _^_, _≤_, _<_}
 use native.Mathlib.Nat.{pow-suc}
 use native.Mathlib.Omega.{arith}
 use lib.Count.{ones}
-use lib.ListN.{length, length-append}
+use lib.ListN.{length, replicate, length-append}
 use borrow.Author.Tests.{lt-ltb, le-ltb}
 use Rattle.vertex_set.specs.Set.{Member}
 use Rattle.vertex_set.specs.Order.{Listed}
 use Rattle.vertex_set.proofs.Cases.{less-or, same-or}
 use Rattle.vertex_set.proofs.Places.{places, length-places, listed-places}
+use Rattle.setup.specs.Bounds.{largest}
 use Rattle.sheet_format.specs.Fields.{digitsIn, decimal}
 use Rattle.sheet_format.specs.Rows.{lineText}
 use Rattle.bases.specs.Score.{never}
-use Rattle.report_text.specs.Rows.{wayText, answerText, scoreText, joined, setText, setRow, scoreRow, pairRow, refusedRow}
+use Rattle.reference.specs.Tests.{those, isMember}
+use Rattle.report_text.specs.Rows.{numbersFrom, wayText, answerText, scoreText, itemsOf, joined, setText, setRow, scoreRow, pairRow, refusedRow}
 use Rattle.report_text.proofs.Items.{set-text}
 use Rattle.report_text.proofs.Rows.{score-never, score-number}
 
@@ -82,17 +85,22 @@ line-length f (g ∷ fs) = let ih = line-length g fs in omega (arith, length-app
 
 -- The longest row.
 abbrev pub longest : ℕ
-longest = 272
+longest = 275
 
-pub set-row-length : (name : ℕ → List ℕ) (loss : Bool) (target x sum : ℕ) → x < 2 ^ 64 → ones x ≤ 14 → sum < 100000000
+pub set-row-length : (name : ℕ → List ℕ) (loss : Bool) (target x sum : ℕ) → x < 2 ^ 64 → ones x ≤ 14 → sum ≤ 14 * largest
     → length (name target) ≤ 16 → ((v : ℕ) → Member x v → length (name v) ≤ 16) → length (setRow name loss target x sum) ≤ longest
 unfolding setRow lineBytes
 set-row-length name loss target x sum b few low t h =
     let w = way-length loss in
     let n = decimal-length 1 (ones x) (omega arith) in
-    let d = decimal-length 7 sum low in
+    let d = decimal-length 10 sum (omega arith) in
     let s = set-length name x b few h in
     omega (arith, line-length (name target) (wayText loss ∷ decimal (ones x) ∷ decimal sum ∷ setText name x ∷ []))
+
+-- Fourteen items whose names have 16 letters, and whose values are the largest, make a row as long.
+pub longest-row : length (setRow (λ (v : ℕ). replicate 16 97) false 14 (2 ^ 14 - 1) (14 * largest)) ≡ longest
+unfolding setRow wayText decimal digitsIn setText itemsOf numbersFrom those isMember joined ones
+longest-row = refl
 
 pub score-row-length : (name : ℕ → List ℕ) (target score risk : ℕ) (back idle : Bool) → score < 2 ^ 64 → risk < 2 ^ 64
     → length (name target) ≤ 16 → length (scoreRow name target score risk back idle) ≤ longest

@@ -2,7 +2,7 @@
 use mathlib.Core.Path.{_≡_}
 use mathlib.Core.Bool.{Bool, true, false}
 use mathlib.Core.List.{List}
-use Prim.Native.Nat.{ℕ, _+_, _/_, _≤_, _<_}
+use Prim.Native.Nat.{ℕ, _+_, _*_, _/_, _≤_, _<_}
 use lib.Count.{ones}
 use lib.ListN.{length, getD, take, drop}
 use Rattle.vertex_set.specs.Set.{Member, Iff}
@@ -21,6 +21,10 @@ use Rattle.report_scores.specs.Inner.Scores.{BaseTable}
 use Rattle.report_facts.specs.Texts.{slotList}
 use Rattle.report_facts.specs.Inner.Parts.{Part}
 
+-- The most bytes of a row.
+abbrev pub longestRow : ℕ
+longestRow = 275
+
 -- The names of the vertices of x have places, and are short.
 pub record SetReady (sheet from to : List ℕ) (x : ℕ) : Type 0 where
   pub few : ones x ≤ 14
@@ -34,6 +38,7 @@ pub record RowsReady (sheet from to values list : List ℕ) (target i n : ℕ) :
   pub sets : (j : ℕ) → j < n → SetReady sheet from to (getD list j 0)
   pub longValues : length values ≡ 64
   pub small : (v : ℕ) → getD values v 0 ≤ largest
+  pub sums : (j : ℕ) → j < n → sumOver (λ (v : ℕ). getD values v 0) (getD list j 0) ≤ 14 * largest
   pub next : i ≤ n
   pub here : n ≤ length list
 
@@ -49,7 +54,7 @@ rowsFrom name loss target values list n i = textsOf (rowOf name loss target valu
 pub record RowsWent (name : ℕ → List ℕ) (loss : Bool) (target : ℕ) (values list : List ℕ) (i n : ℕ) (entry : List ℕ) (at : ℕ) (exit : List ℕ) (row r : ℕ) : Type 0 where
   pub part : Part entry at (rowsFrom name loss target values list n i) (rowsFrom name loss target values list n row) exit r
   pub most : row ≤ n
-  pub more : i < n → at + 272 ≤ length entry → i < row
+  pub more : i < n → at + longestRow ≤ length entry → i < row
 
 -- The tables of bases of some graph, and room for every list.
 pub record CanLoad (k initial losable : ℕ) (opening lockout list : List ℕ) : Type 0 where

@@ -121,6 +121,7 @@ static inline const char *portal_refusal_text(uint64_t number)
 #define PORTAL_COLOURS 8
 #define PORTAL_MAX_SHEET 16384
 #define PORTAL_MAX_NAME 16
+#define PORTAL_MAX_VALUE UINT64_C(4000000000)
 
 /* Places that are always enough for both lists of a target: each has subsets of at most 14 items, each once. */
 #define PORTAL_MAX_SETS 32768
@@ -129,7 +130,7 @@ static inline const char *portal_refusal_text(uint64_t number)
 #define PORTAL_COUNT 0
 /* Of each place v from 0 to 63: 0 for a credential, and any other number for an account; portal_read writes 1 for it. */
 #define PORTAL_KIND(v) (1 + 4 * (v))
-/* How hard the item is to get, and to lose: 0 to 1,000,000, or PORTAL_BLANK where it is not a starting, or losable, item. */
+/* How hard the item is to get, and to lose: 0 to PORTAL_MAX_VALUE, or PORTAL_BLANK where it is not a starting, or losable, item. */
 #define PORTAL_START(v) (2 + 4 * (v))
 #define PORTAL_LOSS(v) (3 + 4 * (v))
 /* Its rank: 0 to 9. */

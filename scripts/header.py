@@ -66,7 +66,7 @@ def agree(wanted, found):
 
 
 def constant(source, name):
-    return int(re.search(rf"^const {name}: \w+ = ([\w]+);", source, re.M).group(1).replace("_", ""), 0)
+    return int(re.search(rf"^(?:pub )?const {name}: \w+ = ([\w]+);", source, re.M).group(1).replace("_", ""), 0)
 
 
 def macro(header, name):
@@ -122,6 +122,9 @@ for field in ("kind", "start", "loss", "rank"):
 longest = {"PORTAL_MAX_SHEET": ("sheet", "MAX_BYTES"), "PORTAL_MAX_NAME": ("sheet_fields", "NAME_BYTES")}
 for name, (crate, bound) in longest.items():
     faults += [f"{name} is another number"] * (macro(header, name) != str(constant(read(f"crates/{crate}/src/lib.rt"), bound)))
+largest = constant(read("crates/setup/src/lib.rt"), "MAX_VALUE")
+faults += ["PORTAL_MAX_VALUE is another number"] * (macro(header, "PORTAL_MAX_VALUE") != f"UINT64_C({largest})")
+faults += ["man/report.1 has another largest value"] * (f"0 to {largest:,}" not in read("man/report.1"))
 faults += ["PORTAL_SETUP_WORDS is another number"] * (macro(header, "PORTAL_SETUP_WORDS") != str(constant(reading, "SETUP_WORDS")))
 faults += ["PORTAL_VERSION is another number"] * (macro(header, "PORTAL_VERSION") != str(constant(reading, "VERSION")))
 faults += ["tests/product is for another version"] * (f"pub const VERSION: u64 = {constant(reading, 'VERSION')};" not in read("tests/product/src/lib.rs"))

@@ -29,10 +29,28 @@ static const char SHEET[] =
 
 static const char ALONE[] = "name kind start loss rank\nalone a - - 0\n\nfrom to colour rec\n";
 
+/* Fourteen items of the largest value. All of them together open item 14; any of them opens item 16, so that it is lost with all 14
+ * alone: seven are its own, and seven those of item 15. */
+static const char LARGEST[] =
+    "name kind start loss rank\n"
+    "a c 4000000000 4000000000 0\nb c 4000000000 4000000000 0\nc c 4000000000 4000000000 0\nd c 4000000000 4000000000 0\n"
+    "e c 4000000000 4000000000 0\nf c 4000000000 4000000000 0\ng c 4000000000 4000000000 0\nh c 4000000000 4000000000 0\n"
+    "i c 4000000000 4000000000 0\nj c 4000000000 4000000000 0\nk c 4000000000 4000000000 0\nl c 4000000000 4000000000 0\n"
+    "m c 4000000000 4000000000 0\nn c 4000000000 4000000000 0\nall a - - 1\nrest a - - 1\nany a - - 1\n"
+    "\n"
+    "from to colour rec\n"
+    "a all 0 0\nb all 0 0\nc all 0 0\nd all 0 0\ne all 0 0\nf all 0 0\ng all 0 0\n"
+    "h all 0 0\ni all 0 0\nj all 0 0\nk all 0 0\nl all 0 0\nm all 0 0\nn all 0 0\n"
+    "h rest 0 0\ni rest 1 0\nj rest 2 0\nk rest 3 0\nl rest 4 0\nm rest 5 0\nn rest 6 0\n"
+    "a any 0 0\nb any 1 0\nc any 2 0\nd any 3 0\ne any 4 0\nf any 5 0\ng any 6 0\nrest any 7 0\n";
+
+static const char BEYOND[] = "name kind start loss rank\na c 4000000001 - 0\n\nfrom to colour rec\n";
+static const char LOSS_BEYOND[] = "name kind start loss rank\na c - 4000000001 0\n\nfrom to colour rec\n";
+
 enum { ORDPW = 1, MAILPW = 2, TOKEN = 4, MAIL = 8, ORDER = 16, ORDER_ITEM = 4, MAIL_ITEM = 3 };
 
-/* The setup of SHEET, and one that no sheet yields. */
-static uint64_t setup[WORDS], malformed[WORDS];
+/* The setup of SHEET; the same with the largest value; and three that no sheet yields: one by its rank, the others by a start and a loss above the largest value. */
+static uint64_t setup[WORDS], highest[WORDS], malformed[WORDS], beyond[WORDS], loss_beyond[WORDS];
 
 static int faults;
 
@@ -63,6 +81,9 @@ static void try_score(void)
     expect("never", score(ALONE, 0), PORTAL_NEVER);
     expect("empty sheet", portal_score(NULL, 0, 0), PORTAL_NEVER + PORTAL_NO_TEXT);
     expect("no header", score("names\n", 0), PORTAL_NEVER + PORTAL_HEADER);
+    expect("14 of the largest value", score(LARGEST, 14), UINT64_C(56000000000));
+    expect("one of the largest value", score(LARGEST, 16), UINT64_C(4000000000));
+    expect("a value too large", score(BEYOND, 0), PORTAL_NEVER + PORTAL_FORM);
     expect("is a value", (uint64_t)portal_is_value(score(SHEET, 4)), 1);
     expect("is never", (uint64_t)portal_is_never(score(ALONE, 0)), 1);
     expect("is a refusal", portal_refusal(score("names\n", 0)), 3);
@@ -75,6 +96,9 @@ static void try_risk(void)
     expect("risk of mail", risk(SHEET, 3), 1);
     expect("no such item, far off", risk(SHEET, UINT64_MAX), PORTAL_NEVER + PORTAL_NO_ITEM);
     expect("never lost", risk(ALONE, 0), PORTAL_NEVER);
+    expect("the loss of one of the largest value", risk(LARGEST, 14), UINT64_C(4000000000));
+    expect("the loss of 14 of the largest value", risk(LARGEST, 16), UINT64_C(56000000000));
+    expect("a loss too large", risk(LOSS_BEYOND, 0), PORTAL_NEVER + PORTAL_FORM);
 }
 
 static void try_read(void)
@@ -133,6 +157,9 @@ static void try_check(void)
 {
     expect("a setup", portal_check(setup, WORDS), 0);
     expect("no setup", portal_check(malformed, WORDS), PORTAL_NO_SETUP);
+    expect("the largest value", portal_check(highest, WORDS), 0);
+    expect("a start too large", portal_check(beyond, WORDS), PORTAL_NO_SETUP);
+    expect("a loss too large", portal_check(loss_beyond, WORDS), PORTAL_NO_SETUP);
     expect("no words", portal_check(NULL, 0), PORTAL_NO_SETUP);
 }
 
@@ -334,6 +361,13 @@ int main(int argc, char **argv)
     expect("document 01's sheet", portal_read(bytes(SHEET), strlen(SHEET), setup, WORDS).number, 0);
     memcpy(malformed, setup, sizeof setup);
     malformed[PORTAL_RANK(0)] = 10;
+    memcpy(highest, setup, sizeof setup);
+    highest[PORTAL_START(0)] = PORTAL_MAX_VALUE;
+    highest[PORTAL_LOSS(1)] = PORTAL_MAX_VALUE;
+    memcpy(beyond, setup, sizeof setup);
+    beyond[PORTAL_START(0)] = PORTAL_MAX_VALUE + 1;
+    memcpy(loss_beyond, setup, sizeof setup);
+    loss_beyond[PORTAL_LOSS(0)] = PORTAL_MAX_VALUE + 1;
     if (argc > 1 && strcmp(argv[1], "stack") == 0) {
         print_stacks();
         return faults;

@@ -163,7 +163,7 @@ def ChosenSet(loss, s, r):
 
 
 def InRange(x):
-    return x is None or x <= 1000000
+    return x is None or x <= 4000000000
 
 
 def ValidVertex(x):
@@ -376,6 +376,19 @@ def Base(loss, s, g, target, l):
 
 
 # ---- bases/Score
+
+
+def SumsHold(setups):
+    """A statement, asked of the setups that are handed to it."""
+    return all(
+        implies(
+            lambda: WellFormed(s) and all(implies(lambda: Member(x, v), lambda: Chosen(loss, s, v)) for v in world.vertices),
+            lambda: sumOf(loss, s, x) <= 14 * 4000000000 and sumOf(loss, s, x) < never,
+        )
+        for loss in (False, True)
+        for s in setups
+        for x in world.sets
+    )
 
 
 def LeastOver(P, sum, r):

@@ -42,6 +42,7 @@ def worlds(D):
         "bench": D.World(range(6), range(3), range(64), lists_over([1, 2, 3, 5, 6, 7])),
         "ring": D.World(range(6), range(2), range(16), [[5, 6, 9, 10], [5, 6, 10, 9], [5, 6, 9], [5, 6, 9, 10, 12]]),
         "one": D.World(range(3), range(3), range(8), lists_over([0, 1, 2, 3])),
+        "sums": D.World(range(16), range(2), [0, 1, 2**13, 2**14 - 1, 2**15 - 1], []),
         "spare": D.World([0, 1, 2, 3, 64], range(4), range(16), lists_over([0, 1, 2, 3])),
     }
 
@@ -116,8 +117,8 @@ ROWS = [
     ("a name twice", Doc([item("a"), item("a")], []), False),
     ("no row", Doc([], []), False),
     ("a name in capitals", Doc([item("A")], []), False),
-    ("start 1,000,001", one_item(start=1000001), False),
-    ("loss 1,000,001", one_item(loss=1000001), False),
+    ("start 4,000,000,001", one_item(start=4000000001), False),
+    ("loss 4,000,000,001", one_item(loss=4000000001), False),
     ("rank 10", one_item(rank=10), False),
     ("an edge from nowhere", loops(edge("b", "a")), False),
     ("an edge to nowhere", loops(edge("a", "b")), False),
@@ -130,7 +131,7 @@ ROWS = [
     ("15 losses", items_with(64, 0, 15), False),
     ("256 edges", Doc(EIGHT, MANY[:256]), True),
     ("257 edges", Doc(EIGHT, MANY[:257]), False),
-    ("the longest name, highest values", Doc([item("a" * 16, 1000000, 1000000, 9)] + EIGHT, MANY[:1]), True),
+    ("the longest name, highest values", Doc([item("a" * 16, 4000000000, 4000000000, 9)] + EIGHT, MANY[:1]), True),
 ]
 DOCS = [d for n, d, ok in ROWS]
 SAME_NAMES = Doc([item("a"), item("a", 1)], [edge("a", "a")])
@@ -215,13 +216,13 @@ def of_setups(D):
 def of_well_formed(D):
     """Well formed setups, and one that is not for each clause."""
     return [
-        ("in range: 1,000,000", lambda: D.InRange(1000000), True),
-        ("not in range: 1,000,001", lambda: D.InRange(1000001), False),
+        ("in range: 4,000,000,000", lambda: D.InRange(4000000000), True),
+        ("not in range: 4,000,000,001", lambda: D.InRange(4000000001), False),
         ("in range: a blank", lambda: D.InRange(None), True),
-        ("vertex: rank 9", lambda: D.ValidVertex(Vertex(Account, 0, 1000000, 9)), True),
+        ("vertex: rank 9", lambda: D.ValidVertex(Vertex(Account, 0, 4000000000, 9)), True),
         ("not vertex: rank 10", lambda: D.ValidVertex(Vertex(Account, 0, 0, 10)), False),
-        ("not vertex: start 1,000,001", lambda: D.ValidVertex(Vertex(Account, 1000001, 0, 0)), False),
-        ("not vertex: loss 1,000,001", lambda: D.ValidVertex(Vertex(Account, 0, 1000001, 0)), False),
+        ("not vertex: start 4,000,000,001", lambda: D.ValidVertex(Vertex(Account, 4000000001, 0, 0)), False),
+        ("not vertex: loss 4,000,000,001", lambda: D.ValidVertex(Vertex(Account, 0, 4000000001, 0)), False),
         ("well formed: bench", lambda: D.WellFormed(bench), True),
         ("well formed: 64 items", lambda: D.WellFormed(all_items(0)), True),
         ("well formed: 256 edges", lambda: D.WellFormed(many_edges(256)), True),
@@ -350,6 +351,15 @@ def of_scores(D):
         ("not score over none: 0", lambda: D.ScoreOver(False, bench, [], 0), False),
         ("score, both ways", lambda: D.ScoreBoth(False, bench, G, ORDER, 1), True),
         ("not score, both ways: 4", lambda: D.ScoreBoth(False, bench, G, ORDER, 4), False),
+    ]
+
+
+def of_sums(D):
+    """Sums of the largest values."""
+    return [
+        ("sums hold: 14 initial of 4,000,000,000", lambda: D.SumsHold([all_items(14, start=4000000000)]), True),
+        ("sums hold: 14 losable of 4,000,000,000", lambda: D.SumsHold([all_items(14, loss=4000000000)]), True),
+        ("sums hold: values of 2^62 are out of range", lambda: D.SumsHold([all_items(14, start=2**62)]), True),
     ]
 
 
@@ -748,7 +758,7 @@ def of_rows(D):
         ("not same edge: the other way", lambda: D.SameEdge(edge("a", "b", 1), edge("b", "a", 1)), False),
         ("not same edge: another colour", lambda: D.SameEdge(edge("a", "b", 1), edge("a", "b", 2)), False),
         ("not same edge: another end", lambda: D.SameEdge(edge("a", "b", 1), edge("a", "c", 1)), False),
-        ("valid item", lambda: D.ValidItem(item("a", 0, 1000000, 9)), True),
+        ("valid item", lambda: D.ValidItem(item("a", 0, 4000000000, 9)), True),
         ("not valid item: no name", lambda: D.ValidItem(item("")), False),
         ("not valid item: rank 10", lambda: D.ValidItem(item("a", rank=10)), False),
         ("valid edge: colour 7", lambda: D.ValidEdge(DOC.items, edge("pw", "box", 7)), True),
@@ -856,6 +866,7 @@ def of_refusals(D):
 GROUPS = {
     "far": [of_sets, of_setups, of_well_formed, of_parts, of_full_marks, of_whole],
     "one": [of_one],
+    "sums": [of_sums],
     "bench": [of_derivations, of_ways, of_bases, of_scores, of_marks, of_set_calls, of_way_calls, of_base_calls, of_score_calls, of_demand3]
     + [of_findings, of_portal, of_same, of_told, of_readings, of_determined, of_results, of_demands, of_both_demands],
     "rows": [of_valid_rows, of_rows, of_stated, of_meaning, of_refusals],

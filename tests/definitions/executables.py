@@ -127,7 +127,7 @@ def decimal(n):
 
 
 def isValue(f):
-    return f == [45] or isNumberTo(1000000, f)
+    return f == [45] or isNumberTo(4000000000, f)
 
 
 def fieldValue(f):

@@ -1,21 +1,27 @@
--- What the bounds of a well-formed setup give: few chosen vertices, and values small enough for every sum.
+-- What the bounds of a well-formed setup give: few chosen vertices, values up to the largest, and sums that hold.
 -- Assumes nothing.
-use mathlib.Core.Path.{_≡_, refl, ap, _∙_}
+use mathlib.Core.Path.{_≡_, refl, sym, ap, subst, _∙_}
 use mathlib.Core.Bool.{Bool, true, false}
+use mathlib.Core.List.{List, [], _∷_}
 use mathlib.Core.Logic.{_⊎_, ⊎-elim}
-use Prim.Native.Nat.{ℕ, _≤_}
+use Prim.Native.Nat.{ℕ, suc, _*_, _/_, _≤_, _<_}
 use native.Mathlib.Omega.{arith}
 use lib.Count.{ones}
-use lib.ListN.{List·getD-eq-default}
+use lib.ListN.{length, getD, List·getD-eq-default}
+use Rattle.vertex_set.specs.Set.{Member}
+use Rattle.vertex_set.specs.Order.{sumBelow, sumOver}
 use Rattle.vertex_set.proofs.Cases.{less-or}
-use Rattle.setup.specs.Bounds.{largest}
+use Rattle.vertex_set.proofs.Digits.{digit-first, digit-suc}
+use Rattle.vertex_set.proofs.Sets.{member-or, not-member}
+use Rattle.vertex_set.proofs.Sums.{sum-first}
+use Rattle.setup.specs.Bounds.{largest, mostChosen}
 use Rattle.setup.specs.declared.Value.{Value}
 use Rattle.setup.specs.declared.Value.the-variants.{Blank, Of}
 use Rattle.setup.specs.declared.Vertex.{Vertex}
 use Rattle.setup.specs.declared.Setup.{Setup}
-use Rattle.setup.specs.Setup.{valueOf, vertexAt, unusedVertex, ChosenSet}
+use Rattle.setup.specs.Setup.{given, valueOf, vertexAt, unusedVertex, total, chosenCount, ChosenSet}
 use Rattle.formed.specs.WellFormed.{InRange, ValidVertex, WellFormed}
-use Rattle.bases.specs.Score.{points, pointsAt}
+use Rattle.bases.specs.Score.{points, pointsAt, sumOf, never, SumsHold}
 
 pub few : (loss : Bool) (s : Setup) (chosen : ℕ) → WellFormed s → ChosenSet loss s chosen → ones chosen ≤ 14
 few false s chosen w c = let a = w .initial in let b = c .size in omega arith
@@ -44,6 +50,32 @@ points-range loss s w v =
     blank false = refl
     blank true = refl
 
--- small enough for every sum, with room for the larger values of document 02
-pub points-small : (loss : Bool) (s : Setup) → WellFormed s → (v : ℕ) → pointsAt loss s v ≤ 4000000000
-points-small loss s w v = let r = points-range loss s w v in omega arith
+-- the sum of chosen vertices, over the list of all
+sum-chosen : (loss : Bool) (l : List Vertex) (x : ℕ) → ((v : ℕ) → points (valueOf loss (getD l v unusedVertex)) ≤ largest)
+    → ((v : ℕ) → Member x v → given (valueOf loss (getD l v unusedVertex)) ≡ 1)
+    → sumBelow (λ (v : ℕ). points (valueOf loss (getD l v unusedVertex))) x (length l) ≤ total (λ (y : Vertex). given (valueOf loss y)) l * largest
+unfolding Member
+sum-chosen loss [] x small all = omega arith
+sum-chosen loss (y ∷ l) x small all =
+    let ih = sum-chosen loss l (x / 2) (λ v. small (suc v)) (λ v m. all (suc v) (digit-suc x v ∙ m)) in
+    let k = small 0 in
+    rw (sum-first (λ (v : ℕ). points (valueOf loss (getD (y ∷ l) v unusedVertex))) (length l) x)
+    (⊎-elim
+    (λ m. let e = all 0 m in let d = sym (digit-first x) ∙ m in rw d (omega arith))
+    (λ o. let d = sym (digit-first x) ∙ not-member x 0 o in rw d (omega arith))
+    (member-or x 0))
+
+few-largest : (sum n : ℕ) → sum ≤ n * largest → n ≤ mostChosen → (sum ≤ mostChosen * largest) × (sum < never)
+few-largest sum n h k = (omega arith, omega arith)
+
+pub sums-hold : SumsHold
+unfolding sumOver chosenCount
+sums-hold loss s x w all =
+    few-largest (sumOf loss s x) (chosenCount loss s)
+    (subst (λ (n : ℕ). sumBelow (pointsAt loss s) x n ≤ chosenCount loss s * largest) (w .shaped .places)
+    (sum-chosen loss (s .vertices) x (points-range loss s w) all))
+    (most loss)
+  where
+    most : (b : Bool) → chosenCount b s ≤ mostChosen
+    most false = w .initial
+    most true = w .losable

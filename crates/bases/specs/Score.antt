@@ -2,14 +2,17 @@
 use mathlib.Core.Path.{_≡_}
 use mathlib.Core.Bool.{Bool}
 use mathlib.Core.List.{List}
-use Prim.Native.Nat.{ℕ, _^_, _≤_, _<_}
+use Prim.Native.Nat.{ℕ, _*_, _^_, _≤_, _<_}
 use lib.ListN.{length, getD}
+use Rattle.vertex_set.specs.Set.{Member}
 use Rattle.vertex_set.specs.Order.{Listed, sumOver}
+use Rattle.setup.specs.Bounds.{largest, mostChosen}
 use Rattle.setup.specs.declared.Value.{Value}
 use Rattle.setup.specs.declared.Value.the-variants.{Blank, Of}
 use Rattle.setup.specs.declared.Graph.{Graph}
 use Rattle.setup.specs.declared.Setup.{Setup}
-use Rattle.setup.specs.Setup.{valueOf, vertexAt}
+use Rattle.setup.specs.Setup.{valueOf, vertexAt, Chosen}
+use Rattle.formed.specs.WellFormed.{WellFormed}
 use Rattle.bases.specs.Base.{TargetSet, Base}
 
 -- The number of a value; a blank has none, and counts as 0 where it is asked.
@@ -28,6 +31,11 @@ sumOf loss s x = sumOver (pointsAt loss s) x
 -- "Never", the score of an account that no set opens: a number above every sum.
 abbrev pub never : ℕ
 never = 2 ^ 62
+
+-- Every sum holds (document 02, point 5): whichever initial (losable) vertices of a well-formed setup are added up, their sum is at most that
+-- of the most vertices with the largest value, and below never.
+abbrev pub SumsHold : Type 0
+SumsHold = (loss : Bool) (s : Setup) (x : ℕ) → WellFormed s → ((v : ℕ) → Member x v → Chosen loss s v) → (sumOf loss s x ≤ mostChosen * largest) × (sumOf loss s x < never)
 
 -- r is the least sum over the sets of which P holds: never exactly where there is none.
 pub record LeastOver (P : ℕ → Type 0) (sum : ℕ → ℕ) (r : ℕ) : Type 0 where

@@ -85,13 +85,13 @@ remaining-end N f least b e r = sym (ap (λ (k : List ℕ). leastOf least (map N
 -- ---- the least sum
 
 module _ (c : ℕ) (value : ℕ → ℕ) (h : c < 2 ^ 64) (s : Summable c value) (ws : List ℕ) (w : WeightsOf c value ws) where
-  -- no sum comes near 2 ^ 62
-  value-bound : (m : ℕ) → sumAt ws m ≤ 64 * 4000000000
+  -- every sum stays below 2 ^ 62
+  value-bound : (m : ℕ) → sumAt ws m ≤ 64 * (2 ^ 56 - 1)
   unfolding sumOver
   value-bound m =
       let x : ℕ = spread 64 c m in
       rw (w .sum m x (set-of c m h))
-      (sum-bound value 4000000000 64 x (λ v i. s .small v (set-within c m x (set-of c m h) .each v i)))
+      (sum-bound value (2 ^ 56 - 1) 64 x (λ v i. let k = s .small v (set-within c m x (set-of c m h) .each v i) in omega arith))
 
   pub value-fits : SumsFit ws
   value-fits = record { fits = λ m. let b = value-bound m in omega arith }

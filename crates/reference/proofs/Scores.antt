@@ -10,10 +10,11 @@ use native.Mathlib.Omega.{arith}
 use Rattle.vertex_set.specs.Order.{Listed, sumOver}
 use Rattle.vertex_set.proofs.Cases.{less-or}
 use Rattle.vertex_set.proofs.Sums.{sum-bound}
+use Rattle.setup.specs.Bounds.{largest}
 use Rattle.setup.specs.declared.Graph.{Graph}
 use Rattle.setup.specs.declared.Setup.{Setup}
 use Rattle.formed.specs.WellFormed.{WellFormed}
-use Rattle.bases.proofs.Formed.{points-small}
+use Rattle.bases.proofs.Formed.{points-range}
 use Rattle.bases.proofs.Scores.{score-base}
 use Rattle.bases.specs.Score.{pointsAt, sumOf, never, Score, ScoreOver}
 use Rattle.reference.specs.Bases.{baseOf, leastSum, scoreOf}
@@ -55,13 +56,13 @@ module _ (loss : Bool) (s : Setup) where
 
 -- ---- sums are small
 
-below-never : (n : ℕ) → n ≤ 64 * 4000000000 → n < never
+below-never : (n : ℕ) → n ≤ 64 * largest → n < never
 below-never n h = omega arith
 
 module _ (loss : Bool) (s : Setup) (wf : WellFormed s) where
   pub sum-small : (x : ℕ) → sumOf loss s x < never
   unfolding sumOver
-  sum-small x = below-never (sumOf loss s x) (sum-bound (pointsAt loss s) 4000000000 64 x (λ v m. points-small loss s wf v))
+  sum-small x = below-never (sumOf loss s x) (sum-bound (pointsAt loss s) largest 64 x (λ v m. points-range loss s wf v))
 
   module _ (g : Graph) (target : ℕ) (h : GraphOf s g) where
     pub score-of : Score loss s g target (scoreOf loss s g target)

@@ -26,7 +26,7 @@ use Rattle.tables.proofs.Parts.{put-length, put-other}
 use Rattle.tables.proofs.Tables.{family-of}
 use Rattle.bases.specs.Base.{Base}
 use Rattle.bases.specs.Score.{pointsAt, Values}
-use Rattle.bases.proofs.Formed.{few, points-small}
+use Rattle.bases.proofs.Formed.{few, points-range}
 use Rattle.bases.proofs.Bridge.{on-chosen, base-of, score-of}
 use Rattle.report_scores.specs.Inner.Scores.{wordsAt, BaseTable, Scored, CanRead, Listing, Kept, KeptAt, KeptAll}
 
@@ -171,5 +171,5 @@ pub summable : (loss : Bool) (s : Setup) (chosen : ℕ) (values : List ℕ) → 
 summable loss s chosen values formed ch values-are =
     record {
       few = few loss s chosen formed ch;
-      small = λ v m. let p = points-small loss s formed v in let e = values-are .each v in omega arith;
+      small = λ v m. let p = points-range loss s formed v in let e = values-are .each v in omega arith;
     }

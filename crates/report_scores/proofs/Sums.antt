@@ -7,15 +7,16 @@ use lib.Count.{trailingZeros}
 use Rattle.vertex_set.specs.Order.{sumOver}
 use Rattle.vertex_set.proofs.Places.{lowest}
 use Rattle.vertex_set.proofs.Sums.{sum-bound, sum-removed, sum-none}
+use Rattle.setup.specs.Bounds.{largest}
 
 -- The values of the vertices of rest are still to be added.
 pub record Summing (value : ℕ → ℕ) (x rest sum : ℕ) : Type 0 where
   pub small : rest < 2 ^ 64
   pub parts : sum + sumOver value rest ≡ sumOver value x
 
-sum-whole : (value : ℕ → ℕ) (x : ℕ) → ((v : ℕ) → value v ≤ 4000000000) → sumOver value x ≤ 64 * 4000000000
+sum-whole : (value : ℕ → ℕ) (x : ℕ) → ((v : ℕ) → value v ≤ largest) → sumOver value x ≤ 64 * largest
 unfolding sumOver
-sum-whole value x small = sum-bound value 4000000000 64 x (λ v m. small v)
+sum-whole value x small = sum-bound value largest 64 x (λ v m. small v)
 
 pub summing-none : (value : ℕ → ℕ) (x : ℕ) → x < 2 ^ 64 → Summing value x x 0
 summing-none value x h = record { small = h; parts = omega arith }
@@ -26,7 +27,7 @@ module _ (value : ℕ → ℕ) (x rest sum : ℕ) (ne : rest ≡ 0 → ⊥) (g :
   next-part = let l = lowest rest (g .small) ne in sum-removed value 64 rest (trailingZeros 64 rest) (l .member) (l .below)
 
   -- no sum on the way is above the whole one
-  pub summing-fits : ((v : ℕ) → value v ≤ 4000000000) → sum + value (trailingZeros 64 rest) < 2 ^ 64
+  pub summing-fits : ((v : ℕ) → value v ≤ largest) → sum + value (trailingZeros 64 rest) < 2 ^ 64
   summing-fits small = let n = next-part in let b = sum-whole value x small in omega (arith, g .parts)
 
   pub summing-more : Summing value x (rest - (1 * 2 ^ trailingZeros 64 rest) % 2 ^ 64) (sum + value (trailingZeros 64 rest))

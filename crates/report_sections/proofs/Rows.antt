@@ -4,17 +4,16 @@ use mathlib.Core.Path.{_≡_, refl}
 use mathlib.Core.Bool.{Bool}
 use mathlib.Core.List.{List, _++_}
 use mathlib.Core.Logic.{⊎-elim}
-use Prim.Native.Nat.{ℕ, suc, _+_, _*_, _^_, _≤_, _<_}
+use Prim.Native.Nat.{ℕ, suc, _+_, _^_, _≤_, _<_}
 use native.Mathlib.Numerals.{add-one}
 use native.Mathlib.Omega.{arith}
 use lib.ListN.{length, getD, take, length-take}
 use lib.Seq.{drop-cons, getD-take}
-use Rattle.setup.specs.Bounds.{largest}
 use Rattle.vertex_set.specs.Order.{sumOver}
 use Rattle.vertex_set.proofs.Cases.{less-or}
-use Rattle.vertex_set.proofs.Sums.{sum-bound}
 use Rattle.written.specs.Inner.{Wrote}
 use Rattle.written.proofs.Writing.{wrote-inside}
+use Rattle.report_text.specs.Inner.{longestRow}
 use Rattle.report_text.specs.Rows.{textsOf, setRow}
 use Rattle.sheet_format.specs.Names.{nameOf}
 use Rattle.report_text.proofs.Lengths.{set-row-length}
@@ -22,24 +21,17 @@ use Rattle.report_facts.specs.Inner.Parts.{Part}
 use Rattle.report_facts.proofs.Parts.{part-none, part-one, part-then, part-length}
 use Rattle.report_sections.specs.Inner.Lists.{RowsReady, rowOf, rowsFrom, RowsWent}
 
-sum-small : (values : List ℕ) (x : ℕ) → ((v : ℕ) → getD values v 0 ≤ largest) → sumOver (λ (v : ℕ). getD values v 0) x < 100000000
-unfolding sumOver
-sum-small values x h = le-lt _ (sum-bound (λ (v : ℕ). getD values v 0) largest 64 x (λ v k. h v))
-  where
-    le-lt : (n : ℕ) → n ≤ 64 * largest → n < 100000000
-    le-lt n k = omega arith
-
 module _ (sheet from to values list : List ℕ) (loss : Bool) (target i n row : ℕ) (h : RowsReady sheet from to values list target i n) (l : row < n) where
   abbrev sum : ℕ
   sum = sumOver (λ (v : ℕ). getD values v 0) (getD list row 0)
 
-  row-length : getD list row 0 < 2 ^ 64 → length (setRow (nameOf sheet) loss target (getD list row 0) sum) ≤ 272
+  row-length : getD list row 0 < 2 ^ 64 → length (setRow (nameOf sheet) loss target (getD list row 0) sum) ≤ longestRow
   row-length b =
       let q = h .sets row l in
-      set-row-length (nameOf sheet) loss target (getD list row 0) sum b (q .few) (sum-small values (getD list row 0) (h .small)) (h .short) (q .short)
+      set-row-length (nameOf sheet) loss target (getD list row 0) sum b (q .few) (h .sums row l) (h .short) (q .short)
 
   -- where the longest row has room, so has this one
-  pub row-fits : (x out at : ℕ) → x ≡ sum → getD list row 0 < 2 ^ 64 → at + 272 ≤ out → at + length (setRow (nameOf sheet) loss target (getD list row 0) x) ≤ out
+  pub row-fits : (x out at : ℕ) → x ≡ sum → getD list row 0 < 2 ^ 64 → at + longestRow ≤ out → at + length (setRow (nameOf sheet) loss target (getD list row 0) x) ≤ out
   row-fits x out at e b room = let r = row-length b in rw e (omega arith)
 
 -- The rows from i up to `row` stand.
@@ -80,7 +72,7 @@ module _ (name : ℕ → List ℕ) (loss : Bool) (target : ℕ) (values list : L
     pub rows-end : n ≤ row → RowsWent name loss target values list i n entry at out row next
     rows-end h = record { part = w .part; most = w .most; more = λ l room. omega arith }
 
-    pub rows-full : row < n → length out < next + 272 → RowsWent name loss target values list i n entry at out row next
+    pub rows-full : row < n → length out < next + longestRow → RowsWent name loss target values list i n entry at out row next
     rows-full l full =
         let e = part-length entry at _ _ out next (w .part) in
         record {

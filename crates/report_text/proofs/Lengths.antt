@@ -1,4 +1,5 @@
--- How long rows are: at most 272 bytes, with names of at most 16 bytes, at most 14 items in a set, and a sum of at most eight digits.
+-- How long rows are: at most 275 bytes, with names of at most 16 bytes, at most 14 items in a set, and a sum of at most 14 of the largest value;
+-- and one row is as long.
 -- Assumes nothing.
 use mathlib.Core.Path.{_≡_, refl}
 use mathlib.Core.Bool.{Bool, true, false}
@@ -8,16 +9,19 @@ use Prim.Native.Nat.{ℕ, zero, suc, _+_, _-_, _*_, _/_, _%_, _^_, _≤_, _<_}
 use native.Mathlib.Nat.{pow-suc}
 use native.Mathlib.Omega.{arith}
 use lib.Count.{ones}
-use lib.ListN.{length, length-append}
+use lib.ListN.{length, replicate, length-append}
 use borrow.Author.Tests.{lt-ltb, le-ltb}
 use Rattle.vertex_set.specs.Set.{Member}
 use Rattle.vertex_set.specs.Order.{Listed}
 use Rattle.vertex_set.proofs.Cases.{less-or, same-or}
 use Rattle.vertex_set.proofs.Places.{places, length-places, listed-places}
+use Rattle.setup.specs.Bounds.{largest, mostChosen}
 use Rattle.sheet_format.specs.Fields.{digitsIn, decimal}
 use Rattle.sheet_format.specs.Rows.{lineText}
 use Rattle.bases.specs.Score.{never}
-use Rattle.report_text.specs.Rows.{wayText, answerText, scoreText, joined, setText, setRow, scoreRow, pairRow, refusedRow}
+use Rattle.reference.specs.Tests.{those, isMember}
+use Rattle.report_text.specs.Inner.{longestRow}
+use Rattle.report_text.specs.Rows.{numbersFrom, wayText, answerText, scoreText, itemsOf, joined, setText, setRow, scoreRow, pairRow, refusedRow}
 use Rattle.report_text.proofs.Items.{set-text}
 use Rattle.report_text.proofs.Rows.{score-never, score-number}
 
@@ -80,22 +84,23 @@ line-length f (g ∷ fs) = let ih = line-length g fs in omega (arith, length-app
 
 -- ---- rows
 
--- The longest row.
-abbrev pub longest : ℕ
-longest = 272
-
-pub set-row-length : (name : ℕ → List ℕ) (loss : Bool) (target x sum : ℕ) → x < 2 ^ 64 → ones x ≤ 14 → sum < 100000000
-    → length (name target) ≤ 16 → ((v : ℕ) → Member x v → length (name v) ≤ 16) → length (setRow name loss target x sum) ≤ longest
+pub set-row-length : (name : ℕ → List ℕ) (loss : Bool) (target x sum : ℕ) → x < 2 ^ 64 → ones x ≤ 14 → sum ≤ mostChosen * largest
+    → length (name target) ≤ 16 → ((v : ℕ) → Member x v → length (name v) ≤ 16) → length (setRow name loss target x sum) ≤ longestRow
 unfolding setRow lineBytes
 set-row-length name loss target x sum b few low t h =
     let w = way-length loss in
     let n = decimal-length 1 (ones x) (omega arith) in
-    let d = decimal-length 7 sum low in
+    let d = decimal-length 10 sum (omega arith) in
     let s = set-length name x b few h in
     omega (arith, line-length (name target) (wayText loss ∷ decimal (ones x) ∷ decimal sum ∷ setText name x ∷ []))
 
+-- Fourteen items whose names have 16 letters, and whose values are the largest, make a row as long.
+pub longest-row : length (setRow (λ (v : ℕ). replicate 16 97) false 14 (2 ^ 14 - 1) (mostChosen * largest)) ≡ longestRow
+unfolding setRow wayText decimal digitsIn setText itemsOf numbersFrom those isMember joined ones
+longest-row = refl
+
 pub score-row-length : (name : ℕ → List ℕ) (target score risk : ℕ) (back idle : Bool) → score < 2 ^ 64 → risk < 2 ^ 64
-    → length (name target) ≤ 16 → length (scoreRow name target score risk back idle) ≤ longest
+    → length (name target) ≤ 16 → length (scoreRow name target score risk back idle) ≤ longestRow
 unfolding scoreRow lineBytes
 score-row-length name target score risk back idle p q t =
     let a = score-length score p in
@@ -109,7 +114,7 @@ pub pair-row-short : (name : ℕ → List ℕ) (v w : ℕ) → length (name v) �
 unfolding pairRow lineBytes
 pair-row-short name v w p q = omega (arith, line-length (name v) (name w ∷ []))
 
-pub refused-row-length : (number line : ℕ) → number < 2 ^ 64 → line < 2 ^ 64 → length (refusedRow number line) ≤ longest
+pub refused-row-length : (number line : ℕ) → number < 2 ^ 64 → line < 2 ^ 64 → length (refusedRow number line) ≤ longestRow
 unfolding refusedRow lineBytes
 refused-row-length number line p q =
     let a = decimal-length 19 number (omega arith) in

@@ -4,21 +4,22 @@ use mathlib.Core.Path.{_≡_, refl, sym, ap, subst, _∙_}
 use mathlib.Core.Bool.{Bool, true, false}
 use mathlib.Core.List.{List, [], _∷_, _++_}
 use mathlib.Core.Logic.{inl, inr}
-use Prim.Native.Nat.{ℕ, zero, suc, _+_, _/_, _^_, _≤_, _<_}
+use Prim.Native.Nat.{ℕ, zero, suc, _+_, _*_, _/_, _^_, _≤_, _<_}
 use native.Mathlib.Omega.{arith}
 use lib.Count.{ones, ones-le}
 use lib.ListN.{length, getD, take, drop, length-take}
 use lib.Seq.{getD-take}
 use Rattle.vertex_set.specs.Set.{Member, Within}
-use Rattle.vertex_set.specs.Order.{Listed}
+use Rattle.vertex_set.specs.Order.{Listed, sumOver}
 use Rattle.vertex_set.proofs.Cases.{byTest}
 use Rattle.vertex_set.proofs.Sums.{sum-over-same}
+use Rattle.setup.specs.Bounds.{largest, mostChosen}
 use Rattle.setup.specs.declared.Setup.{Setup}
 use Rattle.setup.specs.Setup.{Chosen}
 use Rattle.families.proofs.Masks.{gather, gather-lt, mask-of, set-size}
 use Rattle.bases.specs.Base.{MinimalSet}
-use Rattle.bases.specs.Score.{Values}
-use Rattle.bases.proofs.Formed.{few, points-range}
+use Rattle.bases.specs.Score.{pointsAt, Values}
+use Rattle.bases.proofs.Formed.{few, points-range, sums-hold}
 use Rattle.reference.proofs.Graphs.{chosen-below}
 use Rattle.report_text.specs.Rows.{textsOf, setRow}
 use Rattle.sheet_format.specs.Names.{nameOf}
@@ -67,13 +68,20 @@ module _ (sheet : List ℕ) (s : Setup) (f : Facts) (h : FactsOf sheet s f) (low
         short = λ v k. h .short v (chosen-below loss s (h .formed) v (c v k));
       }
 
-  slot-ready : (k x : ℕ) → Listed (slotList s k) x → SetReady sheet (f .from) (f .to) x
+  slot-minimal : (k x : ℕ) → Listed (slotList s k) x → MinimalSet (slotLoss k) s (s .graph) (k / 2) x
   unfolding slotList
-  slot-ready k x =
+  slot-minimal k x =
       byTest
       (isAccount s (k / 2))
-      (λ a. rw a (λ l. set-ready (slotLoss k) (k / 2) x (report-meaning s (h .formed) .base (slotLoss k) (k / 2) .sound x l)))
+      (λ a. rw a (λ l. report-meaning s (h .formed) .base (slotLoss k) (k / 2) .sound x l))
       (λ a. rw a (λ l. absurd l))
+
+  slot-ready : (k x : ℕ) → Listed (slotList s k) x → SetReady sheet (f .from) (f .to) x
+  slot-ready k x l = set-ready (slotLoss k) (k / 2) x (slot-minimal k x l)
+
+  slot-sum : (values : List ℕ) (k x : ℕ) → Values (slotLoss k) s values → Listed (slotList s k) x → sumOver (λ (v : ℕ). getD values v 0) x ≤ mostChosen * largest
+  slot-sum values k x vs l =
+      rw (sum-over-same _ (pointsAt (slotLoss k) s) x (vs .each)) (sums-hold (slotLoss k) s x (h .formed) (slot-minimal k x l .is .chosen) .0)
 
 listed-at : (l : List ℕ) (j : ℕ) → j < length l → Listed l (getD l j 0)
 listed-at [] j h = omega arith
@@ -90,15 +98,16 @@ module _ (sheet : List ℕ) (f : Facts) (list : List ℕ) (k i n : ℕ) (values 
       let vs = v .each sheet s o in
       let below : k / 2 < s .count = omega (arith, h .number) in
       let most : n ≤ length list = omega (arith, h .most, h .room) in
+      let stands : (j : ℕ) → j < n → Listed (slotList s k) (getD list j 0) = λ j l.
+      subst (λ (t : List ℕ). Listed t (getD list j 0)) (h .here)
+      (subst (Listed (take n list)) (getD-take n list j 0 l) (listed-at (take n list) j (omega (arith, length-take n list)))) in
       record {
         name = o .names (k / 2) below;
         short = o .short (k / 2) below;
-        sets = λ j l.
-            slot-ready sheet s f o low lowLosable k (getD list j 0)
-            (subst (λ (t : List ℕ). Listed t (getD list j 0)) (h .here)
-            (subst (Listed (take n list)) (getD-take n list j 0 l) (listed-at (take n list) j (omega (arith, length-take n list)))));
+        sets = λ j l. slot-ready sheet s f o low lowLosable k (getD list j 0) (stands j l);
         longValues = vs .long;
         small = λ w. rw (vs .each w) (points-range (slotLoss k) s (o .formed) w);
+        sums = λ j l. slot-sum sheet s f o low lowLosable values k (getD list j 0) vs (stands j l);
         next = h .next;
         here = most;
       }

@@ -1,9 +1,9 @@
--- Document 01's bounds ("The sheet"): each number stands here, and nowhere else in the definitions.
+-- The sheet's bounds (document 01, and of the largest value document 02, point 5): each number stands here, and nowhere else in the definitions.
 use Prim.Native.Nat.{ℕ}
 
 -- The largest start or loss value.
 abbrev pub largest : ℕ
-largest = 1000000
+largest = 4000000000
 
 -- The highest rank.
 abbrev pub highest : ℕ

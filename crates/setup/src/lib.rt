@@ -6,9 +6,9 @@ ghost use Rattle.setup.specs.Setup.{given, valueOf, ChosenSet, WithoutRe
 ghost use Rattle.setup.specs.Inner.{RowsLess};
 use vertex_set::VertexSet;
 
-// Document 01's bounds: the largest start or loss value, the highest rank, the most edges, and the
-// most initial (losable) vertices.
-pub const MAX_VALUE: u64 = 1_000_000;
+// The papers' bounds: the largest start or loss value (document 02, point 5), the highest rank, the
+// most edges, and the most initial (losable) vertices.
+pub const MAX_VALUE: u64 = 4_000_000_000;
 
 pub const MAX_RANK: u64 = 9;
 

@@ -297,7 +297,7 @@ fn put_item(text: &mut [u8], at: usize, item: usize) -> usize
 {
     let at = put_name(text, at, item);
     if item < 14 {
-        return put(text, at, b" c 1000000 1000000 9\n");
+        return put(text, at, b" c 4000000000 4000000000 9\n");
     }
     put(text, at, b" a - - 0\n")
 }
@@ -379,7 +379,7 @@ fn accepted() {
     show_sheet(b"values 0", b"p c 0 0 0\nq a - 0 0\n", b"");
     show_sheet(
         b"the highest values",
-        b"p c 1000000 1000000 9\nq a - - 9\n",
+        b"p c 4000000000 4000000000 9\nq a - - 9\n",
         b"q p 7 1\np q 7 0\n",
     );
     show_sheet(
@@ -544,23 +544,28 @@ p - - - 0
 fn values() {
     print(b"\n5, start, loss and rank\n");
     tell_each_item(
-        b"p c 1000000 - 0
-p c 1000001 - 0
+        b"p c 4000000000 - 0
+p c 4000000001 - 0
 p c 00 - 0
 p c 01 - 0
 p c +1 - 0
 p c -0 - 0
 p c -- - 0
 p c 1.0 - 0
+p c 4294967295 - 0
 p c 4294967296 - 0
+p c 4294967297 - 0
 p c 18446744073709551616 - 0
 p c 18446744073709551617 - 0
 p c 10000000000000000000000000000000000000000000000000 - 0
-p c - 1000000 0
-p c - 1000001 0
+p c - 4000000000 0
+p c - 4000000001 0
 p c - 00 0
 p c - -1 0
+p c - 4294967295 0
+p c - 4294967297 0
 p c - 18446744073709551616 0
+p c - 18446744073709551617 0
 p c - - 9
 p c - - 10
 p c - - 09

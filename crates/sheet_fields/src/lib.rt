@@ -212,7 +212,7 @@ pub fn read_kind(f: &[u8]) -> KindField
     }
 }
 
-// A start or loss value: `-`, or a number up to 1,000,000.
+// A start or loss value: `-`, or a number up to the largest.
 pub fn read_value(f: &[u8]) -> ValueField
     ensures { λ r. ⌜ ReadsValue (now (f .entry)) r ⌝ }
 {

@@ -108,8 +108,10 @@ further-shown =
     let closed = all-read .1 .1 .1 .0 in
     let spare = all-read .1 .1 .1 .1 .1 .1 .0 in
     let full = all-read .1 .1 .1 .1 .1 .1 .1 .0 in
+    let halves = all-read .1 .1 .1 .1 .1 .1 .1 .1 .0 in
     (bench, refl) & (bench, refl) & (ring, refl) & (bench, (refl, refl)) & (bench, (refl, refl)) & (closed, refl) & (bench, refl) & (bench, refl)
-    & (spare, refl) & (spare, refl) & (spare, refl) & (spare, refl) & (spare, (refl, refl)) & (full, refl) & (full, refl) & tt
+    & (spare, refl) & (spare, refl) & (spare, refl) & (spare, refl) & (spare, (refl, refl)) & (full, refl) & (full, refl) & (halves, refl) & (halves, refl)
+    & (halves, refl) & (halves, refl) & (halves, refl) & tt
 
 -- and what B1 to B12 leave open
 pub further-holds : AllHold further

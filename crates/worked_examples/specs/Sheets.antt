@@ -273,10 +273,60 @@ first = 0
 abbrev pub last : ℕ
 last = 63
 
+-- ---- the largest value, and two of half of it (document 02, point 5)
+
+abbrev pub halves : Sheet
+halves =
+    record {
+      lines =
+          "name kind start loss rank"
+          ∷ "whole c 4000000000 4000000000 0"
+          ∷ "half c 2000000000 2000000000 0"
+          ∷ "other c 2000000000 2000000000 0"
+          ∷ "level a - - 0"
+          ∷ "sum a - - 0"
+          ∷ ""
+          ∷ "from to colour rec"
+          ∷ "whole level 0 0"
+          ∷ "half level 1 0"
+          ∷ "other level 1 0"
+          ∷ "whole sum 0 0"
+          ∷ "half sum 0 0"
+          ∷ "other sum 0 0"
+          ∷ [];
+      setup = record {
+        count = 5;
+        vertices = places
+            (record { kind = Credential; start = Of 4000000000; loss = Of 4000000000; rank = 0 }
+            ∷ record { kind = Credential; start = Of 2000000000; loss = Of 2000000000; rank = 0 }
+            ∷ record { kind = Credential; start = Of 2000000000; loss = Of 2000000000; rank = 0 }
+            ∷ record { kind = Account; start = Blank; loss = Blank; rank = 0 }
+            ∷ record { kind = Account; start = Blank; loss = Blank; rank = 0 }
+            ∷ []);
+        graph = graph ([] ∷ [] ∷ [] ∷ (1 ∷ 6 ∷ []) ∷ (7 ∷ []) ∷ []);
+        recovery = graph [];
+      };
+    }
+
+abbrev pub whole : ℕ
+whole = 0
+
+abbrev pub half : ℕ
+half = 1
+
+abbrev pub other : ℕ
+other = 2
+
+abbrev pub level : ℕ
+level = 3
+
+abbrev pub sum : ℕ
+sum = 4
+
 -- ---- all of them
 
 abbrev pub sheets : List Sheet
-sheets = bench ∷ ring ∷ alone ∷ closed ∷ loop ∷ pair ∷ spare ∷ full ∷ []
+sheets = bench ∷ ring ∷ alone ∷ closed ∷ loop ∷ pair ∷ spare ∷ full ∷ halves ∷ []
 
 -- Each text is accepted, and yields the setup that stands beside it.
 abbrev pub AllRead : Type 0
@@ -326,7 +376,10 @@ refusedSheets =
     ∷ no 5 2 (items ("aA c - - 0" ∷ []))
     ∷ no 5 2 (items ("aaaaaaaaaaaaaaaaa c - - 0" ∷ []))
     ∷ no 5 2 (items ("a b - - 0" ∷ []))
-    ∷ no 5 2 (items ("a c 1000001 - 0" ∷ []))
+    ∷ no 5 2 (items ("a c 4000000001 - 0" ∷ []))
+    ∷ no 5 2 (items ("a c - 4000000001 0" ∷ []))
+    ∷ no 5 2 (items ("a c - 4294967297 0" ∷ []))
+    ∷ no 5 2 (items ("a c 18446744073709551617 - 0" ∷ []))
     ∷ no 5 2 (items ("a c 00 - 0" ∷ []))
     ∷ no 5 2 (items ("a c - 1x 0" ∷ []))
     ∷ no 5 2 (items ("a c - - 10" ∷ []))

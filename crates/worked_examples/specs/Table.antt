@@ -11,7 +11,7 @@ use Rattle.bases.specs.Base.{Base}
 use Rattle.bases.specs.Score.{Score, never}
 use Rattle.bases.specs.Marks.{Counts}
 use Rattle.sheet_format.specs.Rows.{Each}
-use Rattle.worked_examples.specs.Sheets.{Sheet, Yields, bench, ordpw, mailpw, token, mail, order, ring, pwdBackup, pwdManager, device, seed, accBackup, alone, closed, loop, only, pair, p, q, spare, pw, key, acc, full, first, last}
+use Rattle.worked_examples.specs.Sheets.{Sheet, Yields, bench, ordpw, mailpw, token, mail, order, ring, pwdBackup, pwdManager, device, seed, accBackup, alone, closed, loop, only, pair, p, q, spare, pw, key, acc, full, first, last, halves, whole, half, other, level, sum}
 
 -- The set of the vertices of the list.
 abbrev pub setOf : List ℕ → ℕ
@@ -108,6 +108,12 @@ further =
     -- 64 items: the last, 63, opens the first
     ∷ closure full (setOf (last ∷ [])) (setOf (first ∷ last ∷ []))
     ∷ loss full (setOf (last ∷ [])) (setOf (first ∷ last ∷ []))
+    -- the largest value against two of half of it, and sums above 2^32
+    ∷ opening halves level (setOf (whole ∷ []) ∷ setOf (half ∷ other ∷ []) ∷ [])
+    ∷ score halves level 4000000000
+    ∷ risk halves level 6000000000
+    ∷ score halves sum 8000000000
+    ∷ risk halves sum 2000000000
     ∷ []
 
 abbrev pub AllHold : List Example → Type 0

@@ -108,7 +108,7 @@ pub fn all() -> Vec<Kind> {
 /// The longest accepted sheet.
 pub fn longest_sheet() -> Kind {
     let sheet = case(bounds(), "the longest accepted sheet");
-    assert_eq!(sheet.len(), 11_542, "the longest accepted sheet has another length");
+    assert_eq!(sheet.len(), 11_626, "the longest accepted sheet has another length");
     Kind::new("the longest accepted sheet", sheet)
 }
 

@@ -12,8 +12,8 @@ pub const MAX_EDGES: usize = 256;
 pub const MAX_STARTING: usize = 14;
 /// The most losable items of a sheet.
 pub const MAX_LOSABLE: usize = 14;
-/// The largest start or loss value.
-pub const MAX_VALUE: u64 = 1_000_000;
+/// The largest start or loss value (02, point 5).
+pub const MAX_VALUE: u64 = 4_000_000_000;
 /// The highest rank.
 pub const MAX_RANK: u64 = 9;
 
@@ -148,7 +148,7 @@ impl Setup {
     }
 
     /// Question 12: is the setup one that some accepted sheet yields? No sheet's length stands
-    /// in the way: the longest sheet that keeps the other bounds has 11,542 bytes.
+    /// in the way: the longest sheet that keeps the other bounds has 11,626 bytes.
     pub fn well_formed(&self) -> bool {
         if self.count < 1 || self.count > PLACES as u64 {
             return false;

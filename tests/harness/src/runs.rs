@@ -72,6 +72,10 @@ impl Run {
             self.counts.bounds += 1;
             self.sheet(&case, FEW, true)?;
         }
+        for case in bounds::largest_sums() {
+            self.counts.bounds += 1;
+            self.sheet(&case, FULL, true)?;
+        }
         for case in readings::readings() {
             self.counts.texts += 1;
             self.sheet(&case, FULL, true)?;

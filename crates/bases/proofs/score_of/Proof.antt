@@ -5,7 +5,7 @@ use Rattle.family_lists.proofs.MinimalSets.{least-of-minimal}
 use Rattle.bases.specs.Score.{pointsAt}
 use Rattle.bases.proofs.Bridge.{minimal-within, score-of}
 use Rattle.bases.proofs.Scores.{score-base}
-use Rattle.bases.proofs.Formed.{few, points-small}
+use Rattle.bases.proofs.Formed.{few, points-range}
 use borrow.Author.Needs.{needs}
 use Rattle.bases.proofs.score_of.Statement.{statement}
 use Rattle.bases.proofs.score_of.Tie as tie
@@ -43,7 +43,7 @@ least-sum-requires c κs =
       search needs,
       record {
         few = few (st .args .loss) (st .args .s) (h .chosen .result .0) (st .pre .0) (h .chosen .ensures);
-        small = λ i m. let p = points-small (st .args .loss) (st .args .s) (st .pre .0) i in let e = v .values-of .ensures .each i in omega arith;
+        small = λ i m. let p = points-range (st .args .loss) (st .args .s) (st .pre .0) i in let e = v .values-of .ensures .each i in omega arith;
       },
     )
 

@@ -32,12 +32,12 @@ pub record WroteSets (chosen : ℕ) (f entry : List ℕ) (r : ℕ) (exit : List 
   pub all : size f ≡ length list
   pub wrote : exit ≡ list ++ drop (length list) entry
 
--- What sums of values ask for: at most 14 chosen vertices, with values of at most 4,000,000,000.
+-- What sums of values ask for: at most 14 chosen vertices, with values below 2^56, of which 64 stay below 2^62.
 pub record Summable (chosen : ℕ) (value : ℕ → ℕ) : Type 0 where
   pub few : ones chosen ≤ 14
-  pub small : (v : ℕ) → Member chosen v → value v ≤ 4000000000
+  pub small : (v : ℕ) → Member chosen v → value v < 2 ^ 56
 
--- The two tables give for each mask the sum of the values of its set, and no sum comes near 2^62.
+-- The two tables give for each mask the sum of the values of its set, and every sum stays below 2^62.
 pub record SumTables (chosen : ℕ) (value : ℕ → ℕ) (low high : List ℕ) : Type 0 where
   pub fit : TablesFit low high
   pub word : chosen < 2 ^ 64

@@ -5,6 +5,7 @@ use mathlib.Core.List.{List}
 use Prim.Native.Nat.{ℕ, _*_, _≤_, _<_}
 use lib.Count.{ones}
 use lib.ListN.{length, getD, take, drop}
+use Rattle.setup.specs.Bounds.{largest}
 use Rattle.setup.specs.declared.Graph.{Graph}
 use Rattle.setup.specs.declared.Setup.{Setup}
 use Rattle.setup.specs.Setup.{ChosenSet}
@@ -65,7 +66,7 @@ pub record Listing (w : List ℕ) (chosen target r : ℕ) (out : List ℕ) : Typ
 -- What set_sum asks for: values of all vertices, small enough for every sum.
 pub record Summands (values : List ℕ) : Type 0 where
   pub long : length values ≡ 64
-  pub small : (v : ℕ) → getD values v 0 ≤ 4000000000
+  pub small : (v : ℕ) → getD values v 0 ≤ largest
 
 -- m has the minimal members of f, and r is the least sum over them by the tables low and high.
 pub record Kept (f low high m : List ℕ) (r : ℕ) : Type 0 where

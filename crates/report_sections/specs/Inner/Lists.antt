@@ -2,17 +2,18 @@
 use mathlib.Core.Path.{_≡_}
 use mathlib.Core.Bool.{Bool, true, false}
 use mathlib.Core.List.{List}
-use Prim.Native.Nat.{ℕ, _+_, _/_, _≤_, _<_}
+use Prim.Native.Nat.{ℕ, _+_, _*_, _/_, _≤_, _<_}
 use lib.Count.{ones}
 use lib.ListN.{length, getD, take, drop}
 use Rattle.vertex_set.specs.Set.{Member, Iff}
 use Rattle.vertex_set.specs.Order.{sumOver}
-use Rattle.setup.specs.Bounds.{largest}
+use Rattle.setup.specs.Bounds.{largest, mostChosen}
 use Rattle.setup.specs.declared.Graph.{Graph}
 use Rattle.setup.specs.declared.Setup.{Setup}
 use Rattle.setup.specs.Setup.{ChosenSet}
 use Rattle.formed.specs.WellFormed.{WellFormed}
 use Rattle.derivations.specs.Both.{ruleOf}
+use Rattle.report_text.specs.Inner.{longestRow}
 use Rattle.report_text.specs.Rows.{textsOf, setRow}
 use Rattle.sheet_format.specs.Names.{nameOf}
 use Rattle.report_text.specs.Report.{isAccount}
@@ -34,6 +35,7 @@ pub record RowsReady (sheet from to values list : List ℕ) (target i n : ℕ) :
   pub sets : (j : ℕ) → j < n → SetReady sheet from to (getD list j 0)
   pub longValues : length values ≡ 64
   pub small : (v : ℕ) → getD values v 0 ≤ largest
+  pub sums : (j : ℕ) → j < n → sumOver (λ (v : ℕ). getD values v 0) (getD list j 0) ≤ mostChosen * largest
   pub next : i ≤ n
   pub here : n ≤ length list
 
@@ -49,7 +51,7 @@ rowsFrom name loss target values list n i = textsOf (rowOf name loss target valu
 pub record RowsWent (name : ℕ → List ℕ) (loss : Bool) (target : ℕ) (values list : List ℕ) (i n : ℕ) (entry : List ℕ) (at : ℕ) (exit : List ℕ) (row r : ℕ) : Type 0 where
   pub part : Part entry at (rowsFrom name loss target values list n i) (rowsFrom name loss target values list n row) exit r
   pub most : row ≤ n
-  pub more : i < n → at + 272 ≤ length entry → i < row
+  pub more : i < n → at + longestRow ≤ length entry → i < row
 
 -- The tables of bases of some graph, and room for every list.
 pub record CanLoad (k initial losable : ℕ) (opening lockout list : List ℕ) : Type 0 where

@@ -1,4 +1,5 @@
-//! 01's bounds by name: the last sheet within each, and the first beyond.
+//! The papers' bounds by name: the last sheet within each, and the first beyond; and sums of the
+//! largest values.
 
 use super::draft::{joined, Draft};
 use super::random::at_least;
@@ -20,7 +21,7 @@ pub fn bounds() -> Vec<SheetCase> {
 }
 
 /// Reports of the greatest length: lists at their longest, many of them, and the longest rows.
-/// The largest has 180,839 rows and 28,691,086 bytes, which takes a second.
+/// The largest has 180,839 rows and 29,414,466 bytes, which takes a second.
 pub fn longest_reports() -> Vec<SheetCase> {
     let mut cases = Vec::new();
     for needed in [7, 8] {
@@ -29,11 +30,68 @@ pub fn longest_reports() -> Vec<SheetCase> {
     }
     let many = with_long_rows(seven_of_fourteen_many_times());
     cases.push(SheetCase::accepted("7 of 14 items, many times", many.text()));
-    // Rows of 272 bytes.
+    // Rows of 275 bytes.
     let one_row = with_long_rows(together(MAX_STARTING, MAX_LOSABLE));
     cases.push(SheetCase::accepted("the longest row", one_row.text()));
     cases
 }
+
+/// Sums of the largest values (02, point 5).
+pub fn largest_sums() -> Vec<SheetCase> {
+    vec![
+        SheetCase::accepted("14 of 4,000,000,000", fourteen_largest().text()),
+        SheetCase::accepted("4,000,000,000 against two of half", HALVES.into()),
+    ]
+}
+
+/// Item 14 opens by the first 14 items together. Items 15 and 16 open by any of them, and so
+/// item 16 is lost with all 14 alone: seven are its own, and seven those of item 15.
+fn fourteen_largest() -> Draft {
+    let mut draft = Draft::of_items(17);
+    let some: Vec<usize> = (0..14).collect();
+    draft.set_starting(&some, || MAX_VALUE);
+    draft.set_losable(&some, || MAX_VALUE);
+    for account in 14..17 {
+        draft.items[account].kind = ACCOUNT;
+    }
+    for from in 0..7 {
+        draft.add_edge(from, 14, 0, false);
+        draft.add_edge(from + 7, 14, 0, false);
+        draft.add_edge(from, 16, from, false);
+        draft.add_edge(from + 7, 15, from, false);
+    }
+    draft.add_edge(15, 16, 7, false);
+    draft
+}
+
+/// One item of the largest value, or two of half of it; one of these may be one unit cheaper.
+/// A whole and a half together are beyond 2^32.
+const HALVES: &str = "name kind start loss rank
+whole c 4000000000 4000000000 0
+half c 2000000000 2000000000 0
+other c 2000000000 2000000000 0
+less c 1999999999 1999999999 0
+open_level a - - 1
+open_less a - - 2
+lock_level a - - 3
+lock_less a - - 4
+
+from to colour rec
+whole open_level 0 0
+half open_level 1 0
+other open_level 1 0
+whole open_less 0 0
+half open_less 1 0
+less open_less 1 0
+whole lock_level 0 0
+half lock_level 0 0
+whole lock_level 1 0
+other lock_level 1 0
+whole lock_less 0 0
+half lock_less 0 0
+whole lock_less 1 0
+less lock_less 1 0
+";
 
 /// All items as accounts with the longest names and values near the largest, so that sums
 /// differ.
@@ -206,10 +264,10 @@ fn field_ranges() -> Vec<SheetCase> {
     vec![
         SheetCase::accepted("colour 7", colour(7).text()),
         SheetCase::refused("colour 8", colour(8).text(), 5, last_edge(&colour(8))),
-        SheetCase::accepted("start 1,000,000", value(MAX_VALUE, 1, 0)),
-        SheetCase::refused("start 1,000,001", value(MAX_VALUE + 1, 1, 0), 5, line),
-        SheetCase::accepted("loss 1,000,000", value(1, MAX_VALUE, 0)),
-        SheetCase::refused("loss 1,000,001", value(1, MAX_VALUE + 1, 0), 5, line),
+        SheetCase::accepted("start 4,000,000,000", value(MAX_VALUE, 1, 0)),
+        SheetCase::refused("start 4,000,000,001", value(MAX_VALUE + 1, 1, 0), 5, line),
+        SheetCase::accepted("loss 4,000,000,000", value(1, MAX_VALUE, 0)),
+        SheetCase::refused("loss 4,000,000,001", value(1, MAX_VALUE + 1, 0), 5, line),
         SheetCase::accepted("values 0", value(0, 0, 0)),
         SheetCase::accepted("rank 9", value(1, 1, MAX_RANK)),
         SheetCase::refused("rank 10", value(1, 1, MAX_RANK + 1), 5, line),
@@ -242,7 +300,7 @@ fn name_lengths() -> Vec<SheetCase> {
 }
 
 fn text_lengths() -> Vec<SheetCase> {
-    // The longest sheet that is accepted: 11,542 bytes.
+    // The longest sheet that is accepted: 11,626 bytes.
     let mut longest = filled(PLACES, MAX_EDGES);
     long_names(&mut longest);
     let some: Vec<usize> = (0..14).collect();

@@ -178,7 +178,7 @@ fn wrong_form(rng: &mut Rng, draft: &Draft) -> SheetCase {
     fields[place] = match (is_item, place) {
         (true, 0) | (false, 0 | 1) => bad_name(rng, &fields[place]),
         (true, 1) => rng.pick(&["C", "A", "x", "cc", "ca", "-", "0", "b", "d"]).to_string(),
-        (true, 2 | 3) => bad_number(rng, &["1000001", "2000000", "--", "-1", "0-"]),
+        (true, 2 | 3) => bad_number(rng, &["4000000001", "4294967295", "--", "-1", "0-"]),
         (true, _) => bad_number(rng, &["10", "11", "-", "99"]),
         (false, 2) => bad_number(rng, &["8", "9", "10", "-"]),
         (false, _) => bad_number(rng, &["2", "3", "10", "-", "y"]),

@@ -1,12 +1,14 @@
 //! Closures, lost sets, ways in, lists, least sums and marks, against other ways to say them.
 
-use crate::accepted;
+use crate::{accepted, calls};
+use brute::cases::bounds::largest_sums;
 use brute::cases::probes::{hand_ins, sets_within};
 use brute::cases::random::{at_least, random_sheets};
 use brute::cases::tiny::{all_marked, all_unmarked};
 use brute::cases::{Rng, SetupCase};
 use brute::lists::Table;
-use brute::setup::{holds, take_in, within, COLOURS};
+use brute::report::{portal_risk, portal_score, report};
+use brute::setup::{holds, take_in, within, COLOURS, MAX_VALUE};
 use brute::{graph, Calls, Least, Marks, Setup};
 
 /// Whether an item has a colour all of which is in the set (003, definition 3).
@@ -190,13 +192,41 @@ fn item_63_and_sums_at_the_bound() {
     }
     setup.count = 64;
     for item in [2, 50, 62, 63] {
-        setup.places[item].start = Some(1_000_000);
+        setup.places[item].start = Some(MAX_VALUE);
     }
     setup.places[40].rows = [1 << 63, 1 << 62 | 1 << 2, 1 << 50, 0, 0, 0, 0, 0];
     let list = [1 << 50, 1 << 63, 1 << 62 | 1 << 2];
     let calls = Calls::new(&setup);
     assert_eq!(calls.opening_list(40), Ok(&list[..]));
     assert_eq!(calls.mark_openings(40, &list).map(|marks| marks.full()), Ok(true));
+}
+
+/// The score and the risk of an item, and as the portal's numbers.
+fn hold_sums(sheet: &[u8], item: u64, score: u64, risk: u64) {
+    let calls = calls(sheet);
+    assert_eq!((calls.score(item), calls.risk(item)), (Ok(Least::Sum(score)), Ok(Least::Sum(risk))));
+    assert_eq!((portal_score(sheet, item), portal_risk(sheet, item)), (score, risk));
+}
+
+#[test]
+fn sums_of_the_largest_values() {
+    let [fourteen, halves] = &largest_sums()[..] else { panic!("two sheets") };
+    let (one, all) = (4_000_000_000, 56_000_000_000);
+    hold_sums(&fourteen.sheet, 14, all, one);
+    hold_sums(&fourteen.sheet, 16, one, all);
+    let text = String::from_utf8(report(&fourteen.sheet)).expect("a text");
+    let items: Vec<String> = (0..14).map(|item| format!("x{item}")).collect();
+    for row in ["x14 open 14 56000000000 ", "x16 lock 14 56000000000 "] {
+        let row = format!("{row}{}", items.join("+"));
+        assert_eq!(text.lines().filter(|line| **line == row).count(), 1, "{row}");
+    }
+    for row in ["x14 56000000000 4000000000 no yes", "x16 4000000000 56000000000 no yes"] {
+        assert!(text.lines().any(|line| line == row), "{row}");
+    }
+    hold_sums(&halves.sheet, 4, one, 6_000_000_000);
+    hold_sums(&halves.sheet, 5, one - 1, 5_999_999_999);
+    hold_sums(&halves.sheet, 6, 6_000_000_000, one);
+    hold_sums(&halves.sheet, 7, 5_999_999_999, one - 1);
 }
 
 #[test]

@@ -204,7 +204,10 @@ fn item_63_and_sums_at_the_bound() {
 /// The score and the risk of an item, and as the portal's numbers.
 fn hold_sums(sheet: &[u8], item: u64, score: u64, risk: u64) {
     let calls = calls(sheet);
-    assert_eq!((calls.score(item), calls.risk(item)), (Ok(Least::Sum(score)), Ok(Least::Sum(risk))));
+    assert_eq!(
+        (calls.score(item), calls.risk(item)),
+        (Ok(Least::Sum(score)), Ok(Least::Sum(risk)))
+    );
     assert_eq!((portal_score(sheet, item), portal_risk(sheet, item)), (score, risk));
 }
 

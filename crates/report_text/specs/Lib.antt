@@ -1,3 +1,4 @@
 pub mod Rows
 pub mod Report
 pub mod Meaning
+pub mod Unmixed

@@ -137,7 +137,8 @@ static inline const char *portal_refusal_text(uint64_t number)
 #define PORTAL_RANK(v) (4 + 4 * (v))
 /* The set of items from which an edge of colour c, from 0 to 7, leads to it: they are needed together. 0: no such colour. */
 #define PORTAL_ROW(v, c) (257 + 8 * (v) + (c))
-/* Those of them whose edge is a recovery edge. */
+/* Those of them whose edge is a recovery edge. Without recovery, a colour into an item is left out whole if any of its edges
+ * is one; the item's other colours stay. */
 #define PORTAL_RECOVERY(v, c) (769 + 8 * (v) + (c))
 /* "-": no value. A place behind the last item has kind 0, PORTAL_BLANK twice, rank 0 and empty rows. */
 #define PORTAL_BLANK UINT64_MAX
@@ -295,10 +296,10 @@ struct portal_marks portal_mark_openings(const uint64_t *setup, size_t words, ui
 /* Marks for handed-in lockout sets, likewise. Refused with 12, 13. */
 struct portal_marks portal_mark_lockouts(const uint64_t *setup, size_t words, uint64_t target, const uint64_t *sets, size_t count);
 
-/* Is recovery a backdoor to the item: is its score below that without recovery? Refused with 12, 13. */
+/* Is recovery a backdoor to the item: is its score below that without recovery (PORTAL_RECOVERY)? Refused with 12, 13. */
 struct portal_finding portal_backdoor(const uint64_t *setup, size_t words, uint64_t item);
 
-/* Is the item's recovery idle: is its risk at most that without recovery? Refused with 12, 13. */
+/* Is the item's recovery idle: is its risk at most that without recovery, likewise? Refused with 12, 13. */
 struct portal_finding portal_idle(const uint64_t *setup, size_t words, uint64_t item);
 
 /* Out of rank: is `above` of higher rank than `below`, and its score at most that of `below`? Refused with 12, 13. */

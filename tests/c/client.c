@@ -252,8 +252,20 @@ static void try_mark_lockouts(void)
     expect("no full marks", (uint64_t)portal_is_full(portal_mark_lockouts(setup, WORDS, 5, handed, 2)), 0);
 }
 
+/* SHEET's setup, with the token's edge marked alone of the order account's colour 0, and colour 1 needing `second`, unmarked. */
+static void mix_colour(uint64_t words[WORDS], uint64_t second)
+{
+    memcpy(words, setup, WORDS * sizeof words[0]);
+    words[PORTAL_RECOVERY(ORDER_ITEM, 0)] = TOKEN;
+    words[PORTAL_ROW(ORDER_ITEM, 1)] = second;
+    words[PORTAL_RECOVERY(ORDER_ITEM, 1)] = 0;
+}
+
 static void try_backdoor(void)
 {
+    uint64_t mixed[WORDS];
+    mix_colour(mixed, 0);
+    expect("backdoor of a mixed colour", portal_backdoor(mixed, WORDS, ORDER_ITEM).yes, 1);
     expect("backdoor", portal_backdoor(setup, WORDS, ORDER_ITEM).yes, 1);
     expect("no backdoor", portal_backdoor(setup, WORDS, MAIL_ITEM).yes, 0);
     expect("backdoor, no item", portal_backdoor(setup, WORDS, 5).number, PORTAL_NO_ITEM);
@@ -261,6 +273,9 @@ static void try_backdoor(void)
 
 static void try_idle(void)
 {
+    uint64_t mixed[WORDS];
+    mix_colour(mixed, MAIL);
+    expect("a mixed colour is not idle", portal_idle(mixed, WORDS, ORDER_ITEM).yes, 0);
     expect("idle", portal_idle(setup, WORDS, MAIL_ITEM).yes, 1);
     expect("not idle", portal_idle(setup, WORDS, ORDER_ITEM).yes, 0);
 }

@@ -149,7 +149,9 @@ def edges():
 
 def WithoutRecovery(s, g):
     shaped = ShapedGraph(g)
-    each = all(Iff(Edge(g, f, v, c), Edge(s.graph, f, v, c) and not Edge(s.recovery, f, v, c)) for f, v, c in edges())
+    each = all(
+        Iff(Edge(g, f, v, c), Edge(s.graph, f, v, c) and all(not Edge(s.recovery, e, v, c) for e in world.vertices)) for f, v, c in edges()
+    )
     return shaped and each
 
 
@@ -875,7 +877,7 @@ def graphs(s):
     """The graphs among which that without recovery is looked for."""
     key = ("graphs", mark(s))
     if key not in cache:
-        cache[key] = [lessRecovery(s), s.graph, s.recovery, emptyGraph]
+        cache[key] = [lessRecovery(s), lessMarked(s), s.graph, s.recovery, emptyGraph]
     return cache[key]
 
 
@@ -926,6 +928,18 @@ def FindsInconsistent(s, v, w, answer):
         for score in scores(s, False)
         for other in scores(s, False)
     )
+
+
+def NoEasierRoute(s):
+    held = lambda x: lambda i: Member(x, i)
+    without = [g for g in graphs(s) if WithoutRecovery(s, g)]
+    opens = all(
+        implies(lambda: HasAccess(g, held(x), v), lambda: HasAccess(s.graph, held(x), v)) for g in without for x in world.sets for v in world.vertices
+    )
+    score = all(
+        implies(lambda: Compared(False, s, v, r, r_), lambda: r <= r_) for v in range(s.count) for r in scores(s, False) for r_ in scores(s, False)
+    )
+    return opens and score
 
 
 # ---- findings/Answers
@@ -1248,6 +1262,34 @@ def ReportMeaning(s):
     )
     below_rise = all(Rising(belowOf(s, v)) for v in targets)
     return accounts and in_order and base and items and items_rise and score and less and back and idle and pair and below and below_rise
+
+
+# ---- report_text/Unmixed
+
+
+def WithoutMarked(s, g):
+    shaped = ShapedGraph(g)
+    each = all(Iff(Edge(g, f, v, c), Edge(s.graph, f, v, c) and not Edge(s.recovery, f, v, c)) for f, v, c in edges())
+    return shaped and each
+
+
+def Unmixed(s):
+    return all(
+        implies(lambda: Edge(s.recovery, f, v, c), lambda: implies(lambda: Edge(s.graph, e, v, c), lambda: Edge(s.recovery, e, v, c)))
+        for f, v, c in edges()
+        for e in world.vertices
+    )
+
+
+def UnmixedPrints(sheet):
+    s = readSheet(sheet).setup
+    whole = reportOf(sheet) == reportBy(lessRecovery(s), sheet)
+    accepted = readSheet(sheet).number == 0
+    marked = implies(lambda: accepted, lambda: WithoutMarked(s, lessMarked(s)))
+    alike = implies(lambda: Unmixed(s), lambda: all(Iff(WithoutRecovery(s, g), WithoutMarked(s, g)) for g in graphs(s)))
+    same = implies(lambda: accepted and Unmixed(s), lambda: lessRecovery(s) == lessMarked(s))
+    prints = implies(lambda: Unmixed(s), lambda: reportOf(sheet) == reportBy(lessMarked(s), sheet))
+    return whole and marked and alike and same and prints
 
 
 # ---- report_writer/Whole: `rest` gives what is left of the report at a place, `places` are the places; the tables as they were and as they are

@@ -26,7 +26,13 @@ closed = read([H1, "only a - - 0", "", H2])
 loop = read([H1, "only a - 4 0", "", H2, "only only 0 0"])
 pair = read([H1, "p a - 1 0", "q a - 1 0", "", H2, "p q 0 0", "q p 0 0"])
 # two colours, of which the second is recovery, and an item that is ranked above; zero is a value
-spare = read([H1, "pw c 0 0 0", "key c 2 1 0", "acc a - - 1", "", H2, "pw acc 0 0", "key acc 2 1"])
+SPARE = [H1, "pw c 0 0 0", "key c 2 1 0", "acc a - - 1", "", H2, "pw acc 0 0", "key acc 2 1"]
+spare = read(SPARE)
+# document 02's point 3: one of two edges of a colour is marked; and the same colour, unmarked, of another item
+MIXED = [H1, "finger c 9 - 0", "phone c 1 3 0", "letter c 5 1 0", "mail a - - 1", "", H2, "finger mail 0 0", "phone mail 1 0", "letter mail 1 1"]
+mixed, other = read(MIXED), read(MIXED + ["phone finger 1 0"])
+# the same recovery beside a password that can be lost: of use, though the marked edge alone would make it idle
+useful = read([H1, "password c 1 2 0", *MIXED[2:6], H2, "password mail 0 0", *MIXED[8:]])
 MAIL, ORDER = 3, 4
 
 
@@ -737,6 +743,23 @@ def of_spare(D):
     return [
         ("meaning: the executable definitions", lambda: D.Meaning(spare, spare.graph, [[1, 2, 1], [3, 4], []]), True),
         ("report meaning", lambda: D.ReportMeaning(spare), True),
+        ("without recovery: a mixed colour", lambda: D.WithoutRecovery(mixed, with_row(mixed.graph, MAIL, 1, 0)), True),
+        ("not without recovery: the marked edge alone", lambda: D.WithoutRecovery(mixed, with_row(mixed.graph, MAIL, 1, 2)), False),
+        ("not without recovery: all colours of the vertex", lambda: D.WithoutRecovery(mixed, emptyGraph), False),
+        ("not without recovery: a mixed colour stays", lambda: D.WithoutRecovery(mixed, mixed.graph), False),
+        ("without recovery: the colour of another vertex stays", lambda: D.WithoutRecovery(other, with_row(other.graph, MAIL, 1, 0)), True),
+        ("no easier route: a mixed colour", lambda: D.NoEasierRoute(mixed), True),
+        ("backdoor: a mixed colour", lambda: D.BackdoorCall(mixed, MAIL, 0, [1]), True),
+        ("not backdoor: a mixed colour has none", lambda: D.BackdoorCall(mixed, MAIL, 0, [0]), False),
+        ("not idle: recovery by a mixed colour", lambda: D.IneffectiveCall(useful, MAIL, 0, [0]), True),
+        ("not idle: recovery by a mixed colour is", lambda: D.IneffectiveCall(useful, MAIL, 0, [1]), False),
+        ("without marked: a mixed colour", lambda: D.WithoutMarked(mixed, with_row(mixed.graph, MAIL, 1, 2)), True),
+        ("not without marked: the whole colour", lambda: D.WithoutMarked(mixed, with_row(mixed.graph, MAIL, 1, 0)), False),
+        ("not unmixed: a mixed colour", lambda: D.Unmixed(mixed), False),
+        ("unmixed: colours with and without recovery", lambda: D.Unmixed(spare), True),
+        ("unmixed prints: a mixed colour", lambda: D.UnmixedPrints(text(MIXED)), True),
+        ("unmixed prints: colours with and without recovery", lambda: D.UnmixedPrints(text(SPARE)), True),
+        ("unmixed prints: a refused sheet", lambda: D.UnmixedPrints(REFUSED["refused 5"][0]), True),
         ("rising", lambda: D.Rising([0, 2, 3]), True),
         ("not rising: twice", lambda: D.Rising([0, 2, 2]), False),
         ("not rising: the last below the first", lambda: D.Rising([1, 2, 0]), False),

@@ -359,7 +359,15 @@ def marksOf(loss, s, g, target, handed):
 # ---- report_text: what the report's rows rest on
 
 
+def rowLess(row, recovery):
+    return row if recovery == 0 else 0
+
+
 def lessRecovery(s):
+    return Graph(tuple(Rows(tuple(rowLess(row(s.graph, v, c), row(s.recovery, v, c)) for c in range(8))) for v in range(64)))
+
+
+def lessMarked(s):
     return Graph(tuple(Rows(tuple(row(s.graph, v, c) & ~row(s.recovery, v, c) for c in range(8))) for v in range(64)))
 
 
@@ -385,6 +393,41 @@ def isIdle(s, v):
 
 def isOutOfRank(s, v, w):
     return vertexAt(s, w).rank < vertexAt(s, v).rank and scoreOf(False, s, s.graph, v) <= scoreOf(False, s, s.graph, w)
+
+
+def rowText(*fields):
+    return lineText([list(f.encode()) if isinstance(f, str) else f for f in fields])
+
+
+def reportWith(back, idle, sheet):
+    """The report, with these tests for the columns `back` and `idle`."""
+    r = readSheet(sheet)
+    if r.number:
+        return rowText("refused", decimal(r.number), decimal(r.line))
+    s, accounts = r.setup, accountsOf(r.setup)
+    score = lambda loss, v: scoreOf(loss, s, s.graph, v)
+    scoreText = lambda r: "-" if r == never else decimal(r)
+    answer = lambda b: "yes" if b else "no"
+    joined = lambda x: [b for v in itemsOf(x) for b in [43] + nameOf(sheet, v)][1:]
+    sets = [(v, loss, x) for v in accounts for loss in (False, True) for x in baseOf(loss, s, s.graph, v)]
+    parts = [
+        [rowText("target way size sum items")]
+        + [rowText(nameOf(sheet, v), "lock" if loss else "open", decimal(ones(x)), decimal(sumOf(loss, s, x)), joined(x)) for v, loss, x in sets],
+        [rowText("target score risk back idle")]
+        + [rowText(nameOf(sheet, v), scoreText(score(False, v)), scoreText(score(True, v)), answer(back(s, v)), answer(idle(s, v))) for v in accounts],
+        [rowText("above below")] + [rowText(nameOf(sheet, v), nameOf(sheet, w)) for v in accounts for w in belowOf(s, v)],
+    ]
+    return [b for part in parts for line in [[10]] + part for b in line][1:]
+
+
+def reportOf(sheet):
+    return reportWith(isBackdoor, isIdle, sheet)
+
+
+def reportBy(less, sheet):
+    back = lambda s, v: scoreOf(False, s, s.graph, v) < scoreOf(False, s, less, v)
+    idle = lambda s, v: scoreOf(True, s, s.graph, v) <= scoreOf(True, s, less, v)
+    return reportWith(back, idle, sheet)
 
 
 # ---- portal_setup: a setup as plain numbers

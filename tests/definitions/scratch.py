@@ -21,7 +21,7 @@ access/Answers answers/Answers
 sheet_format/Text sheet_format/Fields sheet_format/Rows sheet_format/Stated sheet_format/Questions sheet_format/Read sheet_format/Names
 findings/Findings findings/Answers
 reference/Tests reference/Closures reference/Bases
-report_text/Rows report_text/Report
+report_text/Rows report_text/Report report_text/Unmixed
 report_facts/Texts report_writer/Rest
 portal_setup/Words portal_results/Told portal_reading/Reading
 worked_examples/Sheets worked_examples/Table

@@ -94,6 +94,6 @@ recovery-alike s less U a needs none =
     record {
       needs = needs;
       same = λ v c u. same-set (row (s .graph) v c) (row less v c)
-          (record { each = λ f m. a .each f v c .from (m, none f v c u) })
+          (record { each = λ f m. a .each f v c .from (m, λ e. none e v c u) })
           (record { each = λ f m. a .each f v c .to m .0 });
     }

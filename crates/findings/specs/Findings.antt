@@ -1,11 +1,13 @@
--- Findings (document 003, definitions 26 to 28; document 01, "Scores and findings"). Scores are compared as numbers: "never" is 2^62, above
--- every sum of values and equal to itself, so never against never is at most, and not below.
+-- Findings (document 003, definitions 26 to 28; document 01, "Scores and findings"; without recovery as in document 02, point 3). Scores are
+-- compared as numbers: "never" is 2^62, above every sum of values and equal to itself, so never against never is at most, and not below.
 use mathlib.Core.Bool.{Bool, true, false}
 use Prim.Native.Nat.{ℕ, _≤_, _<_}
 use Rattle.vertex_set.specs.Set.{Decides}
 use Rattle.setup.specs.declared.Graph.{Graph}
 use Rattle.setup.specs.declared.Setup.{Setup}
 use Rattle.setup.specs.Setup.{vertexAt, WithoutRecovery}
+use Rattle.derivations.specs.Derivation.{Vertices}
+use Rattle.derivations.specs.Access.{HasAccess}
 use Rattle.bases.specs.Score.{Score}
 
 -- The scores of v, all of one kind: r in the graph, r′ in the graph without recovery.
@@ -52,3 +54,11 @@ pub record FindsInconsistent (s : Setup) (v w : ℕ) (answer : Bool) : Type 0 wh
   pub isScore : Score false s (s .graph) v score
   pub isOther : Score false s (s .graph) w other
   pub decides : Decides (Inconsistent s v w score other) answer
+
+-- ---- without recovery no route is easier (document 02, point 3)
+
+-- Who opens v without recovery opens it with recovery; so the security score without recovery is at least that with it. Where only the recovery edges
+-- are taken out this is false: what is left of their colour takes less than before. Of losses nothing like it holds.
+pub record NoEasierRoute (s : Setup) : Type 1 where
+  pub opens : (g : Graph) → WithoutRecovery s g → (held : Vertices) (v : ℕ) → HasAccess g held v → HasAccess (s .graph) held v
+  pub score : (v r r′ : ℕ) → Compared false s v r r′ → r ≤ r′

@@ -12,7 +12,7 @@ use Rattle.sheet_format.specs.declared.Reading.{Reading}
 use Rattle.sheet_format.specs.Read.{readSheet}
 use Rattle.sheet_format.specs.Meaning.{Accepted, Refused}
 use Rattle.sheet_format.proofs.Meaning.{accepted-or-refused}
-use Rattle.sheet_format.proofs.Question12.{question-12}
+use Rattle.sheet_format.proofs.Question12.{accepted-formed}
 use Rattle.bases.specs.Score.{never, Score}
 use Rattle.answers.specs.Answers.{ScoreCall}
 use Rattle.portal.specs.Inner.{Codable, Coded}
@@ -35,13 +35,6 @@ number-small text =
     (λ (d : Refused text). let e = ap (λ (r : Reading). r .number) (d .reading) in let m = d .most in omega arith)
     (accepted-or-refused .either text)
 
-pub formed : (text : List ℕ) → readSheet text .number ≡ 0 → WellFormed (readSheet text .setup)
-formed text z =
-    ⊎-elim
-    (λ (a : Accepted text). subst WellFormed (sym (ap (λ (r : Reading). r .setup) (a .reading))) (question-12 (a .setup) .from (text, a .reading)))
-    (λ (d : Refused text). absurd (let e = ap (λ (r : Reading). r .number) (d .reading) in let m = d .least in omega arith))
-    (accepted-or-refused .either text)
-
 -- ---- the calls
 
 module _ (loss : Bool) (text : List ℕ) (item : ℕ) (rd : Reading) (e : rd ≡ readSheet text) where
@@ -61,7 +54,7 @@ module _ (loss : Bool) (text : List ℕ) (item : ℕ) (rd : Reading) (e : rd ≡
 
   module _ (z : rd .number ≡ 0) (number : ℕ) (values : List ℕ) (h : ScoreCall loss (rd .setup) item number values) where
     whole : WellFormed (rd .setup)
-    whole = subst (λ (r : Reading). WellFormed (r .setup)) (sym e) (formed text (sym same ∙ z))
+    whole = subst (λ (r : Reading). WellFormed (r .setup)) (sym e) (accepted-formed text (sym same ∙ z))
 
     pub codable : Codable number values
     codable =

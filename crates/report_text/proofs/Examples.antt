@@ -1,6 +1,8 @@
--- The report of document 01's sheet, byte for byte, and of sheets with no account, with no pair, with accounts that nothing opens, and a refused one.
+-- The report of document 01's sheet, byte for byte, and of sheets with no account, with no pair, with accounts that nothing opens, and a refused one; and
+-- of one with a mixed colour, as it is and as it was.
 -- Assumes nothing.
 use mathlib.Core.Path.{_≡_, refl}
+use mathlib.Core.Bool.{false}
 use mathlib.Core.List.{List, [], _∷_}
 use Prim.Native.Nat.{ℕ}
 use lib.Count.{ones}
@@ -8,7 +10,7 @@ use Rattle.vertex_set.specs.Order.{sumOver}
 use Rattle.sheet_format.specs.Text.{grow, linesOf, fieldsOf, isEmpty, sameText, all}
 use Rattle.sheet_format.specs.Fields.{isDigit, isNameByte, isName, isNumber, valueBehind, numberOf, isNumberTo, digitsIn, decimal, isKind, kindOf, isValue, valueOf}
 use Rattle.sheet_format.specs.Rows.{firstHeader, secondHeader, startCount, lossCount, numberIn, verticesOf, withEdge, withEdges, recoveryRows, setupOf}
-use Rattle.setup.specs.Setup.{emptyGraph}
+use Rattle.setup.specs.Setup.{emptyGraph, rowLess}
 use Rattle.sheet_format.specs.Questions.{question1, isTextByte, endsInLF, question2, question3, question10, noneEmpty, question4, question5Item, question5Edge, itemOf, edgeOf, isKnown, question6, question8, sameEdge, isRepeated, question9, question7Item, question7Edge}
 use Rattle.sheet_format.specs.Read.{itemQuestions, edgeQuestions, questionsOf, behind, firstNo, question11, unless, readLines, readSheet}
 use Rattle.reference.specs.Tests.{lowest, some, every, those, isListed, isMember, isWithin, isMeeting, withVertex}
@@ -16,7 +18,8 @@ use Rattle.reference.specs.Closures.{isComplete, isBroken, colourOf, isAdded, p
 use Rattle.reference.specs.Bases.{isChosen, setsOfSize, setsUpTo, setsOf, targetSetsOf, isMinimal, baseOf, leastSum, scoreOf}
 use Rattle.report_text.specs.Rows.{numbersFrom, textsOf, wayText, answerText, scoreText, itemsOf, joined, setText, setRow, scoreRow, pairRow, refusedRow, listHeader, scoreHeader, pairHeader}
 use Rattle.sheet_format.specs.Names.{hasItem, nameOf}
-use Rattle.report_text.specs.Report.{rowLess, rowsLess, lessRecovery, isAccount, accountsOf, isBackdoor, isIdle, isOutOfRank, belowOf, baseRow, targetRows, listSection, findingRow, scoreSection, pairRows, pairSection, acceptedReport, reportAfter, reportOf}
+use Rattle.report_text.specs.Report.{rowsLess, lessRecovery, isAccount, accountsOf, isBackdoor, isIdle, isOutOfRank, belowOf, baseRow, targetRows, listSection, findingRow, scoreSection, pairRows, pairSection, acceptedReport, reportAfter, reportOf}
+use Rattle.report_text.specs.Unmixed.{lessMarked, findingRowBy, acceptedReportBy, reportBy}
 
 -- Document 01's sheet.
 --   name kind start loss rank
@@ -171,10 +174,72 @@ abbrev leadingReport : List ℕ
 leadingReport =
     114 ∷ 101 ∷ 102 ∷ 117 ∷ 115 ∷ 101 ∷ 100 ∷ 32 ∷ 53 ∷ 32 ∷ 50 ∷ 10 ∷ []
 
+-- A mixed colour (document 02, point 3): a phone and a letter recover the mail account, and only the letter's edge is marked. The whole colour is
+-- taken out, so that 9 is left; taking out the letter's edge alone would leave 1, and no backdoor.
+--   name kind start loss rank
+--   finger c 9 - 0
+--   phone c 1 3 0
+--   letter c 5 1 0
+--   mail a - - 1
+--
+--   from to colour rec
+--   finger mail 0 0
+--   phone mail 1 0
+--   letter mail 1 1
+abbrev mixedSheet : List ℕ
+mixedSheet =
+    110 ∷ 97 ∷ 109 ∷ 101 ∷ 32 ∷ 107 ∷ 105 ∷ 110 ∷ 100 ∷ 32 ∷ 115 ∷ 116 ∷ 97 ∷ 114 ∷ 116 ∷ 32 ∷ 108 ∷ 111 ∷ 115 ∷ 115 ∷ 32 ∷ 114 ∷ 97 ∷ 110 ∷ 107 ∷
+    10 ∷ 102 ∷ 105 ∷ 110 ∷ 103 ∷ 101 ∷ 114 ∷ 32 ∷ 99 ∷ 32 ∷ 57 ∷ 32 ∷ 45 ∷ 32 ∷ 48 ∷ 10 ∷ 112 ∷ 104 ∷ 111 ∷ 110 ∷ 101 ∷ 32 ∷ 99 ∷ 32 ∷ 49 ∷ 32 ∷ 51 ∷
+    32 ∷ 48 ∷ 10 ∷ 108 ∷ 101 ∷ 116 ∷ 116 ∷ 101 ∷ 114 ∷ 32 ∷ 99 ∷ 32 ∷ 53 ∷ 32 ∷ 49 ∷ 32 ∷ 48 ∷ 10 ∷ 109 ∷ 97 ∷ 105 ∷ 108 ∷ 32 ∷ 97 ∷ 32 ∷ 45 ∷ 32 ∷
+    45 ∷ 32 ∷ 49 ∷ 10 ∷ 10 ∷ 102 ∷ 114 ∷ 111 ∷ 109 ∷ 32 ∷ 116 ∷ 111 ∷ 32 ∷ 99 ∷ 111 ∷ 108 ∷ 111 ∷ 117 ∷ 114 ∷ 32 ∷ 114 ∷ 101 ∷ 99 ∷ 10 ∷ 102 ∷ 105 ∷
+    110 ∷ 103 ∷ 101 ∷ 114 ∷ 32 ∷ 109 ∷ 97 ∷ 105 ∷ 108 ∷ 32 ∷ 48 ∷ 32 ∷ 48 ∷ 10 ∷ 112 ∷ 104 ∷ 111 ∷ 110 ∷ 101 ∷ 32 ∷ 109 ∷ 97 ∷ 105 ∷ 108 ∷ 32 ∷ 49 ∷
+    32 ∷ 48 ∷ 10 ∷ 108 ∷ 101 ∷ 116 ∷ 116 ∷ 101 ∷ 114 ∷ 32 ∷ 109 ∷ 97 ∷ 105 ∷ 108 ∷ 32 ∷ 49 ∷ 32 ∷ 49 ∷ 10 ∷ []
+
+--   target way size sum items
+--   mail open 1 9 finger
+--   mail open 2 6 phone+letter
+--
+--   target score risk back idle
+--   mail 6 - yes yes
+--
+--   above below
+abbrev mixedReport : List ℕ
+mixedReport =
+    116 ∷ 97 ∷ 114 ∷ 103 ∷ 101 ∷ 116 ∷ 32 ∷ 119 ∷ 97 ∷ 121 ∷ 32 ∷ 115 ∷ 105 ∷ 122 ∷ 101 ∷ 32 ∷ 115 ∷ 117 ∷ 109 ∷ 32 ∷ 105 ∷ 116 ∷ 101 ∷ 109 ∷ 115 ∷
+    10 ∷ 109 ∷ 97 ∷ 105 ∷ 108 ∷ 32 ∷ 111 ∷ 112 ∷ 101 ∷ 110 ∷ 32 ∷ 49 ∷ 32 ∷ 57 ∷ 32 ∷ 102 ∷ 105 ∷ 110 ∷ 103 ∷ 101 ∷ 114 ∷ 10 ∷ 109 ∷ 97 ∷ 105 ∷ 108 ∷
+    32 ∷ 111 ∷ 112 ∷ 101 ∷ 110 ∷ 32 ∷ 50 ∷ 32 ∷ 54 ∷ 32 ∷ 112 ∷ 104 ∷ 111 ∷ 110 ∷ 101 ∷ 43 ∷ 108 ∷ 101 ∷ 116 ∷ 116 ∷ 101 ∷ 114 ∷ 10 ∷ 10 ∷ 116 ∷ 97 ∷
+    114 ∷ 103 ∷ 101 ∷ 116 ∷ 32 ∷ 115 ∷ 99 ∷ 111 ∷ 114 ∷ 101 ∷ 32 ∷ 114 ∷ 105 ∷ 115 ∷ 107 ∷ 32 ∷ 98 ∷ 97 ∷ 99 ∷ 107 ∷ 32 ∷ 105 ∷ 100 ∷ 108 ∷ 101 ∷ 10 ∷
+    109 ∷ 97 ∷ 105 ∷ 108 ∷ 32 ∷ 54 ∷ 32 ∷ 45 ∷ 32 ∷ 121 ∷ 101 ∷ 115 ∷ 32 ∷ 121 ∷ 101 ∷ 115 ∷ 10 ∷ 10 ∷ 97 ∷ 98 ∷ 111 ∷ 118 ∷ 101 ∷ 32 ∷ 98 ∷ 101 ∷
+    108 ∷ 111 ∷ 119 ∷ 10 ∷ []
+
+-- What it printed where the marked edge alone was taken out.
+--   target way size sum items
+--   mail open 1 9 finger
+--   mail open 2 6 phone+letter
+--
+--   target score risk back idle
+--   mail 6 - no yes
+--
+--   above below
+abbrev mixedBefore : List ℕ
+mixedBefore =
+    116 ∷ 97 ∷ 114 ∷ 103 ∷ 101 ∷ 116 ∷ 32 ∷ 119 ∷ 97 ∷ 121 ∷ 32 ∷ 115 ∷ 105 ∷ 122 ∷ 101 ∷ 32 ∷ 115 ∷ 117 ∷ 109 ∷ 32 ∷ 105 ∷ 116 ∷ 101 ∷ 109 ∷ 115 ∷
+    10 ∷ 109 ∷ 97 ∷ 105 ∷ 108 ∷ 32 ∷ 111 ∷ 112 ∷ 101 ∷ 110 ∷ 32 ∷ 49 ∷ 32 ∷ 57 ∷ 32 ∷ 102 ∷ 105 ∷ 110 ∷ 103 ∷ 101 ∷ 114 ∷ 10 ∷ 109 ∷ 97 ∷ 105 ∷ 108 ∷
+    32 ∷ 111 ∷ 112 ∷ 101 ∷ 110 ∷ 32 ∷ 50 ∷ 32 ∷ 54 ∷ 32 ∷ 112 ∷ 104 ∷ 111 ∷ 110 ∷ 101 ∷ 43 ∷ 108 ∷ 101 ∷ 116 ∷ 116 ∷ 101 ∷ 114 ∷ 10 ∷ 10 ∷ 116 ∷ 97 ∷
+    114 ∷ 103 ∷ 101 ∷ 116 ∷ 32 ∷ 115 ∷ 99 ∷ 111 ∷ 114 ∷ 101 ∷ 32 ∷ 114 ∷ 105 ∷ 115 ∷ 107 ∷ 32 ∷ 98 ∷ 97 ∷ 99 ∷ 107 ∷ 32 ∷ 105 ∷ 100 ∷ 108 ∷ 101 ∷ 10 ∷
+    109 ∷ 97 ∷ 105 ∷ 108 ∷ 32 ∷ 54 ∷ 32 ∷ 45 ∷ 32 ∷ 110 ∷ 111 ∷ 32 ∷ 121 ∷ 101 ∷ 115 ∷ 10 ∷ 10 ∷ 97 ∷ 98 ∷ 111 ∷ 118 ∷ 101 ∷ 32 ∷ 98 ∷ 101 ∷ 108 ∷
+    111 ∷ 119 ∷ 10 ∷ []
+
 pub printed : (reportOf documentSheet ≡ documentReport)
     × (reportOf credentialSheet ≡ credentialReport)
     × (reportOf orderedSheet ≡ orderedReport)
     × (reportOf unreachableSheet ≡ unreachableReport)
     × (reportOf leadingSheet ≡ leadingReport)
-unfolding grow linesOf fieldsOf isEmpty sameText all isDigit isNameByte isName isNumber valueBehind numberOf isNumberTo digitsIn decimal isKind kindOf isValue valueOf firstHeader secondHeader startCount lossCount numberIn verticesOf emptyGraph withEdge withEdges recoveryRows setupOf question1 isTextByte endsInLF question2 question3 question10 noneEmpty question4 question5Item question5Edge itemOf edgeOf isKnown question6 question8 sameEdge isRepeated question9 question7Item question7Edge itemQuestions edgeQuestions questionsOf behind firstNo question11 unless readLines readSheet lowest some every those isListed isMember isWithin isMeeting withVertex isComplete isBroken colourOf isAdded passOf passesOf closureOf derivesOf isChosen setsOfSize setsUpTo setsOf targetSetsOf isMinimal baseOf leastSum scoreOf numbersFrom textsOf wayText answerText scoreText itemsOf joined setText setRow scoreRow pairRow refusedRow listHeader scoreHeader pairHeader rowLess rowsLess lessRecovery isAccount accountsOf isBackdoor isIdle isOutOfRank belowOf baseRow targetRows listSection findingRow scoreSection pairRows pairSection acceptedReport hasItem nameOf reportAfter reportOf sumOver ones
-printed = (refl, refl, refl, refl, refl)
+    × (reportOf mixedSheet ≡ mixedReport)
+    × (reportBy (lessMarked (readSheet mixedSheet .setup)) mixedSheet ≡ mixedBefore)
+    -- the scores of the mail account: with recovery, without, and less the marked edge alone, which left an easier route
+    × (scoreOf false (readSheet mixedSheet .setup) (readSheet mixedSheet .setup .graph) 3 ≡ 6)
+    × (scoreOf false (readSheet mixedSheet .setup) (lessRecovery (readSheet mixedSheet .setup)) 3 ≡ 9)
+    × (scoreOf false (readSheet mixedSheet .setup) (lessMarked (readSheet mixedSheet .setup)) 3 ≡ 1)
+unfolding grow linesOf fieldsOf isEmpty sameText all isDigit isNameByte isName isNumber valueBehind numberOf isNumberTo digitsIn decimal isKind kindOf isValue valueOf firstHeader secondHeader startCount lossCount numberIn verticesOf emptyGraph withEdge withEdges recoveryRows setupOf question1 isTextByte endsInLF question2 question3 question10 noneEmpty question4 question5Item question5Edge itemOf edgeOf isKnown question6 question8 sameEdge isRepeated question9 question7Item question7Edge itemQuestions edgeQuestions questionsOf behind firstNo question11 unless readLines readSheet lowest some every those isListed isMember isWithin isMeeting withVertex isComplete isBroken colourOf isAdded passOf passesOf closureOf derivesOf isChosen setsOfSize setsUpTo setsOf targetSetsOf isMinimal baseOf leastSum scoreOf numbersFrom textsOf wayText answerText scoreText itemsOf joined setText setRow scoreRow pairRow refusedRow listHeader scoreHeader pairHeader rowLess rowsLess lessRecovery isAccount accountsOf isBackdoor isIdle isOutOfRank belowOf baseRow targetRows listSection findingRow scoreSection pairRows pairSection acceptedReport hasItem nameOf reportAfter reportOf lessMarked findingRowBy acceptedReportBy reportBy sumOver ones
+printed = (refl, refl, refl, refl, refl, refl, refl, refl, refl, refl)

@@ -3,14 +3,13 @@
 use mathlib.Core.Path.{_≡_, refl, sym, ap, _∙_, subst}
 use mathlib.Core.Bool.{Bool, true, false}
 use mathlib.Core.List.{List, [], _∷_}
-use Prim.Native.Nat.{ℕ, _+_, _^_, _<_}
+use Prim.Native.Nat.{ℕ, _+_, _<_}
 use native.Mathlib.Omega.{arith}
 use lib.Dec.{leb, ltb}
 use Rattle.vertex_set.specs.Set.{Member, Iff, Decides}
 use Rattle.vertex_set.specs.Order.{Listed}
 use Rattle.vertex_set.proofs.Decisions.{decide-yes, decide-no, decide-iff, decide-leb, decide-ltb}
 use Rattle.vertex_set.proofs.Cases.{false-true}
-use Rattle.vertex_set.proofs.Sets.{bounded-by-members}
 use Rattle.vertex_set.proofs.Places.{places, listed-places, sorted-places}
 use Rattle.vertex_set.proofs.Sorted.{Sorted}
 use Rattle.setup.specs.declared.Kind.{Kind}
@@ -18,7 +17,7 @@ use Rattle.setup.specs.declared.Kind.the-variants.{Credential, Account}
 use Rattle.setup.specs.declared.Rows.{Rows}
 use Rattle.setup.specs.declared.Graph.{Graph}
 use Rattle.setup.specs.declared.Setup.{Setup}
-use Rattle.setup.specs.Setup.{vertexAt, rowsAt, rowOf, row, WithoutRecovery}
+use Rattle.setup.specs.Setup.{vertexAt, rowsAt, rowOf, rowLess, WithoutRecovery}
 use Rattle.formed.specs.WellFormed.{WellFormed}
 use Rattle.setup.specs.Inner.{RowsLess}
 use Rattle.setup.proofs.Recovery.{LessBelow, less-all, places-all}
@@ -31,7 +30,7 @@ use Rattle.reference.proofs.Graphs.{own-graph, graph-without}
 use Rattle.reference.proofs.Meaning.{meaning}
 use Rattle.findings.specs.Findings.{Compared, FindsBackdoor, FindsIneffective, FindsInconsistent}
 use Rattle.report_text.specs.Rows.{numbersFrom, itemsOf}
-use Rattle.report_text.specs.Report.{rowLess, rowsLess, lessRecovery, isAccountKind, isAccount, accountsOf, isBackdoor, isIdle, isOutOfRank, belowOf}
+use Rattle.report_text.specs.Report.{rowsLess, lessRecovery, isAccountKind, isAccount, accountsOf, isBackdoor, isIdle, isOutOfRank, belowOf}
 use Rattle.report_text.specs.Meaning.{Rising, ReportMeaning}
 use Rattle.report_text.proofs.Items.{items-places}
 use Rattle.report_text.proofs.Numbers.{length-numbers, at-numbers, listed-numbers, sorted-numbers}
@@ -52,21 +51,13 @@ less-row rows recovery c h =
     at-numbers (λ k. rowLess (rowOf rows k) (rowOf recovery k)) 0 8 c 0 h ∙ ap (λ (k : ℕ). rowLess (rowOf rows k) (rowOf recovery k)) e
 
 less-below : (rows recovery : Rows) → LessBelow rows recovery (rowsLess rows recovery) 8
-unfolding rowsLess rowLess
+unfolding rowsLess
 less-below rows recovery = record { long = length-numbers (λ c. rowLess (rowOf rows c) (rowOf recovery c)) 0 8; each = less-row rows recovery }
-
--- a row's vertices are the setup's, so that it is a word
-row-word : (s : Setup) → WellFormed s → (v c : ℕ) → row (s .graph) v c < 2 ^ 64
-row-word s w v c = bounded-by-members 64 (row (s .graph) v c) (λ f m. let a = w .ends f v c m .0 in let b = w .most in omega arith)
-
-recovery-word : (s : Setup) → WellFormed s → (v c : ℕ) → row (s .recovery) v c < 2 ^ 64
-recovery-word s w v c =
-    bounded-by-members 64 (row (s .recovery) v c) (λ f m. let a = w .ends f v c (w .marked f v c m) .0 in let b = w .most in omega arith)
 
 less-place : (s : Setup) → WellFormed s → (v : ℕ) → v < 64 → RowsLess (rowsAt (s .graph) v) (rowsAt (s .recovery) v) (rowsAt (lessRecovery s) v)
 less-place s w v h =
     subst (RowsLess (rowsAt (s .graph) v) (rowsAt (s .recovery) v)) (sym (less-rows s v h))
-    (less-all (rowsAt (s .graph) v) (rowsAt (s .recovery) v) (rowsLess (rowsAt (s .graph) v) (rowsAt (s .recovery) v)) (row-word s w v) (recovery-word s w v)
+    (less-all (rowsAt (s .graph) v) (rowsAt (s .recovery) v) (rowsLess (rowsAt (s .graph) v) (rowsAt (s .recovery) v))
     (w .shaped .graph .colours v h) (less-below (rowsAt (s .graph) v) (rowsAt (s .recovery) v)))
 
 pub less-recovery : (s : Setup) → WellFormed s → WithoutRecovery s (lessRecovery s)

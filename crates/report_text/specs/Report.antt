@@ -1,15 +1,14 @@
 -- The report's text for the bytes of a sheet (document 01, "Report and portal").
 use mathlib.Core.Bool.{Bool, true, false, cond, _&&_}
 use mathlib.Core.List.{List, [], _∷_, _++_, map}
-use Prim.Native.Nat.{ℕ, _-_, _^_}
-use lib.Bits.{bitAnd}
+use Prim.Native.Nat.{ℕ}
 use lib.Dec.{eqb, ltb, leb}
 use Rattle.setup.specs.declared.Kind.{Kind}
 use Rattle.setup.specs.declared.Kind.the-variants.{Credential, Account}
 use Rattle.setup.specs.declared.Rows.{Rows}
 use Rattle.setup.specs.declared.Graph.{Graph}
 use Rattle.setup.specs.declared.Setup.{Setup}
-use Rattle.setup.specs.Setup.{vertexAt, rowsAt, rowOf}
+use Rattle.setup.specs.Setup.{vertexAt, rowsAt, rowOf, rowLess}
 use Rattle.sheet_format.specs.declared.Reading.{Reading}
 use Rattle.sheet_format.specs.Read.{readSheet}
 use Rattle.sheet_format.specs.Names.{nameOf}
@@ -20,14 +19,10 @@ use Rattle.report_text.specs.Rows.{numbersFrom, textsOf, setRow, scoreRo
 
 -- ---- the graph without recovery
 
--- The vertices of a row that are not in the row of recovery edges.
-unfoldable pub rowLess : ℕ → ℕ → ℕ
-rowLess row recovery = bitAnd row ((2 ^ 64 - 1) - recovery)
-
 unfoldable pub rowsLess : Rows → Rows → Rows
 rowsLess rows recovery = record { needs = map (λ c. rowLess (rowOf rows c) (rowOf recovery c)) (numbersFrom 0 8) }
 
--- `WithoutRecovery s`: the graph less the recovery edges.
+-- `WithoutRecovery s`, row by row.
 unfoldable pub lessRecovery : Setup → Graph
 lessRecovery s = record { rows = map (λ v. rowsLess (rowsAt (s .graph) v) (rowsAt (s .recovery) v)) (numbersFrom 0 64) }
 

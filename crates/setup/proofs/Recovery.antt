@@ -1,70 +1,80 @@
 -- The graph without recovery, row by row and place by place.
 -- Assumes nothing.
-use mathlib.Core.Path.{_≡_, sym, subst, _∙_}
+use mathlib.Core.Path.{_≡_, refl, sym, subst, _∙_}
 use mathlib.Core.List.{[]}
 use mathlib.Core.Logic.{⊎-elim}
-use Prim.Native.Nat.{ℕ, _+_, _-_, _^_, _≤_, _<_}
+use Prim.Native.Nat.{ℕ, _+_, _≤_, _<_}
 use native.Mathlib.Omega.{arith}
 use lib.ListN.{length, getD, set, length-set}
 use lib.Seq.{getD-set-same, getD-set-other}
-use lib.Bits.{bitAnd}
+use borrow.Author.Tests.{ne-eqb}
 use Rattle.vertex_set.specs.Set.{Member, Iff}
 use Rattle.vertex_set.proofs.Cases.{same-or, less-or}
-use Rattle.vertex_set.proofs.Sets.{member-below, in-and, in-not}
+use Rattle.vertex_set.proofs.Sets.{none-in-zero, some-member}
 use Rattle.setup.specs.declared.Rows.{Rows}
 use Rattle.setup.specs.declared.Graph.{Graph}
 use Rattle.setup.specs.declared.Setup.{Setup}
-use Rattle.setup.specs.Setup.{rowsAt, rowOf, WithoutRecovery}
+use Rattle.setup.specs.Setup.{rowsAt, rowOf, rowLess, WithoutRecovery}
 use Rattle.setup.specs.Inner.{RowsLess}
 use Rattle.setup.proofs.Graphs.{edge-place, edge-colour}
 
--- The rows of the colours below n are those less the recovery rows.
+-- a row without a recovery edge stays
+pub row-stays : (row recovery : ℕ) → recovery ≡ 0 → row ≡ rowLess row recovery
+unfolding rowLess
+row-stays row recovery z = rw z refl
+
+-- a row with one goes
+pub row-goes : (row recovery : ℕ) → (recovery ≡ 0 → ⊥) → 0 ≡ rowLess row recovery
+unfolding rowLess
+row-goes row recovery n = rw (ne-eqb recovery 0 n) refl
+
+-- so of each edge: it stays where no edge of its row is a recovery edge
+row-left : (row recovery f : ℕ) → Iff (Member (rowLess row recovery) f) (Member row f × ((e : ℕ) → Member recovery e → ⊥))
+row-left row recovery f =
+    ⊎-elim
+    (λ z. rw (sym (row-stays row recovery z), z) (record { to = λ m. (m, none-in-zero); from = λ p. p .0 }))
+    (λ n.
+    let m = some-member recovery n in
+    rw (sym (row-goes row recovery n)) (record { to = λ k. absurd (none-in-zero f k); from = λ p. absurd (p .1 (m .0) (m .1)) }))
+    (same-or recovery 0)
+
+-- The rows of the colours below n are those without recovery.
 pub record LessBelow (rows recovery r : Rows) (n : ℕ) : Type 0 where
   pub long : length (r .needs) ≡ 8
-  pub each : (c : ℕ) → c < n → rowOf r c ≡ bitAnd (rowOf rows c) ((2 ^ 64 - 1) - rowOf recovery c)
+  pub each : (c : ℕ) → c < n → rowOf r c ≡ rowLess (rowOf rows c) (rowOf recovery c)
 
 pub less-more : (rows recovery r : Rows) (n : ℕ) → n < 8 → LessBelow rows recovery r n
-    → LessBelow rows recovery (record { needs = set (r .needs) n (bitAnd (rowOf rows n) ((2 ^ 64 - 1) - rowOf recovery n)) }) (n + 1)
+    → LessBelow rows recovery (record { needs = set (r .needs) n (rowLess (rowOf rows n) (rowOf recovery n)) }) (n + 1)
 less-more rows recovery r n l b =
     record {
       long = length-set (r .needs) n x ∙ b .long;
       each = λ c k. ⊎-elim
-          (λ e. subst (λ (m : ℕ). getD (set (r .needs) n x) m 0 ≡ bitAnd (rowOf rows m) ((2 ^ 64 - 1) - rowOf recovery m)) (sym e) (getD-set-same (r .needs) n x 0 (let h = b .long in omega arith)))
+          (λ e. subst (λ (m : ℕ). getD (set (r .needs) n x) m 0 ≡ rowLess (rowOf rows m) (rowOf recovery m)) (sym e) (getD-set-same (r .needs) n x 0 (let h = b .long in omega arith)))
           (λ d. getD-set-other (r .needs) n c x 0 d ∙ b .each c (omega (arith, d)))
           (same-or c n);
     }
   where
     x : ℕ
-    x = bitAnd (rowOf rows n) ((2 ^ 64 - 1) - rowOf recovery n)
+    x = rowLess (rowOf rows n) (rowOf recovery n)
 
-pub less-all : (rows recovery r : Rows) → ((c : ℕ) → rowOf rows c < 2 ^ 64) → ((c : ℕ) → rowOf recovery c < 2 ^ 64) → length (rows .needs) ≡ 8
-    → LessBelow rows recovery r 8 → RowsLess rows recovery r
-less-all rows recovery r fits fits′ long b =
+pub less-all : (rows recovery r : Rows) → length (rows .needs) ≡ 8 → LessBelow rows recovery r 8 → RowsLess rows recovery r
+less-all rows recovery r long b =
     record {
       long = b .long;
       each = λ f c. ⊎-elim (inside f c) (outside f c) (less-or c 8);
     }
   where
-    inside : (f c : ℕ) → c < 8 → Iff (Member (rowOf r c) f) (Member (rowOf rows c) f × (Member (rowOf recovery c) f → ⊥))
-    inside f c l =
-        rw (b .each c l)
-        (record {
-          to = λ m.
-              let p = in-and (rowOf rows c) ((2 ^ 64 - 1) - rowOf recovery c) f .to m in
-              (p .0, in-not (rowOf recovery c) f (fits′ c) (member-below 64 (rowOf rows c) f (fits c) (p .0)) .to (p .1));
-          from = λ p.
-              in-and (rowOf rows c) ((2 ^ 64 - 1) - rowOf recovery c) f .from
-              (p .0, in-not (rowOf recovery c) f (fits′ c) (member-below 64 (rowOf rows c) f (fits c) (p .0)) .from (p .1));
-        })
+    inside : (f c : ℕ) → c < 8 → Iff (Member (rowOf r c) f) (Member (rowOf rows c) f × ((e : ℕ) → Member (rowOf recovery c) e → ⊥))
+    inside f c l = rw (b .each c l) (row-left (rowOf rows c) (rowOf recovery c) f)
 
-    outside : (f c : ℕ) → 8 ≤ c → Iff (Member (rowOf r c) f) (Member (rowOf rows c) f × (Member (rowOf recovery c) f → ⊥))
+    outside : (f c : ℕ) → 8 ≤ c → Iff (Member (rowOf r c) f) (Member (rowOf rows c) f × ((e : ℕ) → Member (rowOf recovery c) e → ⊥))
     outside f c l =
         record {
           to = λ m. absurd (let k = edge-colour r (b .long) f c m in omega arith);
           from = λ p. absurd (let k = edge-colour rows long f c (p .0) in omega arith);
         }
 
--- The rows of the vertices below n are those less the recovery rows.
+-- The rows of the vertices below n are those without recovery.
 pub record LessPlaces (graph recovery r : Graph) (n : ℕ) : Type 0 where
   pub long : length (r .rows) ≡ 64
   pub each : (v : ℕ) → v < n → RowsLess (rowsAt graph v) (rowsAt recovery v) (rowsAt r v)

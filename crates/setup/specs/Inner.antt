@@ -6,7 +6,7 @@ use Rattle.vertex_set.specs.Set.{Member, Iff}
 use Rattle.setup.specs.declared.Rows.{Rows}
 use Rattle.setup.specs.Setup.{rowOf}
 
--- The rows r are the rows less the recovery rows, vertex by vertex.
+-- The rows r of a vertex are its rows without recovery, edge by edge: a colour that has a recovery edge is taken out.
 pub record RowsLess (rows recovery r : Rows) : Type 0 where
   pub long : length (r .needs) ≡ 8
-  pub each : (f c : ℕ) → Iff (Member (rowOf r c) f) (Member (rowOf rows c) f × (Member (rowOf recovery c) f → ⊥))
+  pub each : (f c : ℕ) → Iff (Member (rowOf r c) f) (Member (rowOf rows c) f × ((e : ℕ) → Member (rowOf recovery c) e → ⊥))

@@ -1,10 +1,11 @@
 -- Reading a setup: its vertices, its edges, and how many there are of each.
 use mathlib.Core.Path.{_≡_}
-use mathlib.Core.Bool.{Bool, true, false}
+use mathlib.Core.Bool.{Bool, true, false, cond}
 use mathlib.Core.List.{List, [], _∷_}
 use Prim.Native.Nat.{ℕ, _+_, _<_}
 use lib.ListN.{length, getD, replicate}
 use lib.Count.{ones}
+use lib.Dec.{eqb}
 use Rattle.vertex_set.specs.Set.{Member, Iff}
 use Rattle.setup.specs.declared.Kind.the-variants.{Credential}
 use Rattle.setup.specs.declared.Value.{Value}
@@ -78,10 +79,15 @@ pub record Shaped (s : Setup) : Type 0 where
   pub graph : ShapedGraph (s .graph)
   pub recovery : ShapedGraph (s .recovery)
 
--- The graph less the recovery edges (document 003: G'; document 01: without recovery), edge by edge.
+-- The graph without recovery (document 02, point 3; document 003: G', there by edges): of each vertex, a colour that has a recovery edge is taken
+-- out whole. So an edge of the setup is left exactly where no edge of its colour into the same vertex is a recovery edge.
 pub record WithoutRecovery (s : Setup) (g : Graph) : Type 0 where
   pub shaped : ShapedGraph g
-  pub each : (f v c : ℕ) → Iff (Edge g f v c) (Edge (s .graph) f v c × (Edge (s .recovery) f v c → ⊥))
+  pub each : (f v c : ℕ) → Iff (Edge g f v c) (Edge (s .graph) f v c × ((e : ℕ) → Edge (s .recovery) e v c → ⊥))
+
+-- One row of it, worked out from the row and the row of recovery edges: the row itself where no edge is marked, else the empty row.
+unfoldable pub rowLess : ℕ → ℕ → ℕ
+rowLess row recovery = cond (eqb recovery 0) row 0
 
 -- r is the set of the initial vertices, or for lockout of the losable ones.
 pub record ChosenSet (loss : Bool) (s : Setup) (r : ℕ) : Type 0 where

@@ -2,7 +2,7 @@
 // losable vertices, and its graph without recovery.
 ghost use mathlib.Core.Path.{_≡_};
 ghost use Rattle.vertex_set.specs.Set.{Decides};
-ghost use Rattle.setup.specs.Setup.{given, valueOf, ChosenSet, WithoutRecovery};
+ghost use Rattle.setup.specs.Setup.{given, valueOf, rowLess, ChosenSet, WithoutRecovery};
 ghost use Rattle.setup.specs.Inner.{RowsLess};
 use vertex_set::VertexSet;
 
@@ -93,18 +93,31 @@ pub fn chosen(s: Setup, loss: bool) -> VertexSet
     r
 }
 
-// The rows less the recovery rows. A row that becomes empty is no colour any more.
+// The row of one colour of one vertex without recovery: a colour with a recovery edge is taken out
+// whole, since what is left of it would open the vertex by less than before.
+fn row_less(row: u64, recovery: u64) -> u64
+    ensures { λ r. ⌜ r ≡ rowLess row recovery ⌝ }
+{
+    if recovery != 0 {
+        return 0;
+    }
+    row
+}
+
+// The rows of one vertex without recovery. A row that is taken out is no colour any more.
 fn rows_less(rows: Rows, recovery: Rows) -> Rows
     ensures { λ r. ⌜ RowsLess rows recovery r ⌝ }
 {
     let mut r = Rows { needs: [0; 8] };
     for c in 0..8usize {
-        r.needs[c] = rows.needs[c] & !recovery.needs[c];
+        let row = rows.needs[c];
+        let marked = recovery.needs[c];
+        r.needs[c] = row_less(row, marked);
     }
     r
 }
 
-// The graph without recovery: its edges less the recovery edges, edge by edge.
+// The graph without recovery: of each vertex, its rows less the colours that have a recovery edge.
 pub fn without_recovery(s: Setup) -> Graph
     ensures { λ r. ⌜ WithoutRecovery s r ⌝ }
 {

@@ -1,4 +1,4 @@
--- Wrong answers that the contracts exclude, each at an example of the table.
+-- Wrong answers that the contracts exclude, each at an example of the table; and wrong graphs without recovery, of any setup.
 -- Assumes nothing.
 use mathlib.Core.Path.{_≡_, refl, ap, subst}
 use mathlib.Core.Bool.{true, false}
@@ -10,7 +10,10 @@ use lib.ListN.{length, getD}
 use Rattle.vertex_set.specs.Set.{Member}
 use lib.Count.{ones}
 use Rattle.vertex_set.specs.Order.{Listed, Before, Ordered, sumOver}
-use Rattle.vertex_set.proofs.Sets.{member-below}
+use Rattle.vertex_set.proofs.Sets.{member-below, same-set}
+use Rattle.setup.specs.declared.Graph.{Graph}
+use Rattle.setup.specs.declared.Setup.{Setup}
+use Rattle.setup.specs.Setup.{row, Edge, WithoutRecovery}
 use Rattle.formed.specs.WellFormed.{WellFormed}
 use Rattle.setup.specs.Calls.{Inside}
 use Rattle.derivations.specs.Access.{Step, AccessFrom}
@@ -180,3 +183,15 @@ no-full-marks-early c =
     let e = marks-settled (bench .setup) well order (omega arith) false (setOf (mailpw ∷ []) ∷ []) 1 0 0 0 1 0 _ (held bench _ read-bench (further .1 .1 .0)) c in
     let z : _≡_ {A = ℕ} 0 1 = ap (λ (l : List ℕ). getD l 4 0) e in
     omega arith
+
+-- ---- without recovery (document 02, point 3)
+
+module _ (s : Setup) (g : Graph) (h : WithoutRecovery s g) where
+  -- no row goes for a mark in another colour, or of another vertex: without a mark of its own it is as it was
+  pub no-other-row-out : (v c : ℕ) → ((e : ℕ) → Edge (s .recovery) e v c → ⊥) → row g v c ≡ row (s .graph) v c
+  no-other-row-out v c none =
+      same-set (row g v c) (row (s .graph) v c) (record { each = λ f m. h .each f v c .to m .0 }) (record { each = λ f m. h .each f v c .from (m, none) })
+
+  -- no edge is left beside a mark, whether the marked edge stands in the rows or not
+  pub no-edge-beside-mark : (e f v c : ℕ) → Edge (s .recovery) e v c → Edge g f v c → ⊥
+  no-edge-beside-mark e f v c marked m = h .each f v c .to m .1 e marked

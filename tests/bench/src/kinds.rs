@@ -44,12 +44,14 @@ impl Kind {
         Kind { name: name.to_string(), sheet: Vec::new(), words, setup, target }
     }
 
-    /// The setup's words without the recovery edges.
+    /// The setup's words without recovery: a row in which an edge is marked is empty.
     pub fn words_without_recovery(&self) -> Vec<u64> {
         let mut words = self.words.clone();
         let (rows, recovery) = words[1 + 4 * VERTICES..].split_at_mut(8 * VERTICES);
         rows.iter_mut().zip(recovery).for_each(|(row, less)| {
-            *row &= !*less;
+            if *less != 0 {
+                *row = 0;
+            }
             *less = 0;
         });
         words

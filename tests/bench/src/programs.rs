@@ -99,11 +99,13 @@ impl Timed {
     }
 }
 
-/// The sheet without its recovery edges.
+/// The sheet without recovery: no edge of a colour in which one is marked.
 fn without_recovery(sheet: &[u8]) -> Vec<u8> {
     let text = String::from_utf8_lossy(sheet);
     let (items, edges) = text.split_once("\n\n").expect("a sheet has two parts");
-    let kept = edges.split_inclusive('\n').filter(|edge| !edge.ends_with(" 1\n"));
+    let colour_of = |edge: &'_ str| edge.split(' ').skip(1).take(2).map(String::from).collect::<Vec<_>>();
+    let marked: Vec<_> = edges.lines().filter(|edge| edge.ends_with(" 1")).map(colour_of).collect();
+    let kept = edges.split_inclusive('\n').filter(|edge| !marked.contains(&colour_of(edge)));
     format!("{items}\n\n{}", kept.collect::<String>()).into_bytes()
 }
 

@@ -58,9 +58,9 @@ impl Setup {
         }
     }
 
-    /// The graph without the recovery edges.
+    /// The graph without recovery: a row in which an edge is marked is empty.
     pub fn without_recovery(&self) -> Graph {
-        let row = |v: usize, c: usize| self.graph[v][c] & !self.recovery[v][c];
+        let row = |v: usize, c: usize| if self.recovery[v][c] == 0 { self.graph[v][c] } else { 0 };
         std::array::from_fn(|v| std::array::from_fn(|c| row(v, c)))
     }
 

@@ -144,7 +144,7 @@ fn new_grid() -> Grid {
          scores for 3. Twin and brute force are timed in turn. Shared closures: one closure for each subset serves all \
          targets. Proved: no call gives all lists at once, so this is what the program `report` takes, \
          less a program that starts and reads the sheet; and, as it has no lists without recovery, its \
-         time on the sheet without recovery edges, less that with credentials only, is added. So there \
+         time on the sheet without recovery, less that with credentials only, is added. So there \
          is more in it than in the others: reading fields, and printing all these lists.",
     );
     grid

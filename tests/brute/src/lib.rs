@@ -1,4 +1,4 @@
-//! An independent brute force for account access graphs, written from documents 01 and 003
+//! An independent brute force for account access graphs, written from documents 01, 02 and 003
 //! alone. It shares no definition with the proved code: wherever the two differ on some input,
 //! one of them reads the documents wrongly.
 //!

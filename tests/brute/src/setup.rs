@@ -135,12 +135,16 @@ impl Setup {
         rows.map(|row| row.count_ones() as usize).sum()
     }
 
-    /// The same setup with the recovery edges taken out of the rows.
+    /// The same setup without recovery (02, point 3): the whole colour of a target is taken out if
+    /// any edge in it is marked.
     pub fn without_recovery(&self) -> Setup {
         let mut reduced = self.clone();
         for place in &mut reduced.places {
             for colour in 0..COLOURS {
-                place.rows[colour] &= !place.recovery[colour];
+                let marked = (0..PLACES).any(|from| holds(place.recovery[colour], from));
+                if marked {
+                    place.rows[colour] = 0;
+                }
                 place.recovery[colour] = 0;
             }
         }

@@ -8,7 +8,7 @@ use Rattle.setup.proofs.Recovery.{LessPlaces, places-more, places-all}
 use Rattle.setup.proofs.without_recovery.Statement.{statement}
 use Rattle.setup.proofs.without_recovery.Tie as tie
 
--- In r each vertex before v has its rows less its recovery rows.
+-- In r each vertex before v has its rows without recovery.
 abbrev Inv-loop : tie.InvT-loop
 Inv-loop graph recovery r₀ v₀ r v = (v ≤ 64) × LessPlaces graph recovery r v
 

@@ -4,6 +4,8 @@ use crate::calls;
 use brute::cases::bounds::{bounds, longest_reports};
 use brute::cases::random::{large_sheets, random_sheets};
 use brute::report::report;
+use brute::setup::COLOURS;
+use brute::{Calls, Setup};
 
 fn printed(sheet: &str) -> String {
     String::from_utf8_lossy(&report(sheet.as_bytes())).into_owned()
@@ -57,14 +59,83 @@ fn recovery_against_never() {
     assert_eq!(calls.idle(1), Ok(true));
 }
 
-/// One of two edges of a colour is marked: without it the other alone is enough, and so the
-/// score without recovery is lower and there is no backdoor.
+/// One of two edges of the only colour is marked: the whole colour goes, so that without recovery
+/// nothing opens the account and nothing locks it.
 #[test]
 fn mixed_recovery_colour() {
     let sheet = "name kind start loss rank\np c 1 1 0\nq c 1 9 0\nr a - - 0\n\n\
                  from to colour rec\np r 0 1\nq r 0 0\n";
     let calls = calls(sheet);
-    assert_eq!((calls.backdoor(2), calls.idle(2)), (Ok(false), Ok(true)));
+    assert_eq!((calls.backdoor(2), calls.idle(2)), (Ok(true), Ok(true)));
+}
+
+/// The lab of 02's point 3: a phone and a letter recover the mail account, and only the letter's
+/// edge is marked. Less that edge the phone alone, which costs 1, would open it.
+#[test]
+fn the_easier_route_is_gone() {
+    let sheet = |loss| {
+        format!(
+            "name kind start loss rank\nfinger c 9 {loss} 0\nphone c 1 3 0\nletter c 5 1 0\n\
+             mail a - - 1\n\nfrom to colour rec\nfinger mail 0 0\nphone mail 1 0\n\
+             letter mail 1 1\n"
+        )
+    };
+    assert!(printed(&sheet("-")).contains("\nmail 6 - yes yes\n"));
+    assert!(printed(&sheet("2")).contains("\nmail 6 3 yes no\n"));
+}
+
+/// The colour of a target with a marked edge goes whole; other colours of the target stay, and so
+/// does the same colour of another. A mark that is not in the rows counts as any other.
+#[test]
+fn whole_colours_are_taken_out() {
+    let mut setup = Setup::empty();
+    setup.places[0].rows = [0b110, 0b110, 0b010, 0, 0b001, 0, 0, 0b111];
+    setup.places[0].recovery = [0b010, 0, 0b010, 0b001, 0b100, 0, 0, 0];
+    setup.places[1].rows[0] = 0b101;
+    let reduced = setup.without_recovery();
+    assert_eq!(reduced.places[0].rows, [0, 0b110, 0, 0, 0, 0, 0, 0b111]);
+    assert_eq!(reduced.places[1].rows, setup.places[1].rows);
+    assert!(reduced.places.iter().all(|place| place.recovery == [0; COLOURS]));
+}
+
+/// Is there a colour of which some edges are marked and some are not?
+fn is_mixed(setup: &Setup) -> bool {
+    let mut rows = setup.places.iter().flat_map(|place| place.rows.iter().zip(place.recovery));
+    rows.any(|(row, marked)| marked != 0 && marked != *row)
+}
+
+/// What 01 called without recovery: less the marked edges alone.
+fn without_marked_edges(setup: &Setup) -> Setup {
+    let mut reduced = setup.clone();
+    for place in &mut reduced.places {
+        for (row, marked) in place.rows.iter_mut().zip(&mut place.recovery) {
+            *row &= !*marked;
+            *marked = 0;
+        }
+    }
+    reduced
+}
+
+/// Without recovery no score is lower; and where no colour is mixed, nothing has changed. Where the
+/// marked edges alone go, some score is lower.
+#[test]
+fn no_easier_route() {
+    let (mut unmixed, mut easier) = (0, 0);
+    for case in random_sheets(23, 600) {
+        let setup = brute::sheet::setup_of(&case.sheet);
+        let [whole, edges] = [setup.without_recovery(), without_marked_edges(&setup)];
+        if !is_mixed(&setup) {
+            unmixed += 1;
+            assert_eq!(whole, edges, "{}", case.label);
+        }
+        let [with, whole, edges] = [setup, whole, edges].map(|setup| Calls::new(&setup));
+        for item in 0..with.setup().count {
+            let [with, whole, edges] = [&with, &whole, &edges].map(|calls| calls.score(item).unwrap());
+            assert!(with <= whole, "{}", case.label);
+            easier += u32::from(edges < with);
+        }
+    }
+    assert!(unmixed > 100 && easier > 10, "{unmixed} unmixed, {easier} easier");
 }
 
 #[test]

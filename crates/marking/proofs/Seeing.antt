@@ -23,10 +23,10 @@ use Rattle.families.proofs.Families.{size-drop, size-end}
 use Rattle.families.proofs.Masks.{spread, gather, set-of, set-unique, mask-unique, mask-exists}
 use Rattle.family_lists.specs.Inner.Tables.{rising}
 use Rattle.family_lists.proofs.Order.{Words, listed-members, sorted-rising, length-rising}
-use Rattle.strays.specs.Inner.Strays.{HasSize}
+use Rattle.outsiders.specs.Inner.Outsiders.{HasSize}
 use Rattle.marking.specs.Inner.Counting.{Put, Earlier, MaskIn, Seen, meet}
-use Rattle.strays.proofs.Sizes.{size-same, size-map, size-of-list}
-use Rattle.strays.proofs.Values.{listed-next}
+use Rattle.outsiders.proofs.Sizes.{size-same, size-map, size-of-list}
+use Rattle.outsiders.proofs.Values.{listed-next}
 
 -- ---- a mask put in
 

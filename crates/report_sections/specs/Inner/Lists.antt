@@ -46,7 +46,7 @@ unfoldable pub rowsFrom : (ℕ → List ℕ) → Bool → ℕ → List ℕ → L
 rowsFrom name loss target values list n i = textsOf (rowOf name loss target values) (drop i (take n list))
 
 -- The rows from i up to `row` stand, and with room for a row there is one at least.
-pub record RowsWent (name : ℕ → List ℕ) (loss : Bool) (target : ℕ) (values list : List ℕ) (i n : ℕ) (entry : List ℕ) (at : ℕ) (exit : List ℕ) (row r : ℕ) : Type 0 where
+pub record RowsPut (name : ℕ → List ℕ) (loss : Bool) (target : ℕ) (values list : List ℕ) (i n : ℕ) (entry : List ℕ) (at : ℕ) (exit : List ℕ) (row r : ℕ) : Type 0 where
   pub part : Part entry at (rowsFrom name loss target values list n i) (rowsFrom name loss target values list n row) exit r
   pub most : row ≤ n
   pub more : i < n → at + 272 ≤ length entry → i < row

@@ -66,7 +66,7 @@ def agree(wanted, found):
 
 
 def constant(source, name):
-    return int(re.search(rf"^const {name}: \w+ = ([\w]+);", source, re.M).group(1).replace("_", ""), 0)
+    return int(re.search(rf"^(?:pub )?const {name}: \w+ = ([\w]+);", source, re.M).group(1).replace("_", ""), 0)
 
 
 def macro(header, name):

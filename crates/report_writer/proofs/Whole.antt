@@ -1,4 +1,4 @@
--- KnownAt the first place the whole report is left, and the parts that are written from there on are the whole of it.
+-- At the first place the whole report is left, and the parts that are written from there on are the whole of it.
 -- Assumes nothing.
 use mathlib.Core.Path.{_≡_, refl, sym, ap, _∙_}
 use mathlib.Core.List.{List, [], _∷_, _++_}

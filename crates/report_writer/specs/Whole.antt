@@ -1,8 +1,9 @@
 -- Where a report begins, and that its parts, one after the other, are the whole of it.
 use mathlib.Core.Path.{_≡_}
 use mathlib.Core.List.{List, [], _∷_, _++_}
-use Prim.Native.Nat.{ℕ}
+use Prim.Native.Nat.{ℕ, _^_}
 use lib.ListN.{length}
+use Rattle.setup.specs.Bounds.{mostChosen}
 use Rattle.setup.specs.declared.Setup.{Setup}
 use Rattle.sheet_format.specs.Read.{readSheet}
 use Rattle.sheet_format.specs.Names.{nameOf}
@@ -13,12 +14,12 @@ use Rattle.report_writer.specs.Rest.{restOf}
 use Rattle.report_writer.specs.Inner.Steps.{KnownAt}
 use Rattle.report_writer.specs.declared.start.Report.{Report}
 
--- KnownAt the first place the whole report of the sheet is left, whatever the list for a target's sets holds. A refused sheet leaves the two lent
+-- At the first place the whole report of the sheet is left, whatever the list for a target's sets holds, which has room for any. A refused sheet leaves the two lent
 -- tables as they were; an accepted one leaves the tables of bases there, which are part of what is known at that place.
 pub record Begun (sheet : List ℕ) (r : Report) (opening₀ lockout₀ opening lockout : List ℕ) : Type 0 where
   pub kept : (readSheet sheet .number ≡ 0 → ⊥) → (opening ≡ opening₀) × (lockout ≡ lockout₀)
   pub whole : restOf (nameOf sheet) (readSheet sheet .setup) (r .cursor) ≡ reportOf sheet
-  pub here : (list : List ℕ) → length list ≡ 16384 → KnownAt sheet (readSheet sheet .setup) (r .facts) opening lockout list (r .cursor)
+  pub here : (list : List ℕ) → length list ≡ 2 ^ mostChosen → KnownAt sheet (readSheet sheet .setup) (r .facts) opening lockout list (r .cursor)
 
 -- The parts that are written from the place c on up to the end, each by a `fill` from one place to the next (its contract is `Filled`).
 abbrev pub PartsToEnd : (ℕ → List ℕ) → Setup → Cursor → List (List ℕ) → Type 0

@@ -142,7 +142,12 @@ pub fn marking(kind: &Kind, rounds: &Rounds, targets: &mut Vec<Target>) -> Grid 
         &ratios,
     ));
     let orders = by_order(&ratios);
-    targets.push(judged("the same outsiders in order / shuffled", "at most 1.5 times", 1.5, &orders));
+    targets.push(judged(
+        "the same outsiders in order / shuffled",
+        "at most 1.5 times",
+        1.5,
+        &orders,
+    ));
     grid
 }
 

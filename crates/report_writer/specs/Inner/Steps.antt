@@ -7,6 +7,7 @@ use lib.ListN.{length, take}
 use Rattle.setup.specs.declared.Setup.{Setup}
 use Rattle.bases.specs.Score.{Values}
 use Rattle.sheet_format.specs.Names.{nameOf}
+use Rattle.report_scores.specs.Inner.Scores.{listRoom}
 use Rattle.report_facts.specs.declared.Facts.{Facts}
 use Rattle.report_facts.specs.Inner.Facts.{FactsOf, TablesOf}
 use Rattle.report_facts.specs.Texts.{slotList}
@@ -25,8 +26,8 @@ pub record ListAt (sheet : List ℕ) (s : Setup) (f : Facts) (list : List ℕ) (
   pub facts : FactsOf sheet s f
   pub number : k < 2 * s .count
   pub next : i ≤ n
-  pub most : n ≤ 16384
-  pub room : length list ≡ 16384
+  pub most : n ≤ listRoom
+  pub room : length list ≡ listRoom
   pub here : take n list ≡ slotList s k
 
 pub record CanPutList (sheet : List ℕ) (f : Facts) (list : List ℕ) (k i n : ℕ) : Type 0 where
@@ -40,7 +41,7 @@ pub record ListPut (sheet : List ℕ) (f : Facts) (list : List ℕ) (k i n : ℕ
 
 -- What is known of the setup s where the report goes on: the facts, and before the scores the tables too.
 abbrev pub KnownAt : List ℕ → Setup → Facts → List ℕ → List ℕ → List ℕ → Cursor → Type 0
-KnownAt sheet s f opening lockout list cursor.Start = FactsOf sheet s f × TablesOf s f opening lockout × (length list ≡ 16384)
+KnownAt sheet s f opening lockout list cursor.Start = FactsOf sheet s f × TablesOf s f opening lockout × (length list ≡ listRoom)
 KnownAt sheet s f opening lockout list (cursor.Lists k i n) = ListAt sheet s f list k i n × TablesOf s f opening lockout
 KnownAt sheet s f opening lockout list (cursor.Scores v) = FactsOf sheet s f × (v ≤ s .count)
 KnownAt sheet s f opening lockout list (cursor.Pairs v) = FactsOf sheet s f × (v ≤ s .count)

@@ -1,41 +1,14 @@
--- Writing a text byte by byte, and a number digit by digit.
+-- The digits of a number, one more at a time.
 -- Assumes nothing.
 use mathlib.Core.Path.{_≡_, sym, ap, _∙_}
 use mathlib.Core.List.{List, [], _∷_, _++_}
 use mathlib.Core.Logic.{⊎-elim}
 use Prim.Native.Nat.{ℕ, zero, suc, _+_, _/_, _%_, _^_, _≤_, _<_}
 use native.Mathlib.Nat.{pow-suc}
-use native.Mathlib.Numerals.{add-one}
 use native.Mathlib.Omega.{arith}
-use lib.ListN.{length, getD, set, drop}
-use lib.Seq.{drop-cons, drop-length}
 use borrow.Author.Tests.{lt-ltb, le-ltb}
 use Rattle.vertex_set.proofs.Cases.{less-or}
-use Rattle.written.specs.Inner.{Wrote}
-use Rattle.written.proofs.Writing.{Writing, writing-none, writing-part, writing-end, wrote-one}
 use Rattle.sheet_format.specs.Fields.{digitsIn, decimal}
-
--- ---- a text
-
--- i bytes of the text stand.
-abbrev pub TextWriting : List ℕ → List ℕ → ℕ → List ℕ → ℕ → Type 0
-TextWriting text entry at out i = Writing entry at text (drop i text) out (at + i)
-
-pub text-none : (text entry : List ℕ) (at : ℕ) → TextWriting text entry at entry 0
-text-none text entry at = let e : at + 0 ≡ at = omega arith in rw e (writing-none entry at text)
-
-module _ (text entry : List ℕ) (at : ℕ) (out : List ℕ) (i : ℕ) where
-  pub text-more : i < length text → TextWriting text entry at out i → TextWriting text entry at (set out (at + i) (getD text i 0)) (i + 1)
-  text-more h w =
-      let e : at + i + 1 ≡ at + suc i = omega arith in
-      rw (add-one i)
-      (rw e at (writing-part entry at text (getD text i 0 ∷ []) (drop (suc i) text) out (at + i) _ _ (rw (drop-cons text i 0 h) at w)
-      (wrote-one out (at + i) (getD text i 0))))
-
-  pub text-end : i ≡ length text → TextWriting text entry at out i → Wrote entry at text out (at + length text)
-  text-end e w = rw (← e) (writing-end entry at text (drop i text) out (at + i) (rw e (drop-length text)) w)
-
--- ---- the digits of a number
 
 pub decimal-one : (n : ℕ) → n < 10 → decimal n ≡ (48 + n) ∷ []
 unfolding decimal digitsIn

@@ -10,8 +10,6 @@ import scratch
 
 DATA = blocks.HERE / "declared.txt"
 SOURCE = (blocks.HERE / "definitions.py").read_text()
-# where Python's name is another, since the names of all files stand in one
-NAMES = {("report_writer/Whole", "Run"): "WholeRun"}
 
 
 def module(text):
@@ -22,7 +20,7 @@ def module(text):
 
 def altered(block):
     """definitions.py with the block's replacement, in the function of that name."""
-    name = NAMES.get((block["file"], block["name"]), block["name"])
+    name = block["name"]
     m = re.search(rf"^(?:def {re.escape(name)}\(.*|{re.escape(name)} = .*)\n(?:(?:[ #)].*)?\n)*", SOURCE, re.M)
     assert m, f"no {name} in definitions.py"
     old, new = (block[k].replace("⏎", "\n") for k in ("py-old", "py-new"))
@@ -53,8 +51,8 @@ def looked_for(block):
 
 # Files that stand on those of the scratch crate.
 ABOVE = """
-answers/Demand3 sheet_format/Meaning portal/Portal demands/Determined demands/Outcomes demands/Sheets demands/Demands reference/Meaning
-report_text/Meaning report_writer/Inner/Steps report_writer/Whole portal_closures/Check demands/PortalDetermined
+answers/Demand3 sheet_format/Meaning portal/Portal demands/OneAnswer demands/Outcomes demands/Sheets demands/Demands reference/Meaning
+report_text/Meaning report_writer/Inner/Steps report_writer/Whole portal_closures/Check demands/OneResult
 """.split()
 # What Whole cites of the report's steps, with the same type and nothing known: no alteration is about it, and what it says need not be believed.
 AT = """-- What is known at a place of the report: nothing, here.
@@ -64,8 +62,8 @@ use Rattle.setup.specs.declared.Setup.{Setup}
 use Rattle.report_facts.specs.declared.Facts.{Facts}
 use Rattle.report_writer.specs.declared.steps.Cursor.{Cursor}
 
-abbrev pub At : List ℕ → Setup → Facts → List ℕ → List ℕ → List ℕ → Cursor → Type 0
-At sheet s f opening lockout list c = Unit {0}
+abbrev pub KnownAt : List ℕ → Setup → Facts → List ℕ → List ℕ → List ℕ → Cursor → Type 0
+KnownAt sheet s f opening lockout list c = Unit {0}
 """
 
 

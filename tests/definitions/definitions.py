@@ -991,10 +991,10 @@ def Decoded(text, item, r):
     return answer and refusal
 
 
-# ---- demands/Determined: of all pairs of the answers that are handed to them
+# ---- demands/OneAnswer: of all pairs of the answers that are handed to them
 
 
-def SetDetermined(loss, s, set_, answers):
+def OneSetAnswer(loss, s, set_, answers):
     From = lambda g, x, r: Closure(ruleOf(loss, g), x, r)
     return all(
         implies(lambda: SetCall(From, s, set_, n, v) and SetCall(From, s, set_, n_, v_), lambda: Same(n, n_, v, v_))
@@ -1010,7 +1010,7 @@ def SameWay(n, n_, v, v_, x, x_, y, y_):
     return answer and vertices and colours
 
 
-def WayDetermined(s, target, set_, a, b, answers):
+def OneWayAnswer(s, target, set_, a, b, answers):
     return all(
         implies(
             lambda: WayCall(s, target, set_, n, v, a, x, b, y) and WayCall(s, target, set_, n_, v_, a, x_, b, y_),
@@ -1027,7 +1027,7 @@ def SameBases(n, n_, v, v_, x, x_):
     return answer and list_
 
 
-def BasesDetermined(s, target, a, answers):
+def OneBasesAnswer(s, target, a, answers):
     return all(
         implies(lambda: BasesCall(s, target, n, v, a, x) and BasesCall(s, target, n_, v_, a, x_), lambda: SameBases(n, n_, v, v_, x, x_))
         for n, v, x in answers
@@ -1035,7 +1035,7 @@ def BasesDetermined(s, target, a, answers):
     )
 
 
-def ScoreDetermined(loss, s, target, answers):
+def OneScoreAnswer(loss, s, target, answers):
     return all(
         implies(lambda: ScoreCall(loss, s, target, n, v) and ScoreCall(loss, s, target, n_, v_), lambda: Same(n, n_, v, v_))
         for n, v in answers
@@ -1043,7 +1043,7 @@ def ScoreDetermined(loss, s, target, answers):
     )
 
 
-def MarksDetermined(loss, s, target, handed, answers):
+def OneMarksAnswer(loss, s, target, handed, answers):
     return all(
         implies(lambda: MarksCall(loss, s, target, handed, n, v) and MarksCall(loss, s, target, handed, n_, v_), lambda: Same(n, n_, v, v_))
         for n, v in answers
@@ -1301,10 +1301,10 @@ def Begun(rest, report, here, c, refused=False, entry=([], []), exit=([], [])):
     return kept and whole and here(c)
 
 
-def WholeRun(rest, cursors, c, parts):
+def PartsToEnd(rest, cursors, c, parts):
     if not parts:
         return c == "End"
-    return any(rest(c) == parts[0] + rest(d) and WholeRun(rest, cursors, d, parts[1:]) for d in cursors)
+    return any(rest(c) == parts[0] + rest(d) and PartsToEnd(rest, cursors, d, parts[1:]) for d in cursors)
 
 
 def inOne(parts):
@@ -1315,7 +1315,7 @@ def inOne(parts):
 
 def WholeReport(rest, report, here, cursors, lists_of_parts):
     return all(
-        implies(lambda: Begun(rest, report, here, c) and WholeRun(rest, cursors, c, parts), lambda: inOne(parts) == report)
+        implies(lambda: Begun(rest, report, here, c) and PartsToEnd(rest, cursors, c, parts), lambda: inOne(parts) == report)
         for c in cursors
         for parts in lists_of_parts
     )
@@ -1370,7 +1370,7 @@ def CheckCall(s, r):
     return yes and no
 
 
-# ---- demands/PortalDetermined: of all pairs of the results that are handed to them
+# ---- demands/OneResult: of all pairs of the results that are handed to them
 
 
 def OneResult(Call, results, candidates):
@@ -1381,7 +1381,7 @@ def OneResult(Call, results, candidates):
     )
 
 
-def SetupCallsDetermined(words, set_, target, other, sets, a, b, numbers, results, values, ways, lists):
+def OneResultOnSetups(words, set_, target, other, sets, a, b, numbers, results, values, ways, lists):
     s = setupIn(words)
     check = all(implies(lambda: CheckCall(s, r) and CheckCall(s, r_), lambda: r == r_) for r in numbers for r_ in numbers)
     closure = OneResult(lambda n, v: SetCall(AccessFrom, s, set_, n, v), results, values)
@@ -1416,7 +1416,7 @@ def SetupCallsDetermined(words, set_, target, other, sets, a, b, numbers, result
     return all((check, closure, lost, wayIn, lists_, score, risk, openings, lockouts, backdoor, idle, outOfRank))
 
 
-def SheetCallsDetermined(text, item, entry, readings, parts):
+def OneResultOnSheets(text, item, entry, readings, parts):
     reading = all(
         implies(lambda: ReadingCall(text, n, l, entry, x) and ReadingCall(text, n_, l_, entry, x_), lambda: n == n_ and l == l_ and x == x_)
         for n, l, x in readings

@@ -589,7 +589,7 @@ def of_readings(D):
     ]
 
 
-def of_determined(D):
+def of_one_answer(D):
     """That contracts determine their answers."""
     answers = [(n, v) for n in (0, 12, 13, 14) for v in ([], [0], [1], [2], [3], [4], [26])]
     same = [9, 9]
@@ -597,11 +597,11 @@ def of_determined(D):
     base_answers = [(0, [2, 2], [2, 5, 3, 6]), (0, [2, 2], [5, 2, 3, 6]), (0, [0, 0], LENT[:4]), (15, [], LENT[:4]), (13, [], LENT[:4])]
     mark_answers = [(0, [1, 1, 1, 1, 1]), (0, [2, 0, 1, 1, 0]), (0, [0, 0, 0, 0, 2]), (13, []), (12, []), (0, [])]
     return [
-        ("determined: closure of mailpw", lambda: D.SetDetermined(False, bench, 2, answers), True),
-        ("determined: way from mailpw", lambda: D.WayDetermined(bench, ORDER, 2, [9, 9], [9, 9], way_answers), True),
-        ("determined: lists of order", lambda: D.BasesDetermined(bench, ORDER, LENT[:4], base_answers), True),
-        ("determined: score of order", lambda: D.ScoreDetermined(False, bench, ORDER, answers), True),
-        ("determined: marks of B7", lambda: D.MarksDetermined(False, bench, ORDER, [2, 2, 6, 4], mark_answers), True),
+        ("one answer: closure of mailpw", lambda: D.OneSetAnswer(False, bench, 2, answers), True),
+        ("one answer: way from mailpw", lambda: D.OneWayAnswer(bench, ORDER, 2, [9, 9], [9, 9], way_answers), True),
+        ("one answer: lists of order", lambda: D.OneBasesAnswer(bench, ORDER, LENT[:4], base_answers), True),
+        ("one answer: score of order", lambda: D.OneScoreAnswer(False, bench, ORDER, answers), True),
+        ("one answer: marks of B7", lambda: D.OneMarksAnswer(False, bench, ORDER, [2, 2, 6, 4], mark_answers), True),
     ]
 
 
@@ -616,10 +616,10 @@ def of_results(D):
     readings = [(n, l, x) for n in (0, 15) for l in (0, 1) for x in ([9] * 1281, wordsOf(bench))]
     parts = [(n, p, k) for n in (0, 13) for p in (0, 69, 84) for k in (0, 4, 5)]
     return [
-        ("determined: one result", lambda: D.OneResult(lambda n, v: n == 0 and v == [7], [(0, [7]), (0, [8]), (1, [0])], [[], [7], [8]]), True),
-        ("not determined: two results", lambda: D.OneResult(lambda n, v: n == 0, [(0, [7]), (0, [8])], [[7], [8]]), False),
-        ("determined: results for bench", lambda: D.SetupCallsDetermined(*handed), True),
-        ("determined: results for bench's sheet", lambda: D.SheetCallsDetermined(text(BENCH), MAIL, [9] * 1281, readings, parts), True),
+        ("one answer: one result", lambda: D.OneResult(lambda n, v: n == 0 and v == [7], [(0, [7]), (0, [8]), (1, [0])], [[], [7], [8]]), True),
+        ("not one answer: two results", lambda: D.OneResult(lambda n, v: n == 0, [(0, [7]), (0, [8])], [[7], [8]]), False),
+        ("one answer: results for bench", lambda: D.OneResultOnSetups(*handed), True),
+        ("one answer: results for bench's sheet", lambda: D.OneResultOnSheets(text(BENCH), MAIL, [9] * 1281, readings, parts), True),
     ]
 
 
@@ -848,9 +848,9 @@ def of_whole(D):
             lambda: D.Begun(rest.get, [1, 2, 3], lambda c: True, "Start", True, ([0], [1]), ([0], [2])),
             False,
         ),
-        ("whole: two parts to the end", lambda: D.WholeRun(rest.get, list(rest), "Start", [[1, 2], [3]]), True),
-        ("not whole: one part, and not the end", lambda: D.WholeRun(rest.get, list(rest), "Start", [[1, 2]]), False),
-        ("not whole: another part", lambda: D.WholeRun(rest.get, list(rest), "Start", [[1], [3]]), False),
+        ("whole: two parts to the end", lambda: D.PartsToEnd(rest.get, list(rest), "Start", [[1, 2], [3]]), True),
+        ("not whole: one part, and not the end", lambda: D.PartsToEnd(rest.get, list(rest), "Start", [[1, 2]]), False),
+        ("not whole: another part", lambda: D.PartsToEnd(rest.get, list(rest), "Start", [[1], [3]]), False),
         ("whole: texts in one", lambda: D.inOne([[1, 2], [3]]) == [1, 2, 3], True),
         ("whole report", lambda: D.WholeReport(rest.get, [1, 2, 3], lambda c: True, list(rest), parts), True),
     ]
@@ -891,7 +891,7 @@ GROUPS = {
     "one": [of_one],
     "sums": [of_sums],
     "bench": [of_derivations, of_ways, of_bases, of_scores, of_marks, of_set_calls, of_way_calls, of_base_calls, of_score_calls, of_demand3]
-    + [of_findings, of_portal, of_same, of_told, of_readings, of_determined, of_results, of_demands, of_both_demands],
+    + [of_findings, of_portal, of_same, of_told, of_readings, of_one_answer, of_results, of_demands, of_both_demands],
     "rows": [of_valid_rows, of_rows, of_stated, of_meaning, of_refusals],
     "spare": [of_spare],
     "ring": [of_ring],

@@ -19,14 +19,14 @@ use Rattle.access.specs.declared.WayAnswer.the-variants as way
 -- ---- a set of vertices
 
 -- Document 01's number for an answer: 0, or that of the refusal.
-abbrev pub numberOf : SetAnswer → ℕ
-numberOf (Set r) = 0
-numberOf (Refused q) = q
+abbrev pub setNumber : SetAnswer → ℕ
+setNumber (Set r) = 0
+setNumber (Refused q) = q
 
 -- The values that an answer has: the set's number.
-abbrev pub valuesOf : SetAnswer → List ℕ
-valuesOf (Set r) = r .0 ∷ []
-valuesOf (Refused q) = []
+abbrev pub setValues : SetAnswer → List ℕ
+setValues (Set r) = r .0 ∷ []
+setValues (Refused q) = []
 
 -- 12, then 14, else the one set that From says; From is `AccessFrom` or `LockoutFrom`.
 pub record SetCall (From : Graph → ℕ → ℕ → Type 0) (s : Setup) (set number : ℕ) (values : List ℕ) : Type 0 where

@@ -3,7 +3,7 @@ ghost use Rattle.derivations.specs.Derivation.{Closure};
 ghost use Rattle.derivations.specs.Access.{AccessFrom};
 ghost use Rattle.derivations.specs.Lockout.{LockoutFrom};
 ghost use Rattle.derivations.specs.Both.{ruleOf};
-ghost use Rattle.access.specs.Answers.{numberOf, valuesOf, SetCall, wayNumber, wayValues, WayCall};
+ghost use Rattle.access.specs.Answers.{setNumber, setValues, SetCall, wayNumber, wayValues, WayCall};
 ghost use Rattle.access.specs.Inner.{WayTaken};
 use setup::Graph;
 use setup::Setup;
@@ -21,7 +21,7 @@ pub enum WayAnswer {
 }
 
 fn set_call(loss: bool, s: Setup, set: VertexSet) -> SetAnswer
-    ensures { λ r. ⌜ SetCall (λ g. Closure (ruleOf loss g)) s (set .0) (numberOf r) (valuesOf r) ⌝ }
+    ensures { λ r. ⌜ SetCall (λ g. Closure (ruleOf loss g)) s (set .0) (setNumber r) (setValues r) ⌝ }
 {
     if formed::well_formed(s) {
         let vertices = VertexSet::below(s.count);
@@ -37,14 +37,14 @@ fn set_call(loss: bool, s: Setup, set: VertexSet) -> SetAnswer
 
 // What the set opens (document 01: its closure).
 pub fn access_from(s: Setup, set: VertexSet) -> SetAnswer
-    ensures { λ r. ⌜ SetCall AccessFrom s (set .0) (numberOf r) (valuesOf r) ⌝ }
+    ensures { λ r. ⌜ SetCall AccessFrom s (set .0) (setNumber r) (setValues r) ⌝ }
 {
     set_call(false, s, set)
 }
 
 // What the loss of the set takes away (document 01: its lost set).
 pub fn lockout_from(s: Setup, set: VertexSet) -> SetAnswer
-    ensures { λ r. ⌜ SetCall LockoutFrom s (set .0) (numberOf r) (valuesOf r) ⌝ }
+    ensures { λ r. ⌜ SetCall LockoutFrom s (set .0) (setNumber r) (setValues r) ⌝ }
 {
     set_call(true, s, set)
 }

@@ -24,7 +24,7 @@ pub fn family_of(graph: Graph, chosen: VertexSet, loss: bool, target: usize, out
     let mut w = [0u64; TABLE];
     tables::fill(graph, chosen, loss, &mut w);
     let from = target * WORDS;
-    words::copy_in(out, &w[from..from + WORDS]);
+    family_words::copy_in(out, &w[from..from + WORDS]);
 }
 
 fn points_of(x: Value) -> u64

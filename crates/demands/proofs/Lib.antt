@@ -1,6 +1,6 @@
 pub mod Demands
-pub mod Determined
+pub mod OneAnswer
 pub mod Outcomes
-pub mod PortalDetermined
+pub mod OneResult
 pub mod Sheets
 pub mod Stable

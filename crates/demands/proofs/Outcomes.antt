@@ -24,9 +24,9 @@ use Rattle.sheet_format.proofs.Question12.{question-12}
 use Rattle.access.specs.Answers.{SetCall, WayWritten, WayCall}
 use Rattle.answers.specs.Answers.{BasesWritten, BasesCall, ScoreCall, MarksCall}
 use Rattle.findings.specs.Answers.{FindingCall}
-use Rattle.findings.proofs.Unique.{decided-once, all-below, finding-determined}
+use Rattle.findings.proofs.Unique.{decided-once, all-below, one-finding-answer}
 use Rattle.demands.proofs.Stable.{stable-number, by-cases}
-use Rattle.demands.proofs.Determined.{by-target, set-determined, way-determined, bases-determined, score-determined, marks-determined}
+use Rattle.demands.proofs.OneAnswer.{by-target, one-set-answer, one-way-answer, one-bases-answer, one-score-answer, one-marks-answer}
 use Rattle.demands.specs.Outcomes.{Outcome, Settled, SettledWay, SettledLists, Yielded, SettledQuestion12}
 
 listed-dec : (l : List ℕ) (x : ℕ) → Dec (Listed l x)
@@ -76,7 +76,7 @@ module _ (s : Setup) (n : ℕ) (v : List ℕ) where
             (λ o. refused (inr (inl refl)) refl (c .outside w o)))
             (λ m. refused (inl refl) refl (c .malformed m));
         meets = c;
-        only = λ n′ v′ d. set-determined loss s set n′ n v′ v d c;
+        only = λ n′ v′ d. one-set-answer loss s set n′ n v′ v d c;
       }
 
   pub settled-score : (loss : Bool) (target : ℕ) → ScoreCall loss s target n v → Settled (12 ∷ 13 ∷ []) (ScoreCall loss s target) n v
@@ -85,7 +85,7 @@ module _ (s : Setup) (n : ℕ) (v : List ℕ) where
         outcome = by-target s target (outcome-stable v) (λ m. refused (inl refl) refl (c .malformed m))
             (λ w o. refused (inr (inl refl)) refl (c .noTarget w o)) (λ w l. let a = c .answers w l in answered (a .1) (a .2));
         meets = c;
-        only = λ n′ v′ d. score-determined loss s target n′ n v′ v d c;
+        only = λ n′ v′ d. one-score-answer loss s target n′ n v′ v d c;
       }
 
   pub settled-marks : (loss : Bool) (target : ℕ) (handed : List ℕ) → MarksCall loss s target handed n v
@@ -95,7 +95,7 @@ module _ (s : Setup) (n : ℕ) (v : List ℕ) where
         outcome = by-target s target (outcome-stable v) (λ m. refused (inl refl) refl (c .malformed m))
             (λ w o. refused (inr (inl refl)) refl (c .noTarget w o)) (λ w l. let a = c .answers w l in answered (a .5) (a .6));
         meets = c;
-        only = λ n′ v′ d. marks-determined loss s target handed n′ n v′ v d c;
+        only = λ n′ v′ d. one-marks-answer loss s target handed n′ n v′ v d c;
       }
 
   pub settled-finding : (Finds : Bool → Type 0) → ((b b′ : Bool) → Finds b → Finds b′ → b ≡ b′) → (vertices : List ℕ)
@@ -107,7 +107,7 @@ module _ (s : Setup) (n : ℕ) (v : List ℕ) where
             (λ h. refused (inr (inl refl)) refl (c .noVertex w (h .0) (h .1) (h .2))) (all-below (s .count) vertices))
             (λ m. refused (inl refl) refl (c .malformed m));
         meets = c;
-        only = λ n′ v′ d. finding-determined Finds unique s vertices n′ n v′ v d c;
+        only = λ n′ v′ d. one-finding-answer Finds unique s vertices n′ n v′ v d c;
       }
 
 -- ---- both lists, and the way in
@@ -119,7 +119,7 @@ module _ (s : Setup) (target n : ℕ) (v : List ℕ) where
         outcome = by-target s target (outcome-stable v) (λ m. kept (inl refl) (c .malformed m)) (λ w o. kept (inr (inl refl)) (c .noTarget w o))
             (λ w l. let p = c .answers w l in written (p .0) (p .1) (p .4));
         meets = c;
-        only = λ n′ v′ x′ d. bases-determined s target n′ n v′ v a x′ x d c;
+        only = λ n′ v′ x′ d. one-bases-answer s target n′ n v′ v a x′ x d c;
       }
     where
       kept : {q : ℕ} → Listed (12 ∷ 13 ∷ 15 ∷ []) q → Refuses q n v × (x ≡ a) → Outcome (12 ∷ 13 ∷ 15 ∷ []) n v (a ∷ []) (x ∷ [])
@@ -140,7 +140,7 @@ module _ (s : Setup) (target n : ℕ) (v : List ℕ) where
             (λ h. let p = c .shut w l i h in answered (p .0) (p .1)))
             (λ o. kept (inr (inr (inl refl))) (c .outside w l o)));
         meets = c;
-        only = λ n′ v′ x′ y′ d. way-determined s target set n′ n v′ v a x′ x b y′ y d c;
+        only = λ n′ v′ x′ y′ d. one-way-answer s target set n′ n v′ v a x′ x b y′ y d c;
       }
     where
       kept : {q : ℕ} → Listed (12 ∷ 13 ∷ 14 ∷ 15 ∷ []) q → Refuses q n v × Untouched a x b y

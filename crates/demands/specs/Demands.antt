@@ -8,7 +8,7 @@ use Rattle.vertex_set.specs.Set.{Decides}
 use Rattle.setup.specs.declared.Setup.{Setup}
 use Rattle.derivations.specs.Access.{AccessFrom}
 use Rattle.derivations.specs.Lockout.{LockoutFrom}
-use Rattle.access.specs.Answers.{numberOf, valuesOf, SetCall, wayNumber, wayValues, WayCall}
+use Rattle.access.specs.Answers.{setNumber, setValues, SetCall, wayNumber, wayValues, WayCall}
 use Rattle.answers.specs.Answers.{basesNumber, basesValues, BasesCall, scoreNumber, scoreValues, riskNumber, riskValues, ScoreCall, marksNumber, marksValues, MarksCall}
 use Rattle.findings.specs.Answers.{findingNumber, findingValues, BackdoorCall, IneffectiveCall, InconsistentCall}
 use Rattle.sheet_format.specs.Read.{readSheet}
@@ -22,8 +22,8 @@ use Rattle.demands.specs.Sheets.{Reads, SettledReading, SettledPortal}
 pub record Demand1 (text : List ℕ) (item : ℕ) (s : Setup) (set target other : ℕ) (opened locked : List ℕ)
     (vertices vertices′ colours colours′ list list′ : List ℕ) (r : Answers) : Type 0 where
   -- closure and lost set: 12, 14
-  pub closure : Settled (12 ∷ 14 ∷ []) (SetCall AccessFrom s set) (numberOf (r .sets .closure)) (valuesOf (r .sets .closure))
-  pub lost : Settled (12 ∷ 14 ∷ []) (SetCall LockoutFrom s set) (numberOf (r .sets .lost)) (valuesOf (r .sets .lost))
+  pub closure : Settled (12 ∷ 14 ∷ []) (SetCall AccessFrom s set) (setNumber (r .sets .closure)) (setValues (r .sets .closure))
+  pub lost : Settled (12 ∷ 14 ∷ []) (SetCall LockoutFrom s set) (setNumber (r .sets .lost)) (setValues (r .sets .lost))
   -- the way in: 12, 13, 14, 15; both lists: 12, 13, 15
   pub way : SettledWay s target set (wayNumber (r .sets .way)) (wayValues (r .sets .way)) vertices vertices′ colours colours′
   pub bases : SettledLists s target (basesNumber (r .lists .bases)) (basesValues (r .lists .bases)) list list′
@@ -47,8 +47,8 @@ pub record Demand1 (text : List ℕ) (item : ℕ) (s : Setup) (set target other 
 pub record Demand2 (text : List ℕ) (item : ℕ) (s : Setup) (set target other : ℕ) (opened locked : List ℕ)
     (vertices vertices′ colours colours′ list list′ : List ℕ) (r : Answers) : Type 0 where
   -- all items with a derivation, and all with a loss derivation, from the set
-  pub closure : SetCall AccessFrom s set (numberOf (r .sets .closure)) (valuesOf (r .sets .closure))
-  pub lost : SetCall LockoutFrom s set (numberOf (r .sets .lost)) (valuesOf (r .sets .lost))
+  pub closure : SetCall AccessFrom s set (setNumber (r .sets .closure)) (setValues (r .sets .closure))
+  pub lost : SetCall LockoutFrom s set (setNumber (r .sets .lost)) (setValues (r .sets .lost))
   -- always the lowest step; "shut" exactly where no derivation exists
   pub way : WayCall s target set (wayNumber (r .sets .way)) (wayValues (r .sets .way)) vertices vertices′ colours colours′
   -- the minimal sets that open the target, then those whose loss shuts it; the least sums over them

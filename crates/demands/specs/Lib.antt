@@ -1,5 +1,5 @@
 pub mod Demands
-pub mod Determined
+pub mod OneAnswer
 pub mod Outcomes
-pub mod PortalDetermined
+pub mod OneResult
 pub mod Sheets

@@ -11,7 +11,7 @@ use Rattle.setup.specs.Calls.{Same}
 use Rattle.sheet_format.specs.Read.{accepted, readSheet}
 use Rattle.access.specs.Answers.{WayCall}
 use Rattle.answers.specs.Answers.{BasesCall}
-use Rattle.demands.specs.Determined.{SameWay, SameBases}
+use Rattle.demands.specs.OneAnswer.{SameWay, SameBases}
 
 -- An answer: number 0, with its values.
 pub record Answered (number : ℕ) (values : List ℕ) : Type 0 where

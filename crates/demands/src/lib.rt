@@ -1,14 +1,14 @@
 // Demands 1 and 2, as the contracts of functions that make the offered calls on any sheet, item,
 // setup, set, vertices, handed-in lists and lent lists. Demand 3 is the contract of
 // `answers::demand_three`. That two answers which meet a call's contract are equal, lent places
-// included, is stated in specs/Determined.antt and, for the calls for C, in
-// specs/PortalDetermined.antt, and proved in the files of these names in proofs/.
+// included, is stated in specs/OneAnswer.antt and, for the calls for C, in
+// specs/OneResult.antt, and proved in the files of these names in proofs/.
 ghost use mathlib.Core.Path.{_≡_};
 ghost use mathlib.Core.Bool.{true, false};
 ghost use Rattle.vertex_set.specs.Set.{Decides};
 ghost use Rattle.derivations.specs.Access.{AccessFrom};
 ghost use Rattle.derivations.specs.Lockout.{LockoutFrom};
-ghost use Rattle.access.specs.Answers.{numberOf, valuesOf, SetCall, wayNumber, wayValues, WayCall};
+ghost use Rattle.access.specs.Answers.{setNumber, setValues, SetCall, wayNumber, wayValues, WayCall};
 ghost use Rattle.findings.specs.Answers.{findingNumber, findingValues, BackdoorCall, IneffectiveCall, InconsistentCall};
 ghost use Rattle.sheet_format.specs.Read.{readSheet};
 ghost use Rattle.portal.specs.Portal.{PortalCall};
@@ -60,8 +60,8 @@ fn ask_sets(
     vertices: &mut [u8],
     colours: &mut [u8],
 ) -> SetAnswers
-    ensures closure { λ r. ⌜ SetCall AccessFrom s (set .0) (numberOf (r .closure)) (valuesOf (r .closure)) ⌝ }
-    ensures lost { λ r. ⌜ SetCall LockoutFrom s (set .0) (numberOf (r .lost)) (valuesOf (r .lost)) ⌝ }
+    ensures closure { λ r. ⌜ SetCall AccessFrom s (set .0) (setNumber (r .closure)) (setValues (r .closure)) ⌝ }
+    ensures lost { λ r. ⌜ SetCall LockoutFrom s (set .0) (setNumber (r .lost)) (setValues (r .lost)) ⌝ }
     ensures way { λ r. ⌜ WayCall s target (set .0) (wayNumber (r .way)) (wayValues (r .way)) (now (vertices .entry)) (now (vertices .exit)) (now (colours .entry)) (now (colours .exit)) ⌝ }
 {
     let closure = access::access_from(s, set);

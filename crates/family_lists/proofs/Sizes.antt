@@ -18,7 +18,7 @@ use Rattle.vertex_set.proofs.Sorted.{listed-append}
 use Rattle.families.specs.Inner.Family.{In}
 use Rattle.written.specs.Inner.{Wrote}
 use Rattle.written.proofs.Writing.{wrote-none}
-use Rattle.family_lists.specs.Inner.Tables.{Layer, masksIn, rising, ofWords, Occupied, Joined, SomeOfSize, ofSize}
+use Rattle.family_lists.specs.Inner.Tables.{Layer, masksIn, rising, ofWords, Occupied, JoinedBySize, SomeOfSize, ofSize}
 use Rattle.family_lists.proofs.Lists.{mask-ones}
 use Rattle.family_lists.proofs.Order.{listed-masks, listed-members, listed-of-size, member-small}
 
@@ -90,7 +90,7 @@ module _ (f ws joined : List ℕ) (j : Joining f ws joined) (b : ℕ) where
       }
 
 -- all members are in the listed words
-pub joining-end : (f index joined : List ℕ) (n : ℕ) → Occupied f index n → Joining f (take n index) joined → Joined f joined
+pub joining-end : (f index joined : List ℕ) (n : ℕ) → Occupied f index n → Joining f (take n index) joined → JoinedBySize f joined
 unfolding In
 joining-end f index joined n o j =
     record {
@@ -163,7 +163,7 @@ unlisted [] h = refl
 unlisted (x ∷ l) h = absurd (h x (inl refl))
 
 -- nothing is to be written of it
-pub wrote-no-size : (N : ℕ → ℕ) (f joined out : List ℕ) (next s : ℕ) (r : Bool) → length f ≡ 256 → Joined f joined → SomeOfSize joined s r → r ≡ false
+pub wrote-no-size : (N : ℕ → ℕ) (f joined out : List ℕ) (next s : ℕ) (r : Bool) → length f ≡ 256 → JoinedBySize f joined → SomeOfSize joined s r → r ≡ false
     → Wrote out next (map N (ofSize s (rising 0 f))) out next
 wrote-no-size N f joined out next s r e j o q =
     let none : ofSize s (rising 0 f) ≡ [] =

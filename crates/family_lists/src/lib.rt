@@ -8,7 +8,7 @@ ghost use lib.Count.{ones};
 ghost use Rattle.families.specs.Inner.Family.{size, familyWords};
 ghost use Rattle.written.specs.Inner.{Wrote};
 ghost use Rattle.family_lists.specs.Inner.Lists.{Writable, WroteSets};
-ghost use Rattle.family_lists.specs.Inner.Tables.{Layer, LanesOfSize, TablesFit, masksIn, rising, Occupied, Joined, SomeOfSize, ofSize, bySize, sumBy};
+ghost use Rattle.family_lists.specs.Inner.Tables.{Layer, LanesOfSize, TablesFit, masksIn, rising, Occupied, JoinedBySize, SomeOfSize, ofSize, bySize, sumBy};
 use families::WORDS;
 use vertex_set::VertexSet;
 
@@ -132,7 +132,7 @@ fn put_size(
 fn joined_words(f: &[u64], index: &[usize], n: usize) -> [u64; 9]
     requires { ⌜ length (now f) ≡ familyWords ⌝ }
     requires { ⌜ Occupied (now f) (now index) n ⌝ }
-    ensures { λ r. ⌜ Joined (now (f .entry)) r ⌝ }
+    ensures { λ r. ⌜ JoinedBySize (now (f .entry)) r ⌝ }
 {
     let mut joined = [0u64; 9];
     for i in 0..n {

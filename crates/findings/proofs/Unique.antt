@@ -94,8 +94,8 @@ module _ (Finds : Bool → Type 0) (unique : (b b′ : Bool) → Finds b → Fin
             record { number = p .1 ∙ sym (q .1); values = p .2 ∙ ap (λ (x : Bool). yesNo x ∷ []) e ∙ sym (q .2) }
 
     -- equations of numbers and of lists are decided, so that question 12 need not be
-    pub finding-determined : Same n n′ v v′
-    finding-determined =
+    pub one-finding-answer : Same n n′ v v′
+    one-finding-answer =
         record {
           number = dec→stable (ℕ-discrete n n′) (λ d. d (refused′ (λ w. d (formed w .number)) .number));
           values = dec→stable (List-discrete ℕ-discrete v v′) (λ d. d (refused′ (λ w. d (formed w .values)) .values));
@@ -104,11 +104,11 @@ module _ (Finds : Bool → Type 0) (unique : (b b′ : Bool) → Finds b → Fin
         refused′ : (WellFormed s → ⊥) → Same n n′ v v′
         refused′ m = refused (a .malformed m) (b .malformed m)
 
-pub backdoor-determined : (s : Setup) (x n n′ : ℕ) (v v′ : List ℕ) → BackdoorCall s x n v → BackdoorCall s x n′ v′ → Same n n′ v v′
-backdoor-determined s x = finding-determined (FindsBackdoor s x) (backdoor-unique s x) s (x ∷ [])
+pub one-backdoor-answer : (s : Setup) (x n n′ : ℕ) (v v′ : List ℕ) → BackdoorCall s x n v → BackdoorCall s x n′ v′ → Same n n′ v v′
+one-backdoor-answer s x = one-finding-answer (FindsBackdoor s x) (backdoor-unique s x) s (x ∷ [])
 
-pub ineffective-determined : (s : Setup) (x n n′ : ℕ) (v v′ : List ℕ) → IneffectiveCall s x n v → IneffectiveCall s x n′ v′ → Same n n′ v v′
-ineffective-determined s x = finding-determined (FindsIneffective s x) (ineffective-unique s x) s (x ∷ [])
+pub one-ineffective-answer : (s : Setup) (x n n′ : ℕ) (v v′ : List ℕ) → IneffectiveCall s x n v → IneffectiveCall s x n′ v′ → Same n n′ v v′
+one-ineffective-answer s x = one-finding-answer (FindsIneffective s x) (ineffective-unique s x) s (x ∷ [])
 
-pub inconsistent-determined : (s : Setup) (x y n n′ : ℕ) (v v′ : List ℕ) → InconsistentCall s x y n v → InconsistentCall s x y n′ v′ → Same n n′ v v′
-inconsistent-determined s x y = finding-determined (FindsInconsistent s x y) (λ b b′. inconsistent-unique s x b b′ y) s (x ∷ y ∷ [])
+pub one-inconsistent-answer : (s : Setup) (x y n n′ : ℕ) (v v′ : List ℕ) → InconsistentCall s x y n v → InconsistentCall s x y n′ v′ → Same n n′ v v′
+one-inconsistent-answer s x y = one-finding-answer (FindsInconsistent s x y) (λ b b′. inconsistent-unique s x b b′ y) s (x ∷ y ∷ [])

@@ -17,8 +17,8 @@ use Rattle.setup.proofs.Graphs.{colour-below}
 use Rattle.derivations.specs.Derivation.{Vertices}
 use Rattle.derivations.specs.Inner.Admits.{Admits}
 use Rattle.derivations.proofs.Admits.{admits-coloured}
-use Rattle.words.specs.Inner.Words.{At, FamilyWhere, Merged}
-use Rattle.words.proofs.Families.{family-as, full-word}
+use Rattle.family_words.specs.Inner.Words.{At, FamilyWhere, Merged}
+use Rattle.family_words.proofs.Families.{family-as, full-word}
 use Rattle.lanes.specs.Inner.Lanes.{Lane, Over, Colour, Takes, untakenWord, Coloured, Needed}
 use Rattle.lanes.proofs.Over.{merged-same, below-more}
 

@@ -12,8 +12,8 @@ use Rattle.vertex_set.specs.Set.{Member, Within, Iff}
 use Rattle.vertex_set.proofs.Cases.{same-or}
 use Rattle.vertex_set.proofs.Decisions.{iff-trans}
 use Rattle.vertex_set.proofs.Sets.{none-in-zero}
-use Rattle.words.specs.Inner.Words.{At, FamilyWhere, Merged, Without}
-use Rattle.words.proofs.Families.{family-as}
+use Rattle.family_words.specs.Inner.Words.{At, FamilyWhere, Merged, Without}
+use Rattle.family_words.proofs.Families.{family-as}
 use Rattle.lanes.specs.Inner.Lanes.{Lane, Over}
 use Rattle.lanes.proofs.Over.{merged-same, over-same, over-one, over-more}
 

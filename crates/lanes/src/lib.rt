@@ -4,7 +4,7 @@
 ghost use mathlib.Core.Path.{_≡_};
 ghost use lib.ListN.{length};
 ghost use Rattle.vertex_set.specs.Set.{Member};
-ghost use Rattle.words.specs.Inner.Words.{At, FamilyWhere};
+ghost use Rattle.family_words.specs.Inner.Words.{At, FamilyWhere};
 ghost use Rattle.derivations.specs.Inner.Admits.{Admits};
 ghost use Rattle.families.specs.Inner.Family.{familyWords};
 ghost use Rattle.lanes.specs.Inner.Lanes.{Lane, Over, Takes, untakenWord, Needed, tableWords};
@@ -35,15 +35,15 @@ fn scan(w: &[u64], row: u64, any: bool, out: &mut [u64])
     requires { ⌜ length (now out) ≡ familyWords ⌝ }
     ensures { λ _. ⌜ FamilyWhere (λ b i. Over any (Member row) (Lane (now (w .entry)) b i)) (now (out .exit)) ⌝ }
 {
-    let first = words::lowest(row);
+    let first = family_words::lowest(row);
     let at = first * WORDS;
-    words::copy_in(out, &w[at..at + WORDS]);
-    let mut left = words::without(row, first);
+    family_words::copy_in(out, &w[at..at + WORDS]);
+    let mut left = family_words::without(row, first);
     while left != 0 {
-        let v = words::lowest(left);
+        let v = family_words::lowest(left);
         let a = v * WORDS;
-        words::merge_in(any, out, &w[a..a + WORDS]);
-        left = words::without(left, v);
+        family_words::merge_in(any, out, &w[a..a + WORDS]);
+        left = family_words::without(left, v);
     }
 }
 
@@ -60,7 +60,7 @@ fn take_colour(w: &[u64], row: u64, loss: bool, out: &mut [u64])
     }
     let mut part = [0u64; WORDS];
     scan(w, row, loss, &mut part);
-    words::merge_in(!loss, out, &part);
+    family_words::merge_in(!loss, out, &part);
 }
 
 // Each word of a family before any colour is taken in: gaining begins with no mask, keeping with
@@ -79,11 +79,11 @@ pub fn admitted(w: &[u64], rows: Rows, loss: bool, out: &mut [u64])
     ensures { λ _. ⌜ FamilyWhere (λ b i. Admits loss rows (Lane (now (w .entry)) b i)) (now (out .exit)) ⌝ }
 {
     if needed(rows) == 0 {
-        words::set_all(out, 0);
+        family_words::set_all(out, 0);
         return;
     }
     let first = untaken(loss);
-    words::set_all(out, first);
+    family_words::set_all(out, first);
     for c in 0..COLOURS {
         take_colour(w, rows.needs[c], loss, out);
     }

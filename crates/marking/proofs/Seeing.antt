@@ -23,10 +23,10 @@ use Rattle.families.proofs.Families.{size-drop, size-end}
 use Rattle.families.proofs.Masks.{spread, gather, set-of, set-unique, mask-unique, mask-exists}
 use Rattle.family_lists.specs.Inner.Tables.{rising}
 use Rattle.family_lists.proofs.Order.{Words, listed-members, sorted-rising, length-rising}
-use Rattle.strays.specs.Inner.Strays.{HasSize}
+use Rattle.outsiders.specs.Inner.Outsiders.{HasSize}
 use Rattle.marking.specs.Inner.Counting.{Put, Earlier, MaskIn, Seen, meet}
-use Rattle.strays.proofs.Sizes.{size-same, size-map, size-of-list}
-use Rattle.strays.proofs.Values.{listed-next}
+use Rattle.outsiders.proofs.Sizes.{size-same, size-map, size-of-list}
+use Rattle.outsiders.proofs.Values.{listed-next}
 
 -- ---- a mask put in
 
@@ -95,8 +95,8 @@ module _ (chosen : ℕ) (l seen : List ℕ) (i : ℕ) (h : i < length l) (s : Se
   widen m k = record { set = k .set; listed = listed-next l i (k .set) h .from (inl (k .listed)); within = k .within; mask = k .mask }
 
   -- the set at i has no mask, or one that is in
-  pub seen-outside : (Within (getD l i 0) chosen → ⊥) → Seen chosen (take (i + 1) l) seen
-  seen-outside n =
+  seen-kept : ((x : ℕ) → Within x chosen → x ≡ getD l i 0 → Listed (take i l) x) → Seen chosen (take (i + 1) l) seen
+  seen-kept old =
       record {
         words = s .words;
         fits = s .fits;
@@ -104,28 +104,18 @@ module _ (chosen : ℕ) (l seen : List ℕ) (i : ℕ) (h : i < length l) (s : Se
           to = λ p. widen m (s .each m .to p);
           from = λ k. s .each m .from (record {
             set = k .set;
-            listed = ⊎-elim (λ q. q) (λ e. absurd (n (subst (λ (x : ℕ). Within x chosen) e (k .within)))) (listed-next l i (k .set) h .to (k .listed));
+            listed = ⊎-elim (λ j. j) (old (k .set) (k .within)) (listed-next l i (k .set) h .to (k .listed));
             within = k .within;
             mask = k .mask;
           });
         };
       }
 
+  pub seen-outside : (Within (getD l i 0) chosen → ⊥) → Seen chosen (take (i + 1) l) seen
+  seen-outside n = seen-kept (λ x w e. absurd (n (subst (λ (y : ℕ). Within y chosen) e w)))
+
   pub seen-again : Listed (take i l) (getD l i 0) → Seen chosen (take (i + 1) l) seen
-  seen-again q =
-      record {
-        words = s .words;
-        fits = s .fits;
-        each = λ m. record {
-          to = λ p. widen m (s .each m .to p);
-          from = λ k. s .each m .from (record {
-            set = k .set;
-            listed = ⊎-elim (λ j. j) (λ e. subst (Listed (take i l)) (sym e) q) (listed-next l i (k .set) h .to (k .listed));
-            within = k .within;
-            mask = k .mask;
-          });
-        };
-      }
+  seen-again q = seen-kept (λ x w e. subst (Listed (take i l)) (sym e) q)
 
   pub seen-new : (m : ℕ) (next : List ℕ) → chosen < 2 ^ 64 → Within (getD l i 0) chosen → MaskOf chosen (getD l i 0) m → length next ≡ 256 → Words next → Put seen m next
       → Seen chosen (take (i + 1) l) next

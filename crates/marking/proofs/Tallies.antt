@@ -27,12 +27,12 @@ use Rattle.tables.proofs.Tables.{derivation-rising}
 use Rattle.bases.specs.Base.{TargetSet, MinimalSet}
 use Rattle.bases.specs.Marks.{Mark, Repeated, Shut, Loose, Right, SmallerDerives, CountsAs, MarkedAs, tally}
 use Rattle.bases.proofs.Bridge.{target-has, minimal-smallest, minimal-within}
-use Rattle.strays.specs.Inner.Strays.{HasSize, StrayOf}
+use Rattle.outsiders.specs.Inner.Outsiders.{HasSize, OutsiderOf}
 use Rattle.marking.specs.Inner.Counting.{Seen, meet, CanMark}
 use Rattle.marking.specs.Inner.Marking.{Markable, MarkedAll}
 use Rattle.marking.proofs.Seeing.{family-size, meet-size, size-of-sets}
-use Rattle.strays.proofs.Sizes.{size-none, size-same, size-more, size-join, size-le, size-unique, size-listed}
-use Rattle.strays.proofs.Values.{place-of}
+use Rattle.outsiders.proofs.Sizes.{size-none, size-same, size-more, size-join, size-le, size-unique, size-listed}
+use Rattle.outsiders.proofs.Values.{place-of}
 
 -- ---- how often marks are given
 
@@ -201,8 +201,8 @@ module _ (loss : Bool) (s : Setup) (g : Graph) (target chosen : ℕ) (family min
 
 -- ---- all marks
 
-module _ (chosen : ℕ) (family minimal handed seen : List ℕ) (strays : ℕ) (fits : chosen < 2 ^ 64) (can : CanMark chosen family minimal) (words : Words handed)
-    (is : Seen chosen handed seen) (out : HasSize (StrayOf chosen handed 0 18446744073709551615) strays) where
+module _ (chosen : ℕ) (family minimal handed seen : List ℕ) (outsiders : ℕ) (fits : chosen < 2 ^ 64) (can : CanMark chosen family minimal) (words : Words handed)
+    (is : Seen chosen handed seen) (out : HasSize (OutsiderOf chosen handed 0 18446744073709551615) outsiders) where
   of-minimal : HasSize (λ k. In seen k × In minimal k) (size (meet seen minimal))
   of-minimal = meet-size seen minimal (is .words ∙ sym (can .wordsMinimal)) (is .fits)
 
@@ -222,13 +222,13 @@ module _ (chosen : ℕ) (family minimal handed seen : List ℕ) (strays : ℕ) (
       size-of-sets chosen handed (In seen) (λ x. Within x chosen) (size seen) fits (can .few) (λ k. is .each k .to) (λ x w. w)
       (λ k x l w o. record { to = λ h. w; from = λ h. is .each k .from (record { set = x; listed = l; within = w; mask = o }) }) (family-size seen (is .fits))
 
-  all : HasSize (λ x. Listed handed x × Unit {0}) (size seen + strays)
+  all : HasSize (λ x. Listed handed x × Unit {0}) (size seen + outsiders)
   all =
-      size-same (λ x. (Listed handed x × Within x chosen) ⊎ StrayOf chosen handed 0 18446744073709551615 x) (λ x. Listed handed x × Unit {0})
+      size-same (λ x. (Listed handed x × Within x chosen) ⊎ OutsiderOf chosen handed 0 18446744073709551615 x) (λ x. Listed handed x × Unit {0})
       (λ x. record { to = ⊎-elim (λ h. (h .0, tt)) (λ h. (h .listed, tt)); from = λ h. either-way x (h .0) })
-      (size-join (λ x. Listed handed x × Within x chosen) (StrayOf chosen handed 0 18446744073709551615) (size seen) strays (λ x a b. b .is .outside (a .1)) inside out)
+      (size-join (λ x. Listed handed x × Within x chosen) (OutsiderOf chosen handed 0 18446744073709551615) (size seen) outsiders (λ x a b. b .is .outside (a .1)) inside out)
     where
-      either-way : (x : ℕ) → Listed handed x → (Listed handed x × Within x chosen) ⊎ StrayOf chosen handed 0 18446744073709551615 x
+      either-way : (x : ℕ) → Listed handed x → (Listed handed x × Within x chosen) ⊎ OutsiderOf chosen handed 0 18446744073709551615 x
       either-way x h =
           let p = place-of handed x h in
           let l : x < 2 ^ 64 = subst (λ (y : ℕ). y < 2 ^ 64) (p .2) (words (p .0)) in
@@ -236,16 +236,16 @@ module _ (chosen : ℕ) (family minimal handed seen : List ℕ) (strays : ℕ) (
           byTest (eqb (bitAnd x ((2 ^ 64 - 1) - chosen)) 0) (λ e. inl (h, d .yes e))
           (λ e. inr (record { listed = h; is = record { outside = d .no e; from = omega arith; to = omega arith } }))
 
-  pub different-le : size seen + strays ≤ length handed
-  different-le = size-listed (λ x. Listed handed x × Unit {0}) handed (size seen + strays) (λ x h. h .0) all
+  pub different-le : size seen + outsiders ≤ length handed
+  different-le = size-listed (λ x. Listed handed x × Unit {0}) handed (size seen + outsiders) (λ x h. h .0) all
 
-  pub marked-all : MarkedAll chosen family minimal handed (size (meet seen minimal)) (length handed - (size seen + strays)) (size seen + strays - size (meet seen family))
+  pub marked-all : MarkedAll chosen family minimal handed (size (meet seen minimal)) (length handed - (size seen + outsiders)) (size seen + outsiders - size (meet seen family))
       (size (meet seen family) - size (meet seen minimal))
   marked-all = record { each = marked }
     where
       marked : (loss : Bool) (s : Setup) (g : Graph) (target : ℕ) → Markable loss s g target chosen family minimal
-          → (ms : List Mark) × MarkedAs loss s g target [] handed ms × (size (meet seen minimal) ≡ tally Right ms) × (length handed - (size seen + strays) ≡ tally Repeated ms)
-          × (size seen + strays - size (meet seen family) ≡ tally Shut ms) × (size (meet seen family) - size (meet seen minimal) ≡ tally Loose ms)
+          → (ms : List Mark) × MarkedAs loss s g target [] handed ms × (size (meet seen minimal) ≡ tally Right ms) × (length handed - (size seen + outsiders) ≡ tally Repeated ms)
+          × (size seen + outsiders - size (meet seen family) ≡ tally Shut ms) × (size (meet seen family) - size (meet seen minimal) ≡ tally Loose ms)
       marked loss s g target m =
           let rights : HasSize (λ x. Listed handed x × MinimalSet loss s g target x) (size (meet seen minimal)) =
           size-of-sets chosen handed (λ k. In seen k × In minimal k) (MinimalSet loss s g target) (size (meet seen minimal)) fits (can .few) (λ k h. is .each k .to (h .0))
@@ -264,7 +264,7 @@ module _ (chosen : ℕ) (family minimal handed seen : List ℕ) (strays : ℕ) (
           let ms = marks-of loss s g target [] handed kind in
           let a = sum-is loss s g target (MinimalSet loss s g target) isRight (tells-right loss s g target) handed (ms .0) (size (meet seen minimal)) (ms .1) rights in
           let b = sum-is loss s g target (TargetSet loss s g target) isTarget (tells-target loss s g target) handed (ms .0) (size (meet seen family)) (ms .1) targets in
-          let c = sum-is loss s g target (λ x. Unit {0}) isNew (tells-new loss s g target) handed (ms .0) (size seen + strays) (ms .1) all in
+          let c = sum-is loss s g target (λ x. Unit {0}) isNew (tells-new loss s g target) handed (ms .0) (size seen + outsiders) (ms .1) all in
           let d = sum-all loss s g target [] handed (ms .0) (ms .1) in
           let e = sum-right (ms .0) in
           let f = sum-target (ms .0) in

@@ -2,7 +2,7 @@
 // 0, or that of the refusal. The fields behind the number have the answer's values, and 0 where
 // there is no value.
 ghost use mathlib.Core.List.{[], _∷_};
-ghost use Rattle.access.specs.Answers.{numberOf, valuesOf, wayNumber, wayValues};
+ghost use Rattle.access.specs.Answers.{setNumber, setValues, wayNumber, wayValues};
 ghost use Rattle.answers.specs.Answers.{basesNumber, basesValues, scoreNumber, scoreValues, riskNumber, riskValues, marksNumber, marksValues};
 ghost use Rattle.findings.specs.Answers.{findingNumber, findingValues};
 ghost use Rattle.portal_results.specs.Inner.{Tells};
@@ -83,7 +83,7 @@ pub struct PortalFinding {
 }
 
 pub fn tell_closure(answer: SetAnswer) -> PortalClosure
-    ensures { λ r. ⌜ Tells (numberOf answer) (valuesOf answer) (r .number) (r .set ∷ []) ⌝ }
+    ensures { λ r. ⌜ Tells (setNumber answer) (setValues answer) (r .number) (r .set ∷ []) ⌝ }
 {
     match answer {
         SetAnswer::Set(set) => PortalClosure {
@@ -95,7 +95,7 @@ pub fn tell_closure(answer: SetAnswer) -> PortalClosure
 }
 
 pub fn tell_set(answer: SetAnswer) -> PortalSet
-    ensures { λ r. ⌜ Tells (numberOf answer) (valuesOf answer) (r .number) (r .set ∷ []) ⌝ }
+    ensures { λ r. ⌜ Tells (setNumber answer) (setValues answer) (r .number) (r .set ∷ []) ⌝ }
 {
     match answer {
         SetAnswer::Set(set) => PortalSet {

@@ -1,38 +1,16 @@
 -- Writing words one after the other.
 -- Assumes nothing.
-use mathlib.Core.Path.{_≡_, refl, sym, ap, subst, _∙_}
+use mathlib.Core.Path.{_≡_, refl, ap, subst, _∙_}
 use mathlib.Core.List.{List, [], _∷_, _++_}
-use Prim.Native.Nat.{ℕ, suc, _+_, _≤_, _<_}
+use Prim.Native.Nat.{ℕ, suc, _+_, _<_}
 use native.Mathlib.Numerals.{add-one}
 use native.Mathlib.Omega.{arith}
-use lib.ListN.{length, getD, set, drop, length-set, length-append}
-use lib.Seq.{paste, paste-zero, paste-suc, sets-eq, take-length, drop-length, drop-cons}
+use lib.ListN.{length, getD, set, drop, length-append}
+use lib.Seq.{drop-length, drop-cons}
 use Rattle.written.specs.Inner.{Wrote}
 use Rattle.written.proofs.Writing.{Writing, writing-none, writing-part, writing-end, wrote-one, wrote-length, wrote-then}
 use Rattle.portal_setup.specs.Words.{flat}
 use Rattle.portal_setup.specs.Inner.{WroteAll}
-
--- ---- a copy
-
--- Of the words s, the first i stand in `out` from `at` on, which was d.
-pub record Copied (d : List ℕ) (at : ℕ) (s out : List ℕ) (i : ℕ) : Type 0 where
-  pub long : length out ≡ length d
-  pub value : out ≡ paste d at s i
-
-pub copied-none : (d : List ℕ) (at : ℕ) (s : List ℕ) → Copied d at s d 0
-copied-none d at s = record { long = refl; value = paste-zero d at s }
-
-module _ (d : List ℕ) (at : ℕ) (s : List ℕ) (room : at + length s ≤ length d) where
-  pub copied-more : (out : List ℕ) (i : ℕ) → i < length s → Copied d at s out i → Copied d at s (set out (at + i) (getD s i 0)) (i + 1)
-  copied-more out i h w =
-      rw (add-one i)
-      (record {
-        long = length-set out (at + i) (getD s i 0) ∙ w .long;
-        value = ap (λ (l : List ℕ). set l (at + i) (getD s i 0)) (w .value) ∙ paste-suc d at s i 0 (omega arith) h;
-      })
-
-  pub copied-all : (out : List ℕ) → Copied d at s out (length s) → Wrote d at s out (at + length s)
-  copied-all out w = record { exit = (rw (take-length s) at (w .value)) ∙ sym (sets-eq s d at room); next = refl }
 
 -- ---- the words of a list's elements: those of the first v stand
 

@@ -22,7 +22,7 @@ use Rattle.reference.specs.Tests.{some, isMember}
 use Rattle.reference.specs.Closures.{derivesOf}
 use Rattle.reference.specs.Bases.{setsOf, targetSetsOf, isMinimal, baseOf}
 use Rattle.reference.specs.Graphs.{GraphOf}
-use Rattle.reference.proofs.Tests.{by-decision, decide-not, decide-and, SomeBelow, decide-some, decide-member, listed-those, sorted-those}
+use Rattle.reference.proofs.Tests.{by-decision, decide-not, decide-and, SomeBelow, decide-some, decide-member, listed-filtered, sorted-filtered}
 use Rattle.reference.proofs.Graphs.{chosen-below}
 use Rattle.reference.proofs.Closures.{decide-derives}
 use Rattle.reference.proofs.Sets.{below-pow, listed-sets, sorted-sets}
@@ -31,7 +31,7 @@ module _ (loss : Bool) (s : Setup) (g : Graph) (target : ℕ) (wf : WellFormed s
   pub listed-targets : (x : ℕ) → Iff (Listed (targetSetsOf loss s g target) x) (TargetSet loss s g target x)
   unfolding targetSetsOf
   listed-targets x =
-      let l = listed-those (Derives loss g target) (derivesOf loss (s .count) g target) (setsOf loss s) (λ y m. decide-derives loss s g wf h target y) x in
+      let l = listed-filtered (Derives loss g target) (derivesOf loss (s .count) g target) (setsOf loss s) (λ y m. decide-derives loss s g wf h target y) x in
       let c = listed-sets loss s wf x in
       record {
         to = λ m. let p = l .to m in record { chosen = c .to (p .0); derives = p .1 };
@@ -75,7 +75,7 @@ module _ (loss : Bool) (s : Setup) (g : Graph) (target : ℕ) (wf : WellFormed s
   pub listed-base : (x : ℕ) → Iff (Listed (baseOf loss s g target) x) (MinimalSet loss s g target x)
   unfolding baseOf
   listed-base x =
-      let l = listed-those (MinimalSet loss s g target) (isMinimal loss s g target) (targetSetsOf loss s g target) (λ y m. decide-minimal y (listed-targets y .to m)) x in
+      let l = listed-filtered (MinimalSet loss s g target) (isMinimal loss s g target) (targetSetsOf loss s g target) (λ y m. decide-minimal y (listed-targets y .to m)) x in
       record { to = λ m. l .to m .1; from = λ m. l .from (listed-targets x .from (m .is), m) }
 
   pub base-of : Base loss s g target (baseOf loss s g target)
@@ -85,7 +85,7 @@ module _ (loss : Bool) (s : Setup) (g : Graph) (target : ℕ) (wf : WellFormed s
         sound = λ x. listed-base x .to;
         whole = λ x. listed-base x .from;
         ordered = sorted-ordered (baseOf loss s g target)
-            (sorted-those Before (isMinimal loss s g target) (targetSetsOf loss s g target) (sorted-those Before (derivesOf loss (s .count) g target) (setsOf loss s) (sorted-sets loss s)));
+            (sorted-filtered Before (isMinimal loss s g target) (targetSetsOf loss s g target) (sorted-filtered Before (derivesOf loss (s .count) g target) (setsOf loss s) (sorted-sets loss s)));
       }
 
   -- each target set has a minimal one within it

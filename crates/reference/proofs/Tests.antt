@@ -16,7 +16,7 @@ use Rattle.vertex_set.proofs.Cases.{byTest}
 use Rattle.vertex_set.proofs.Decisions.{decide-yes, decide-no, decide-iff, decide-eqb}
 use Rattle.vertex_set.proofs.Sets.{in-and, in-or, in-one, same-set, member-decided, meets-decided}
 use Rattle.vertex_set.proofs.Sorted.{only, listed-only, Sorted, sorted-only}
-use Rattle.reference.specs.Tests.{lowest, some, every, those, isListed, isMember, isWithin, isMeeting, withVertex}
+use Rattle.reference.specs.Tests.{lowest, some, every, filtered, isListed, isMember, isWithin, isMeeting, withVertex}
 
 -- ---- decisions together
 
@@ -86,22 +86,22 @@ decide-every P test d n =
 
 -- ---- lists
 
-those-only : (test : ℕ → Bool) (l : List ℕ) → those test l ≡ only test l
-unfolding those
-those-only test [] = refl
-those-only test (x ∷ l) = byTest (test x) (λ e. rw (e, those-only test l)) (λ e. rw (e, those-only test l))
+filtered-only : (test : ℕ → Bool) (l : List ℕ) → filtered test l ≡ only test l
+unfolding filtered
+filtered-only test [] = refl
+filtered-only test (x ∷ l) = byTest (test x) (λ e. rw (e, filtered-only test l)) (λ e. rw (e, filtered-only test l))
 
-pub listed-those : (P : ℕ → Type 0) (test : ℕ → Bool) (l : List ℕ) → ((x : ℕ) → Listed l x → Decides (P x) (test x)) → (x : ℕ)
-    → Iff (Listed (those test l) x) (Listed l x × P x)
-listed-those P test l d x =
-    rw (those-only test l)
+pub listed-filtered : (P : ℕ → Type 0) (test : ℕ → Bool) (l : List ℕ) → ((x : ℕ) → Listed l x → Decides (P x) (test x)) → (x : ℕ)
+    → Iff (Listed (filtered test l) x) (Listed l x × P x)
+listed-filtered P test l d x =
+    rw (filtered-only test l)
     (record {
       to = λ m. let p = listed-only test l x .to m in (p .0, d x (p .0) .yes (p .1));
       from = λ p. listed-only test l x .from (p .0, byTest (test x) (λ e. e) (λ e. absurd (d x (p .0) .no e (p .1))));
     })
 
-pub sorted-those : (R : ℕ → ℕ → Type 0) (test : ℕ → Bool) (l : List ℕ) → Sorted R l → Sorted R (those test l)
-sorted-those R test l h = rw (those-only test l) (sorted-only R test l h)
+pub sorted-filtered : (R : ℕ → ℕ → Type 0) (test : ℕ → Bool) (l : List ℕ) → Sorted R l → Sorted R (filtered test l)
+sorted-filtered R test l h = rw (filtered-only test l) (sorted-only R test l h)
 
 pub decide-listed : (l : List ℕ) (x : ℕ) → Decides (Listed l x) (isListed l x)
 unfolding isListed

@@ -21,7 +21,7 @@ use Rattle.derivations.proofs.Graphs.{access-lawful}
 use Rattle.derivations.proofs.Admits.{step-admits}
 use Rattle.ways.proofs.Ways.{PassedOver, step-found, way-behind}
 use Rattle.reference.specs.Tests.{isMember, withVertex}
-use Rattle.reference.specs.Closures.{colourOf, isAdded, derivesOf, vertexOf, stepsOf, wayOf}
+use Rattle.reference.specs.Closures.{colourOf, isAdded, derivesOf, nextVertex, stepsOf, wayOf}
 use Rattle.reference.specs.Graphs.{GraphOf}
 use Rattle.reference.proofs.Tests.{by-decision, decide-not, decide-and, LowestOf, lowest-of, decide-member, in-with, inserted-with}
 use Rattle.reference.proofs.Graphs.{few-colours, added-below, derived-below}
@@ -34,22 +34,22 @@ module _ (s : Setup) (g : Graph) (wf : WellFormed s) (h : GraphOf s g) where
   abbrev Next : ℕ → ℕ → Type 0
   Next held v = (Member held v → ⊥) × Admits false (rowsAt g v) (Member held)
 
-  next-vertex : (held : ℕ) → LowestOf (Next held) (s .count) (vertexOf (s .count) g held)
-  unfolding vertexOf
+  next-vertex : (held : ℕ) → LowestOf (Next held) (s .count) (nextVertex (s .count) g held)
+  unfolding nextVertex
   next-vertex held =
       lowest-of (Next held) (λ v. not (isMember held v) && isAdded false (rowsAt g v) held)
       (λ v. decide-and _ _ (decide-not _ (decide-member held v)) (decide-added false (rowsAt g v) held (few-colours s g h v))) (s .count)
 
   -- a vertex below the one found that can be opened is held
-  passed-over : (held : ℕ) → PassedOver g held (vertexOf (s .count) g held)
+  passed-over : (held : ℕ) → PassedOver g held (nextVertex (s .count) g held)
   passed-over held f l o =
       ⊎-elim (λ m. m) (λ n. absurd (next-vertex held .none (f .vertex) l (n, step-admits false g (Member held) f o))) (member-or held (f .vertex))
 
   -- the search finds the lowest step
-  lowest-step : (held : ℕ) → vertexOf (s .count) g held < s .count
-      → LowestStep g (Member held) (record { vertex = vertexOf (s .count) g held; colour = colourOf (rowsAt g (vertexOf (s .count) g held)) held })
+  lowest-step : (held : ℕ) → nextVertex (s .count) g held < s .count
+      → LowestStep g (Member held) (record { vertex = nextVertex (s .count) g held; colour = colourOf (rowsAt g (nextVertex (s .count) g held)) held })
   lowest-step held l =
-      let v : ℕ = vertexOf (s .count) g held in
+      let v : ℕ = nextVertex (s .count) g held in
       let n = next-vertex held .is l in
       let low = lowest-colour (rowsAt g v) held (few-colours s g h v) in
       let most = wf .most in
@@ -59,20 +59,20 @@ module _ (s : Setup) (g : Graph) (wf : WellFormed s) (h : GraphOf s g) where
       step-found g held v (passed-over held) (colourOf (rowsAt g v) held) (omega arith) (n .0) low (omega arith) .yes refl .0
 
   -- where the target is to be had and is not held, there is a step
-  goes-on : (target held : ℕ) → HasAccess g (Member held) target → (Member held target → ⊥) → vertexOf (s .count) g held < s .count
+  goes-on : (target held : ℕ) → HasAccess g (Member held) target → (Member held target → ⊥) → nextVertex (s .count) g held < s .count
   goes-on target held d o =
       ⊎-elim (λ l. l)
       (λ l. absurd (o (least (access g) (access-lawful g) (Member held) (Member held) (λ i m. m)
       (λ e a.
       let k = added-below false s g h (Member held) (e .vertex) (step-admits false g (Member held) e a) in
       passed-over held e (lt-of-lt-of-le k l) a) target d)))
-      (less-or (vertexOf (s .count) g held) (s .count))
+      (less-or (nextVertex (s .count) g held) (s .count))
 
   steps-of : (target k held : ℕ) → missing (s .count) held ≤ k → HasAccess g (Member held) target → Way g target (Member held) (stepsOf (s .count) g target k held)
   unfolding stepsOf
   steps-of target zero held l d = ⊎-elim (λ m. m) (λ b. missing-none (s .count) held target (omega arith) b) (derived-below false s g h (Member held) target d)
   steps-of target (suc k) held l d =
-      let v : ℕ = vertexOf (s .count) g held in
+      let v : ℕ = nextVertex (s .count) g held in
       let next : ℕ = withVertex held v in
       let grows : Within held next = record { each = λ i m. in-with held v i .from (inl m) } in
       let most = wf .most in

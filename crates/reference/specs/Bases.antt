@@ -9,7 +9,7 @@ use Rattle.setup.specs.declared.Setup.{Setup}
 use Rattle.setup.specs.Setup.{given, valueOf, vertexAt}
 use Rattle.bases.specs.Score.{sumOf, never}
 use Rattle.bases.specs.Marks.{Mark, Repeated, Shut, Loose, Right, tally}
-use Rattle.reference.specs.Tests.{some, those, isListed, isMember}
+use Rattle.reference.specs.Tests.{some, filtered, isListed, isMember}
 use Rattle.reference.specs.Closures.{derivesOf}
 
 -- ---- all sets
@@ -40,7 +40,7 @@ setsOf loss s = setsUpTo (isChosen loss s) (s .count) (s .count)
 
 -- `TargetSet loss s g target`: the sets from which the target has a derivation.
 unfoldable pub targetSetsOf : Bool → Setup → Graph → ℕ → List ℕ
-targetSetsOf loss s g target = those (derivesOf loss (s .count) g target) (setsOf loss s)
+targetSetsOf loss s g target = filtered (derivesOf loss (s .count) g target) (setsOf loss s)
 
 -- From x less any one vertex there is no derivation.
 unfoldable pub isMinimal : Bool → Setup → Graph → ℕ → ℕ → Bool
@@ -48,7 +48,7 @@ isMinimal loss s g target x = not (some (λ v. isMember x v && derivesOf loss (s
 
 -- `Base loss s g target`: the minimal sets among the target sets.
 unfoldable pub baseOf : Bool → Setup → Graph → ℕ → List ℕ
-baseOf loss s g target = those (isMinimal loss s g target) (targetSetsOf loss s g target)
+baseOf loss s g target = filtered (isMinimal loss s g target) (targetSetsOf loss s g target)
 
 -- ---- the score
 

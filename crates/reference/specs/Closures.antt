@@ -51,14 +51,14 @@ unfoldable pub derivesOf : Bool → ℕ → Graph → ℕ → ℕ → Bool
 derivesOf loss count g target set = isMember (closureOf loss count g set) target
 
 -- The lowest vertex below `count` that is not held and can be opened; `count` where there is none.
-unfoldable pub vertexOf : ℕ → Graph → ℕ → ℕ
-vertexOf count g held = lowest (λ v. not (isMember held v) && isAdded false (rowsAt g v) held) count
+unfoldable pub nextVertex : ℕ → Graph → ℕ → ℕ
+nextVertex count g held = lowest (λ v. not (isMember held v) && isAdded false (rowsAt g v) held) count
 
 -- While the target isn't held, the lowest step, at most k of them.
 unfoldable pub stepsOf : ℕ → Graph → ℕ → ℕ → ℕ → List Step
 stepsOf count g target zero held = []
 stepsOf count g target (suc k) held =
-    let v = vertexOf count g held in
+    let v = nextVertex count g held in
     let step : Step = record { vertex = v; colour = colourOf (rowsAt g v) held } in
     let later : List Step = step ∷ stepsOf count g target k (withVertex held v) in
     cond (isMember held target) [] later

@@ -18,9 +18,9 @@ unfoldable pub every : (ℕ → Bool) → ℕ → Bool
 every test n = not (some (λ i. not (test i)) n)
 
 -- The elements of the list that pass the test.
-unfoldable pub those : (ℕ → Bool) → List ℕ → List ℕ
-those test [] = []
-those test (x ∷ l) = let rest = those test l in cond (test x) (x ∷ rest) rest
+unfoldable pub filtered : (ℕ → Bool) → List ℕ → List ℕ
+filtered test [] = []
+filtered test (x ∷ l) = let rest = filtered test l in cond (test x) (x ∷ rest) rest
 
 -- Does x stand in the list?
 unfoldable pub isListed : List ℕ → ℕ → Bool

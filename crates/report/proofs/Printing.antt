@@ -8,13 +8,13 @@ use Rattle.sheet_format.specs.Read.{readSheet}
 use Rattle.report_facts.specs.declared.Facts.{Facts}
 use Rattle.report_writer.specs.declared.steps.Cursor.{Cursor}
 use Rattle.report_writer.specs.declared.steps.Step.{Step}
-use Rattle.report_writer.specs.Inner.Steps.{Going, Filled}
+use Rattle.report_writer.specs.Inner.Steps.{CanStep, Filled}
 use Rattle.report_writer.specs.declared.start.Report.{Report}
 use Rattle.report_writer.specs.Whole.{Begun}
 
 -- The report goes on at the cursor, and the buffers have their lengths.
 pub record Printing (sheet : List ℕ) (f : Facts) (opening lockout list out : List ℕ) (c : Cursor) : Type 0 where
-  pub going : Going sheet f opening lockout list c
+  pub going : CanStep sheet f opening lockout list c
   pub longOpening : length opening ≡ 16384
   pub longLockout : length lockout ≡ 16384
   pub longList : length list ≡ 16384

@@ -1,17 +1,19 @@
 // Prints the report of the sheet on standard input (document 01, "Report and portal"). Where the
 // input fails nothing is printed, and where the output fails nothing behind the failure is.
+use report_scores::LIST_ROOM;
 use report_writer::start;
 use report_writer::steps;
 use streams::Input;
+use tables::TABLE;
 
 // One byte more than a sheet may have tells that it is too long.
-const MOST: usize = 16385;
+const MOST: usize = sheet::MAX_BYTES + 1;
 
 // Prints the report of the sheet, in large parts, as far as the output takes them.
 fn print_report(sheet: &[u8]) {
-    let mut opening = [0u64; 16384];
-    let mut lockout = [0u64; 16384];
-    let mut list = [0u64; 16384];
+    let mut opening = [0u64; TABLE];
+    let mut lockout = [0u64; TABLE];
+    let mut list = [0u64; LIST_ROOM];
     let mut out = io::large_buffer();
     let report = start::begin(sheet, &mut opening, &mut lockout);
     let facts = report.facts;

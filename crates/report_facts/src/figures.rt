@@ -2,6 +2,7 @@
 ghost use mathlib.Core.Path.{_≡_};
 ghost use lib.ListN.{length};
 ghost use Rattle.formed.specs.WellFormed.{WellFormed};
+ghost use Rattle.lanes.specs.Inner.Lanes.{tableWords};
 ghost use Rattle.report_facts.specs.Inner.Facts.{HasNames, FactsOf, TablesOf};
 ghost use Rattle.report_facts.specs.Inner.Figures.{CanFill, BothScored, FindingsOf};
 use super::names;
@@ -66,7 +67,7 @@ fn findings_of(s: Setup, opening: &mut [u64], lockout: &mut [u64]) -> Findings
 // the bases; the two with recovery are left in `opening` and `lockout`.
 pub fn facts_of(sheet: &[u8], s: Setup, opening: &mut [u64], lockout: &mut [u64]) -> Facts
     requires { ⌜ WellFormed s × HasNames (now sheet) s ⌝ }
-    requires { ⌜ (length (now opening) ≡ 16384) × (length (now lockout) ≡ 16384) ⌝ }
+    requires { ⌜ (length (now opening) ≡ tableWords) × (length (now lockout) ≡ tableWords) ⌝ }
     ensures { λ r. ⌜ FactsOf (now (sheet .entry)) s r × TablesOf s r (now (opening .exit)) (now (lockout .exit)) ⌝ }
 {
     let count = s.count;

@@ -7,6 +7,7 @@ ghost use lib.ListN.{length, getD};
 ghost use Rattle.vertex_set.specs.Order.{sumOver};
 ghost use Rattle.scores.specs.Inner.Lists.{securityAt, recoverabilityAt};
 ghost use Rattle.family_lists.specs.Inner.Tables.{TablesFit};
+ghost use Rattle.lanes.specs.Inner.Lanes.{tableWords};
 ghost use Rattle.report_scores.specs.Inner.Scores.{CanScore, Scored, Numbers, CanRead, Listing, Summands, KeptAt, KeptAll};
 use families::WORDS;
 use scores::RecoverabilityScore;
@@ -14,6 +15,9 @@ use scores::SecurityScore;
 use setup::Graph;
 use setup::Setup;
 use vertex_set::VertexSet;
+
+// Room for any list: a family has no more members than there are masks.
+pub const LIST_ROOM: usize = WORDS * 64;
 
 // The target's base, read from the table: its sets stand at the front of out, and their number is
 // the answer.
@@ -43,7 +47,7 @@ pub fn set_sum(x: u64, values: &[u64]) -> u64
 
 // Keeps the minimal members of the target's family in the table, and gives the least sum over them.
 fn keep_base(w: &mut [u64], target: usize, low: &[u64], high: &[u64]) -> u64
-    requires { ⌜ length (now w) ≡ 16384 ⌝ }
+    requires { ⌜ length (now w) ≡ tableWords ⌝ }
     requires { ⌜ target < 64 ⌝ }
     requires { ⌜ TablesFit (now low) (now high) ⌝ }
     ensures { λ r. ⌜ KeptAt (now (w .entry)) (now (low .entry)) (now (high .entry)) target r (now (w .exit)) ⌝ }
@@ -56,7 +60,7 @@ fn keep_base(w: &mut [u64], target: usize, low: &[u64], high: &[u64]) -> u64
 // Keeps the minimal members of every vertex's family in the table, and writes the least sums, which
 // are the scores, to `out`.
 fn keep_bases(w: &mut [u64], low: &[u64], high: &[u64], out: &mut [u64])
-    requires { ⌜ length (now w) ≡ 16384 ⌝ }
+    requires { ⌜ length (now w) ≡ tableWords ⌝ }
     requires { ⌜ TablesFit (now low) (now high) ⌝ }
     requires { ⌜ length (now out) ≡ 64 ⌝ }
     ensures { λ _. ⌜ KeptAll (now (w .entry)) (now (low .entry)) (now (high .entry)) (now (w .exit)) (now (out .exit)) ⌝ }

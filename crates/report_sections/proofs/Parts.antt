@@ -15,13 +15,13 @@ use Rattle.vertex_set.proofs.Decisions.{decide-iff}
 use Rattle.scores.specs.Inner.Lists.{securityAt, recoverabilityAt}
 use Rattle.setup.specs.declared.Setup.{Setup}
 use Rattle.written.specs.Inner.{Wrote}
-use Rattle.reference.specs.Tests.{those, isMember}
+use Rattle.reference.specs.Tests.{filtered, isMember}
 use Rattle.reference.proofs.Tests.{by-decision, decide-and, decide-member}
 use Rattle.findings.proofs.Unique.{decided-once}
 use Rattle.report_text.specs.Rows.{numbersFrom, textsOf, itemsOf, scoreRow, pairRow}
 use Rattle.sheet_format.specs.Names.{nameOf}
 use Rattle.report_text.specs.Report.{isAccount, isBackdoor, isIdle, isOutOfRank, belowOf, accountsOf, findingRow, pairRows}
-use Rattle.report_text.proofs.Items.{those-no}
+use Rattle.report_text.proofs.Items.{filtered-no}
 use Rattle.report_text.proofs.Meaning.{decide-true}
 use Rattle.report_text.proofs.Lengths.{score-row-length}
 use Rattle.report_text.proofs.Numbers.{listed-numbers}
@@ -35,29 +35,29 @@ use Rattle.report_sections.proofs.Pairs.{pairs-length}
 -- ---- those of the numbers
 
 -- Two tests, one after the other, are one.
-those-those : (t u m : ℕ → Bool) (l : List ℕ) → ((w : ℕ) → Listed l w → m w ≡ u w && t w) → those t (those u l) ≡ those m l
-unfolding those
-those-those t u m [] h = refl
-those-those t u m (w ∷ l) h =
-    let ih = those-those t u m l (λ i k. h i (inr k)) in
+filtered-filtered : (t u m : ℕ → Bool) (l : List ℕ) → ((w : ℕ) → Listed l w → m w ≡ u w && t w) → filtered t (filtered u l) ≡ filtered m l
+unfolding filtered
+filtered-filtered t u m [] h = refl
+filtered-filtered t u m (w ∷ l) h =
+    let ih = filtered-filtered t u m l (λ i k. h i (inr k)) in
     let e = h w (inl refl) in
     byTest (u w)
     (λ a. byTest (t w) (λ b. rw (e, a, b) (ap (λ (r : List ℕ). w ∷ r) ih)) (λ b. rw (e, a, b) ih))
     (λ a. rw (e, a) ih)
 
-those-none : (m : ℕ → Bool) (k d : ℕ) → ((w : ℕ) → k ≤ w → m w ≡ false) → those m (numbersFrom k d) ≡ []
-unfolding those numbersFrom
-those-none m k zero h = refl
-those-none m k (suc d) h = those-no m k (numbersFrom (suc k) d) (h k (omega arith)) ∙ those-none m (suc k) d (λ w l. h w (omega arith))
+filtered-none : (m : ℕ → Bool) (k d : ℕ) → ((w : ℕ) → k ≤ w → m w ≡ false) → filtered m (numbersFrom k d) ≡ []
+unfolding filtered numbersFrom
+filtered-none m k zero h = refl
+filtered-none m k (suc d) h = filtered-no m k (numbersFrom (suc k) d) (h k (omega arith)) ∙ filtered-none m (suc k) d (λ w l. h w (omega arith))
 
 -- Where no number from k + n on passes, n numbers are as good as more.
-those-cut : (m : ℕ → Bool) (k n more : ℕ) → n ≤ more → ((w : ℕ) → k + n ≤ w → m w ≡ false)
-    → those m (numbersFrom k n) ≡ those m (numbersFrom k more)
-unfolding those numbersFrom
-those-cut m k zero more l h = sym (those-none m k more (λ w q. h w (omega arith)))
-those-cut m k (suc n) zero l h = absurd (omega arith)
-those-cut m k (suc n) (suc more) l h =
-    let ih = those-cut m (suc k) n more (omega arith) (λ w q. h w (omega arith)) in
+filtered-cut : (m : ℕ → Bool) (k n more : ℕ) → n ≤ more → ((w : ℕ) → k + n ≤ w → m w ≡ false)
+    → filtered m (numbersFrom k n) ≡ filtered m (numbersFrom k more)
+unfolding filtered numbersFrom
+filtered-cut m k zero more l h = sym (filtered-none m k more (λ w q. h w (omega arith)))
+filtered-cut m k (suc n) zero l h = absurd (omega arith)
+filtered-cut m k (suc n) (suc more) l h =
+    let ih = filtered-cut m (suc k) n more (omega arith) (λ w q. h w (omega arith)) in
     byTest (m k) (λ e. rw e (ap (λ (r : List ℕ). k ∷ r) ih)) (λ e. rw e ih)
 
 -- ---- answers
@@ -120,11 +120,11 @@ module _ (sheet : List ℕ) (f : Facts) (v : ℕ) where
   unfolding belowOf accountsOf itemsOf
   below-list s g h =
       let x : ℕ = getD (f .below) v 0 in
-      those-those (isOutOfRank s v) (isAccount s) (isMember x) (numbersFrom 0 (s .count))
+      filtered-filtered (isOutOfRank s v) (isAccount s) (isMember x) (numbersFrom 0 (s .count))
       (λ w m. decided-once (isMember x w) (isAccount s w && isOutOfRank s v w)
       (decide-iff (g .pairs v w h (omega (arith, listed-numbers 0 (s .count) w .to m .1))) (decide-member x w))
       (decide-and (isAccount s w) (isOutOfRank s v w) (decide-true (isAccount s w)) (decide-true (isOutOfRank s v w))))
-      ∙ those-cut (isMember x) 0 (s .count) 64 (g .formed .most)
+      ∙ filtered-cut (isMember x) 0 (s .count) 64 (g .formed .most)
       (λ w l. by-decision (isMember x w) (decide-member x w) (λ e m. let q = g .within v w h m in absurd (omega arith)) (λ e n. e))
 
   pub pairs-text : Member (f .accounts .0) v → (s : Setup) → FactsOf sheet s f → v < s .count

@@ -19,7 +19,7 @@ use Rattle.sheet_format.specs.Names.{nameOf}
 use Rattle.report_text.proofs.Lengths.{set-row-length}
 use Rattle.report_facts.specs.Inner.Parts.{Part}
 use Rattle.report_facts.proofs.Parts.{part-none, part-one, part-then, part-length}
-use Rattle.report_sections.specs.Inner.Lists.{RowsReady, rowOf, rowsFrom, RowsWent}
+use Rattle.report_sections.specs.Inner.Lists.{RowsReady, rowOf, rowsFrom, RowsPut}
 
 module _ (sheet from to values list : List ℕ) (loss : Bool) (target i n row : ℕ) (h : RowsReady sheet from to values list target i n) (l : row < n) where
   abbrev sum : ℕ
@@ -69,10 +69,10 @@ module _ (name : ℕ → List ℕ) (loss : Bool) (target : ℕ) (values list : L
         })
 
     -- no row more, or no room for one
-    pub rows-end : n ≤ row → RowsWent name loss target values list i n entry at out row next
+    pub rows-end : n ≤ row → RowsPut name loss target values list i n entry at out row next
     rows-end h = record { part = w .part; most = w .most; more = λ l room. omega arith }
 
-    pub rows-full : row < n → length out < next + longestRow → RowsWent name loss target values list i n entry at out row next
+    pub rows-full : row < n → length out < next + longestRow → RowsPut name loss target values list i n entry at out row next
     rows-full l full =
         let e = part-length entry at _ _ out next (w .part) in
         record {

@@ -2,7 +2,7 @@
 ghost use Prim.Native.Nat.{_≤_};
 ghost use lib.ListN.{length};
 ghost use Rattle.sheet_format.specs.Names.{nameOf};
-ghost use Rattle.report_sections.specs.Inner.Lists.{RowsReady, RowsWent, CanLoad, Loaded};
+ghost use Rattle.report_sections.specs.Inner.Lists.{RowsReady, RowsPut, CanLoad, Loaded};
 use report_rows::SetRow;
 use vertex_set::VertexSet;
 
@@ -31,7 +31,7 @@ pub fn put_rows(
 ) -> RowsStep
     requires { ⌜ RowsReady (now sheet) (now from) (now to) (now values) (now list) target i n ⌝ }
     requires { ⌜ at ≤ length (now out) ⌝ }
-    ensures { λ r. ⌜ RowsWent (nameOf (now (sheet .entry))) loss target (now (values .entry)) (now (list .entry)) i n (now (out .entry)) at (now (out .exit)) (r .row) (r .at) ⌝ }
+    ensures { λ r. ⌜ RowsPut (nameOf (now (sheet .entry))) loss target (now (values .entry)) (now (list .entry)) i n (now (out .entry)) at (now (out .exit)) (r .row) (r .at) ⌝ }
 {
     let mut row = i;
     let mut next = at;

@@ -8,12 +8,12 @@ use Prim.Native.Nat.{ℕ}
 use lib.Count.{ones}
 use Rattle.vertex_set.specs.Order.{sumOver}
 use Rattle.sheet_format.specs.Text.{grow, linesOf, fieldsOf, isEmpty, sameText, all}
-use Rattle.sheet_format.specs.Fields.{isDigit, isNameByte, isName, isNumber, valueBehind, numberOf, isNumberTo, digitsIn, decimal, isKind, kindOf, isValue, valueOf}
+use Rattle.sheet_format.specs.Fields.{isDigit, isNameByte, isName, isNumber, valueBehind, numberOf, isNumberTo, digitsIn, decimal, isKind, kindOf, isValue, fieldValue}
 use Rattle.sheet_format.specs.Rows.{firstHeader, secondHeader, startCount, lossCount, numberIn, verticesOf, withEdge, withEdges, recoveryRows, setupOf}
 use Rattle.setup.specs.Setup.{emptyGraph, rowLess}
 use Rattle.sheet_format.specs.Questions.{question1, isTextByte, endsInLF, question2, question3, question10, noneEmpty, question4, question5Item, question5Edge, itemOf, edgeOf, isKnown, question6, question8, sameEdge, isRepeated, question9, question7Item, question7Edge}
 use Rattle.sheet_format.specs.Read.{itemQuestions, edgeQuestions, questionsOf, behind, firstNo, question11, unless, readLines, readSheet}
-use Rattle.reference.specs.Tests.{lowest, some, every, those, isListed, isMember, isWithin, isMeeting, withVertex}
+use Rattle.reference.specs.Tests.{lowest, some, every, filtered, isListed, isMember, isWithin, isMeeting, withVertex}
 use Rattle.reference.specs.Closures.{isComplete, isBroken, colourOf, isAdded, passOf, passesOf, closureOf, derivesOf}
 use Rattle.reference.specs.Bases.{isChosen, setsOfSize, setsUpTo, setsOf, targetSetsOf, isMinimal, baseOf, leastSum, scoreOf}
 use Rattle.report_text.specs.Rows.{numbersFrom, textsOf, wayText, answerText, scoreText, itemsOf, joined, setText, setRow, scoreRow, pairRow, refusedRow, listHeader, scoreHeader, pairHeader}
@@ -241,5 +241,5 @@ pub printed : (reportOf documentSheet ≡ documentReport)
     × (scoreOf false (readSheet mixedSheet .setup) (readSheet mixedSheet .setup .graph) 3 ≡ 6)
     × (scoreOf false (readSheet mixedSheet .setup) (lessRecovery (readSheet mixedSheet .setup)) 3 ≡ 9)
     × (scoreOf false (readSheet mixedSheet .setup) (lessMarked (readSheet mixedSheet .setup)) 3 ≡ 1)
-unfolding grow linesOf fieldsOf isEmpty sameText all isDigit isNameByte isName isNumber valueBehind numberOf isNumberTo digitsIn decimal isKind kindOf isValue valueOf firstHeader secondHeader startCount lossCount numberIn verticesOf emptyGraph withEdge withEdges recoveryRows setupOf question1 isTextByte endsInLF question2 question3 question10 noneEmpty question4 question5Item question5Edge itemOf edgeOf isKnown question6 question8 sameEdge isRepeated question9 question7Item question7Edge itemQuestions edgeQuestions questionsOf behind firstNo question11 unless readLines readSheet lowest some every those isListed isMember isWithin isMeeting withVertex isComplete isBroken colourOf isAdded passOf passesOf closureOf derivesOf isChosen setsOfSize setsUpTo setsOf targetSetsOf isMinimal baseOf leastSum scoreOf numbersFrom textsOf wayText answerText scoreText itemsOf joined setText setRow scoreRow pairRow refusedRow listHeader scoreHeader pairHeader rowLess rowsLess lessRecovery isAccount accountsOf isBackdoor isIdle isOutOfRank belowOf baseRow targetRows listSection findingRow scoreSection pairRows pairSection acceptedReport hasItem nameOf reportAfter reportOf lessMarked findingRowBy acceptedReportBy reportBy sumOver ones
+unfolding grow linesOf fieldsOf isEmpty sameText all isDigit isNameByte isName isNumber valueBehind numberOf isNumberTo digitsIn decimal isKind kindOf isValue fieldValue firstHeader secondHeader startCount lossCount numberIn verticesOf emptyGraph withEdge withEdges recoveryRows setupOf question1 isTextByte endsInLF question2 question3 question10 noneEmpty question4 question5Item question5Edge itemOf edgeOf isKnown question6 question8 sameEdge isRepeated question9 question7Item question7Edge itemQuestions edgeQuestions questionsOf behind firstNo question11 unless readLines readSheet lowest some every filtered isListed isMember isWithin isMeeting withVertex isComplete isBroken colourOf isAdded passOf passesOf closureOf derivesOf isChosen setsOfSize setsUpTo setsOf targetSetsOf isMinimal baseOf leastSum scoreOf numbersFrom textsOf wayText answerText scoreText itemsOf joined setText setRow scoreRow pairRow refusedRow listHeader scoreHeader pairHeader rowLess rowsLess lessRecovery isAccount accountsOf isBackdoor isIdle isOutOfRank belowOf baseRow targetRows listSection findingRow scoreSection pairRows pairSection acceptedReport hasItem nameOf reportAfter reportOf lessMarked findingRowBy acceptedReportBy reportBy sumOver ones
 printed = (refl, refl, refl, refl, refl, refl, refl, refl, refl, refl)

@@ -11,7 +11,7 @@ use lib.Pow.{shr-shr}
 use borrow.Author.Tests.{ne-eqb}
 use Rattle.vertex_set.proofs.Cases.{same-or}
 use Rattle.vertex_set.proofs.Places.{places, places-odd, places-even}
-use Rattle.reference.specs.Tests.{those, isMember}
+use Rattle.reference.specs.Tests.{filtered, isMember}
 use Rattle.report_text.specs.Rows.{numbersFrom, itemsOf, joined, setText}
 
 -- ---- the items of a set are its places
@@ -29,13 +29,13 @@ half-power x k = rw (← add-one k) (sym (shr-shr x k 1))
 
 -- ---- the elements that pass a test
 
-pub those-yes : (test : ℕ → Bool) (x : ℕ) (l : List ℕ) → test x ≡ true → those test (x ∷ l) ≡ x ∷ those test l
-unfolding those
-those-yes test x l e = rw e
+pub filtered-yes : (test : ℕ → Bool) (x : ℕ) (l : List ℕ) → test x ≡ true → filtered test (x ∷ l) ≡ x ∷ filtered test l
+unfolding filtered
+filtered-yes test x l e = rw e
 
-pub those-no : (test : ℕ → Bool) (x : ℕ) (l : List ℕ) → test x ≡ false → those test (x ∷ l) ≡ those test l
-unfolding those
-those-no test x l e = rw e
+pub filtered-no : (test : ℕ → Bool) (x : ℕ) (l : List ℕ) → test x ≡ false → filtered test (x ∷ l) ≡ filtered test l
+unfolding filtered
+filtered-no test x l e = rw e
 
 member-yes : (x k : ℕ) → x / 2 ^ k % 2 ≡ 1 → isMember x k ≡ true
 unfolding isMember
@@ -49,18 +49,18 @@ places-zero : (s : ℕ) → places 0 s ≡ []
 unfolding places
 places-zero s = refl
 
-from-places : (x n k : ℕ) → those (isMember x) (numbersFrom k n) ≡ map (λ i. k + i) (places n (x / 2 ^ k))
-unfolding numbersFrom those
+from-places : (x n k : ℕ) → filtered (isMember x) (numbersFrom k n) ≡ map (λ i. k + i) (places n (x / 2 ^ k))
+unfolding numbersFrom filtered
 from-places x zero k = rw (places-zero (x / 2 ^ k))
 from-places x (suc n) k =
-    let ih : those (isMember x) (numbersFrom (suc k) n) ≡ map (λ i. k + i) (map suc (places n (x / 2 ^ k / 2))) =
+    let ih : filtered (isMember x) (numbersFrom (suc k) n) ≡ map (λ i. k + i) (map suc (places n (x / 2 ^ k / 2))) =
     from-places x n (suc k) ∙ rw (half-power x k) (sym (map-shift k (places n (x / 2 ^ k / 2)))) in
     let e : k + 0 ≡ k = omega arith in
     ⊎-elim
-    (λ odd. those-yes (isMember x) k (numbersFrom (suc k) n) (member-yes x k odd) ∙ ap (λ (l : List ℕ). k ∷ l) ih
+    (λ odd. filtered-yes (isMember x) k (numbersFrom (suc k) n) (member-yes x k odd) ∙ ap (λ (l : List ℕ). k ∷ l) ih
     ∙ rw (places-odd n (x / 2 ^ k) odd, e))
     (λ o. let even : x / 2 ^ k % 2 ≡ 0 = omega arith in
-    those-no (isMember x) k (numbersFrom (suc k) n) (member-no x k o) ∙ ih ∙ rw (places-even n (x / 2 ^ k) even))
+    filtered-no (isMember x) k (numbersFrom (suc k) n) (member-no x k o) ∙ ih ∙ rw (places-even n (x / 2 ^ k) even))
     (same-or (x / 2 ^ k % 2) 1)
 
 pub items-places : (x : ℕ) → itemsOf x ≡ places 64 x

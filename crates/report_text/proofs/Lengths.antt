@@ -19,7 +19,7 @@ use Rattle.setup.specs.Bounds.{largest, mostChosen}
 use Rattle.sheet_format.specs.Fields.{digitsIn, decimal}
 use Rattle.sheet_format.specs.Rows.{lineText}
 use Rattle.bases.specs.Score.{never}
-use Rattle.reference.specs.Tests.{those, isMember}
+use Rattle.reference.specs.Tests.{filtered, isMember}
 use Rattle.report_text.specs.Inner.{longestRow}
 use Rattle.report_text.specs.Rows.{numbersFrom, wayText, answerText, scoreText, itemsOf, joined, setText, setRow, scoreRow, pairRow, refusedRow}
 use Rattle.report_text.proofs.Items.{set-text}
@@ -96,7 +96,7 @@ set-row-length name loss target x sum b few low t h =
 
 -- Fourteen items whose names have 16 letters, and whose values are the largest, make a row as long.
 pub longest-row : length (setRow (λ (v : ℕ). replicate 16 97) false 14 (2 ^ 14 - 1) (mostChosen * largest)) ≡ longestRow
-unfolding setRow wayText decimal digitsIn setText itemsOf numbersFrom those isMember joined ones
+unfolding setRow wayText decimal digitsIn setText itemsOf numbersFrom filtered isMember joined ones
 longest-row = refl
 
 pub score-row-length : (name : ℕ → List ℕ) (target score risk : ℕ) (back idle : Bool) → score < 2 ^ 64 → risk < 2 ^ 64

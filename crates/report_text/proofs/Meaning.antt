@@ -25,7 +25,7 @@ use Rattle.formed.proofs.Vertices.{not-credential}
 use Rattle.setup.proofs.Graphs.{graph-same}
 use Rattle.bases.specs.Score.{Score}
 use Rattle.reference.specs.Bases.{scoreOf}
-use Rattle.reference.proofs.Tests.{decide-and, listed-those, sorted-those}
+use Rattle.reference.proofs.Tests.{decide-and, listed-filtered, sorted-filtered}
 use Rattle.reference.proofs.Graphs.{own-graph, graph-without}
 use Rattle.reference.proofs.Meaning.{meaning}
 use Rattle.findings.specs.Findings.{Compared, FindsBackdoor, FindsIneffective, FindsInconsistent}
@@ -86,7 +86,7 @@ decide-account s v = kind-account (vertexAt s v .kind)
 listed-accounts : (s : Setup) (v : ℕ) → Iff (Listed (accountsOf s) v) ((v < s .count) × (vertexAt s v .kind ≡ Account))
 unfolding accountsOf
 listed-accounts s v =
-    let i = listed-those (λ u. vertexAt s u .kind ≡ Account) (isAccount s) (numbersFrom 0 (s .count)) (λ u m. decide-account s u) v in
+    let i = listed-filtered (λ u. vertexAt s u .kind ≡ Account) (isAccount s) (numbersFrom 0 (s .count)) (λ u m. decide-account s u) v in
     let n = listed-numbers 0 (s .count) v in
     record {
       to = λ m. let h = i .to m in let b = n .to (h .0) .1 in (omega arith, h .1);
@@ -105,15 +105,15 @@ rises (v ∷ l) h = (h .0, rises l (h .1))
 
 sorted-accounts : (s : Setup) → Sorted _<_ (accountsOf s)
 unfolding accountsOf
-sorted-accounts s = sorted-those _<_ (isAccount s) (numbersFrom 0 (s .count)) (sorted-numbers 0 (s .count))
+sorted-accounts s = sorted-filtered _<_ (isAccount s) (numbersFrom 0 (s .count)) (sorted-numbers 0 (s .count))
 
 sorted-below : (s : Setup) (v : ℕ) → Sorted _<_ (belowOf s v)
 unfolding belowOf
-sorted-below s v = sorted-those _<_ (isOutOfRank s v) (accountsOf s) (sorted-accounts s)
+sorted-below s v = sorted-filtered _<_ (isOutOfRank s v) (accountsOf s) (sorted-accounts s)
 
 listed-below : (s : Setup) (v w : ℕ) → Iff (Listed (belowOf s v) w) (Listed (accountsOf s) w × (isOutOfRank s v w ≡ true))
 unfolding belowOf
-listed-below s v w = listed-those (λ u. isOutOfRank s v u ≡ true) (isOutOfRank s v) (accountsOf s) (λ u m. decide-true (isOutOfRank s v u)) w
+listed-below s v w = listed-filtered (λ u. isOutOfRank s v u ≡ true) (isOutOfRank s v) (accountsOf s) (λ u m. decide-true (isOutOfRank s v u)) w
 
 -- ---- items
 

@@ -13,7 +13,7 @@ use Rattle.sheet_format.specs.declared.Reading.{Reading}
 use Rattle.sheet_format.specs.Read.{readSheet}
 use Rattle.sheet_format.specs.Names.{nameOf}
 use Rattle.bases.specs.Score.{sumOf}
-use Rattle.reference.specs.Tests.{those}
+use Rattle.reference.specs.Tests.{filtered}
 use Rattle.reference.specs.Bases.{baseOf, scoreOf}
 use Rattle.report_text.specs.Rows.{numbersFrom, textsOf, setRow, scoreRow, pairRow, refusedRow, listHeader, scoreHeader, pairHeader}
 
@@ -37,7 +37,7 @@ isAccount s v = isAccountKind (vertexAt s v .kind)
 
 -- The accounts of the setup, in item order.
 unfoldable pub accountsOf : Setup → List ℕ
-accountsOf s = those (isAccount s) (numbersFrom 0 (s .count))
+accountsOf s = filtered (isAccount s) (numbersFrom 0 (s .count))
 
 -- ---- findings
 
@@ -75,7 +75,7 @@ scoreSection name s = scoreHeader ++ textsOf (findingRow name s) (accountsOf s)
 
 -- The accounts that are out of rank with v above, in item order.
 unfoldable pub belowOf : Setup → ℕ → List ℕ
-belowOf s v = those (isOutOfRank s v) (accountsOf s)
+belowOf s v = filtered (isOutOfRank s v) (accountsOf s)
 
 -- The pairs that are out of rank with v above.
 unfoldable pub pairRows : (ℕ → List ℕ) → Setup → ℕ → List ℕ

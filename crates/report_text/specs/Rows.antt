@@ -8,7 +8,7 @@ use Rattle.sheet_format.specs.Text.{bytesOf}
 use Rattle.sheet_format.specs.Fields.{decimal, dash}
 use Rattle.sheet_format.specs.Rows.{lineText}
 use Rattle.bases.specs.Score.{never}
-use Rattle.reference.specs.Tests.{those, isMember}
+use Rattle.reference.specs.Tests.{filtered, isMember}
 
 -- n numbers from v on: v, v + 1, ..
 unfoldable pub numbersFrom : ℕ → ℕ → List ℕ
@@ -37,7 +37,7 @@ scoreText r = cond (eqb r never) dash (decimal r)
 
 -- The vertices of a set, rising.
 unfoldable pub itemsOf : ℕ → List ℕ
-itemsOf x = those (isMember x) (numbersFrom 0 64)
+itemsOf x = filtered (isMember x) (numbersFrom 0 64)
 
 -- Names joined by `+`.
 unfoldable pub joined : (ℕ → List ℕ) → List ℕ → List ℕ

@@ -17,20 +17,20 @@ use Rattle.report_writer.specs.declared.steps.Cursor.{Cursor}
 use Rattle.report_writer.specs.declared.steps.Cursor.the-variants as cursor
 use Rattle.report_writer.specs.declared.steps.Step.{Step}
 use Rattle.report_writer.specs.Rest.{restOf}
-use Rattle.report_writer.specs.Inner.Steps.{At, Going, stepsLeft, Went, Filled}
+use Rattle.report_writer.specs.Inner.Steps.{KnownAt, CanStep, stepsLeft, StepTaken, Filled}
 
 -- Steps were taken from the place c₀ to the place c.
 pub record Filling (sheet : List ℕ) (f : Facts) (opening lockout list₀ : List ℕ) (c₀ : Cursor) (out₀ : List ℕ) (at₀ : ℕ) (list out : List ℕ) (c : Cursor) (at : ℕ) : Type 0 where
-  pub part : (s : Setup) → At sheet s f opening lockout list₀ c₀ → Part out₀ at₀ (restOf (nameOf sheet) s c₀) (restOf (nameOf sheet) s c) out at
-  pub here : (s : Setup) → At sheet s f opening lockout list₀ c₀ → At sheet s f opening lockout list c
-  pub going : Going sheet f opening lockout list c
+  pub part : (s : Setup) → KnownAt sheet s f opening lockout list₀ c₀ → Part out₀ at₀ (restOf (nameOf sheet) s c₀) (restOf (nameOf sheet) s c) out at
+  pub here : (s : Setup) → KnownAt sheet s f opening lockout list₀ c₀ → KnownAt sheet s f opening lockout list c
+  pub going : CanStep sheet f opening lockout list c
   pub inside : at ≤ length out
   pub less : stepsLeft (f .count) c ≤ stepsLeft (f .count) c₀
   pub long : length out ≡ length out₀
   pub longList : length list ≡ length list₀
 
 module _ (sheet : List ℕ) (f : Facts) (opening lockout list₀ : List ℕ) (c₀ : Cursor) (out₀ : List ℕ) (at₀ : ℕ) where
-  pub filling-none : Going sheet f opening lockout list₀ c₀ → at₀ ≤ length out₀ → Filling sheet f opening lockout list₀ c₀ out₀ at₀ list₀ out₀ c₀ at₀
+  pub filling-none : CanStep sheet f opening lockout list₀ c₀ → at₀ ≤ length out₀ → Filling sheet f opening lockout list₀ c₀ out₀ at₀ list₀ out₀ c₀ at₀
   filling-none g h =
       record {
         part = λ s a. part-none out₀ at₀ _ h;
@@ -43,7 +43,7 @@ module _ (sheet : List ℕ) (f : Facts) (opening lockout list₀ : List ℕ) (c�
       }
 
   pub filling-more : (list out : List ℕ) (c : Cursor) (at : ℕ) (list′ exit : List ℕ) (r : Step) → Filling sheet f opening lockout list₀ c₀ out₀ at₀ list out c at
-      → length list′ ≡ length list → 0 < stepsLeft (f .count) c → Went sheet f opening lockout list c out at list′ exit r
+      → length list′ ≡ length list → 0 < stepsLeft (f .count) c → StepTaken sheet f opening lockout list c out at list′ exit r
       → Filling sheet f opening lockout list₀ c₀ out₀ at₀ list′ exit (r .cursor) (r .at)
   filling-more list out c at list′ exit r w k z v =
       let p = v .part (w .going .setup) (w .going .here) in
@@ -61,11 +61,11 @@ module _ (sheet : List ℕ) (f : Facts) (opening lockout list₀ : List ℕ) (c�
 
 -- what a step leaves
 pub went-going : (sheet : List ℕ) (f : Facts) (opening lockout list : List ℕ) (c : Cursor) (entry : List ℕ) (at : ℕ) (list′ exit : List ℕ) (r : Step)
-    → Going sheet f opening lockout list c → Went sheet f opening lockout list c entry at list′ exit r → Going sheet f opening lockout list′ (r .cursor)
+    → CanStep sheet f opening lockout list c → StepTaken sheet f opening lockout list c entry at list′ exit r → CanStep sheet f opening lockout list′ (r .cursor)
 went-going sheet f opening lockout list c entry at list′ exit r g w = record { setup = g .setup; here = w .here (g .setup) (g .here) }
 
 pub went-inside : (sheet : List ℕ) (f : Facts) (opening lockout list : List ℕ) (c : Cursor) (entry : List ℕ) (at : ℕ) (list′ exit : List ℕ) (r : Step)
-    → Going sheet f opening lockout list c → Went sheet f opening lockout list c entry at list′ exit r → r .at ≤ length exit
+    → CanStep sheet f opening lockout list c → StepTaken sheet f opening lockout list c entry at list′ exit r → r .at ≤ length exit
 went-inside sheet f opening lockout list c entry at list′ exit r g w = w .part (g .setup) (g .here) .inside
 
 -- the bytes that were written from the front on
@@ -78,7 +78,7 @@ front entry xs exit r w h =
     rw (e, n, z) (take-append-seam xs _)
 
 pub filled : (sheet : List ℕ) (f : Facts) (opening lockout list : List ℕ) (c : Cursor) (entry list₀ out₀ : List ℕ) (first : Step) (list′ out : List ℕ) (d : Cursor) (at : ℕ)
-    → Went sheet f opening lockout list c entry 0 list₀ out₀ first
+    → StepTaken sheet f opening lockout list c entry 0 list₀ out₀ first
     → Filling sheet f opening lockout list₀ (first .cursor) out₀ (first .at) list′ out d at
     → Filled sheet f opening lockout list c list′ out (record { cursor = d; at = at })
 filled sheet f opening lockout list c entry list₀ out₀ first list′ out d at w v =

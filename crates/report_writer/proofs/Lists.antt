@@ -29,10 +29,10 @@ use Rattle.report_facts.specs.declared.Facts.{Facts}
 use Rattle.report_facts.specs.Inner.Facts.{FactsOf}
 use Rattle.report_facts.specs.Texts.{slotLoss, slotList, slotRow}
 use Rattle.report_sections.specs.declared.lists.RowsStep.{RowsStep}
-use Rattle.report_sections.specs.Inner.Lists.{SetReady, RowsReady, rowOf, RowsWent}
+use Rattle.report_sections.specs.Inner.Lists.{SetReady, RowsReady, rowOf, RowsPut}
 use Rattle.report_sections.specs.Inner.Lists as lists
 use Rattle.report_writer.specs.Rest.{rowsFrom}
-use Rattle.report_writer.specs.Inner.Steps.{ValuesBy, ListGoing, ListWent}
+use Rattle.report_writer.specs.Inner.Steps.{ValuesBy, CanPutList, ListPut}
 use Rattle.report_writer.proofs.Rest.{rows-next}
 
 -- ---- the values that are added up
@@ -90,7 +90,7 @@ listed-at (x ∷ l) (suc j) h = inr (listed-at l j (omega arith))
 
 module _ (sheet : List ℕ) (f : Facts) (list : List ℕ) (k i n : ℕ) (values : List ℕ) (low : f .initial .0 < 2 ^ 64) (lowLosable : f .losable .0 < 2 ^ 64)
     (v : ValuesBy (slotLoss k) f values) where
-  pub list-ready : ListGoing sheet f list k i n → RowsReady sheet (f .from) (f .to) values list (k / 2) i n
+  pub list-ready : CanPutList sheet f list k i n → RowsReady sheet (f .from) (f .to) values list (k / 2) i n
   list-ready g =
       let s = g .setup in
       let h = g .here in
@@ -131,8 +131,8 @@ rows-same name s k values list n i v e = rw e (texts-same _ _ (row-same name s (
 
 module _ (sheet : List ℕ) (f : Facts) (list : List ℕ) (k i n : ℕ) (values : List ℕ) (v : ValuesBy (slotLoss k) f values)
     (entry : List ℕ) (at : ℕ) (exit : List ℕ) (r : RowsStep) where
-  pub list-went : at + 4096 ≤ length entry → RowsWent (nameOf sheet) (slotLoss k) (k / 2) values list i n entry at exit (r .row) (r .at)
-      → ListWent sheet f list k i n entry at exit r
+  pub list-went : at + 4096 ≤ length entry → RowsPut (nameOf sheet) (slotLoss k) (k / 2) values list i n entry at exit (r .row) (r .at)
+      → ListPut sheet f list k i n entry at exit r
   list-went room w =
       record {
         each = λ s h.

@@ -9,11 +9,11 @@ use lib.ListN.{length, drop}
 use lib.Seq.{drop-length}
 use Rattle.vertex_set.proofs.Cases.{byTest}
 use Rattle.setup.specs.declared.Setup.{Setup}
-use Rattle.reference.specs.Tests.{those}
+use Rattle.reference.specs.Tests.{filtered}
 use Rattle.reference.specs.Bases.{baseOf}
 use Rattle.report_text.specs.Rows.{numbersFrom, textsOf, listHeader, scoreHeader, pairHeader}
 use Rattle.report_text.specs.Report.{isAccount, accountsOf, baseRow, targetRows, listSection, findingRow, scoreSection, pairRows, pairSection, acceptedReport}
-use Rattle.report_text.proofs.Items.{those-yes, those-no}
+use Rattle.report_text.proofs.Items.{filtered-yes, filtered-no}
 use Rattle.report_facts.specs.Texts.{slotLoss, slotList, slotRow, slotText, scoreAt, pairsAt}
 use Rattle.report_writer.specs.Rest.{textsFrom, pairsFrom, scoresFrom, listsFrom, rowsFrom}
 
@@ -31,19 +31,19 @@ texts-end text n =
     let e : n - n ≡ 0 = omega arith in
     rw e refl
 
-those-none : (test : ℕ → Bool) → those test [] ≡ []
-unfolding those
-those-none test = refl
+filtered-none : (test : ℕ → Bool) → filtered test [] ≡ []
+unfolding filtered
+filtered-none test = refl
 
 -- an element that fails the test has the empty text
-texts-those : (test : ℕ → Bool) (text : ℕ → List ℕ) (l : List ℕ) → textsOf text (those test l) ≡ textsOf (λ (x : ℕ). cond (test x) (text x) []) l
+texts-filtered : (test : ℕ → Bool) (text : ℕ → List ℕ) (l : List ℕ) → textsOf text (filtered test l) ≡ textsOf (λ (x : ℕ). cond (test x) (text x) []) l
 unfolding textsOf
-texts-those test text [] = ap (textsOf text) (those-none test)
-texts-those test text (x ∷ l) =
+texts-filtered test text [] = ap (textsOf text) (filtered-none test)
+texts-filtered test text (x ∷ l) =
     byTest
     (test x)
-    (λ e. rw (those-yes test x l e, e) (ap (λ r. text x ++ r) (texts-those test text l)))
-    (λ e. rw (those-no test x l e, e) (texts-those test text l))
+    (λ e. rw (filtered-yes test x l e, e) (ap (λ r. text x ++ r) (texts-filtered test text l)))
+    (λ e. rw (filtered-no test x l e, e) (texts-filtered test text l))
 
 -- ---- the lists by their numbers
 
@@ -77,19 +77,19 @@ module _ (name : ℕ → List ℕ) (s : Setup) where
   unfolding listSection accountsOf textsFrom
   lists-section =
       let e : 2 * s .count - 0 ≡ 2 * s .count = omega arith in
-      rw e (ap (λ r. listHeader ++ r) (texts-those (isAccount s) (targetRows name s) (numbersFrom 0 (s .count)) ∙ sym (slots 0 (s .count))))
+      rw e (ap (λ r. listHeader ++ r) (texts-filtered (isAccount s) (targetRows name s) (numbersFrom 0 (s .count)) ∙ sym (slots 0 (s .count))))
 
   pub score-section : scoreSection name s ≡ scoreHeader ++ textsFrom (scoreAt name s) (s .count) 0
   unfolding scoreSection accountsOf textsFrom scoreAt
   score-section =
       let e : s .count - 0 ≡ s .count = omega arith in
-      rw e (ap (λ r. scoreHeader ++ r) (texts-those (isAccount s) (findingRow name s) (numbersFrom 0 (s .count))))
+      rw e (ap (λ r. scoreHeader ++ r) (texts-filtered (isAccount s) (findingRow name s) (numbersFrom 0 (s .count))))
 
   pub pair-section : pairSection name s ≡ pairHeader ++ pairsFrom name s 0
   unfolding pairSection accountsOf pairsFrom textsFrom pairsAt
   pair-section =
       let e : s .count - 0 ≡ s .count = omega arith in
-      rw e (ap (λ r. pairHeader ++ r) (texts-those (isAccount s) (pairRows name s) (numbersFrom 0 (s .count))))
+      rw e (ap (λ r. pairHeader ++ r) (texts-filtered (isAccount s) (pairRows name s) (numbersFrom 0 (s .count))))
 
   -- ---- what comes next
 

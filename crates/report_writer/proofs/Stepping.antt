@@ -28,18 +28,18 @@ use Rattle.report_writer.specs.declared.steps.Cursor.{Cursor}
 use Rattle.report_writer.specs.declared.steps.Cursor.the-variants as cursor
 use Rattle.report_writer.specs.declared.steps.Step.{Step}
 use Rattle.report_writer.specs.Rest.{rowsFrom, listsFrom, scoresFrom, pairsFrom}
-use Rattle.report_writer.specs.Inner.Steps.{ListAt, ListWent, At, Going, stepsLeft, Went, SectionGoing, ScoresWent, PairsWent}
+use Rattle.report_writer.specs.Inner.Steps.{ListAt, ListPut, KnownAt, CanStep, stepsLeft, StepTaken, CanPutSection, ScoresPut, PairsPut}
 use Rattle.report_writer.proofs.Rest.{start-next, list-next, lists-end, rows-end, score-next, scores-end, pairs-next, pairs-end}
 
 -- ---- at which place a step is taken
 
 module _ (sheet : List ℕ) (f : Facts) (opening lockout list : List ℕ) (c d : Cursor) (e : c ≡ d) where
-  pub going-at : Going sheet f opening lockout list c → Going sheet f opening lockout list d
-  going-at g = subst (Going sheet f opening lockout list) e g
+  pub going-at : CanStep sheet f opening lockout list c → CanStep sheet f opening lockout list d
+  going-at g = subst (CanStep sheet f opening lockout list) e g
 
-  pub went-at : (entry : List ℕ) (at : ℕ) (list′ exit : List ℕ) (r : Step) → Went sheet f opening lockout list d entry at list′ exit r
-      → Went sheet f opening lockout list c entry at list′ exit r
-  went-at entry at list′ exit r w = subst (λ x. Went sheet f opening lockout list x entry at list′ exit r) (sym e) w
+  pub went-at : (entry : List ℕ) (at : ℕ) (list′ exit : List ℕ) (r : Step) → StepTaken sheet f opening lockout list d entry at list′ exit r
+      → StepTaken sheet f opening lockout list c entry at list′ exit r
+  went-at entry at list′ exit r w = subst (λ x. StepTaken sheet f opening lockout list x entry at list′ exit r) (sym e) w
 
 -- ---- lists
 
@@ -75,8 +75,8 @@ list-done : (name : ℕ → List ℕ) (s : Setup) (list : List ℕ) (k i n : ℕ
 list-done name s list k i n a b m room e = rows-end name s k i (ap length (sym e) ∙ length-take n list ∙ omega arith)
 
 module _ (sheet : List ℕ) (f : Facts) (opening lockout list : List ℕ) (k i n : ℕ) (entry : List ℕ) (at : ℕ) where
-  pub rows-step : (exit : List ℕ) (r : RowsStep) → i < n → ListWent sheet f list k i n entry at exit r
-      → Went sheet f opening lockout list (cursor.Lists k i n) entry at list exit (record { cursor = cursor.Lists k (r .row) n; at = r .at })
+  pub rows-step : (exit : List ℕ) (r : RowsStep) → i < n → ListPut sheet f list k i n entry at exit r
+      → StepTaken sheet f opening lockout list (cursor.Lists k i n) entry at list exit (record { cursor = cursor.Lists k (r .row) n; at = r .at })
   rows-step exit r l w =
       record {
         part = λ s a. w .each s (a .0);
@@ -86,7 +86,7 @@ module _ (sheet : List ℕ) (f : Facts) (opening lockout list : List ℕ) (k i n
         less = λ z. let m = w .more l in let p = w .most in omega arith;
       }
 
-  pub next-can-load : Going sheet f opening lockout list (cursor.Lists k i n) → k + 1 < 2 * f .count → CanLoad (k + 1) (f .initial .0) (f .losable .0) opening lockout list
+  pub next-can-load : CanStep sheet f opening lockout list (cursor.Lists k i n) → k + 1 < 2 * f .count → CanLoad (k + 1) (f .initial .0) (f .losable .0) opening lockout list
   next-can-load g l =
       let h = g .here .0 in
       let e = h .facts .isCount in
@@ -94,7 +94,7 @@ module _ (sheet : List ℕ) (f : Facts) (opening lockout list : List ℕ) (k i n
 
   pub next-step : (m : ℕ) (list′ : List ℕ) → n ≤ i → k + 1 < 2 * f .count → at + 4096 ≤ length entry
       → Loaded (k + 1) (f .accounts .0) (f .initial .0) (f .losable .0) opening lockout m list′
-      → Went sheet f opening lockout list (cursor.Lists k i n) entry at list′ entry (record { cursor = cursor.Lists (k + 1) 0 m; at = at })
+      → StepTaken sheet f opening lockout list (cursor.Lists k i n) entry at list′ entry (record { cursor = cursor.Lists (k + 1) 0 m; at = at })
   next-step m list′ b l room d =
       record {
         part = λ s a.
@@ -109,9 +109,9 @@ module _ (sheet : List ℕ) (f : Facts) (opening lockout list : List ℕ) (k i n
         less = λ z. let q = d .most in omega arith;
       }
 
-  pub header-step : (text exit : List ℕ) (r : ℕ) → text ≡ 10 ∷ scoreHeader → Going sheet f opening lockout list (cursor.Lists k i n) → n ≤ i → 2 * f .count ≤ k + 1
+  pub header-step : (text exit : List ℕ) (r : ℕ) → text ≡ 10 ∷ scoreHeader → CanStep sheet f opening lockout list (cursor.Lists k i n) → n ≤ i → 2 * f .count ≤ k + 1
       → at + length text ≤ length entry → Wrote entry at text exit r
-      → Went sheet f opening lockout list (cursor.Lists k i n) entry at list exit (record { cursor = cursor.Scores 0; at = r })
+      → StepTaken sheet f opening lockout list (cursor.Lists k i n) entry at list exit (record { cursor = cursor.Scores 0; at = r })
   header-step text exit r t g b l room w =
       record {
         part = λ s a.
@@ -133,11 +133,11 @@ module _ (sheet : List ℕ) (f : Facts) (opening lockout list : List ℕ) (k i n
 -- ---- scores and pairs
 
 module _ (sheet : List ℕ) (f : Facts) (v : ℕ) (entry : List ℕ) (at : ℕ) where
-  pub section-ready : SectionGoing sheet f v entry at → v < f .count → PartReady sheet f v entry at
+  pub section-ready : CanPutSection sheet f v entry at → v < f .count → PartReady sheet f v entry at
   section-ready g l = let e = g .facts .isCount in record { setup = g .setup; facts = g .facts; vertex = omega arith; room = g .room }
 
   pub score-step : (exit : List ℕ) (r : ℕ) → v < f .count → WrotePart scoreAt sheet f v entry at exit r
-      → ScoresWent sheet f v entry at exit (record { cursor = cursor.Scores (v + 1); at = r })
+      → ScoresPut sheet f v entry at exit (record { cursor = cursor.Scores (v + 1); at = r })
   score-step exit r l w =
       record {
         part = λ s h m.
@@ -149,7 +149,7 @@ module _ (sheet : List ℕ) (f : Facts) (v : ℕ) (entry : List ℕ) (at : ℕ) 
       }
 
   pub scores-last : (text exit : List ℕ) (r : ℕ) → text ≡ 10 ∷ pairHeader → f .count ≤ v → at + length text ≤ length entry → Wrote entry at text exit r
-      → ScoresWent sheet f v entry at exit (record { cursor = cursor.Pairs 0; at = r })
+      → ScoresPut sheet f v entry at exit (record { cursor = cursor.Pairs 0; at = r })
   scores-last text exit r t l room w =
       record {
         part = λ s h m.
@@ -162,7 +162,7 @@ module _ (sheet : List ℕ) (f : Facts) (v : ℕ) (entry : List ℕ) (at : ℕ) 
       }
 
   pub pairs-step : (exit : List ℕ) (r : ℕ) → v < f .count → WrotePart pairsAt sheet f v entry at exit r
-      → PairsWent sheet f v entry at exit (record { cursor = cursor.Pairs (v + 1); at = r })
+      → PairsPut sheet f v entry at exit (record { cursor = cursor.Pairs (v + 1); at = r })
   pairs-step exit r l w =
       record {
         part = λ s h m.
@@ -173,7 +173,7 @@ module _ (sheet : List ℕ) (f : Facts) (v : ℕ) (entry : List ℕ) (at : ℕ) 
         last = λ b. absurd (omega arith);
       }
 
-  pub pairs-last : f .count ≤ v → at + 4096 ≤ length entry → PairsWent sheet f v entry at entry (record { cursor = cursor.End; at = at })
+  pub pairs-last : f .count ≤ v → at + 4096 ≤ length entry → PairsPut sheet f v entry at entry (record { cursor = cursor.End; at = at })
   pairs-last l room =
       record {
         part = λ s h m.
@@ -185,16 +185,16 @@ module _ (sheet : List ℕ) (f : Facts) (v : ℕ) (entry : List ℕ) (at : ℕ) 
       }
 
 module _ (sheet : List ℕ) (f : Facts) (opening lockout list : List ℕ) (v : ℕ) (entry : List ℕ) (at : ℕ) (exit : List ℕ) (r : Step) where
-  pub scores-went : Going sheet f opening lockout list (cursor.Scores v) → ScoresWent sheet f v entry at exit r
-      → Went sheet f opening lockout list (cursor.Scores v) entry at list exit r
+  pub scores-went : CanStep sheet f opening lockout list (cursor.Scores v) → ScoresPut sheet f v entry at exit r
+      → StepTaken sheet f opening lockout list (cursor.Scores v) entry at list exit r
   scores-went g w =
       record {
         part = λ s a. w .part s (a .0) (a .1);
         here = λ s a.
             let e = a .0 .isCount in
             ⊎-elim
-            (λ b. subst (At sheet s f opening lockout list) (sym (w .more b)) (a .0, omega arith))
-            (λ b. subst (At sheet s f opening lockout list) (sym (w .last b)) (a .0, omega arith))
+            (λ b. subst (KnownAt sheet s f opening lockout list) (sym (w .more b)) (a .0, omega arith))
+            (λ b. subst (KnownAt sheet s f opening lockout list) (sym (w .last b)) (a .0, omega arith))
             (less-or v (f .count));
         less = λ z.
             let e = g .here .0 .isCount in
@@ -202,31 +202,31 @@ module _ (sheet : List ℕ) (f : Facts) (opening lockout list : List ℕ) (v : �
             ⊎-elim (λ b. rw (w .more b) (omega arith)) (λ b. rw (w .last b) (omega arith)) (less-or v (f .count));
       }
 
-  pub pairs-went : PairsWent sheet f v entry at exit r → Went sheet f opening lockout list (cursor.Pairs v) entry at list exit r
+  pub pairs-went : PairsPut sheet f v entry at exit r → StepTaken sheet f opening lockout list (cursor.Pairs v) entry at list exit r
   pairs-went w =
       record {
         part = λ s a. w .part s (a .0) (a .1);
         here = λ s a.
             let e = a .0 .isCount in
             ⊎-elim
-            (λ b. subst (At sheet s f opening lockout list) (sym (w .more b)) (a .0, omega arith))
-            (λ b. subst (At sheet s f opening lockout list) (sym (w .last b)) tt)
+            (λ b. subst (KnownAt sheet s f opening lockout list) (sym (w .more b)) (a .0, omega arith))
+            (λ b. subst (KnownAt sheet s f opening lockout list) (sym (w .last b)) tt)
             (less-or v (f .count));
         less = λ z. ⊎-elim (λ b. rw (w .more b) (omega arith)) (λ b. rw (w .last b) (omega arith)) (less-or v (f .count));
       }
 
 pub section-scores : (sheet : List ℕ) (f : Facts) (opening lockout list : List ℕ) (v : ℕ) (out : List ℕ) (at : ℕ)
-    → Going sheet f opening lockout list (cursor.Scores v) → at + 4096 ≤ length out → SectionGoing sheet f v out at
+    → CanStep sheet f opening lockout list (cursor.Scores v) → at + 4096 ≤ length out → CanPutSection sheet f v out at
 section-scores sheet f opening lockout list v out at g room = record { setup = g .setup; facts = g .here .0; most = g .here .1; room = room }
 
 pub section-pairs : (sheet : List ℕ) (f : Facts) (opening lockout list : List ℕ) (v : ℕ) (out : List ℕ) (at : ℕ)
-    → Going sheet f opening lockout list (cursor.Pairs v) → at + 4096 ≤ length out → SectionGoing sheet f v out at
+    → CanStep sheet f opening lockout list (cursor.Pairs v) → at + 4096 ≤ length out → CanPutSection sheet f v out at
 section-pairs sheet f opening lockout list v out at g room = record { setup = g .setup; facts = g .here .0; most = g .here .1; room = room }
 
 -- ---- the first step, and that of a refused sheet
 
 module _ (sheet : List ℕ) (f : Facts) (opening lockout list : List ℕ) (entry : List ℕ) (at : ℕ) where
-  pub start-can-load : Going sheet f opening lockout list cursor.Start → CanLoad 0 (f .initial .0) (f .losable .0) opening lockout list
+  pub start-can-load : CanStep sheet f opening lockout list cursor.Start → CanLoad 0 (f .initial .0) (f .losable .0) opening lockout list
   start-can-load g =
       let h = g .here .0 in
       let z = h .formed .some in
@@ -234,7 +234,7 @@ module _ (sheet : List ℕ) (f : Facts) (opening lockout list : List ℕ) (entry
 
   pub start-step : (text exit : List ℕ) (r m : ℕ) (list′ : List ℕ) → text ≡ listHeader → at + length text ≤ length entry → Wrote entry at text exit r
       → Loaded 0 (f .accounts .0) (f .initial .0) (f .losable .0) opening lockout m list′
-      → Went sheet f opening lockout list cursor.Start entry at list′ exit (record { cursor = cursor.Lists 0 0 m; at = r })
+      → StepTaken sheet f opening lockout list cursor.Start entry at list′ exit (record { cursor = cursor.Lists 0 0 m; at = r })
   start-step text exit r m list′ t room w d =
       record {
         part = λ s a.
@@ -246,12 +246,12 @@ module _ (sheet : List ℕ) (f : Facts) (opening lockout list : List ℕ) (entry
         less = λ z. let q = d .most in omega arith;
       }
 
-  pub refused-fits : (number line : ℕ) → Going sheet f opening lockout list (cursor.Refused number line) → at + 4096 ≤ length entry
+  pub refused-fits : (number line : ℕ) → CanStep sheet f opening lockout list (cursor.Refused number line) → at + 4096 ≤ length entry
       → at + length (refusedRow number line) ≤ length entry
   refused-fits number line g room = let l = refused-row-length number line (g .here .0) (g .here .1) in omega arith
 
   pub refused-step : (number line : ℕ) (exit : List ℕ) (r : ℕ) → at + length (refusedRow number line) ≤ length entry → Wrote entry at (refusedRow number line) exit r
-      → Went sheet f opening lockout list (cursor.Refused number line) entry at list exit (record { cursor = cursor.End; at = r })
+      → StepTaken sheet f opening lockout list (cursor.Refused number line) entry at list exit (record { cursor = cursor.End; at = r })
   refused-step number line exit r room w =
       record {
         part = λ s a. part-one entry at _ (refusedRow number line) [] exit r (sym (append-nil (refusedRow number line))) w (wrote-inside entry at _ exit r w room);
@@ -259,7 +259,7 @@ module _ (sheet : List ℕ) (f : Facts) (opening lockout list : List ℕ) (entry
         less = λ z. omega arith;
       }
 
-  pub end-step : at + 4096 ≤ length entry → Went sheet f opening lockout list cursor.End entry at list entry (record { cursor = cursor.End; at = at })
+  pub end-step : at + 4096 ≤ length entry → StepTaken sheet f opening lockout list cursor.End entry at list entry (record { cursor = cursor.End; at = at })
   end-step room = record { part = λ s a. part-none entry at [] (omega arith); here = λ s a. tt; less = λ z. absurd (omega arith) }
 
 -- ---- is something left?

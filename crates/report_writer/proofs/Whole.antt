@@ -14,7 +14,7 @@ use Rattle.report_facts.specs.Inner.Facts.{FactsOf, TablesOf}
 use Rattle.report_writer.specs.declared.steps.Cursor.{Cursor}
 use Rattle.report_writer.specs.declared.steps.Cursor.the-variants as cursor
 use Rattle.report_writer.specs.Rest.{restOf}
-use Rattle.report_writer.specs.Whole.{Begun, Run, inOne, WholeReport}
+use Rattle.report_writer.specs.Whole.{Begun, PartsToEnd, inOne, WholeReport}
 
 module _ (sheet : List ℕ) (r : Reading) (e : r ≡ readSheet sheet) (f : Facts) (opening lockout : List ℕ) where
   pub begun-refused : (r .number ≡ 0 → ⊥) → r .number < 2 ^ 64 → r .line < 2 ^ 64
@@ -37,7 +37,7 @@ module _ (sheet : List ℕ) (r : Reading) (e : r ≡ readSheet sheet) (f : Facts
         here = λ list l. rw (← e) (h, t, l);
       }
 
-run-rest : (name : ℕ → List ℕ) (s : Setup) (c : Cursor) (parts : List (List ℕ)) → Run name s c parts → inOne parts ≡ restOf name s c
+run-rest : (name : ℕ → List ℕ) (s : Setup) (c : Cursor) (parts : List (List ℕ)) → PartsToEnd name s c parts → inOne parts ≡ restOf name s c
 run-rest name s c [] e = sym (ap (restOf name s) e)
 run-rest name s c (p ∷ ps) r = ap (λ t. p ++ t) (run-rest name s (r .0) ps (r .2)) ∙ sym (r .1)
 

@@ -1,6 +1,7 @@
 // Where the report of a sheet begins.
 ghost use mathlib.Core.Path.{_≡_};
 ghost use lib.ListN.{length};
+ghost use Rattle.lanes.specs.Inner.Lanes.{tableWords};
 ghost use Rattle.report_writer.specs.Whole.{Begun};
 use crate::steps::Cursor;
 use report_facts::Facts;
@@ -40,7 +41,7 @@ fn no_facts() -> Facts {
 // Reads the sheet, and works out what its report needs. The tables of closures are left in
 // `opening` and `lockout`; a refused sheet leaves both as they were.
 pub fn begin(sheet: &[u8], opening: &mut [u64], lockout: &mut [u64]) -> Report
-    requires { ⌜ (length (now opening) ≡ 16384) × (length (now lockout) ≡ 16384) ⌝ }
+    requires { ⌜ (length (now opening) ≡ tableWords) × (length (now lockout) ≡ tableWords) ⌝ }
     ensures { λ r. ⌜ Begun (now (sheet .entry)) r (now (opening .entry)) (now (lockout .entry)) (now (opening .exit)) (now (lockout .exit)) ⌝ }
 {
     let reading = sheet::read_sheet(sheet);

@@ -4,7 +4,7 @@ ghost use mathlib.Core.Path.{_≡_};
 ghost use Prim.Native.Nat.{_+_, _≤_, _<_};
 ghost use lib.ListN.{length};
 ghost use Rattle.vertex_set.specs.Set.{Decides};
-ghost use Rattle.report_writer.specs.Inner.Steps.{ValuesBy, ListGoing, ListWent, Going, Went, SectionGoing, ScoresWent, PairsWent, Filled};
+ghost use Rattle.report_writer.specs.Inner.Steps.{ValuesBy, CanPutList, ListPut, CanStep, StepTaken, CanPutSection, ScoresPut, PairsPut, Filled};
 use report_facts::Facts;
 use report_sections::accounts;
 use report_sections::lists;
@@ -55,9 +55,9 @@ fn put_list(
     out: &mut [u8],
     at: usize,
 ) -> RowsStep
-    requires { ⌜ ListGoing (now sheet) facts (now list) k i n ⌝ }
+    requires { ⌜ CanPutList (now sheet) facts (now list) k i n ⌝ }
     requires { ⌜ at + 4096 ≤ length (now out) ⌝ }
-    ensures { λ r. ⌜ ListWent (now (sheet .entry)) facts (now (list .entry)) k i n (now (out .entry)) at (now (out .exit)) r ⌝ }
+    ensures { λ r. ⌜ ListPut (now (sheet .entry)) facts (now (list .entry)) k i n (now (out .entry)) at (now (out .exit)) r ⌝ }
 {
     let loss = k % 2 == 1;
     let values = values_by(loss, facts);
@@ -80,9 +80,9 @@ fn step_lists(
     out: &mut [u8],
     at: usize,
 ) -> Step
-    requires { ⌜ Going (now sheet) facts (now opening) (now lockout) (now list) (Cursor.Lists k i n) ⌝ }
+    requires { ⌜ CanStep (now sheet) facts (now opening) (now lockout) (now list) (Cursor.Lists k i n) ⌝ }
     requires { ⌜ at + 4096 ≤ length (now out) ⌝ }
-    ensures { λ r. ⌜ Went (now (sheet .entry)) facts (now (opening .entry)) (now (lockout .entry)) (now (list .entry)) (Cursor.Lists k i n) (now (out .entry)) at (now (list .exit)) (now (out .exit)) r ⌝ }
+    ensures { λ r. ⌜ StepTaken (now (sheet .entry)) facts (now (opening .entry)) (now (lockout .entry)) (now (list .entry)) (Cursor.Lists k i n) (now (out .entry)) at (now (list .exit)) (now (out .exit)) r ⌝ }
 {
     if i < n {
         let rows = put_list(facts, k, i, n, sheet, list, out, at);
@@ -108,8 +108,8 @@ fn step_lists(
 
 // Writes the score row of vertex v or, behind the last vertex, the header of the pairs.
 fn step_scores(facts: Facts, v: usize, sheet: &[u8], out: &mut [u8], at: usize) -> Step
-    requires { ⌜ SectionGoing (now sheet) facts v (now out) at ⌝ }
-    ensures { λ r. ⌜ ScoresWent (now (sheet .entry)) facts v (now (out .entry)) at (now (out .exit)) r ⌝ }
+    requires { ⌜ CanPutSection (now sheet) facts v (now out) at ⌝ }
+    ensures { λ r. ⌜ ScoresPut (now (sheet .entry)) facts v (now (out .entry)) at (now (out .exit)) r ⌝ }
 {
     if v < facts.count {
         let next = accounts::put_score_of(facts, v, sheet, out, at);
@@ -123,8 +123,8 @@ fn step_scores(facts: Facts, v: usize, sheet: &[u8], out: &mut [u8], at: usize) 
 
 // Writes the pairs with vertex v above. Behind the last vertex the report is at its end.
 fn step_pairs(facts: Facts, v: usize, sheet: &[u8], out: &mut [u8], at: usize) -> Step
-    requires { ⌜ SectionGoing (now sheet) facts v (now out) at ⌝ }
-    ensures { λ r. ⌜ PairsWent (now (sheet .entry)) facts v (now (out .entry)) at (now (out .exit)) r ⌝ }
+    requires { ⌜ CanPutSection (now sheet) facts v (now out) at ⌝ }
+    ensures { λ r. ⌜ PairsPut (now (sheet .entry)) facts v (now (out .entry)) at (now (out .exit)) r ⌝ }
 {
     if v < facts.count {
         let next = accounts::put_pairs_of(facts, v, sheet, out, at);
@@ -146,9 +146,9 @@ fn advance(
     out: &mut [u8],
     at: usize,
 ) -> Step
-    requires { ⌜ Going (now sheet) facts (now opening) (now lockout) (now list) cursor ⌝ }
+    requires { ⌜ CanStep (now sheet) facts (now opening) (now lockout) (now list) cursor ⌝ }
     requires { ⌜ at + 4096 ≤ length (now out) ⌝ }
-    ensures { λ r. ⌜ Went (now (sheet .entry)) facts (now (opening .entry)) (now (lockout .entry)) (now (list .entry)) cursor (now (out .entry)) at (now (list .exit)) (now (out .exit)) r ⌝ }
+    ensures { λ r. ⌜ StepTaken (now (sheet .entry)) facts (now (opening .entry)) (now (lockout .entry)) (now (list .entry)) cursor (now (out .entry)) at (now (list .exit)) (now (out .exit)) r ⌝ }
 {
     match cursor {
         Cursor::Start => {
@@ -212,7 +212,7 @@ pub fn fill(
     list: &mut [u64],
     out: &mut [u8],
 ) -> Step
-    requires { ⌜ Going (now sheet) facts (now opening) (now lockout) (now list) cursor ⌝ }
+    requires { ⌜ CanStep (now sheet) facts (now opening) (now lockout) (now list) cursor ⌝ }
     requires { ⌜ 4096 ≤ length (now out) ⌝ }
     ensures { λ r. ⌜ Filled (now (sheet .entry)) facts (now (opening .entry)) (now (lockout .entry)) (now (list .entry)) cursor (now (list .exit)) (now (out .exit)) r ⌝ }
 {

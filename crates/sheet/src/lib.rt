@@ -9,7 +9,8 @@ ghost use Rattle.sheet_format.specs.Names.{nameOf, nameStart};
 ghost use Rattle.sheet_items.specs.Inner.Items.{InBounds};
 ghost use Rattle.sheet.specs.Inner.Rest.{ReadsRest};
 
-const MAX_BYTES: usize = 16384;
+// The most bytes of a sheet.
+pub const MAX_BYTES: usize = 16384;
 
 fn refuse(number: u64, line: u64) -> Reading
     ensures { λ r. ⌜ r ≡ refused number line ⌝ }

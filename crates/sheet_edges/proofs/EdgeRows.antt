@@ -25,7 +25,7 @@ use Rattle.sheet_format.proofs.Question12Lists.{each-of, of-each}
 use Rattle.sheet_format.proofs.Question12Edges.{empty-shaped, empty-edges, StatedEdge, Placed, edges-more}
 use Rattle.sheet_fields.specs.Inner.Parts.{until}
 use Rattle.sheet_rows.specs.declared.TakenEdge.{TakenEdge}
-use Rattle.sheet_rows.specs.Inner.Table.{Table}
+use Rattle.sheet_rows.specs.Inner.NameKeys.{NameKeys}
 use Rattle.sheet_rows.specs.Inner.Lines.{TakesEdge}
 use Rattle.sheet_rows.proofs.Asks.{answer-yes, answer-no, all-yes, one-yes, no-first, yes-first}
 use Rattle.sheet_edges.specs.declared.Edges.{Edges}
@@ -130,11 +130,11 @@ pub record SoFar (s : List ℕ) (start first : ℕ) (items : List ItemRow) (grap
 -- That holds for whatever item rows the table is of.
 pub record Loop (s : List ℕ) (start first : ℕ) (low high : List ℕ) (count : ℕ) (graph recovery : Graph) (n at : ℕ) : Type 0 where
   pub most : n ≤ 256
-  pub rows : (items : List ItemRow) → Table items low high count → SoFar s start first items graph recovery n at
+  pub rows : (items : List ItemRow) → NameKeys items low high count → SoFar s start first items graph recovery n at
 
 -- what the loop's refusals return
 pub no-edges : (s : List ℕ) (start first : ℕ) (low high : List ℕ) (count q k : ℕ) (r : Edges) → (q ≡ 0 → ⊥) → (r .number ≡ q) × (r .line ≡ k)
-    → ((items : List ItemRow) → Table items low high count → readLines AmongEdges (docWith items []) first (linesOf (drop start s)) ≡ refused q k)
+    → ((items : List ItemRow) → NameKeys items low high count → readLines AmongEdges (docWith items []) first (linesOf (drop start s)) ≡ refused q k)
     → ReadsEdges s start first low high count r
 no-edges s start first low high count q k r n e h =
     record { taken = λ z. absurd (n (sym (e .0) ∙ z)); no = λ m items t. rw (e .0, e .1) (h items t) }
@@ -162,7 +162,7 @@ over s start first items graph recovery n at f h =
 -- ---- a row
 
 module _ (s : List ℕ) (start first : ℕ) (items : List ItemRow) (low high : List ℕ) (count : ℕ) (graph recovery : Graph) (n at : ℕ)
-    (f : SoFar s start first items graph recovery n at) (table : Table items low high count)
+    (f : SoFar s start first items graph recovery n at) (table : NameKeys items low high count)
     (inside : at < length s) (e : ℕ) (found : e ≡ at + until 10 (drop at s)) where
   abbrev pub line : List ℕ
   line = take (e - at) (drop at s)

@@ -13,7 +13,7 @@ use Rattle.setup.specs.Bounds.{largest}
 use Rattle.setup.specs.declared.Kind.the-variants.{Credential, Account}
 use Rattle.setup.specs.declared.Value.the-variants.{Blank, Of}
 use Rattle.sheet_format.specs.Text.{sameText, all}
-use Rattle.sheet_format.specs.Fields.{isDigit, isNumber, numberOf, isNumberTo, isKind, kindOf, isValue, valueOf}
+use Rattle.sheet_format.specs.Fields.{isDigit, isNumber, numberOf, isNumberTo, isKind, kindOf, isValue, fieldValue}
 use Rattle.sheet_fields.specs.Inner.Forms.{cappedNumber, ReadsKind, ReadsValue, tooLarge}
 
 -- ---- texts of one byte
@@ -78,7 +78,7 @@ not-dash (b ∷ f) h = byTest (eqb b 45) (λ e. absurd (false-true (rw (eqb-true
 -- ---- values
 
 pub value-number : (f : List ℕ) (n : ℕ) → n ≡ cappedNumber f → n < tooLarge → ReadsValue f (record { ok = true; value = Of n })
-unfolding isValue valueOf
+unfolding isValue fieldValue
 value-number f n q h =
     let s = number-small f (rw q at h) in
     let d = not-dash f (s .0) in
@@ -96,7 +96,7 @@ value-long f n q h l =
     }
 
 pub value-byte : (f : List ℕ) (n : ℕ) → n ≡ cappedNumber f → tooLarge ≤ n → length f ≡ 1 → ReadsValue f (record { ok = eqb (getD f 0 0) 45; value = Blank })
-unfolding isValue valueOf
+unfolding isValue fieldValue
 value-byte f n q h l =
     record {
       answer = rw (same-one f 45 l, number-to largest f (omega arith), lt-leb (cappedNumber f) largest (omega arith), or-false (eqb (getD f 0 0) 45));

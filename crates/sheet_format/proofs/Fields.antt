@@ -17,7 +17,7 @@ use Rattle.setup.specs.declared.Value.{Value}
 use Rattle.setup.specs.declared.Value.the-variants.{Blank, Of}
 use Rattle.formed.specs.WellFormed.{InRange}
 use Rattle.sheet_format.specs.Text.{sameText, isEmpty, all}
-use Rattle.sheet_format.specs.Fields.{isDigit, isNameByte, isName, isNumber, numberOf, isNumberTo, decimal, kindText, isKind, kindOf, dash, isValue, valueOf, valueText}
+use Rattle.sheet_format.specs.Fields.{isDigit, isNameByte, isName, isNumber, numberOf, isNumberTo, decimal, kindText, isKind, kindOf, dash, isValue, fieldValue, valueText}
 use Rattle.sheet_format.specs.Rows.{Each}
 use Rattle.sheet_format.specs.Questions.{isTextByte}
 use Rattle.sheet_format.proofs.Lists.{each-map}
@@ -130,20 +130,20 @@ unfolding isValue
 value-yes Blank h = or-left (sameText dash dash) (isNumberTo largest dash) (same-refl dash)
 value-yes (Of n) h = or-right (sameText (decimal n) dash) (isNumberTo largest (decimal n)) (number-to largest n (omega arith) h)
 
-pub value-written : (x : Value) → InRange x → valueOf (valueText x) ≡ x
-unfolding valueOf
+pub value-written : (x : Value) → InRange x → fieldValue (valueText x) ≡ x
+unfolding fieldValue
 value-written Blank h = rw (same-refl dash)
 value-written (Of n) h = rw (decimal-no-dash n (omega arith), value-decimal n (omega arith))
 
 pub record ValueRead (f : List ℕ) : Type 0 where
-  pub range : InRange (valueOf f)
-  pub text : valueText (valueOf f) ≡ f
+  pub range : InRange (fieldValue f)
+  pub text : valueText (fieldValue f) ≡ f
 
-value-as : (f : List ℕ) (x : Value) → valueOf f ≡ x → InRange x → valueText x ≡ f → ValueRead f
+value-as : (f : List ℕ) (x : Value) → fieldValue f ≡ x → InRange x → valueText x ≡ f → ValueRead f
 value-as f x e r t = record { range = subst InRange (sym e) r; text = ap valueText e ∙ t }
 
 pub value-read : (f : List ℕ) → isValue f ≡ true → ValueRead f
-unfolding isValue valueOf
+unfolding isValue fieldValue
 value-read f e =
     byTest (sameText f dash)
     (λ d. value-as f Blank (rw d) tt (sym (text-decided f dash .yes d)))

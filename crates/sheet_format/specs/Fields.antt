@@ -70,8 +70,8 @@ dash = bytesOf "-"
 unfoldable pub isValue : List ℕ → Bool
 isValue f = sameText f dash || isNumberTo largest f
 
-unfoldable pub valueOf : List ℕ → Value
-valueOf f = cond (sameText f dash) Blank (Of (numberOf f))
+unfoldable pub fieldValue : List ℕ → Value
+fieldValue f = cond (sameText f dash) Blank (Of (numberOf f))
 
 abbrev pub valueText : Value → List ℕ
 valueText Blank = dash

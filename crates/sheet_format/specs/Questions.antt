@@ -7,7 +7,7 @@ use lib.Dec.{eqb, leb}
 use Rattle.setup.specs.Bounds.{highest, mostEdges, mostChosen, mostBytes}
 use Rattle.setup.specs.Setup.{given}
 use Rattle.sheet_format.specs.Text.{isEmpty, sameText, all}
-use Rattle.sheet_format.specs.Fields.{isName, isNumberTo, numberOf, isKind, kindOf, isValue, valueOf}
+use Rattle.sheet_format.specs.Fields.{isName, isNumberTo, numberOf, isKind, kindOf, isValue, fieldValue}
 use Rattle.sheet_format.specs.Rows.{ItemRow, EdgeRow, Doc, startCount, lossCount}
 
 -- ---- the whole text
@@ -67,8 +67,8 @@ itemOf fs =
     record {
       name = field fs 0;
       kind = kindOf (field fs 1);
-      start = valueOf (field fs 2);
-      loss = valueOf (field fs 3);
+      start = fieldValue (field fs 2);
+      loss = fieldValue (field fs 3);
       rank = numberOf (field fs 4);
     }
 

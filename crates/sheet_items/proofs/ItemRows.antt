@@ -21,7 +21,7 @@ use Rattle.sheet_format.proofs.Lists.{each-append}
 use Rattle.sheet_fields.specs.declared.Key.{Key}
 use Rattle.sheet_fields.specs.Inner.Parts.{until}
 use Rattle.sheet_rows.specs.declared.TakenItem.{TakenItem}
-use Rattle.sheet_rows.specs.Inner.Table.{lowOf, highOf, WellNamed, Table}
+use Rattle.sheet_rows.specs.Inner.NameKeys.{lowOf, highOf, WellNamed, NameKeys}
 use Rattle.sheet_rows.specs.Inner.Lines.{TakesItem}
 use Rattle.sheet_rows.proofs.Asks.{all-yes}
 use Rattle.sheet_rows.proofs.Taking.{item-name}
@@ -58,7 +58,7 @@ docOf xs = record { items = xs; edges = [] }
 -- At the place `at`, the rows above are kept in the lists and counts, and the reading of all lines is that of the lines from here on.
 pub record SoFar (s : List ℕ) (start : ℕ) (vertices : List Vertex) (low high : List ℕ) (count starts losses at : ℕ) : Type 0 where
   pub items : List ItemRow
-  pub table : Table items low high count
+  pub table : NameKeys items low high count
   pub most : count ≤ 64
   pub lows : length low ≡ 64
   pub highs : length high ≡ 64

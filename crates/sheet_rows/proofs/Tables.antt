@@ -20,7 +20,7 @@ use Rattle.sheet_format.proofs.Tests.{and-both, decide-and, no-of, text-decided
 use Rattle.sheet_fields.specs.Inner.Keys.{keyOf}
 use Rattle.sheet_fields.proofs.Packing.{key-same}
 use Rattle.sheet_fields.proofs.Names.{name-small}
-use Rattle.sheet_rows.specs.Inner.Table.{lowOf, highOf, WellNamed, Table, placeOf}
+use Rattle.sheet_rows.specs.Inner.NameKeys.{lowOf, highOf, WellNamed, NameKeys, placeOf}
 
 -- ---- the loop
 
@@ -66,7 +66,7 @@ unfolding placeOf numberIn
 place-number [] n w h = refl
 place-number (x ∷ xs) n w h = rw (key-test (x .name) n (w .0) h, place-number xs n (w .1) h)
 
-pub table-place : (xs : List ItemRow) (low high : List ℕ) (count : ℕ) (n : List ℕ) → Table xs low high count → isName n ≡ true
+pub table-place : (xs : List ItemRow) (low high : List ℕ) (count : ℕ) (n : List ℕ) → NameKeys xs low high count → isName n ≡ true
     → placeOf (take count low) (take count high) (keyOf n .low) (keyOf n .high) ≡ numberIn xs n
 table-place xs low high count n t h = rw (t .lows, t .highs) (place-number xs n (t .named) h)
 

@@ -22,7 +22,7 @@ use Rattle.sheet_rows.specs.declared.ItemLine.{ItemLine}
 use Rattle.sheet_rows.specs.declared.TakenItem.{TakenItem}
 use Rattle.sheet_rows.specs.declared.EdgeLine.{EdgeLine}
 use Rattle.sheet_rows.specs.declared.TakenEdge.{TakenEdge}
-use Rattle.sheet_rows.specs.Inner.Table.{Table, placeOf}
+use Rattle.sheet_rows.specs.Inner.NameKeys.{NameKeys, placeOf}
 use Rattle.sheet_rows.specs.Inner.Lines.{ReadsItem, TakesItem, ReadsEdge, TakesEdge}
 use Rattle.sheet_rows.proofs.Asks.{answer-yes, answer-no, all-yes, one-yes, no-first, yes-first}
 use Rattle.sheet_rows.proofs.Tables.{table-place, known-test}
@@ -79,7 +79,7 @@ module _ (l low high : List ℕ) (count starts losses : ℕ) (item : ItemLine) (
 
   module _ (zero : item .number ≡ 0) (found : ℕ) (place : found ≡ placeOf (take count low) (take count high) (item .key .low) (item .key .high)) where
     -- the place that was found is the number of the name
-    number-found : (d : Doc) → Table (d .items) low high count → found ≡ numberIn (d .items) (itemOf fs .name)
+    number-found : (d : Doc) → NameKeys (d .items) low high count → found ≡ numberIn (d .items) (itemOf fs .name)
     unfolding fs
     number-found d t =
         place ∙ rw (reads .key zero)
@@ -90,7 +90,7 @@ module _ (l low high : List ℕ) (count starts losses : ℕ) (item : ItemLine) (
     unfolding itemQuestions fs
     rest d = leads (question4 5 fs) (question5Item fs) (ask 6 (question6 d (itemOf fs)) ∷ ask 7 (question7Item d (itemOf fs)) ∷ []) (sym (reads .number) ∙ zero)
 
-    six : (d : Doc) → Table (d .items) low high count → question6 d (itemOf fs) ≡ not (ltb found count)
+    six : (d : Doc) → NameKeys (d .items) low high count → question6 d (itemOf fs) ≡ not (ltb found count)
     unfolding question6
     six d t =
         let e : isKnown (d .items) (itemOf fs .name) ≡ ltb found count = known-test (d .items) (itemOf fs .name) ∙ rw (number-found d t, t .size) in
@@ -119,10 +119,10 @@ module _ (l low high : List ℕ) (count starts losses : ℕ) (item : ItemLine) (
       unfolding fs
       loss-is = less ∙ rw (reads .vertex zero)
 
-      six-yes : (d : Doc) → Table (d .items) low high count → question6 d (itemOf fs) ≡ true
+      six-yes : (d : Doc) → NameKeys (d .items) low high count → question6 d (itemOf fs) ≡ true
       six-yes d t = six d t ∙ rw (le-ltb found count free)
 
-      seven : (d : Doc) → Table (d .items) low high count → starts ≡ startCount (d .items) → losses ≡ lossCount (d .items)
+      seven : (d : Doc) → NameKeys (d .items) low high count → starts ≡ startCount (d .items) → losses ≡ lossCount (d .items)
           → question7Item d (itemOf fs) ≡ (leb (suc count) 64 && leb s 14 && leb k 14)
       unfolding question7Item
       seven d t p q = rw (start-is, loss-is, p, q, t .size)
@@ -184,7 +184,7 @@ module _ (l low high : List ℕ) (count : ℕ) (edge : EdgeLine) (reads : ReadsE
 
   -- a row that is refused leaves nothing to say of the other fields
   refused-edge : (r : TakenEdge) → (r .number ≡ 0 → ⊥)
-      → ((d : Doc) → Table (d .items) low high count
+      → ((d : Doc) → NameKeys (d .items) low high count
       → r .number ≡ firstNo (ask 4 (question4 4 gs) ∷ ask 5 (question5Edge gs) ∷ ask 8 (question8 d (edgeOf gs)) ∷ []))
       → TakesEdge l low high count r
   unfolding gs
@@ -215,11 +215,11 @@ module _ (l low high : List ℕ) (count : ℕ) (edge : EdgeLine) (reads : ReadsE
     eight d = leads (question4 4 gs) (question5Edge gs) (ask 8 (question8 d (edgeOf gs)) ∷ []) (sym (reads .number) ∙ zero)
 
     module _ (from : ℕ) (place : from ≡ placeOf (take count low) (take count high) (edge .from .low) (edge .from .high)) where
-      from-is : (xs : List ItemRow) → Table xs low high count → from ≡ numberIn xs (edgeOf gs .from)
+      from-is : (xs : List ItemRow) → NameKeys xs low high count → from ≡ numberIn xs (edgeOf gs .from)
       unfolding gs
       from-is xs t = place ∙ rw (reads .states zero .from) (table-place xs low high count (edgeOf gs .from) t (edge-names gs five .0))
 
-      from-known : (xs : List ItemRow) → Table xs low high count → isKnown xs (edgeOf gs .from) ≡ ltb from count
+      from-known : (xs : List ItemRow) → NameKeys xs low high count → isKnown xs (edgeOf gs .from) ≡ ltb from count
       from-known xs t = known-test xs (edgeOf gs .from) ∙ rw (from-is xs t, t .size)
 
       pub edge-no-from : (r : TakenEdge) → count ≤ from → r .number ≡ 8 → TakesEdge l low high count r
@@ -229,11 +229,11 @@ module _ (l low high : List ℕ) (count : ℕ) (edge : EdgeLine) (reads : ReadsE
           (λ d t. e ∙ sym (answer-no 8 (question8 d (edgeOf gs)) [] (rw (from-known (d .items) t, le-ltb from count h))) ∙ eight d)
 
       module _ (to : ℕ) (place2 : to ≡ placeOf (take count low) (take count high) (edge .to .low) (edge .to .high)) where
-        to-is : (xs : List ItemRow) → Table xs low high count → to ≡ numberIn xs (edgeOf gs .to)
+        to-is : (xs : List ItemRow) → NameKeys xs low high count → to ≡ numberIn xs (edgeOf gs .to)
         unfolding gs
         to-is xs t = place2 ∙ rw (reads .states zero .to) (table-place xs low high count (edgeOf gs .to) t (edge-names gs five .1))
 
-        to-known : (xs : List ItemRow) → Table xs low high count → isKnown xs (edgeOf gs .to) ≡ ltb to count
+        to-known : (xs : List ItemRow) → NameKeys xs low high count → isKnown xs (edgeOf gs .to) ≡ ltb to count
         to-known xs t = known-test xs (edgeOf gs .to) ∙ rw (to-is xs t, t .size)
 
         pub edge-no-to : (r : TakenEdge) → from < count → count ≤ to → r .number ≡ 8 → TakesEdge l low high count r

@@ -13,7 +13,7 @@ ghost use lib.ListN.{length, take};
 ghost use lib.Dec.{eqb, leb};
 ghost use Rattle.setup.specs.Setup.{given};
 ghost use Rattle.sheet_fields.specs.Inner.Parts.{Places, fourFields};
-ghost use Rattle.sheet_rows.specs.Inner.Table.{placeOf};
+ghost use Rattle.sheet_rows.specs.Inner.NameKeys.{placeOf};
 ghost use Rattle.sheet_rows.specs.Inner.Lines.{JoinsFields, ReadsFields, ReadsVertex, JoinsItem, ReadsItem, TakesItem, JoinsEnds, ReadsEnds, ReadsEdge, TakesEdge};
 
 // Document 01's bounds.

@@ -14,8 +14,8 @@ use Rattle.vertex_set.proofs.Cases.{same-or, less-or}
 use Rattle.vertex_set.proofs.Decisions.{iff-trans}
 use Rattle.setup.specs.declared.Rows.{Rows}
 use Rattle.derivations.specs.Inner.Admits.{Admits}
-use Rattle.words.specs.Inner.Words.{At, FamilyWhere, room, Joined}
-use Rattle.words.proofs.Joins.{room-append}
+use Rattle.family_words.specs.Inner.Words.{At, FamilyWhere, room, Joined}
+use Rattle.family_words.proofs.Joins.{room-append}
 use Rattle.lanes.specs.Inner.Lanes.{Lane}
 use Rattle.lanes.proofs.Scans.{part-lane}
 use Rattle.tables.specs.Inner.Steps.{Stepped}

@@ -15,8 +15,8 @@ use Rattle.vertex_set.proofs.Cases.{same-or, less-or}
 use Rattle.vertex_set.proofs.Decisions.{iff-trans}
 use Rattle.vertex_set.proofs.Sets.{shifted-one, none-in-zero, member-below}
 use Rattle.families.specs.Inner.Masks.{rank, Picked}
-use Rattle.words.specs.Inner.Words.{FamilyWhere}
-use Rattle.words.proofs.Families.{family-as}
+use Rattle.family_words.specs.Inner.Words.{FamilyWhere}
+use Rattle.family_words.proofs.Families.{family-as}
 use Rattle.lanes.specs.Inner.Lanes.{Lane}
 use Rattle.tables.specs.Inner.Steps.{Started}
 use Rattle.tables.proofs.Parts.{put-length, lane-put, lane-kept}

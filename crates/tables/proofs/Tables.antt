@@ -16,7 +16,7 @@ use Rattle.derivations.proofs.Both.{lawful}
 use Rattle.families.specs.Inner.Masks.{Picked}
 use Rattle.families.specs.Inner.Family.{In}
 use Rattle.families.proofs.Exact.{Rising}
-use Rattle.words.specs.Inner.Words.{At}
+use Rattle.family_words.specs.Inner.Words.{At}
 use Rattle.lanes.specs.Inner.Lanes.{Lane}
 use Rattle.lanes.proofs.Scans.{part-lane}
 use Rattle.tables.specs.Inner.Table.{Table, FamilyOf}

@@ -5,7 +5,7 @@ ghost use Prim.Native.Nat.{_+_, _*_, _<_};
 ghost use lib.ListN.{length};
 ghost use Rattle.derivations.specs.Both.{ruleOf};
 ghost use Rattle.families.specs.Inner.Masks.{rank, Picked};
-ghost use Rattle.words.specs.Inner.Words.{FamilyWhere, VertexOf};
+ghost use Rattle.family_words.specs.Inner.Words.{FamilyWhere, VertexOf};
 ghost use Rattle.families.specs.Inner.Family.{familyWords};
 ghost use Rattle.lanes.specs.Inner.Lanes.{tableWords};
 ghost use Rattle.tables.specs.Inner.Table.{Table};
@@ -29,7 +29,7 @@ fn step(w: &mut [u64], v: usize, rows: Rows, loss: bool) -> bool
     let mut gains = [0u64; WORDS];
     lanes::admitted(w, rows, loss, &mut gains);
     let a = v * WORDS;
-    words::join(&mut w[a..a + WORDS], &gains)
+    family_words::join(&mut w[a..a + WORDS], &gains)
 }
 
 // The vertex of `todo` that is looked at next: the lowest that is in `after` too, else the lowest
@@ -40,9 +40,9 @@ fn next(todo: u64, after: u64) -> usize
 {
     let later = todo & after;
     if later == 0 {
-        return words::lowest(todo);
+        return family_words::lowest(todo);
     }
-    words::lowest(later)
+    family_words::lowest(later)
 }
 
 // For each vertex the set of all vertices that its colours need.
@@ -86,9 +86,9 @@ fn start_family(d: &mut [u64], chosen: VertexSet, v: usize)
 {
     if chosen.has(v) {
         let k = place_among(chosen.0, v);
-        words::start_words(d, k);
+        family_words::start_words(d, k);
     } else {
-        words::set_all(d, 0);
+        family_words::set_all(d, 0);
     }
 }
 
@@ -115,7 +115,7 @@ fn settle(graph: Graph, loss: bool, w: &mut [u64])
     let mut after: u64 = todo;
     while todo != 0 {
         let v = next(todo, after);
-        todo = words::without(todo, v);
+        todo = family_words::without(todo, v);
         after = 0xFFFF_FFFF_FFFF_FFFE << v;
         if step(w, v, graph.rows[v], loss) {
             todo = todo | users(&needs, v);

@@ -3,7 +3,7 @@
 use mathlib.Core.Path.{refl}
 use Rattle.formed.specs.WellFormed.{WellFormed}
 use Rattle.sheet_format.specs.Text.{grow, linesOf, fieldsOf, isEmpty, sameText, all}
-use Rattle.sheet_format.specs.Fields.{isDigit, isNameByte, isName, isNumber, valueBehind, numberOf, isNumberTo, isKind, kindOf, isValue, valueOf}
+use Rattle.sheet_format.specs.Fields.{isDigit, isNameByte, isName, isNumber, valueBehind, numberOf, isNumberTo, isKind, kindOf, isValue, fieldValue}
 use Rattle.sheet_format.specs.Rows.{firstHeader, secondHeader, startCount, lossCount, numberIn, verticesOf, withEdge, withEdges, recoveryRows, setupOf}
 use Rattle.setup.specs.Setup.{emptyGraph}
 use Rattle.sheet_format.specs.Questions.{question1, isTextByte, endsInLF, question2, question3, question10, noneEmpty, question4, question5Item, question5Edge, itemOf, edgeOf, isKnown, question6, question8, sameEdge, isRepeated, question9, question7Item, question7Edge}
@@ -17,12 +17,12 @@ pub _&_ : {P Q : Type 0} → P → Q → P × Q
 p & q = (p, q)
 
 pub all-read : AllRead
-unfolding grow linesOf fieldsOf isEmpty sameText all isDigit isNameByte isName isNumber valueBehind numberOf isNumberTo isKind kindOf isValue valueOf firstHeader secondHeader startCount lossCount numberIn verticesOf emptyGraph withEdge withEdges recoveryRows setupOf question1 isTextByte endsInLF question2 question3 question10 noneEmpty question4 question5Item question5Edge itemOf edgeOf isKnown question6 question8 sameEdge isRepeated question9 question7Item question7Edge itemQuestions edgeQuestions questionsOf behind firstNo question11 unless readLines readSheet
+unfolding grow linesOf fieldsOf isEmpty sameText all isDigit isNameByte isName isNumber valueBehind numberOf isNumberTo isKind kindOf isValue fieldValue firstHeader secondHeader startCount lossCount numberIn verticesOf emptyGraph withEdge withEdges recoveryRows setupOf question1 isTextByte endsInLF question2 question3 question10 noneEmpty question4 question5Item question5Edge itemOf edgeOf isKnown question6 question8 sameEdge isRepeated question9 question7Item question7Edge itemQuestions edgeQuestions questionsOf behind firstNo question11 unless readLines readSheet
 all-read = refl & refl & refl & refl & refl & refl & refl & refl & refl & tt
 
 -- the refused ones: the number, and the line
 pub all-refused : AllRefused
-unfolding grow linesOf fieldsOf isEmpty sameText all isDigit isNameByte isName isNumber valueBehind numberOf isNumberTo isKind kindOf isValue valueOf firstHeader secondHeader startCount lossCount numberIn verticesOf emptyGraph withEdge withEdges recoveryRows setupOf question1 isTextByte endsInLF question2 question3 question10 noneEmpty question4 question5Item question5Edge itemOf edgeOf isKnown question6 question8 sameEdge isRepeated question9 question7Item question7Edge itemQuestions edgeQuestions questionsOf behind firstNo question11 unless readLines readSheet
+unfolding grow linesOf fieldsOf isEmpty sameText all isDigit isNameByte isName isNumber valueBehind numberOf isNumberTo isKind kindOf isValue fieldValue firstHeader secondHeader startCount lossCount numberIn verticesOf emptyGraph withEdge withEdges recoveryRows setupOf question1 isTextByte endsInLF question2 question3 question10 noneEmpty question4 question5Item question5Edge itemOf edgeOf isKnown question6 question8 sameEdge isRepeated question9 question7Item question7Edge itemQuestions edgeQuestions questionsOf behind firstNo question11 unless readLines readSheet
 all-refused =
     refl & refl & refl & refl & refl & refl & refl & refl & refl & refl & refl & refl & refl & refl & refl
     & refl & refl & refl & refl & refl & refl & refl & refl & refl & refl & refl & refl & refl & refl & refl & refl & refl & tt

@@ -13,8 +13,8 @@ use Rattle.bases.specs.Base.{Base}
 use Rattle.bases.specs.Score.{Score}
 use Rattle.sheet_format.specs.declared.Reading.{Reading}
 use Rattle.sheet_format.specs.Rows.{Each}
-use Rattle.reference.specs.Tests.{lowest, some, every, those, isListed, isMember, isWithin, isMeeting, withVertex}
-use Rattle.reference.specs.Closures.{isComplete, isBroken, colourOf, isAdded, passOf, passesOf, closureOf, derivesOf, vertexOf, stepsOf, wayOf}
+use Rattle.reference.specs.Tests.{lowest, some, every, filtered, isListed, isMember, isWithin, isMeeting, withVertex}
+use Rattle.reference.specs.Closures.{isComplete, isBroken, colourOf, isAdded, passOf, passesOf, closureOf, derivesOf, nextVertex, stepsOf, wayOf}
 use Rattle.reference.specs.Bases.{isChosen, setsOfSize, setsUpTo, setsOf, targetSetsOf, isMinimal, baseOf, leastSum, scoreOf, markOf, marksFrom, countsOf, marksOf}
 use Rattle.reference.specs.Meaning.{Meaning}
 use Rattle.reference.proofs.Graphs.{own-graph}
@@ -85,7 +85,7 @@ all-hold [] s = tt
 all-hold (e ∷ l) s = (holds e (s .0 .0) (s .0 .1), all-hold l (s .1))
 
 table-shown : Each Shown table
-unfolding lowest some every those isListed isMember isWithin isMeeting withVertex isComplete isBroken colourOf isAdded passOf passesOf closureOf derivesOf vertexOf stepsOf wayOf isChosen setsOfSize setsUpTo setsOf targetSetsOf isMinimal baseOf leastSum scoreOf markOf marksFrom countsOf marksOf sumOver
+unfolding lowest some every filtered isListed isMember isWithin isMeeting withVertex isComplete isBroken colourOf isAdded passOf passesOf closureOf derivesOf nextVertex stepsOf wayOf isChosen setsOfSize setsUpTo setsOf targetSetsOf isMinimal baseOf leastSum scoreOf markOf marksFrom countsOf marksOf sumOver
 table-shown =
     let bench = all-read .0 in
     let ring = all-read .1 .0 in
@@ -101,7 +101,7 @@ pub table-holds : AllHold table
 table-holds = all-hold table table-shown
 
 further-shown : Each Shown further
-unfolding lowest some every those isListed isMember isWithin isMeeting withVertex isComplete isBroken colourOf isAdded passOf passesOf closureOf derivesOf vertexOf stepsOf wayOf isChosen setsOfSize setsUpTo setsOf targetSetsOf isMinimal baseOf leastSum scoreOf markOf marksFrom countsOf marksOf sumOver
+unfolding lowest some every filtered isListed isMember isWithin isMeeting withVertex isComplete isBroken colourOf isAdded passOf passesOf closureOf derivesOf nextVertex stepsOf wayOf isChosen setsOfSize setsUpTo setsOf targetSetsOf isMinimal baseOf leastSum scoreOf markOf marksFrom countsOf marksOf sumOver
 further-shown =
     let bench = all-read .0 in
     let ring = all-read .1 .0 in

@@ -13,11 +13,11 @@ use std::hint::black_box;
 
 const COUNTS: [usize; 4] = [1_000, 10_000, 100_000, 1_000_000];
 
-/// The orders in which the same strays are handed in.
-const SHUFFLED: &str = "strays, shuffled";
-const RISING: &str = "strays, rising";
-const ALL_BUT_LAST: &str = "strays, rising but for the last";
-const FALLING: &str = "strays, falling";
+/// The orders in which the same outsiders are handed in.
+const SHUFFLED: &str = "outsiders, shuffled";
+const RISING: &str = "outsiders, rising";
+const ALL_BUT_LAST: &str = "outsiders, rising but for the last";
+const FALLING: &str = "outsiders, falling";
 
 /// A sheet's target with what its marks hang on.
 struct Asked<'a> {
@@ -71,7 +71,7 @@ impl Asked<'_> {
         marks
     }
 
-    /// Lists of n sets, by kinds. Of each order the strays are the same.
+    /// Lists of n sets, by kinds. Of each order the outsiders are the same.
     fn lists(&self, n: usize) -> Vec<(&'static str, Vec<u64>)> {
         let mut rng = Rng::new(7);
         let right = (0..n).map(|_| *rng.pick(&self.right)).collect();
@@ -90,8 +90,8 @@ impl Asked<'_> {
             (RISING, rising),
             (ALL_BUT_LAST, all_but_last),
             (FALLING, falling),
-            ("strays, all equal", vec![u64::MAX; n]),
-            ("strays, two values in turn", two),
+            ("outsiders, all equal", vec![u64::MAX; n]),
+            ("outsiders, two values in turn", two),
         ]
     }
 
@@ -142,11 +142,16 @@ pub fn marking(kind: &Kind, rounds: &Rounds, targets: &mut Vec<Target>) -> Grid 
         &ratios,
     ));
     let orders = by_order(&ratios);
-    targets.push(judged("the same strays in order / shuffled", "at most 1.5 times", 1.5, &orders));
+    targets.push(judged(
+        "the same outsiders in order / shuffled",
+        "at most 1.5 times",
+        1.5,
+        &orders,
+    ));
     grid
 }
 
-/// The ratios of strays that are handed in in some order, by that of the same strays shuffled. What is
+/// The ratios of outsiders that are handed in in some order, by that of the same outsiders shuffled. What is
 /// sorted beside them is the same each time, so that the machine's own pace does not count.
 fn by_order(ratios: &[(String, f64)]) -> Vec<(String, f64)> {
     let of = |name| ratios.iter().find(|(other, _)| other == name).map_or(0.0, |(_, times)| *times);
@@ -164,7 +169,7 @@ fn new_grid(sheet: &str) -> Grid {
         "`mark_access` on the sheet \"{sheet}\", whose target has a list of 3,432 sets, for lists of a \
          thousand sets to a million; and its time by that of `to_vec` and `sort_unstable` on the same sets \
          shuffled. Marks were compared with a count by a HashSet. The call fills its table first, which \
-         is most of the time of short lists. Subsets: any of the initial vertices. Strays: any numbers, \
+         is most of the time of short lists. Subsets: any of the initial vertices. Outsiders: any numbers, \
          the same in each order; of the list that rises but for the last, the last is the lowest.",
     ));
     grid

@@ -103,7 +103,8 @@ impl Timed {
 fn without_recovery(sheet: &[u8]) -> Vec<u8> {
     let text = String::from_utf8_lossy(sheet);
     let (items, edges) = text.split_once("\n\n").expect("a sheet has two parts");
-    let colour_of = |edge: &'_ str| edge.split(' ').skip(1).take(2).map(String::from).collect::<Vec<_>>();
+    let colour_of =
+        |edge: &'_ str| edge.split(' ').skip(1).take(2).map(String::from).collect::<Vec<_>>();
     let marked: Vec<_> = edges.lines().filter(|edge| edge.ends_with(" 1")).map(colour_of).collect();
     let kept = edges.split_inclusive('\n').filter(|edge| !marked.contains(&colour_of(edge)));
     format!("{items}\n\n{}", kept.collect::<String>()).into_bytes()

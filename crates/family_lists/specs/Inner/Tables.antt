@@ -41,18 +41,18 @@ pub record Occupied (f index : List ℕ) (n : ℕ) : Type 0 where
   pub all : ofWords f (take n index) ≡ rising 0 f
 
 -- At k stand the lanes that are in some word of the family whose number has k bits.
-pub record Joined (f joined : List ℕ) : Type 0 where
+pub record JoinedBySize (f joined : List ℕ) : Type 0 where
   pub each : (k i : ℕ) → i < 64 → Iff (Member (getD joined k 0) i) ((b : ℕ) × (ones b ≡ k) × Member (getD f b 0) i)
 
 -- Some member of f has s bits.
-pub record HasSize (f : List ℕ) (s : ℕ) : Type 0 where
+pub record HasMaskOfSize (f : List ℕ) (s : ℕ) : Type 0 where
   pub mask : ℕ
   pub is : In f mask
   pub bits : ones mask ≡ s
 
 -- r says whether the family that `joined` was made of, whichever it is, has a member of s bits.
 pub record SomeOfSize (joined : List ℕ) (s : ℕ) (r : Bool) : Type 0 where
-  pub each : (f : List ℕ) → length f ≡ familyWords → Joined f joined → Decides (HasSize f s) r
+  pub each : (f : List ℕ) → length f ≡ familyWords → JoinedBySize f joined → Decides (HasMaskOfSize f s) r
 
 -- The masks of the list l that have s bits.
 abbrev pub ofSize : ℕ → List ℕ → List ℕ

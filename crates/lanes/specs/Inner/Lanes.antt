@@ -8,7 +8,7 @@ use Rattle.setup.specs.declared.Rows.{Rows}
 use Rattle.setup.specs.Setup.{rowOf}
 use Rattle.derivations.specs.Derivation.{Vertices}
 use Rattle.derivations.specs.Inner.Admits.{Complete, Broken}
-use Rattle.words.specs.Inner.Words.{Merged}
+use Rattle.family_words.specs.Inner.Words.{Merged}
 use Rattle.families.specs.Inner.Family.{familyWords}
 
 -- The words of a table: those of a family for each of 64 vertices.

@@ -3,19 +3,19 @@ use Prim.Native.Nat.{_-_, _≤_}
 use mathlib.Core.Path.{_≡_, refl}
 use native.Mathlib.Omega.{arith}
 use lib.ListN.{length}
-use Rattle.portal_setup.proofs.Writing.{Copied, copied-none, copied-more, copied-all}
+use Rattle.written.proofs.Copying.{Copying, copying-none, copying-more, copying-end}
 use Rattle.portal_setup.proofs.put_words.Statement.{statement}
 use Rattle.portal_setup.proofs.put_words.Tie as tie
 
 -- The first i words stand from `at` on, and every other place is as it was.
 abbrev Inv-loop : tie.InvT-loop
-Inv-loop words out₀ at i₀ i-end out i = (i ≤ length words) × (i-end ≡ length words) × Copied out₀ at words out i
+Inv-loop words out₀ at i₀ i-end out i = (i ≤ length words) × (i-end ≡ length words) × Copying words out₀ at out i
 
 abbrev μ-loop : tie.MeasureT-loop
 μ-loop words out₀ at i₀ i-end out i = length words - i
 
 loop-holds : tie.Need-loop-holds Inv-loop μ-loop
-loop-holds c = (omega arith, refl, copied-none _ _ _)
+loop-holds c = (omega arith, refl, copying-none _ _ _)
 
 mul-out : tie.Need-mul-out Inv-loop μ-loop
 mul-out c = search needs
@@ -42,7 +42,7 @@ loop-again : tie.Need-loop-again Inv-loop μ-loop
 loop-again c =
     let b = c .before .before in
     let a = b .before .args in
-    (search needs, b .loop .inv .1, copied-more (a .out .now) (a .at) (a .words .now) (b .before .pre) (b .loop .out) (b .loop .i) (search needs) (b .loop .inv .2))
+    (search needs, b .loop .inv .1, copying-more (a .words .now) (a .out .now) (a .at) (b .loop .out) (b .loop .i) (search needs) (b .loop .inv .2))
 
 add-result : tie.Need-add-result Inv-loop μ-loop
 add-result c = search needs
@@ -55,7 +55,7 @@ returns c =
     let b = c .before in
     let a = b .before .args in
     let e : b .loop .i ≡ length (a .words .now) = omega arith in
-    copied-all (a .out .now) (a .at) (a .words .now) (b .before .pre) (b .loop .out) (rw e at (b .loop .inv .2))
+    copying-end (a .words .now) (a .out .now) (a .at) (b .loop .out) (b .loop .i) e (b .loop .inv .2)
 
 pub put-words-spec : {M : Type 1} → statement M
 put-words-spec =

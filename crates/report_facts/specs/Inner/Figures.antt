@@ -10,6 +10,7 @@ use Rattle.setup.specs.declared.Graph.{Graph}
 use Rattle.setup.specs.declared.Setup.{Setup}
 use Rattle.setup.specs.Setup.{ChosenSet}
 use Rattle.formed.specs.WellFormed.{WellFormed}
+use Rattle.lanes.specs.Inner.Lanes.{tableWords}
 use Rattle.report_scores.specs.Inner.Scores.{BaseTable, Scored}
 use Rattle.derivations.specs.Both.{ruleOf}
 use Rattle.reference.specs.Bases.{scoreOf}
@@ -20,8 +21,8 @@ use Rattle.report_facts.specs.declared.figures.Findings.{Findings}
 -- What scores_with asks for: room for both tables.
 pub record CanFill (s : Setup) (opening lockout : List ℕ) : Type 0 where
   pub formed : WellFormed s
-  pub first : length opening ≡ 16384
-  pub second : length lockout ≡ 16384
+  pub first : length opening ≡ tableWords
+  pub second : length lockout ≡ tableWords
 
 -- The tables are those of the graph, and r has the scores and risks of all vertices in it.
 pub record BothScored (s : Setup) (g : Graph) (opening lockout : List ℕ) (r : Scores) : Type 0 where

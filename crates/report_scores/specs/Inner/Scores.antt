@@ -12,20 +12,25 @@ use Rattle.setup.specs.Setup.{ChosenSet}
 use Rattle.formed.specs.WellFormed.{WellFormed}
 use Rattle.derivations.specs.Derivation.{Rule}
 use Rattle.derivations.specs.Both.{ruleOf}
-use Rattle.families.specs.Inner.Family.{MinimalMembers}
+use Rattle.families.specs.Inner.Family.{familyWords, masks, MinimalMembers}
 use Rattle.family_lists.specs.Inner.Lists.{LeastBy}
+use Rattle.lanes.specs.Inner.Lanes.{tableWords}
 use Rattle.tables.specs.Inner.Table.{FamilyOf}
 use Rattle.bases.specs.Base.{Base}
 use Rattle.bases.specs.Score.{Score}
 
+-- Room for any list: a family has no more members than there are masks.
+abbrev pub listRoom : ℕ
+listRoom = masks
+
 -- What the functions that read all scores ask for: room for a table.
 pub record CanScore (s : Setup) (w : List ℕ) : Type 0 where
   pub formed : WellFormed s
-  pub words : length w ≡ 16384
+  pub words : length w ≡ tableWords
 
 -- The words of the vertex v in a table.
 abbrev pub wordsAt : List ℕ → ℕ → List ℕ
-wordsAt w v = take 256 (drop (v * 256) w)
+wordsAt w v = take familyWords (drop (v * familyWords) w)
 
 -- m has the minimal ones of the masks from whose sets v has a derivation.
 pub record BaseAt (r : Rule) (chosen v : ℕ) (m : List ℕ) : Type 0 where
@@ -35,7 +40,7 @@ pub record BaseAt (r : Rule) (chosen v : ℕ) (m : List ℕ) : Type 0 where
 
 -- w is the table of bases of the rule r and the chosen vertices: for each vertex the family of its minimal masks.
 pub record BaseTable (r : Rule) (chosen : ℕ) (w : List ℕ) : Type 0 where
-  pub words : length w ≡ 16384
+  pub words : length w ≡ tableWords
   pub each : (v : ℕ) → v < 64 → BaseAt r chosen v (wordsAt w v)
 
 -- w is the table of bases of the graph and the chosen vertices, and `score` gives the score of each vertex.
@@ -50,7 +55,7 @@ pub record Numbers (numbers : List ℕ) (score : ℕ → ℕ) : Type 0 where
 -- What list_from asks for: the table of bases of some graph, and room for every list.
 pub record CanRead (w : List ℕ) (chosen target : ℕ) (out : List ℕ) : Type 0 where
   pub vertex : target < 64
-  pub room : length out ≡ 16384
+  pub room : length out ≡ listRoom
   pub few : ones chosen ≤ 14
   pub loss : Bool
   pub graph : Graph
@@ -58,8 +63,8 @@ pub record CanRead (w : List ℕ) (chosen target : ℕ) (out : List ℕ) : Type 
 
 -- The first r places of out are the target's base, whatever setup and graph w is the table of bases of.
 pub record Listing (w : List ℕ) (chosen target r : ℕ) (out : List ℕ) : Type 0 where
-  pub room : length out ≡ 16384
-  pub count : r ≤ 16384
+  pub room : length out ≡ listRoom
+  pub count : r ≤ listRoom
   pub each : (loss : Bool) (s : Setup) (g : Graph) → WellFormed s → ChosenSet loss s chosen → BaseTable (ruleOf loss g) chosen w
       → Base loss s g target (take r out)
 
@@ -75,12 +80,12 @@ pub record Kept (f low high m : List ℕ) (r : ℕ) : Type 0 where
 
 -- The target's family is cut down to its minimal members, r is the least sum over them, and the words of every other vertex are as before.
 pub record KeptAt (entry low high : List ℕ) (target r : ℕ) (exit : List ℕ) : Type 0 where
-  pub words : length exit ≡ 16384
+  pub words : length exit ≡ tableWords
   pub own : Kept (wordsAt entry target) low high (wordsAt exit target) r
   pub other : (v : ℕ) → v < 64 → (v ≡ target → ⊥) → wordsAt exit v ≡ wordsAt entry v
 
 -- Each vertex's family is cut down to its minimal members, and out has the least sums over them.
 pub record KeptAll (entry low high exit out : List ℕ) : Type 0 where
-  pub words : length exit ≡ 16384
+  pub words : length exit ≡ tableWords
   pub long : length out ≡ 64
   pub each : (v : ℕ) → v < 64 → Kept (wordsAt entry v) low high (wordsAt exit v) (getD out v 0)

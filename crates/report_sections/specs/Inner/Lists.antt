@@ -18,7 +18,7 @@ use Rattle.report_text.specs.Rows.{textsOf, setRow}
 use Rattle.sheet_format.specs.Names.{nameOf}
 use Rattle.report_text.specs.Report.{isAccount}
 use Rattle.report_rows.specs.Inner.Writing.{NamePlace, NamePlaces}
-use Rattle.report_scores.specs.Inner.Scores.{BaseTable}
+use Rattle.report_scores.specs.Inner.Scores.{listRoom, BaseTable}
 use Rattle.report_facts.specs.Texts.{slotList}
 use Rattle.report_facts.specs.Inner.Parts.{Part}
 
@@ -48,7 +48,7 @@ unfoldable pub rowsFrom : (ℕ → List ℕ) → Bool → ℕ → List ℕ → L
 rowsFrom name loss target values list n i = textsOf (rowOf name loss target values) (drop i (take n list))
 
 -- The rows from i up to `row` stand, and with room for a row there is one at least.
-pub record RowsWent (name : ℕ → List ℕ) (loss : Bool) (target : ℕ) (values list : List ℕ) (i n : ℕ) (entry : List ℕ) (at : ℕ) (exit : List ℕ) (row r : ℕ) : Type 0 where
+pub record RowsPut (name : ℕ → List ℕ) (loss : Bool) (target : ℕ) (values list : List ℕ) (i n : ℕ) (entry : List ℕ) (at : ℕ) (exit : List ℕ) (row r : ℕ) : Type 0 where
   pub part : Part entry at (rowsFrom name loss target values list n i) (rowsFrom name loss target values list n row) exit r
   pub most : row ≤ n
   pub more : i < n → at + longestRow ≤ length entry → i < row
@@ -58,7 +58,7 @@ pub record CanLoad (k initial losable : ℕ) (opening lockout list : List ℕ) :
   pub vertex : k / 2 < 64
   pub few : ones initial ≤ 14
   pub fewLosable : ones losable ≤ 14
-  pub room : length list ≡ 16384
+  pub room : length list ≡ listRoom
   pub graph : Graph
   pub opens : BaseTable (ruleOf false graph) initial opening
   pub locks : BaseTable (ruleOf true graph) losable lockout
@@ -67,5 +67,5 @@ pub record CanLoad (k initial losable : ℕ) (opening lockout list : List ℕ) :
 pub record Loaded (k accounts initial losable : ℕ) (opening lockout : List ℕ) (r : ℕ) (list : List ℕ) : Type 0 where
   pub each : (s : Setup) → WellFormed s → ChosenSet false s initial → ChosenSet true s losable → BaseTable (ruleOf false (s .graph)) initial opening
       → BaseTable (ruleOf true (s .graph)) losable lockout → Iff (Member accounts (k / 2)) (isAccount s (k / 2) ≡ true) → take r list ≡ slotList s k
-  pub most : r ≤ 16384
-  pub room : length list ≡ 16384
+  pub most : r ≤ listRoom
+  pub room : length list ≡ listRoom

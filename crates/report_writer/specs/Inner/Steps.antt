@@ -7,6 +7,7 @@ use lib.ListN.{length, take}
 use Rattle.setup.specs.declared.Setup.{Setup}
 use Rattle.bases.specs.Score.{Values}
 use Rattle.sheet_format.specs.Names.{nameOf}
+use Rattle.report_scores.specs.Inner.Scores.{listRoom}
 use Rattle.report_facts.specs.declared.Facts.{Facts}
 use Rattle.report_facts.specs.Inner.Facts.{FactsOf, TablesOf}
 use Rattle.report_facts.specs.Texts.{slotList}
@@ -25,31 +26,31 @@ pub record ListAt (sheet : List ℕ) (s : Setup) (f : Facts) (list : List ℕ) (
   pub facts : FactsOf sheet s f
   pub number : k < 2 * s .count
   pub next : i ≤ n
-  pub most : n ≤ 16384
-  pub room : length list ≡ 16384
+  pub most : n ≤ listRoom
+  pub room : length list ≡ listRoom
   pub here : take n list ≡ slotList s k
 
-pub record ListGoing (sheet : List ℕ) (f : Facts) (list : List ℕ) (k i n : ℕ) : Type 0 where
+pub record CanPutList (sheet : List ℕ) (f : Facts) (list : List ℕ) (k i n : ℕ) : Type 0 where
   pub setup : Setup
   pub here : ListAt sheet setup f list k i n
 
-pub record ListWent (sheet : List ℕ) (f : Facts) (list : List ℕ) (k i n : ℕ) (entry : List ℕ) (at : ℕ) (exit : List ℕ) (r : RowsStep) : Type 0 where
+pub record ListPut (sheet : List ℕ) (f : Facts) (list : List ℕ) (k i n : ℕ) (entry : List ℕ) (at : ℕ) (exit : List ℕ) (r : RowsStep) : Type 0 where
   pub each : (s : Setup) → ListAt sheet s f list k i n → Part entry at (rowsFrom (nameOf sheet) s k i) (rowsFrom (nameOf sheet) s k (r .row)) exit (r .at)
   pub most : r .row ≤ n
   pub more : i < n → i < r .row
 
 -- What is known of the setup s where the report goes on: the facts, and before the scores the tables too.
-abbrev pub At : List ℕ → Setup → Facts → List ℕ → List ℕ → List ℕ → Cursor → Type 0
-At sheet s f opening lockout list cursor.Start = FactsOf sheet s f × TablesOf s f opening lockout × (length list ≡ 16384)
-At sheet s f opening lockout list (cursor.Lists k i n) = ListAt sheet s f list k i n × TablesOf s f opening lockout
-At sheet s f opening lockout list (cursor.Scores v) = FactsOf sheet s f × (v ≤ s .count)
-At sheet s f opening lockout list (cursor.Pairs v) = FactsOf sheet s f × (v ≤ s .count)
-At sheet s f opening lockout list (cursor.Refused number line) = (number < 2 ^ 64) × (line < 2 ^ 64)
-At sheet s f opening lockout list cursor.End = Unit {0}
+abbrev pub KnownAt : List ℕ → Setup → Facts → List ℕ → List ℕ → List ℕ → Cursor → Type 0
+KnownAt sheet s f opening lockout list cursor.Start = FactsOf sheet s f × TablesOf s f opening lockout × (length list ≡ listRoom)
+KnownAt sheet s f opening lockout list (cursor.Lists k i n) = ListAt sheet s f list k i n × TablesOf s f opening lockout
+KnownAt sheet s f opening lockout list (cursor.Scores v) = FactsOf sheet s f × (v ≤ s .count)
+KnownAt sheet s f opening lockout list (cursor.Pairs v) = FactsOf sheet s f × (v ≤ s .count)
+KnownAt sheet s f opening lockout list (cursor.Refused number line) = (number < 2 ^ 64) × (line < 2 ^ 64)
+KnownAt sheet s f opening lockout list cursor.End = Unit {0}
 
-pub record Going (sheet : List ℕ) (f : Facts) (opening lockout list : List ℕ) (c : Cursor) : Type 0 where
+pub record CanStep (sheet : List ℕ) (f : Facts) (opening lockout list : List ℕ) (c : Cursor) : Type 0 where
   pub setup : Setup
-  pub here : At sheet setup f opening lockout list c
+  pub here : KnownAt sheet setup f opening lockout list c
 
 -- A number that becomes smaller with each step.
 abbrev pub stepsLeft : ℕ → Cursor → ℕ
@@ -61,31 +62,31 @@ stepsLeft count (cursor.Refused number line) = 1
 stepsLeft count cursor.End = 0
 
 -- A step was taken: a part of what was left of the report at c stands from `at` on, and the rest is what is left at the new cursor.
-pub record Went (sheet : List ℕ) (f : Facts) (opening lockout list : List ℕ) (c : Cursor) (entry : List ℕ) (at : ℕ) (list′ exit : List ℕ) (r : Step) : Type 0 where
-  pub part : (s : Setup) → At sheet s f opening lockout list c → Part entry at (restOf (nameOf sheet) s c) (restOf (nameOf sheet) s (r .cursor)) exit (r .at)
-  pub here : (s : Setup) → At sheet s f opening lockout list c → At sheet s f opening lockout list′ (r .cursor)
+pub record StepTaken (sheet : List ℕ) (f : Facts) (opening lockout list : List ℕ) (c : Cursor) (entry : List ℕ) (at : ℕ) (list′ exit : List ℕ) (r : Step) : Type 0 where
+  pub part : (s : Setup) → KnownAt sheet s f opening lockout list c → Part entry at (restOf (nameOf sheet) s c) (restOf (nameOf sheet) s (r .cursor)) exit (r .at)
+  pub here : (s : Setup) → KnownAt sheet s f opening lockout list c → KnownAt sheet s f opening lockout list′ (r .cursor)
   pub less : 0 < stepsLeft (f .count) c → stepsLeft (f .count) (r .cursor) < stepsLeft (f .count) c
 
 -- What the steps of the last two sections ask for.
-pub record SectionGoing (sheet : List ℕ) (f : Facts) (v : ℕ) (out : List ℕ) (at : ℕ) : Type 0 where
+pub record CanPutSection (sheet : List ℕ) (f : Facts) (v : ℕ) (out : List ℕ) (at : ℕ) : Type 0 where
   pub setup : Setup
   pub facts : FactsOf sheet setup f
   pub most : v ≤ setup .count
   pub room : at + 4096 ≤ length out
 
-pub record ScoresWent (sheet : List ℕ) (f : Facts) (v : ℕ) (entry : List ℕ) (at : ℕ) (exit : List ℕ) (r : Step) : Type 0 where
+pub record ScoresPut (sheet : List ℕ) (f : Facts) (v : ℕ) (entry : List ℕ) (at : ℕ) (exit : List ℕ) (r : Step) : Type 0 where
   pub part : (s : Setup) → FactsOf sheet s f → v ≤ s .count → Part entry at (scoresFrom (nameOf sheet) s v) (restOf (nameOf sheet) s (r .cursor)) exit (r .at)
   pub more : v < f .count → r .cursor ≡ cursor.Scores (v + 1)
   pub last : f .count ≤ v → r .cursor ≡ cursor.Pairs 0
 
-pub record PairsWent (sheet : List ℕ) (f : Facts) (v : ℕ) (entry : List ℕ) (at : ℕ) (exit : List ℕ) (r : Step) : Type 0 where
+pub record PairsPut (sheet : List ℕ) (f : Facts) (v : ℕ) (entry : List ℕ) (at : ℕ) (exit : List ℕ) (r : Step) : Type 0 where
   pub part : (s : Setup) → FactsOf sheet s f → v ≤ s .count → Part entry at (pairsFrom (nameOf sheet) s v) (restOf (nameOf sheet) s (r .cursor)) exit (r .at)
   pub more : v < f .count → r .cursor ≡ cursor.Pairs (v + 1)
   pub last : f .count ≤ v → r .cursor ≡ cursor.End
 
 -- The first bytes of `out` are the next part of the report, and what is left of it is left at the new cursor.
 pub record Filled (sheet : List ℕ) (f : Facts) (opening lockout list : List ℕ) (c : Cursor) (list′ out : List ℕ) (r : Step) : Type 0 where
-  pub part : (s : Setup) → At sheet s f opening lockout list c → restOf (nameOf sheet) s c ≡ take (r .at) out ++ restOf (nameOf sheet) s (r .cursor)
-  pub here : (s : Setup) → At sheet s f opening lockout list c → At sheet s f opening lockout list′ (r .cursor)
+  pub part : (s : Setup) → KnownAt sheet s f opening lockout list c → restOf (nameOf sheet) s c ≡ take (r .at) out ++ restOf (nameOf sheet) s (r .cursor)
+  pub here : (s : Setup) → KnownAt sheet s f opening lockout list c → KnownAt sheet s f opening lockout list′ (r .cursor)
   pub inside : r .at ≤ length out
   pub less : 0 < stepsLeft (f .count) c → stepsLeft (f .count) (r .cursor) < stepsLeft (f .count) c

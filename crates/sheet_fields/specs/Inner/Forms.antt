@@ -4,7 +4,7 @@ use mathlib.Core.List.{List}
 use mathlib.Core.Bool.{true, cond}
 use Prim.Native.Nat.{ℕ, _+_, _-_, _*_, min}
 use Rattle.setup.specs.Bounds.{largest}
-use Rattle.sheet_format.specs.Fields.{isDigit, isNumber, numberOf, isKind, kindOf, isValue, valueOf}
+use Rattle.sheet_format.specs.Fields.{isDigit, isNumber, numberOf, isKind, kindOf, isValue, fieldValue}
 use Rattle.sheet_fields.specs.declared.KindField.{KindField}
 use Rattle.sheet_fields.specs.declared.ValueField.{ValueField}
 
@@ -26,4 +26,4 @@ pub record ReadsKind (f : List ℕ) (r : KindField) : Type 0 where
 
 pub record ReadsValue (f : List ℕ) (r : ValueField) : Type 0 where
   pub answer : r .ok ≡ isValue f
-  pub value : r .ok ≡ true → r .value ≡ valueOf f
+  pub value : r .ok ≡ true → r .value ≡ fieldValue f

@@ -6,7 +6,7 @@ use lib.ListN.{length, drop}
 use Rattle.sheet_format.specs.Text.{linesOf}
 use Rattle.sheet_format.specs.Rows.{ItemRow, verticesOf}
 use Rattle.sheet_format.specs.Read.{AmongItems, AtSecondHeader, noRows, refused, readLines}
-use Rattle.sheet_rows.specs.Inner.Table.{Table}
+use Rattle.sheet_rows.specs.Inner.NameKeys.{NameKeys}
 use Rattle.sheet_items.specs.declared.Items.{Items}
 
 -- The counts are within document 01's bounds, and the lists have place for as many keys.
@@ -19,7 +19,7 @@ pub record InBounds (r : Items) : Type 0 where
 -- The item rows up to the empty line, from `start` on, where line 2 begins.
 pub record ItemsTaken (s : List ℕ) (start : ℕ) (r : Items) : Type 0 where
   pub items : List ItemRow
-  pub table : Table items (r .low) (r .high) (r .count)
+  pub table : NameKeys items (r .low) (r .high) (r .count)
   pub bounds : InBounds r
   pub vertices : r .vertices ≡ verticesOf items
   pub reading : readLines AmongItems noRows 2 (linesOf (drop start s))

@@ -3,7 +3,7 @@ use mathlib.Core.Path.{_≡_, sym, _∙_}
 use Prim.Native.Nat.{_+_, _-_, _≤_}
 use native.Mathlib.Omega.{arith}
 use lib.ListN.{take, drop}
-use Rattle.sheet_rows.specs.Inner.Table.{placeOf}
+use Rattle.sheet_rows.specs.Inner.NameKeys.{placeOf}
 use Rattle.sheet_rows.proofs.Tables.{place-here, place-next, place-end}
 use Rattle.sheet_rows.proofs.find_name.Statement.{statement}
 use Rattle.sheet_rows.proofs.find_name.Tie as tie

@@ -7,7 +7,7 @@ use lib.Dec.{eqb, leb}
 use Rattle.setup.specs.declared.Vertex.{Vertex}
 use Rattle.setup.specs.Setup.{given}
 use Rattle.sheet_format.specs.Text.{fieldsOf}
-use Rattle.sheet_format.specs.Fields.{numberOf, isNumberTo, isKind, kindOf, isValue, valueOf}
+use Rattle.sheet_format.specs.Fields.{numberOf, isNumberTo, isKind, kindOf, isValue, fieldValue}
 use Rattle.sheet_format.specs.Rows.{ItemRow, Doc, vertexOf, numberIn, startCount, lossCount}
 use Rattle.sheet_format.specs.Questions.{field, question4, question5Item, question5Edge, question8, itemOf, edgeOf}
 use Rattle.sheet_format.specs.Read.{ask, firstNo, itemQuestions}
@@ -20,7 +20,7 @@ use Rattle.sheet_rows.specs.declared.ItemLine.{ItemLine}
 use Rattle.sheet_rows.specs.declared.TakenItem.{TakenItem}
 use Rattle.sheet_rows.specs.declared.EdgeLine.{EdgeLine}
 use Rattle.sheet_rows.specs.declared.TakenEdge.{TakenEdge}
-use Rattle.sheet_rows.specs.Inner.Table.{Table}
+use Rattle.sheet_rows.specs.Inner.NameKeys.{NameKeys}
 
 -- Question 5 of the four fields behind an item's name.
 unfoldable pub vertexForm : List (List ℕ) → Bool
@@ -28,7 +28,7 @@ vertexForm fs = isKind (field fs 0) && isValue (field fs 1) && isValue (field fs
 
 -- The vertex that these fields state.
 unfoldable pub vertexFrom : List (List ℕ) → Vertex
-vertexFrom fs = record { kind = kindOf (field fs 0); start = valueOf (field fs 1); loss = valueOf (field fs 2); rank = numberOf (field fs 3) }
+vertexFrom fs = record { kind = kindOf (field fs 0); start = fieldValue (field fs 1); loss = fieldValue (field fs 2); rank = numberOf (field fs 3) }
 
 -- Question 5, by what the readers of these fields answer.
 pub record JoinsFields (kind : KindField) (start loss : ValueField) (rank : ℕ) (r : VertexFields) : Type 0 where
@@ -59,7 +59,7 @@ pub record ReadsItem (l : List ℕ) (r : ItemLine) : Type 0 where
 
 -- An item row below others: questions 4 to 7.
 pub record TakesItem (l low high : List ℕ) (count starts losses : ℕ) (r : TakenItem) : Type 0 where
-  pub number : (above : Doc) → Table (above .items) low high count → starts ≡ startCount (above .items) → losses ≡ lossCount (above .items)
+  pub number : (above : Doc) → NameKeys (above .items) low high count → starts ≡ startCount (above .items) → losses ≡ lossCount (above .items)
       → r .number ≡ firstNo (itemQuestions above (fieldsOf l))
   pub room : r .number ≡ 0 → count < 64
   pub key : r .number ≡ 0 → r .key ≡ keyOf (itemOf (fieldsOf l) .name)
@@ -93,10 +93,10 @@ pub record ReadsEdge (l : List ℕ) (r : EdgeLine) : Type 0 where
 
 -- An edge row below item rows: questions 4, 5 and 8.
 pub record TakesEdge (l low high : List ℕ) (count : ℕ) (r : TakenEdge) : Type 0 where
-  pub number : (above : Doc) → Table (above .items) low high count
+  pub number : (above : Doc) → NameKeys (above .items) low high count
       → r .number ≡ firstNo (ask 4 (question4 4 (fieldsOf l)) ∷ ask 5 (question5Edge (fieldsOf l)) ∷ ask 8 (question8 above (edgeOf (fieldsOf l))) ∷ [])
-  pub from : r .number ≡ 0 → (items : List ItemRow) → Table items low high count → r .from ≡ numberIn items (edgeOf (fieldsOf l) .from)
-  pub to : r .number ≡ 0 → (items : List ItemRow) → Table items low high count → r .to ≡ numberIn items (edgeOf (fieldsOf l) .to)
+  pub from : r .number ≡ 0 → (items : List ItemRow) → NameKeys items low high count → r .from ≡ numberIn items (edgeOf (fieldsOf l) .from)
+  pub to : r .number ≡ 0 → (items : List ItemRow) → NameKeys items low high count → r .to ≡ numberIn items (edgeOf (fieldsOf l) .to)
   pub ends : r .number ≡ 0 → (r .from < count) × (r .to < count)
   pub colour : r .number ≡ 0 → r .colour ≡ edgeOf (fieldsOf l) .colour
   pub most : r .number ≡ 0 → r .colour < 8

@@ -6,7 +6,7 @@ use Prim.Native.Nat.{_+_, _*_, _^_}
 use lib.Bits.{or-lt}
 use lib.ListN.{length, length-map}
 use borrow.Author.Needs.{needs}
-use Rattle.words.specs.Inner.Words.{room}
+use Rattle.family_words.specs.Inner.Words.{room}
 use Rattle.tables.proofs.Settling.{Settling, settling-none, settling-same, settling-more, settled, falls-same, falls-more}
 use Rattle.tables.proofs.settle.Statement.{statement}
 use Rattle.tables.proofs.settle.Tie as tie

@@ -12,7 +12,7 @@ use Rattle.setup.specs.Setup.{rowsAt}
 use Rattle.derivations.specs.Derivation.{Rule, Derivation}
 use Rattle.derivations.specs.Inner.Admits.{Admits}
 use Rattle.families.specs.Inner.Masks.{Picked}
-use Rattle.words.specs.Inner.Words.{room}
+use Rattle.family_words.specs.Inner.Words.{room}
 use Rattle.lanes.specs.Inner.Lanes.{Lane, Needed, tableWords}
 use Rattle.families.specs.Inner.Family.{familyWords}
 

@@ -2,7 +2,7 @@
 use borrow.Author.Needs.{needs}
 use native.Mathlib.Omega.{arith}
 use Rattle.written.proofs.Writing.{wrote-then, room-then}
-use Rattle.writing.proofs.Texts.{decimal-one, decimal-more}
+use Rattle.writing.proofs.Digits.{decimal-one, decimal-more}
 use Prim.Native.Nat.{ℕ, _+_, _/_, _%_, _<_}
 use mathlib.Core.List.{[], _∷_}
 use lib.ListN.{length-append}

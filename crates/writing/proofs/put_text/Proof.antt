@@ -4,19 +4,19 @@ use Prim.Native.Nat.{_-_, _≤_}
 use mathlib.Core.Path.{_≡_, refl}
 use native.Mathlib.Omega.{arith}
 use lib.ListN.{length}
-use Rattle.writing.proofs.Texts.{TextWriting, text-none, text-more, text-end}
+use Rattle.written.proofs.Copying.{Copying, copying-none, copying-more, copying-end}
 use Rattle.writing.proofs.put_text.Statement.{statement}
 use Rattle.writing.proofs.put_text.Tie as tie
 
 -- The first i bytes are written, and the others go from at + i on.
 abbrev Inv-loop : tie.InvT-loop
-Inv-loop text out₀ at i₀ i-end out i = (i ≤ length text) × (i-end ≡ length text) × TextWriting text out₀ at out i
+Inv-loop text out₀ at i₀ i-end out i = (i ≤ length text) × (i-end ≡ length text) × Copying text out₀ at out i
 
 abbrev μ-loop : tie.MeasureT-loop
 μ-loop text out₀ at i₀ i-end out i = length text - i
 
 loop-holds : tie.Need-loop-holds Inv-loop μ-loop
-loop-holds c = (omega arith, refl, text-none _ _ _)
+loop-holds c = (omega arith, refl, copying-none _ _ _)
 
 shared-slice-read-out : tie.Need-shared-slice-read-out Inv-loop μ-loop
 shared-slice-read-out c = search needs
@@ -36,7 +36,7 @@ loop-less c = search needs
 loop-again : tie.Need-loop-again Inv-loop μ-loop
 loop-again c =
     let b = c .before .before in
-    (search needs, b .loop .inv .1, text-more (b .before .args .text .now) (b .before .args .out .now) (b .before .args .at) (b .loop .out) (b .loop .i) (search needs) (b .loop .inv .2))
+    (search needs, b .loop .inv .1, copying-more (b .before .args .text .now) (b .before .args .out .now) (b .before .args .at) (b .loop .out) (b .loop .i) (search needs) (b .loop .inv .2))
 
 add-result : tie.Need-add-result Inv-loop μ-loop
 add-result c = search needs
@@ -48,7 +48,7 @@ returns : tie.Need-returns Inv-loop μ-loop
 returns c =
     let b = c .before in
     let e : b .loop .i ≡ length (b .before .args .text .now) = omega arith in
-    text-end (b .before .args .text .now) (b .before .args .out .now) (b .before .args .at) (b .loop .out) (b .loop .i) e (b .loop .inv .2)
+    copying-end (b .before .args .text .now) (b .before .args .out .now) (b .before .args .at) (b .loop .out) (b .loop .i) e (b .loop .inv .2)
 
 pub put-text-spec : {M : Type 1} → statement M
 put-text-spec =

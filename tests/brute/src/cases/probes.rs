@@ -106,7 +106,7 @@ pub fn hand_ins(rng: &mut Rng, right: &[u64], allowed: u64, count: u64) -> Vec<H
         add("strange ones repeated", with(&[strange, 0, strange, 0, allowed, allowed, strange]));
     }
     add("the empty set", vec![0]);
-    add("strays", with(&[rng.number() & all, rng.number() & allowed, rng.number() & allowed]));
+    add("outsiders", with(&[rng.number() & all, rng.number() & allowed, rng.number() & allowed]));
     let single = 1 << rng.below(count.clamp(1, PLACES as u64) as usize);
     add("single items", vec![single, single & allowed, all, allowed]);
     add("huge numbers", with(&[u64::MAX, 1 << 63, !allowed, rng.number(), u64::MAX - 1]));

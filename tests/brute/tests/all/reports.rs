@@ -130,7 +130,8 @@ fn no_easier_route() {
         }
         let [with, whole, edges] = [setup, whole, edges].map(|setup| Calls::new(&setup));
         for item in 0..with.setup().count {
-            let [with, whole, edges] = [&with, &whole, &edges].map(|calls| calls.score(item).unwrap());
+            let [with, whole, edges] =
+                [&with, &whole, &edges].map(|calls| calls.score(item).unwrap());
             assert!(with <= whole, "{}", case.label);
             easier += u32::from(edges < with);
         }

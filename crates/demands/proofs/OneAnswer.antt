@@ -1,0 +1,154 @@
+-- Every contract determines its answer: two answers that meet it, on the same input, are equal. By cases on the questions; where one refuses,
+-- both answers are its refusal, and where none does, what the answers speak of is unique.
+-- Assumes nothing.
+use mathlib.Core.Path.{_≡_, sym, ap, subst, _∙_}
+use mathlib.Core.Bool.{true, false}
+use mathlib.Core.List.{List, [], _∷_}
+use mathlib.Core.Logic.{_⊎_, inl, inr, ⊎-elim}
+use mathlib.Core.HLevel.{Stable}
+use Prim.Native.Nat.{ℕ, _+_, _≤_, _<_}
+use lib.ListN.{length}
+use Rattle.vertex_set.specs.Set.{Member}
+use Rattle.vertex_set.proofs.Cases.{less-or}
+use Rattle.setup.specs.declared.Setup.{Setup}
+use Rattle.formed.specs.WellFormed.{WellFormed}
+use Rattle.setup.specs.Calls.{Refuses, Same, Inside, Untouched}
+use Rattle.derivations.specs.Access.{Step, HasAccess}
+use Rattle.derivations.specs.Both.{ruleOf}
+use Rattle.derivations.proofs.Way.{way-unique}
+use Rattle.access.specs.Answers.{WayWritten}
+use Rattle.answers.specs.Answers.{BasesWritten}
+use Rattle.reference.proofs.Unique.{closure-unique, base-unique, score-unique, counts-unique}
+use Rattle.demands.specs.OneAnswer.{OneSetAnswer, SameWay, OneWayAnswer, SameBases, OneBasesAnswer, OneScoreAnswer, OneMarksAnswer}
+use Rattle.demands.proofs.Stable.{stable-number, stable-list, by-cases}
+
+-- Questions 12 and 13, which all calls with a target ask first.
+pub by-target : (s : Setup) (target : ℕ) {Q : Type 0} → Stable Q → ((WellFormed s → ⊥) → Q) → (WellFormed s → s .count ≤ target → Q)
+    → (WellFormed s → target < s .count → Q) → Q
+by-target s target stable malformed noTarget answers =
+    by-cases (WellFormed s) stable (λ w. ⊎-elim (answers w) (noTarget w) (less-or target (s .count))) malformed
+
+module _ {n n′ : ℕ} {v v′ : List ℕ} where
+  same-stable : Stable (Same n n′ v v′)
+  same-stable k =
+      record { number = stable-number n n′ (λ j. k (λ h. j (h .number))); values = stable-list v v′ (λ j. k (λ h. j (h .values))) }
+
+  -- two answers with the same number and the same values
+  alike : {q : ℕ} {x : List ℕ} → n ≡ q → v ≡ x → n′ ≡ q → v′ ≡ x → Same n n′ v v′
+  alike e f e′ f′ = record { number = e ∙ sym e′; values = f ∙ sym f′ }
+
+  refused : {q : ℕ} → Refuses q n v → Refuses q n′ v′ → Same n n′ v v′
+  refused a b = alike (a .numbered) (a .empty) (b .numbered) (b .empty)
+
+-- ---- closure and lost set, score and risk, marks
+
+pub one-set-answer : OneSetAnswer
+one-set-answer loss s set n n′ v v′ a b =
+    by-cases (WellFormed s) same-stable
+    (λ w. by-cases (Inside s set) same-stable (answered w) (λ o. refused (a .outside w o) (b .outside w o)))
+    (λ m. refused (a .malformed m) (b .malformed m))
+  where
+    answered : WellFormed s → Inside s set → Same n n′ v v′
+    answered w i =
+        let x = a .answers w i in
+        let y = b .answers w i in
+        let e = closure-unique (ruleOf loss (s .graph)) set (x .0) (y .0) (x .3) (y .3) in
+        alike (x .1) (x .2) (y .1) (y .2 ∙ ap (λ (r : ℕ). r ∷ []) (sym e))
+
+pub one-score-answer : OneScoreAnswer
+one-score-answer loss s target n n′ v v′ a b =
+    by-target s target same-stable (λ m. refused (a .malformed m) (b .malformed m)) (λ w o. refused (a .noTarget w o) (b .noTarget w o)) answered
+  where
+    answered : WellFormed s → target < s .count → Same n n′ v v′
+    answered w l =
+        let x = a .answers w l in
+        let y = b .answers w l in
+        let e = score-unique loss s (s .graph) target (x .0) (y .0) (x .3) (y .3) in
+        alike (x .1) (x .2) (y .1) (y .2 ∙ ap (λ (r : ℕ). r ∷ []) (sym e))
+
+pub one-marks-answer : OneMarksAnswer
+one-marks-answer loss s target handed n n′ v v′ a b =
+    by-target s target same-stable (λ m. refused (a .malformed m) (b .malformed m)) (λ w o. refused (a .noTarget w o) (b .noTarget w o)) answered
+  where
+    answered : WellFormed s → target < s .count → Same n n′ v v′
+    answered w l =
+        let x = a .answers w l in
+        let y = b .answers w l in
+        let e = counts-unique loss s (s .graph) target handed (x .0) (x .1) (x .2) (x .3) (x .4) (y .0) (y .1) (y .2) (y .3) (y .4) (x .7) (y .7) in
+        alike (x .5) (x .6) (y .5) (y .6 ∙ cc)
+
+-- ---- both lists
+
+module _ {n n′ : ℕ} {v v′ x x′ : List ℕ} where
+  bases-stable : Stable (SameBases n n′ v v′ x x′)
+  bases-stable k = record { answer = same-stable (λ j. k (λ h. j (h .answer))); list = stable-list x x′ (λ j. k (λ h. j (h .list))) }
+
+  bases-refused : {q : ℕ} {a : List ℕ} → Refuses q n v × (x ≡ a) → Refuses q n′ v′ × (x′ ≡ a) → SameBases n n′ v v′ x x′
+  bases-refused a b = record { answer = refused (a .0) (b .0); list = a .1 ∙ sym (b .1) }
+
+  bases-written : (opening lockout a : List ℕ) → BasesWritten opening lockout n v a x → BasesWritten opening lockout n′ v′ a x′ → SameBases n n′ v v′ x x′
+  bases-written opening lockout a p q =
+      ⊎-elim (λ k. bases-refused (p .short k) (q .short k)) (λ k. fit (p .room k) (q .room k)) (less-or (length a) (length opening + length lockout))
+    where
+      fit : {m : ℕ} {u z : List ℕ} → (n ≡ m) × (v ≡ u) × (x ≡ z) → (n′ ≡ m) × (v′ ≡ u) × (x′ ≡ z) → SameBases n n′ v v′ x x′
+      fit e f = record { answer = alike (e .0) (e .1) (f .0) (f .1); list = e .2 ∙ sym (f .2) }
+
+pub one-bases-answer : OneBasesAnswer
+one-bases-answer s target n n′ v v′ a x x′ c d =
+    by-target s target bases-stable (λ m. bases-refused (c .malformed m) (d .malformed m)) (λ w o. bases-refused (c .noTarget w o) (d .noTarget w o)) answered
+  where
+    answered : WellFormed s → target < s .count → SameBases n n′ v v′ x x′
+    answered w l =
+        let p = c .answers w l in
+        let q = d .answers w l in
+        let e = base-unique false s (s .graph) target (q .0) (p .0) (q .2) (p .2) in
+        let f = base-unique true s (s .graph) target (q .1) (p .1) (q .3) (p .3) in
+        bases-written (p .0) (p .1) a (p .4)
+        (subst (λ (k : List ℕ). BasesWritten (p .0) k n′ v′ a x′) f (subst (λ (k : List ℕ). BasesWritten k (q .1) n′ v′ a x′) e (q .4)))
+
+-- ---- the way in
+
+module _ {n n′ : ℕ} {v v′ x x′ y y′ : List ℕ} where
+  way-stable : Stable (SameWay n n′ v v′ x x′ y y′)
+  way-stable k =
+      record {
+        answer = same-stable (λ j. k (λ h. j (h .answer)));
+        vertices = stable-list x x′ (λ j. k (λ h. j (h .vertices)));
+        colours = stable-list y y′ (λ j. k (λ h. j (h .colours)));
+      }
+
+  way-untouched : {a b : List ℕ} → Same n n′ v v′ → Untouched a x b y → Untouched a x′ b y′ → SameWay n n′ v v′ x x′ y y′
+  way-untouched h p q = record { answer = h; vertices = p .first ∙ sym (q .first); colours = p .second ∙ sym (q .second) }
+
+  way-refused : {q : ℕ} {a b : List ℕ} → Refuses q n v × Untouched a x b y → Refuses q n′ v′ × Untouched a x′ b y′ → SameWay n n′ v v′ x x′ y y′
+  way-refused p q = way-untouched (refused (p .0) (q .0)) (p .1) (q .1)
+
+  way-written : (d : List Step) (a b : List ℕ) → WayWritten d n v a x b y → WayWritten d n′ v′ a x′ b y′ → SameWay n n′ v v′ x x′ y y′
+  way-written d a b p q =
+      ⊎-elim (λ k. short (inl k)) (λ k. ⊎-elim (λ j. short (inr j)) (λ j. fit (p .room k j) (q .room k j)) (less-or (length b) (length d))) (less-or (length a) (length d))
+    where
+      short : (length a < length d) ⊎ (length b < length d) → SameWay n n′ v v′ x x′ y y′
+      short k = way-refused (p .short k) (q .short k)
+
+      fit : {m : ℕ} {u z t : List ℕ} → (n ≡ m) × (v ≡ u) × (x ≡ z) × (y ≡ t) → (n′ ≡ m) × (v′ ≡ u) × (x′ ≡ z) × (y′ ≡ t) → SameWay n n′ v v′ x x′ y y′
+      fit e f = record { answer = alike (e .0) (e .1) (f .0) (f .1); vertices = e .2 ∙ sym (f .2); colours = e .3 ∙ sym (f .3) }
+
+pub one-way-answer : OneWayAnswer
+one-way-answer s target set n n′ v v′ a x x′ b y y′ c d =
+    by-target s target way-stable (λ m. way-refused (c .malformed m) (d .malformed m)) (λ w o. way-refused (c .noTarget w o) (d .noTarget w o))
+    (λ w l. by-cases (Inside s set) way-stable
+    (λ i. by-cases (HasAccess (s .graph) (Member set) target) way-stable (found w l i) (shut w l i))
+    (λ o. way-refused (c .outside w l o) (d .outside w l o)))
+  where
+    found : WellFormed s → target < s .count → Inside s set → HasAccess (s .graph) (Member set) target → SameWay n n′ v v′ x x′ y y′
+    found w l i h =
+        let p = c .found w l i h in
+        let q = d .found w l i h in
+        let e = way-unique (s .graph) target (Member set) (q .0) (p .0) (q .1) (p .1) in
+        way-written (p .0) a b (p .2) (subst (λ (k : List Step). WayWritten k n′ v′ a x′ b y′) e (q .2))
+
+    shut : WellFormed s → target < s .count → Inside s set → (HasAccess (s .graph) (Member set) target → ⊥) → SameWay n n′ v v′ x x′ y y′
+    shut w l i h =
+        let p = c .shut w l i h in
+        let q = d .shut w l i h in
+        way-untouched (alike (p .0) (p .1) (q .0) (q .1)) (p .2) (q .2)

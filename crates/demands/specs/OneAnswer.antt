@@ -1,0 +1,43 @@
+-- For each kind of answer: what two answers that meet the contract have in common, which is all.
+use mathlib.Core.Path.{_≡_}
+use mathlib.Core.Bool.{Bool}
+use mathlib.Core.List.{List}
+use Prim.Native.Nat.{ℕ}
+use Rattle.setup.specs.declared.Setup.{Setup}
+use Rattle.setup.specs.Calls.{Same}
+use Rattle.derivations.specs.Derivation.{Closure}
+use Rattle.derivations.specs.Both.{ruleOf}
+use Rattle.access.specs.Answers.{SetCall, WayCall}
+use Rattle.answers.specs.Answers.{BasesCall, ScoreCall, MarksCall}
+
+-- Closure and lost set.
+abbrev pub OneSetAnswer : Type 0
+OneSetAnswer = (loss : Bool) (s : Setup) (set n n′ : ℕ) (v v′ : List ℕ)
+    → SetCall (λ g. Closure (ruleOf loss g)) s set n v → SetCall (λ g. Closure (ruleOf loss g)) s set n′ v′ → Same n n′ v v′
+
+-- The way in, with both lent lists.
+pub record SameWay (n n′ : ℕ) (v v′ x x′ y y′ : List ℕ) : Type 0 where
+  pub answer : Same n n′ v v′
+  pub vertices : x ≡ x′
+  pub colours : y ≡ y′
+
+abbrev pub OneWayAnswer : Type 0
+OneWayAnswer = (s : Setup) (target set n n′ : ℕ) (v v′ a x x′ b y y′ : List ℕ)
+    → WayCall s target set n v a x b y → WayCall s target set n′ v′ a x′ b y′ → SameWay n n′ v v′ x x′ y y′
+
+-- Both lists, with the lent list.
+pub record SameBases (n n′ : ℕ) (v v′ x x′ : List ℕ) : Type 0 where
+  pub answer : Same n n′ v v′
+  pub list : x ≡ x′
+
+abbrev pub OneBasesAnswer : Type 0
+OneBasesAnswer = (s : Setup) (target n n′ : ℕ) (v v′ a x x′ : List ℕ) → BasesCall s target n v a x → BasesCall s target n′ v′ a x′ → SameBases n n′ v v′ x x′
+
+-- Score and risk.
+abbrev pub OneScoreAnswer : Type 0
+OneScoreAnswer = (loss : Bool) (s : Setup) (target n n′ : ℕ) (v v′ : List ℕ) → ScoreCall loss s target n v → ScoreCall loss s target n′ v′ → Same n n′ v v′
+
+-- Marks.
+abbrev pub OneMarksAnswer : Type 0
+OneMarksAnswer = (loss : Bool) (s : Setup) (target : ℕ) (handed : List ℕ) (n n′ : ℕ) (v v′ : List ℕ)
+    → MarksCall loss s target handed n v → MarksCall loss s target handed n′ v′ → Same n n′ v v′

@@ -1,0 +1,47 @@
+-- Two results that meet the contract of a call for C, on the same input, are the same, with every lent place.
+use mathlib.Core.Path.{_≡_}
+use mathlib.Core.Bool.{true, false}
+use mathlib.Core.List.{List}
+use Prim.Native.Nat.{ℕ}
+use lib.ListN.{length}
+use Rattle.derivations.specs.Access.{AccessFrom}
+use Rattle.derivations.specs.Lockout.{LockoutFrom}
+use Rattle.access.specs.Answers.{SetCall, WayCall}
+use Rattle.answers.specs.Answers.{BasesCall, ScoreCall, MarksCall}
+use Rattle.findings.specs.Answers.{BackdoorCall, IneffectiveCall, InconsistentCall}
+use Rattle.setup.specs.Calls.{Same}
+use Rattle.demands.specs.OneAnswer.{SameWay, SameBases}
+use Rattle.portal_setup.specs.Words.{setupIn}
+use Rattle.portal_results.specs.Told.{Told}
+use Rattle.portal_closures.specs.Check.{CheckCall}
+use Rattle.portal_reading.specs.Reading.{ReadingCall, NameCall}
+
+-- Two structs that tell an answer of the call in as many fields are the same.
+abbrev pub OneResult : (ℕ → List ℕ → Type 0) → Type 0
+OneResult Call = (n n′ : ℕ) (f f′ : List ℕ) → length f ≡ length f′ → Told Call n f → Told Call n′ f′ → Same n n′ f f′
+
+-- The calls on a setup, for every buffer of words.
+pub record OneResultOnSetups (words : List ℕ) : Type 0 where
+  pub check : (r r′ : ℕ) → CheckCall (setupIn words) r → CheckCall (setupIn words) r′ → r ≡ r′
+  pub closure : (set : ℕ) → OneResult (SetCall AccessFrom (setupIn words) set)
+  pub lost : (set : ℕ) → OneResult (SetCall LockoutFrom (setupIn words) set)
+  pub wayIn : (target set n n′ : ℕ) (f f′ a x x′ b y y′ : List ℕ) → length f ≡ length f′
+      → Told (λ number values. WayCall (setupIn words) target set number values a x b y) n f
+      → Told (λ number values. WayCall (setupIn words) target set number values a x′ b y′) n′ f′
+      → SameWay n n′ f f′ x x′ y y′
+  pub lists : (target n n′ : ℕ) (f f′ a x x′ : List ℕ) → length f ≡ length f′
+      → Told (λ number values. BasesCall (setupIn words) target number values a x) n f
+      → Told (λ number values. BasesCall (setupIn words) target number values a x′) n′ f′
+      → SameBases n n′ f f′ x x′
+  pub score : (target : ℕ) → OneResult (ScoreCall false (setupIn words) target)
+  pub risk : (target : ℕ) → OneResult (ScoreCall true (setupIn words) target)
+  pub openings : (target : ℕ) (sets : List ℕ) → OneResult (MarksCall false (setupIn words) target sets)
+  pub lockouts : (target : ℕ) (sets : List ℕ) → OneResult (MarksCall true (setupIn words) target sets)
+  pub backdoor : (item : ℕ) → OneResult (BackdoorCall (setupIn words) item)
+  pub idle : (item : ℕ) → OneResult (IneffectiveCall (setupIn words) item)
+  pub outOfRank : (above below : ℕ) → OneResult (InconsistentCall (setupIn words) above below)
+
+-- The calls on a sheet, for every text.
+pub record OneResultOnSheets (text : List ℕ) : Type 0 where
+  pub reading : (n n′ l l′ : ℕ) (a x x′ : List ℕ) → ReadingCall text n l a x → ReadingCall text n′ l′ a x′ → (n ≡ n′) × (l ≡ l′) × (x ≡ x′)
+  pub name : (item n n′ p p′ k k′ : ℕ) → NameCall text item n p k → NameCall text item n′ p′ k′ → (n ≡ n′) × (p ≡ p′) × (k ≡ k′)

@@ -1,0 +1,108 @@
+// Families of masks as words: bit i of word b stands for the mask b * 64 + i. Here are the
+// operations on whole families, and those by which a loop takes a set of vertices apart.
+ghost use mathlib.Core.Path.{_≡_};
+ghost use Prim.Native.Nat.{_+_, _*_, _<_};
+ghost use lib.ListN.{length};
+ghost use Rattle.vertex_set.specs.Set.{Member};
+ghost use Rattle.families.specs.Inner.Family.{familyWords};
+ghost use Rattle.family_words.specs.Inner.Words.{At, FamilyWhere, Merged, mergedWord, Joined, VertexOf, Without};
+use families::WORDS;
+
+// Every word of the family becomes x.
+pub fn set_all(d: &mut [u64], x: u64)
+    requires { ⌜ length (now d) ≡ familyWords ⌝ }
+    ensures { λ _. ⌜ FamilyWhere (λ b i. Member x i) (now (d .exit)) ⌝ }
+{
+    for b in 0..WORDS {
+        d[b] = x;
+    }
+}
+
+// The family becomes a copy of the other.
+pub fn copy_in(d: &mut [u64], s: &[u64])
+    requires { ⌜ length (now d) ≡ familyWords ⌝ }
+    requires { ⌜ length (now s) ≡ familyWords ⌝ }
+    ensures { λ _. ⌜ now (d .exit) ≡ now (s .entry) ⌝ }
+{
+    for b in 0..WORDS {
+        d[b] = s[b];
+    }
+}
+
+// The bits of both words or, with any, of either.
+fn merged(any: bool, x: u64, y: u64) -> u64
+    ensures { λ r. ⌜ r ≡ mergedWord any x y ⌝ }
+{
+    if any { x | y } else { x & y }
+}
+
+// The family keeps the masks that the other has or, with any, gains them.
+pub fn merge_in(any: bool, d: &mut [u64], s: &[u64])
+    requires { ⌜ length (now d) ≡ familyWords ⌝ }
+    requires { ⌜ length (now s) ≡ familyWords ⌝ }
+    ensures { λ _. ⌜ FamilyWhere (λ b i. Merged any (At (now (d .entry)) b i) (At (now (s .entry)) b i)) (now (d .exit)) ⌝ }
+{
+    for b in 0..WORDS {
+        d[b] = merged(any, d[b], s[b]);
+    }
+}
+
+// The family gains the masks that the other has. Was one of them new?
+pub fn join(d: &mut [u64], s: &[u64]) -> bool
+    requires { ⌜ length (now d) ≡ familyWords ⌝ }
+    requires { ⌜ length (now s) ≡ familyWords ⌝ }
+    ensures { λ r. ⌜ Joined (now (d .entry)) (now (s .entry)) r (now (d .exit)) ⌝ }
+{
+    let mut fresh: u64 = 0;
+    for b in 0..WORDS {
+        let old = d[b];
+        let more = s[b];
+        d[b] = old | more;
+        fresh = fresh | (more & !old);
+    }
+    fresh != 0
+}
+
+// For each of the six bits within a word, the lanes whose number has the bit.
+const PATTERNS: [u64; 6] = [
+    0xAAAA_AAAA_AAAA_AAAA,
+    0xCCCC_CCCC_CCCC_CCCC,
+    0xF0F0_F0F0_F0F0_F0F0,
+    0xFF00_FF00_FF00_FF00,
+    0xFFFF_0000_FFFF_0000,
+    0xFFFF_FFFF_0000_0000,
+];
+
+// The family becomes that of the masks that have the bit k.
+pub fn start_words(d: &mut [u64], k: usize)
+    requires { ⌜ length (now d) ≡ familyWords ⌝ }
+    requires { ⌜ k < 64 ⌝ }
+    ensures { λ _. ⌜ FamilyWhere (λ b i. Member (b * 64 + i) k) (now (d .exit)) ⌝ }
+{
+    if k < 6 {
+        set_all(d, PATTERNS[k]);
+        return;
+    }
+    let j = k - 6;
+    for b in 0..WORDS {
+        let bit = (b >> j) % 2;
+        d[b] = (bit as u64) * 0xFFFF_FFFF_FFFF_FFFF;
+    }
+}
+
+// The lowest vertex of a set that is not empty.
+pub fn lowest(s: u64) -> usize
+    requires { ⌜ (s ≡ 0 → ⊥) ⌝ }
+    ensures { λ r. ⌜ VertexOf s r ⌝ }
+{
+    u64::trailing_zeros(s) as usize
+}
+
+// The set without v, which is one of its vertices.
+pub fn without(s: u64, v: usize) -> u64
+    requires { ⌜ VertexOf s v ⌝ }
+    ensures { λ r. ⌜ Without s v r ⌝ }
+{
+    let one: u64 = 1;
+    s - (one << v)
+}

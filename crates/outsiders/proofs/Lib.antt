@@ -1,0 +1,4 @@
+pub mod Passes
+pub mod Sizes
+pub mod Outsiders
+pub mod Values

@@ -1,4 +1,0 @@
-pub mod Passes
-pub mod Sizes
-pub mod Strays
-pub mod Values

@@ -54,7 +54,7 @@ def looked_for(block):
 # Files that stand on those of the scratch crate.
 ABOVE = """
 answers/Demand3 sheet_format/Meaning portal/Portal determined/Determined demands/Outcomes demands/Sheets demands/Demands reference/Meaning
-report_text/Meaning report_steps/Inner/Steps report_start/Whole portal_closures/Check portal_determined/Determined
+report_text/Meaning written/Rows report_steps/Inner/Steps report_start/Whole portal_closures/Check portal_determined/Determined
 """.split()
 # What Whole cites of the report's steps, with the same type and nothing known: no alteration is about it, and what it says need not be believed.
 AT = """-- What is known at a place of the report: nothing, here.

@@ -1237,6 +1237,16 @@ def ReportMeaning(s):
     return accounts and in_order and base and items and items_rise and score and less and back and idle and pair and below and below_rise
 
 
+# ---- written/Rows
+
+
+def RowWritten(entry, at, row, exit, r):
+    stands = exit[at:][:len(row)] == row
+    many = r == at + len(row)
+    others = exit[:at] == entry[:at] and exit[r:] == entry[r:] and len(exit) == len(entry)
+    return stands and many and others
+
+
 # ---- report_start/Whole: `rest` gives what is left of the report at a place, `places` are the places; the tables as they were and as they are
 
 

@@ -26,7 +26,7 @@ printing-begun sheet opening₀ lockout₀ opening lockout list out r b lo ll l 
     record { going = record { setup = readSheet sheet .setup; here = b .here list l }; longOpening = lo; longLockout = ll; longList = l; longOut = o }
 
 pub printing-more : (sheet : List ℕ) (f : Facts) (opening lockout list out : List ℕ) (c : Cursor) (list′ out′ : List ℕ) (r : Step)
-    → Printing sheet f opening lockout list out c → Filled sheet f opening lockout list c list′ out′ r → length list′ ≡ length list → length out′ ≡ length out
+    → Printing sheet f opening lockout list out c → Filled sheet f opening lockout list c out list′ out′ r → length list′ ≡ length list → length out′ ≡ length out
     → Printing sheet f opening lockout list′ out′ (r .cursor)
 printing-more sheet f opening lockout list out c list′ out′ r p w l o =
     record {

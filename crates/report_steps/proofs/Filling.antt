@@ -4,11 +4,9 @@ use mathlib.Core.Path.{_≡_, refl, sym, ap, _∙_}
 use mathlib.Core.List.{List, _++_}
 use Prim.Native.Nat.{ℕ, _+_, _≤_, _<_}
 use native.Mathlib.Omega.{arith}
-use lib.ListN.{length, take}
-use lib.Seq.{sets-eq, take-append-seam}
+use lib.ListN.{length, take, length-take}
 use Rattle.setup.specs.declared.Setup.{Setup}
-use Rattle.written.specs.Inner.{Wrote}
-use Rattle.written.proofs.Writing.{wrote-length}
+use Rattle.written.specs.Rows.{RowWritten}
 use Rattle.sheet_format.specs.Names.{nameOf}
 use Rattle.report_facts.specs.declared.Facts.{Facts}
 use Rattle.report_facts.specs.Inner.Parts.{Part}
@@ -69,27 +67,28 @@ pub went-inside : (sheet : List ℕ) (f : Facts) (opening lockout list : List �
 went-inside sheet f opening lockout list c entry at list′ exit r g w = w .part (g .setup) (g .here) .inside
 
 -- the bytes that were written from the front on
-front : (entry xs exit : List ℕ) (r : ℕ) → Wrote entry 0 xs exit r → r ≤ length exit → take r exit ≡ xs
-front entry xs exit r w h =
-    let n = w .next in
-    let l = wrote-length entry 0 xs exit r w in
-    let e = w .exit ∙ sets-eq xs entry 0 (omega arith) in
-    let z : 0 + length xs ≡ length xs = omega arith in
-    rw (e, n, z) (take-append-seam xs _)
+front : (entry xs exit : List ℕ) (r : ℕ) → RowWritten entry 0 xs exit r → take r exit ≡ xs
+front entry xs exit r w = let e : r ≡ length xs = omega (arith, w .many) in rw e (w .stands)
 
 pub filled : (sheet : List ℕ) (f : Facts) (opening lockout list : List ℕ) (c : Cursor) (entry list₀ out₀ : List ℕ) (first : Step) (list′ out : List ℕ) (d : Cursor) (at : ℕ)
-    → Went sheet f opening lockout list c entry 0 list₀ out₀ first
+    → Going sheet f opening lockout list c → Went sheet f opening lockout list c entry 0 list₀ out₀ first
     → Filling sheet f opening lockout list₀ (first .cursor) out₀ (first .at) list′ out d at
-    → Filled sheet f opening lockout list c list′ out (record { cursor = d; at = at })
-filled sheet f opening lockout list c entry list₀ out₀ first list′ out d at w v =
+    → Filled sheet f opening lockout list c entry list′ out (record { cursor = d; at = at })
+filled sheet f opening lockout list c entry list₀ out₀ first list′ out d at g w v =
     record {
-      part = λ s a.
-          let p = part-then entry 0 _ _ out₀ (first .at) (w .part s a) _ out at (v .part s (w .here s a)) in
-          p .split ∙ ap (λ y. y ++ restOf (nameOf sheet) s d) (sym (front entry (p .part) out at (p .wrote) (p .inside)));
+      part = λ s a. let p = both s a in p .split ∙ ap (λ y. y ++ restOf (nameOf sheet) s d) (sym (front entry (p .part) out at (p .wrote)));
       here = λ s a. v .here s (w .here s a);
-      inside = v .inside;
+      written = let p = both (g .setup) (g .here) in rw (front entry (p .part) out at (p .wrote)) (p .wrote);
       less = λ z. let l = w .less z in let m = v .less in omega arith;
     }
+  where
+    -- the first step's part and those of the steps behind it
+    both : (s : Setup) → At sheet s f opening lockout list c → Part entry 0 (restOf (nameOf sheet) s c) (restOf (nameOf sheet) s d) out at
+    both s a = part-then entry 0 _ _ out₀ (first .at) (w .part s a) _ out at (v .part s (w .here s a))
+
+pub filled-inside : (sheet : List ℕ) (f : Facts) (opening lockout list : List ℕ) (c : Cursor) (entry list′ out : List ℕ) (r : Step)
+    → Filled sheet f opening lockout list c entry list′ out r → r .at ≤ length out
+filled-inside sheet f opening lockout list c entry list′ out r w = omega (arith, length-take (r .at) out, w .written .many)
 
 -- where something is left, steps are
 pub left-some : (n : ℕ) (c : Cursor) → (c ≡ cursor.End → ⊥) → 0 < stepsLeft n c

@@ -212,7 +212,7 @@ pub fn fill(
 ) -> Step
     requires { ⌜ Going (now sheet) facts (now opening) (now lockout) (now list) cursor ⌝ }
     requires { ⌜ 4096 ≤ length (now out) ⌝ }
-    ensures { λ r. ⌜ Filled (now (sheet .entry)) facts (now (opening .entry)) (now (lockout .entry)) (now (list .entry)) cursor (now (list .exit)) (now (out .exit)) r ⌝ }
+    ensures { λ r. ⌜ Filled (now (sheet .entry)) facts (now (opening .entry)) (now (lockout .entry)) (now (list .entry)) cursor (now (out .entry)) (now (list .exit)) (now (out .exit)) r ⌝ }
 {
     let first = advance(facts, cursor, sheet, opening, lockout, list, out, 0);
     let mut c = first.cursor;

@@ -47,7 +47,9 @@ same-length-2 : tie.Need-same-length-2 Inv-loop μ-loop
 same-length-2 c = c .before .before .before .loop .inv .long ∙ c .before .before .before .before .before .before .before .before .advance .kept .1 .1 .1 .1 .1 .1 .0
 
 returns : tie.Need-returns Inv-loop μ-loop
-returns c = filled _ _ _ _ _ _ _ _ _ _ _ _ _ _ (c .before .before .before .before .before .before .before .before .advance .ensures) (c .before .before .before .loop .inv)
+returns c =
+    let a = c .before .before .before .before .before .before .before .before in
+    filled _ _ _ _ _ _ _ _ _ _ _ _ _ _ (a .before .before .before .before .before .before .before .before .pre .0) (a .advance .ensures) (c .before .before .before .loop .inv)
 
 same-length-3 : tie.Need-same-length-3 Inv-loop μ-loop
 same-length-3 c = c .before .loop .inv .longList ∙ c .before .before .before .before .before .before .advance .kept .1 .1 .1 .1 .1 .0
@@ -56,7 +58,9 @@ same-length-4 : tie.Need-same-length-4 Inv-loop μ-loop
 same-length-4 c = c .before .loop .inv .long ∙ c .before .before .before .before .before .before .advance .kept .1 .1 .1 .1 .1 .1 .0
 
 returns-2 : tie.Need-returns-2 Inv-loop μ-loop
-returns-2 c = filled _ _ _ _ _ _ _ _ _ _ _ _ _ _ (c .before .before .before .before .before .before .advance .ensures) (c .before .loop .inv)
+returns-2 c =
+    let a = c .before .before .before .before .before .before in
+    filled _ _ _ _ _ _ _ _ _ _ _ _ _ _ (a .before .before .before .before .before .before .before .before .pre .0) (a .advance .ensures) (c .before .loop .inv)
 
 pub fill-spec : {M : Type 1} → statement M
 fill-spec =

@@ -6,6 +6,7 @@ use Prim.Native.Nat.{ℕ, _+_, _-_, _*_, _^_, _≤_, _<_}
 use lib.ListN.{length, take}
 use Rattle.setup.specs.declared.Setup.{Setup}
 use Rattle.bases.specs.Score.{Values}
+use Rattle.written.specs.Rows.{RowWritten}
 use Rattle.sheet_format.specs.Names.{nameOf}
 use Rattle.report_facts.specs.declared.Facts.{Facts}
 use Rattle.report_facts.specs.Inner.Facts.{FactsOf, TablesOf}
@@ -83,9 +84,9 @@ pub record PairsWent (sheet : List ℕ) (f : Facts) (v : ℕ) (entry : List ℕ)
   pub more : v < f .count → r .cursor ≡ cursor.Pairs (v + 1)
   pub last : f .count ≤ v → r .cursor ≡ cursor.End
 
--- The first bytes of `out` are the next part of the report, and what is left of it is left at the new cursor.
-pub record Filled (sheet : List ℕ) (f : Facts) (opening lockout list : List ℕ) (c : Cursor) (list′ out : List ℕ) (r : Step) : Type 0 where
+-- The first bytes of `out` are the next part of the report, written as a row is, and what is left of it is left at the new cursor.
+pub record Filled (sheet : List ℕ) (f : Facts) (opening lockout list : List ℕ) (c : Cursor) (entry list′ out : List ℕ) (r : Step) : Type 0 where
   pub part : (s : Setup) → At sheet s f opening lockout list c → restOf (nameOf sheet) s c ≡ take (r .at) out ++ restOf (nameOf sheet) s (r .cursor)
   pub here : (s : Setup) → At sheet s f opening lockout list c → At sheet s f opening lockout list′ (r .cursor)
-  pub inside : r .at ≤ length out
+  pub written : RowWritten entry 0 (take (r .at) out) out (r .at)
   pub less : 0 < stepsLeft (f .count) c → stepsLeft (f .count) (r .cursor) < stepsLeft (f .count) c

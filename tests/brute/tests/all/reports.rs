@@ -2,6 +2,7 @@
 
 use crate::calls;
 use brute::cases::bounds::{bounds, longest_reports};
+use brute::cases::buffers::{full_buffers, BUFFER, ROOM};
 use brute::cases::random::{large_sheets, random_sheets};
 use brute::report::report;
 
@@ -111,4 +112,17 @@ fn the_longest_reports() {
     assert!(rows[0] > 20_000 && rows[1] > 20_000 && rows[2] > most, "{sizes:?}");
     assert!(sizes[2].1 > 16_000_000, "{sizes:?}");
     assert_eq!(sizes[3].2, 272, "{sizes:?}");
+}
+
+/// Reports that fill the program's buffer up to the end of a row exactly, and to one byte less and
+/// more; and likewise where the program last begins a new list.
+#[test]
+fn full_buffers_end_at_rows() {
+    let reports: Vec<Vec<u8>> = full_buffers().iter().map(|case| report(&case.sheet)).collect();
+    for end in [BUFFER - ROOM, BUFFER] {
+        for end in [end - 1, end, end + 1] {
+            let row_ends = |text: &&Vec<u8>| text.len() > end && text[end - 1] == b'\n';
+            assert_eq!(reports.iter().filter(row_ends).count(), 1, "{end}");
+        }
+    }
 }

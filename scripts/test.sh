@@ -15,6 +15,9 @@ rt fmt --check
 echo "test: contracts"
 python3 scripts/contracts.py
 
+echo "test: rows, straight into the bytes that go out"
+python3 scripts/rows.py
+
 echo "test: the map of the crates"
 python3 scripts/map.py
 

@@ -1292,6 +1292,16 @@ def UnmixedPrints(sheet):
     return whole and marked and alike and same and prints
 
 
+# ---- written/Rows
+
+
+def RowWritten(entry, at, row, exit, r):
+    stands = exit[at:][:len(row)] == row
+    many = r == at + len(row)
+    others = exit[:at] == entry[:at] and exit[at + len(row):] == entry[at + len(row):] and len(exit) == len(entry)
+    return stands and many and others
+
+
 # ---- report_writer/Whole: `rest` gives what is left of the report at a place, `places` are the places; the tables as they were and as they are
 
 

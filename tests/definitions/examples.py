@@ -830,6 +830,30 @@ def of_meaning(D):
     ]
 
 
+def of_rows(D):
+    """A row of two bytes, 7 and 8, written into a buffer of six from place 2 on."""
+    entry = [1, 2, 3, 4, 5, 6]
+    wrong = [
+        ("a byte late", [1, 2, 3, 7, 8, 6], 4),
+        ("a byte early", [1, 7, 8, 4, 5, 6], 4),
+        ("its last byte another", [1, 2, 7, 9, 5, 6], 4),
+        ("a byte in front changed", [1, 0, 7, 8, 5, 6], 4),
+        ("a byte behind changed", [1, 2, 7, 8, 0, 6], 4),
+        ("the rest cleared", [1, 2, 7, 8, 0, 0], 4),
+        ("counted one short", [1, 2, 7, 8, 5, 6], 3),
+        ("counted one more", [1, 2, 7, 8, 5, 6], 5),
+        ("counted from the front", [1, 2, 7, 8, 5, 6], 2),
+    ]
+    full = [1, 2, 3, 4, 7, 8]
+    return [
+        ("row: written from place 2 on", lambda: D.RowWritten(entry, 2, [7, 8], [1, 2, 7, 8, 5, 6], 4), True),
+        ("row: up to the buffer's end", lambda: D.RowWritten(entry, 4, [7, 8], full, 6), True),
+        ("row: none, and nothing changed", lambda: D.RowWritten(entry, 3, [], entry, 3), True),
+        ("not row: none, and a byte changed", lambda: D.RowWritten(entry, 3, [], [1, 2, 3, 0, 5, 6], 3), False),
+        ("not row: a buffer that grew", lambda: D.RowWritten(entry[:4], 4, [7, 8], full, 6), False),
+    ] + [("not row: " + name, lambda x=x, r=r: D.RowWritten(entry, 2, [7, 8], x, r), False) for name, x, r in wrong]
+
+
 def of_whole(D):
     """The report's parts."""
     rest = {"Start": [1, 2, 3], "Middle": [3], "End": []}
@@ -887,7 +911,7 @@ def of_refusals(D):
 
 
 GROUPS = {
-    "far": [of_sets, of_setups, of_well_formed, of_parts, of_full_marks, of_whole],
+    "far": [of_sets, of_setups, of_well_formed, of_parts, of_full_marks, of_rows, of_whole],
     "one": [of_one],
     "sums": [of_sums],
     "bench": [of_derivations, of_ways, of_bases, of_scores, of_marks, of_set_calls, of_way_calls, of_base_calls, of_score_calls, of_demand3]

@@ -8,7 +8,7 @@ use Rattle.sheet_format.specs.Read.{readSheet}
 use Rattle.report_facts.specs.declared.Facts.{Facts}
 use Rattle.report_writer.specs.declared.steps.Cursor.{Cursor}
 use Rattle.report_writer.specs.declared.steps.Step.{Step}
-use Rattle.report_writer.specs.Inner.Steps.{CanStep, Filled}
+use Rattle.report_writer.specs.Inner.Steps.{CanStep, StepTaken}
 use Rattle.report_writer.specs.declared.start.Report.{Report}
 use Rattle.report_writer.specs.Whole.{Begun}
 
@@ -26,7 +26,7 @@ printing-begun sheet opening₀ lockout₀ opening lockout list out r b lo ll l 
     record { going = record { setup = readSheet sheet .setup; here = b .here list l }; longOpening = lo; longLockout = ll; longList = l; longOut = o }
 
 pub printing-more : (sheet : List ℕ) (f : Facts) (opening lockout list out : List ℕ) (c : Cursor) (list′ out′ : List ℕ) (r : Step)
-    → Printing sheet f opening lockout list out c → Filled sheet f opening lockout list c list′ out′ r → length list′ ≡ length list → length out′ ≡ length out
+    → Printing sheet f opening lockout list out c → StepTaken sheet f opening lockout list c out 0 list′ out′ r → length list′ ≡ length list → length out′ ≡ length out
     → Printing sheet f opening lockout list′ out′ (r .cursor)
 printing-more sheet f opening lockout list out c list′ out′ r p w l o =
     record {

@@ -7,7 +7,9 @@ use native.Mathlib.Omega.{arith}
 use lib.ListN.{length, getD, drop}
 use lib.Seq.{drop-cons, drop-length}
 use Rattle.written.specs.Inner.{Wrote}
+use Rattle.written.specs.Rows.{RowWritten}
 use Rattle.written.proofs.Writing.{Writing, writing-none, writing-part, writing-room, writing-end}
+use Rattle.written.proofs.Rows.{row-written}
 use Rattle.sheet_format.specs.Rows.{lineText}
 use Rattle.writing.specs.Inner.{ended}
 
@@ -46,10 +48,13 @@ module _ (fields : List (List ℕ)) (entry : List ℕ) (at i : ℕ) (out : List 
   last-room e room =
       writing-room entry at (lineText fields) (ended (getD fields i []) 10) [] out next (rw (last-field e) at w) room
 
-  pub last-end : suc i ≡ length fields → (after : List ℕ) (r : ℕ) → Wrote out next (ended (getD fields i []) 10) after r → Wrote entry at (lineText fields) after r
-  last-end e after r v =
-      writing-end entry at (lineText fields) [] after r refl
-      (writing-part entry at (lineText fields) (ended (getD fields i []) 10) [] out next after r (rw (last-field e) at w) v)
+  pub last-end : suc i ≡ length fields → at + length (lineText fields) ≤ length entry → (after : List ℕ) (r : ℕ) → Wrote out next (ended (getD fields i []) 10) after r
+      → RowWritten entry at (lineText fields) after r
+  last-end e room after r v =
+      row-written entry at (lineText fields) after r
+      (writing-end entry at (lineText fields) [] after r refl
+      (writing-part entry at (lineText fields) (ended (getD fields i []) 10) [] out next after r (rw (last-field e) at w) v))
+      room
 
 pub line-none : (fields : List (List ℕ)) (entry : List ℕ) (at : ℕ) → LineWriting fields entry at 0 entry at
 line-none fields entry at = writing-none entry at (lineText fields)

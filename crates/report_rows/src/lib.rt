@@ -4,7 +4,7 @@ pub mod fields;
 
 ghost use Prim.Native.Nat.{_+_, _≤_};
 ghost use lib.ListN.{length};
-ghost use Rattle.written.specs.Inner.{Wrote};
+ghost use Rattle.written.specs.Rows.{RowWritten};
 ghost use Rattle.report_text.specs.Rows.{setRow, scoreRow, pairRow, refusedRow};
 ghost use Rattle.sheet_format.specs.Names.{nameOf};
 ghost use Rattle.report_rows.specs.Inner.Writing.{NamePlace, NamePlaces};
@@ -33,7 +33,7 @@ pub fn put_set_row(
     requires { ⌜ NamePlace (now sheet) (now from) (now to) (row .target) ⌝ }
     requires { ⌜ NamePlaces (now sheet) (now from) (now to) (row .set) ⌝ }
     requires { ⌜ at + length (setRow (nameOf (now sheet)) (row .loss) (row .target) (row .set) (row .sum)) ≤ length (now out) ⌝ }
-    ensures { λ r. ⌜ Wrote (now (out .entry)) at (setRow (nameOf (now (sheet .entry))) (row .loss) (row .target) (row .set) (row .sum)) (now (out .exit)) r ⌝ }
+    ensures row_written { λ r. ⌜ RowWritten (now (out .entry)) at (setRow (nameOf (now (sheet .entry))) (row .loss) (row .target) (row .set) (row .sum)) (now (out .exit)) r ⌝ }
 {
     let size = u64::count_ones(row.set) as u64;
     let mut next = fields::put_name_field(row.target, SPACE, sheet, from, to, out, at);
@@ -63,7 +63,7 @@ pub fn put_score_row(
 ) -> usize
     requires { ⌜ NamePlace (now sheet) (now from) (now to) (row .target) ⌝ }
     requires { ⌜ at + length (scoreRow (nameOf (now sheet)) (row .target) (row .score) (row .risk) (row .back) (row .idle)) ≤ length (now out) ⌝ }
-    ensures { λ r. ⌜ Wrote (now (out .entry)) at (scoreRow (nameOf (now (sheet .entry))) (row .target) (row .score) (row .risk) (row .back) (row .idle)) (now (out .exit)) r ⌝ }
+    ensures row_written { λ r. ⌜ RowWritten (now (out .entry)) at (scoreRow (nameOf (now (sheet .entry))) (row .target) (row .score) (row .risk) (row .back) (row .idle)) (now (out .exit)) r ⌝ }
 {
     let mut next = fields::put_name_field(row.target, SPACE, sheet, from, to, out, at);
     next = fields::put_score(row.score, SPACE, out, next);
@@ -85,7 +85,7 @@ pub fn put_pair_row(
     requires { ⌜ NamePlace (now sheet) (now from) (now to) v ⌝ }
     requires { ⌜ NamePlace (now sheet) (now from) (now to) w ⌝ }
     requires { ⌜ at + length (pairRow (nameOf (now sheet)) v w) ≤ length (now out) ⌝ }
-    ensures { λ r. ⌜ Wrote (now (out .entry)) at (pairRow (nameOf (now (sheet .entry))) v w) (now (out .exit)) r ⌝ }
+    ensures row_written { λ r. ⌜ RowWritten (now (out .entry)) at (pairRow (nameOf (now (sheet .entry))) v w) (now (out .exit)) r ⌝ }
 {
     let next = fields::put_name_field(v, SPACE, sheet, from, to, out, at);
     fields::put_name_field(w, LF, sheet, from, to, out, next)
@@ -94,7 +94,7 @@ pub fn put_pair_row(
 // `refused 5 2`
 pub fn put_refused_row(number: u64, line: u64, out: &mut [u8], at: usize) -> usize
     requires { ⌜ at + length (refusedRow number line) ≤ length (now out) ⌝ }
-    ensures { λ r. ⌜ Wrote (now (out .entry)) at (refusedRow number line) (now (out .exit)) r ⌝ }
+    ensures row_written { λ r. ⌜ RowWritten (now (out .entry)) at (refusedRow number line) (now (out .exit)) r ⌝ }
 {
     let mut next = writing::put_field(b"refused", SPACE, out, at);
     next = writing::put_number(number, SPACE, out, next);

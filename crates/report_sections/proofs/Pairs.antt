@@ -11,8 +11,9 @@ use Rattle.vertex_set.specs.Set.{Member, Within}
 use Rattle.vertex_set.specs.Order.{Listed}
 use Rattle.vertex_set.proofs.Sets.{within-refl, within-trans}
 use Rattle.vertex_set.proofs.Places.{places, places-none, lowest, removed-within, length-places, listed-places}
-use Rattle.written.specs.Inner.{Wrote}
+use Rattle.written.specs.Rows.{RowWritten}
 use Rattle.written.proofs.Writing.{Writing, writing-none, writing-part, writing-room, writing-end}
+use Rattle.written.proofs.Rows.{row-written, row-wrote}
 use Rattle.report_text.specs.Rows.{textsOf, pairRow}
 use Rattle.report_text.proofs.Items.{items-places}
 use Rattle.report_text.proofs.Lengths.{pair-row-short}
@@ -72,14 +73,18 @@ module _ (name : ℕ → List ℕ) (v x : ℕ) (entry : List ℕ) (at : ℕ) (ou
       writing-room entry at (pairsWith name v x) (pairRow name v (trailingZeros 64 rest)) (rowsOf name v less) out next (first-apart less refl n) room
 
   pub pairs-more : (less : ℕ) → less ≡ rest - 2 ^ trailingZeros 64 rest → (rest ≡ 0 → ⊥) → (after : List ℕ) (r : ℕ)
-      → Wrote out next (pairRow name v (trailingZeros 64 rest)) after r → PairsWriting name v x entry at after less r
+      → RowWritten out next (pairRow name v (trailingZeros 64 rest)) after r → PairsWriting name v x entry at after less r
   pairs-more less e n after r p =
       record {
         small = let h = w .small in omega arith;
         within = rw e (within-trans (removed-within rest (trailingZeros 64 rest) (lowest rest (w .small) n .member)) (w .within));
-        writing = writing-part entry at (pairsWith name v x) (pairRow name v (trailingZeros 64 rest)) (rowsOf name v less) out next after r (first-apart less e n) p;
+        writing = writing-part entry at (pairsWith name v x) (pairRow name v (trailingZeros 64 rest)) (rowsOf name v less) out next after r (first-apart less e n)
+            (row-wrote out next (pairRow name v (trailingZeros 64 rest)) after r p);
       }
 
-  pub pairs-end : rest ≡ 0 → Wrote entry at (pairsWith name v x) out next
+  pub pairs-end : rest ≡ 0 → at + length (pairsWith name v x) ≤ length entry → RowWritten entry at (pairsWith name v x) out next
   unfolding textsOf
-  pairs-end z = writing-end entry at (pairsWith name v x) (rowsOf name v rest) out next (ap (textsOf (pairRow name v)) (places-none 64 rest z)) (w .writing)
+  pairs-end z room =
+      row-written entry at (pairsWith name v x) out next
+      (writing-end entry at (pairsWith name v x) (rowsOf name v rest) out next (ap (textsOf (pairRow name v)) (places-none 64 rest z)) (w .writing))
+      room

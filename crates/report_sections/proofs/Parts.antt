@@ -7,14 +7,15 @@ use mathlib.Core.Logic.{inl, inr}
 use Prim.Native.Nat.{ℕ, zero, suc, _+_, _^_, _≤_, _<_}
 use native.Mathlib.Omega.{arith}
 use lib.ListN.{length, getD}
-use lib.Seq.{length-sets}
 use Rattle.vertex_set.specs.Set.{Member, Decides, Iff}
 use Rattle.vertex_set.specs.Order.{Listed}
 use Rattle.vertex_set.proofs.Cases.{byTest}
 use Rattle.vertex_set.proofs.Decisions.{decide-iff}
 use Rattle.scores.specs.Inner.Lists.{securityAt, recoverabilityAt}
 use Rattle.setup.specs.declared.Setup.{Setup}
-use Rattle.written.specs.Inner.{Wrote}
+use Rattle.written.specs.Rows.{RowWritten}
+use Rattle.written.proofs.Writing.{wrote-none}
+use Rattle.written.proofs.Rows.{row-written}
 use Rattle.reference.specs.Tests.{filtered, isMember}
 use Rattle.reference.proofs.Tests.{by-decision, decide-and, decide-member}
 use Rattle.findings.proofs.Unique.{decided-once}
@@ -70,19 +71,20 @@ same-answer a b f d = decided-once b a (decide-true b) (decide-iff f d)
 
 -- A part is written where the text of v is the same for all setups that the facts are of.
 pub part-wrote : (text : (ℕ → List ℕ) → Setup → ℕ → List ℕ) (sheet : List ℕ) (f : Facts) (v : ℕ) (entry : List ℕ) (at : ℕ) (row exit : List ℕ) (r : ℕ)
-    → ((s : Setup) → FactsOf sheet s f → v < s .count → text (nameOf sheet) s v ≡ row) → at + length row ≤ length entry → Wrote entry at row exit r
+    → ((s : Setup) → FactsOf sheet s f → v < s .count → text (nameOf sheet) s v ≡ row) → at + length row ≤ length entry → RowWritten entry at row exit r
     → WrotePart text sheet f v entry at exit r
 part-wrote text sheet f v entry at row exit r same room w =
     record {
       each = λ s g h. rw (same s g h) w;
-      inside = let n = w .next in let l = ap length (w .exit) ∙ length-sets entry at row in omega arith;
+      inside = omega (arith, w .many, w .others .2);
     }
 
 pub part-empty : (text : (ℕ → List ℕ) → Setup → ℕ → List ℕ) (sheet : List ℕ) (f : Facts) (v : ℕ) (entry : List ℕ) (at : ℕ)
     → ((s : Setup) → FactsOf sheet s f → v < s .count → text (nameOf sheet) s v ≡ []) → PartReady sheet f v entry at
     → WrotePart text sheet f v entry at entry at
 part-empty text sheet f v entry at same p =
-    part-wrote text sheet f v entry at [] entry at same (omega (arith, p .room)) (record { exit = refl; next = omega arith })
+    let room : at + 0 ≤ length entry = omega (arith, p .room) in
+    part-wrote text sheet f v entry at [] entry at same room (row-written entry at [] entry at (wrote-none entry at) room)
 
 -- ---- the parts of a vertex
 

@@ -11,8 +11,9 @@ use lib.ListN.{length, getD, take, length-take}
 use lib.Seq.{drop-cons, getD-take}
 use Rattle.vertex_set.specs.Order.{sumOver}
 use Rattle.vertex_set.proofs.Cases.{less-or}
-use Rattle.written.specs.Inner.{Wrote}
+use Rattle.written.specs.Rows.{RowWritten}
 use Rattle.written.proofs.Writing.{wrote-inside}
+use Rattle.written.proofs.Rows.{row-wrote}
 use Rattle.report_text.specs.Inner.{longestRow}
 use Rattle.report_text.specs.Rows.{textsOf, setRow}
 use Rattle.sheet_format.specs.Names.{nameOf}
@@ -54,15 +55,16 @@ module _ (name : ℕ → List ℕ) (loss : Bool) (target : ℕ) (values list : L
 
   module _ (out : List ℕ) (row next : ℕ) (w : RowsWriting name loss target values list i n entry at out row next) where
     pub rows-more : row < n → n ≤ length list → (sum : ℕ) (after : List ℕ) (r : ℕ) → sum ≡ sumOver (λ (v : ℕ). getD values v 0) (getD list row 0)
-        → next + length (setRow name loss target (getD list row 0) sum) ≤ length out → Wrote out next (setRow name loss target (getD list row 0) sum) after r
+        → next + length (setRow name loss target (getD list row 0) sum) ≤ length out → RowWritten out next (setRow name loss target (getD list row 0) sum) after r
         → RowsWriting name loss target values list i n entry at after (row + 1) r
     unfolding rowOf
     rows-more h l sum after r e room v =
         let f = w .from in
+        let q = row-wrote out next _ after r v in
         rw (add-one row)
         (record {
           part = part-then entry at _ _ out next (w .part) _ after r
-              (part-one out next _ (setRow name loss target (getD list row 0) sum) _ after r (rw e (rows-cons row h l)) v (wrote-inside out next _ after r v room));
+              (part-one out next _ (setRow name loss target (getD list row 0) sum) _ after r (rw e (rows-cons row h l)) q (wrote-inside out next _ after r q room));
           from = omega arith;
           most = h;
           still = λ k. absurd (omega arith);

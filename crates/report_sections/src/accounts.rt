@@ -2,7 +2,7 @@
 // out of rank.
 ghost use Prim.Native.Nat.{_+_, _≤_};
 ghost use lib.ListN.{length};
-ghost use Rattle.written.specs.Inner.{Wrote};
+ghost use Rattle.written.specs.Rows.{RowWritten};
 ghost use Rattle.sheet_format.specs.Names.{nameOf};
 ghost use Rattle.report_rows.specs.Inner.Writing.{NamePlace, NamePlaces};
 ghost use Rattle.report_facts.specs.Texts.{scoreAt, pairsAt};
@@ -49,7 +49,7 @@ fn put_pairs(
     requires { ⌜ NamePlace (now sheet) (now from) (now to) v ⌝ }
     requires { ⌜ NamePlaces (now sheet) (now from) (now to) x ⌝ }
     requires { ⌜ at + length (pairsWith (nameOf (now sheet)) v x) ≤ length (now out) ⌝ }
-    ensures { λ r. ⌜ Wrote (now (out .entry)) at (pairsWith (nameOf (now (sheet .entry))) v x) (now (out .exit)) r ⌝ }
+    ensures row_written { λ r. ⌜ RowWritten (now (out .entry)) at (pairsWith (nameOf (now (sheet .entry))) v x) (now (out .exit)) r ⌝ }
 {
     let one: u64 = 1;
     let mut rest = x;

@@ -1,14 +1,11 @@
 -- Step after step, as long as there is room.
 -- Assumes nothing.
-use mathlib.Core.Path.{_≡_, refl, sym, ap, _∙_}
-use mathlib.Core.List.{List, _++_}
+use mathlib.Core.Path.{_≡_, refl, _∙_}
+use mathlib.Core.List.{List}
 use Prim.Native.Nat.{ℕ, _+_, _≤_, _<_}
 use native.Mathlib.Omega.{arith}
-use lib.ListN.{length, take}
-use lib.Seq.{sets-eq, take-append-seam}
+use lib.ListN.{length}
 use Rattle.setup.specs.declared.Setup.{Setup}
-use Rattle.written.specs.Inner.{Wrote}
-use Rattle.written.proofs.Writing.{wrote-length}
 use Rattle.sheet_format.specs.Names.{nameOf}
 use Rattle.report_facts.specs.declared.Facts.{Facts}
 use Rattle.report_facts.specs.Inner.Parts.{Part}
@@ -17,7 +14,7 @@ use Rattle.report_writer.specs.declared.steps.Cursor.{Cursor}
 use Rattle.report_writer.specs.declared.steps.Cursor.the-variants as cursor
 use Rattle.report_writer.specs.declared.steps.Step.{Step}
 use Rattle.report_writer.specs.Rest.{restOf}
-use Rattle.report_writer.specs.Inner.Steps.{KnownAt, CanStep, stepsLeft, StepTaken, Filled}
+use Rattle.report_writer.specs.Inner.Steps.{KnownAt, CanStep, stepsLeft, StepTaken}
 
 -- Steps were taken from the place c₀ to the place c.
 pub record Filling (sheet : List ℕ) (f : Facts) (opening lockout list₀ : List ℕ) (c₀ : Cursor) (out₀ : List ℕ) (at₀ : ℕ) (list out : List ℕ) (c : Cursor) (at : ℕ) : Type 0 where
@@ -68,26 +65,14 @@ pub went-inside : (sheet : List ℕ) (f : Facts) (opening lockout list : List �
     → CanStep sheet f opening lockout list c → StepTaken sheet f opening lockout list c entry at list′ exit r → r .at ≤ length exit
 went-inside sheet f opening lockout list c entry at list′ exit r g w = w .part (g .setup) (g .here) .inside
 
--- the bytes that were written from the front on
-front : (entry xs exit : List ℕ) (r : ℕ) → Wrote entry 0 xs exit r → r ≤ length exit → take r exit ≡ xs
-front entry xs exit r w h =
-    let n = w .next in
-    let l = wrote-length entry 0 xs exit r w in
-    let e = w .exit ∙ sets-eq xs entry 0 (omega arith) in
-    let z : 0 + length xs ≡ length xs = omega arith in
-    rw (e, n, z) (take-append-seam xs _)
-
-pub filled : (sheet : List ℕ) (f : Facts) (opening lockout list : List ℕ) (c : Cursor) (entry list₀ out₀ : List ℕ) (first : Step) (list′ out : List ℕ) (d : Cursor) (at : ℕ)
-    → StepTaken sheet f opening lockout list c entry 0 list₀ out₀ first
-    → Filling sheet f opening lockout list₀ (first .cursor) out₀ (first .at) list′ out d at
-    → Filled sheet f opening lockout list c list′ out (record { cursor = d; at = at })
-filled sheet f opening lockout list c entry list₀ out₀ first list′ out d at w v =
+-- a step, and those behind it
+pub went-filling : (sheet : List ℕ) (f : Facts) (opening lockout list : List ℕ) (c : Cursor) (entry : List ℕ) (at : ℕ) (list₀ out₀ : List ℕ) (first : Step) (list′ out : List ℕ) (d : Cursor) (next : ℕ)
+    → StepTaken sheet f opening lockout list c entry at list₀ out₀ first → Filling sheet f opening lockout list₀ (first .cursor) out₀ (first .at) list′ out d next
+    → StepTaken sheet f opening lockout list c entry at list′ out (record { cursor = d; at = next })
+went-filling sheet f opening lockout list c entry at list₀ out₀ first list′ out d next w v =
     record {
-      part = λ s a.
-          let p = part-then entry 0 _ _ out₀ (first .at) (w .part s a) _ out at (v .part s (w .here s a)) in
-          p .split ∙ ap (λ y. y ++ restOf (nameOf sheet) s d) (sym (front entry (p .part) out at (p .wrote) (p .inside)));
+      part = λ s a. part-then entry at _ _ out₀ (first .at) (w .part s a) _ out next (v .part s (w .here s a));
       here = λ s a. v .here s (w .here s a);
-      inside = v .inside;
       less = λ z. let l = w .less z in let m = v .less in omega arith;
     }
 

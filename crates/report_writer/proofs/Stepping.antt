@@ -13,7 +13,9 @@ use Rattle.vertex_set.proofs.Cases.{less-or, false-true}
 use Rattle.setup.specs.declared.Setup.{Setup}
 use Rattle.bases.proofs.Formed.{few}
 use Rattle.written.specs.Inner.{Wrote}
+use Rattle.written.specs.Rows.{RowWritten}
 use Rattle.written.proofs.Writing.{wrote-inside}
+use Rattle.written.proofs.Rows.{row-wrote}
 use Rattle.report_text.specs.Rows.{listHeader, scoreHeader, pairHeader, refusedRow}
 use Rattle.sheet_format.specs.Names.{nameOf}
 use Rattle.report_text.proofs.Lengths.{refused-row-length}
@@ -143,7 +145,7 @@ module _ (sheet : List ℕ) (f : Facts) (v : ℕ) (entry : List ℕ) (at : ℕ) 
         part = λ s h m.
             let e = h .isCount in
             let below : v < s .count = omega arith in
-            rw (add-one v) (part-one entry at _ (scoreAt (nameOf sheet) s v) _ exit r (score-next (nameOf sheet) s v below) (w .each s h below) (w .inside));
+            rw (add-one v) (part-one entry at _ (scoreAt (nameOf sheet) s v) _ exit r (score-next (nameOf sheet) s v below) (row-wrote entry at _ exit r (w .each s h below)) (w .inside));
         more = λ b. refl;
         last = λ b. absurd (omega arith);
       }
@@ -168,7 +170,7 @@ module _ (sheet : List ℕ) (f : Facts) (v : ℕ) (entry : List ℕ) (at : ℕ) 
         part = λ s h m.
             let e = h .isCount in
             let below : v < s .count = omega arith in
-            rw (add-one v) (part-one entry at _ (pairsAt (nameOf sheet) s v) _ exit r (pairs-next (nameOf sheet) s v below) (w .each s h below) (w .inside));
+            rw (add-one v) (part-one entry at _ (pairsAt (nameOf sheet) s v) _ exit r (pairs-next (nameOf sheet) s v below) (row-wrote entry at _ exit r (w .each s h below)) (w .inside));
         more = λ b. refl;
         last = λ b. absurd (omega arith);
       }
@@ -250,11 +252,12 @@ module _ (sheet : List ℕ) (f : Facts) (opening lockout list : List ℕ) (entry
       → at + length (refusedRow number line) ≤ length entry
   refused-fits number line g room = let l = refused-row-length number line (g .here .0) (g .here .1) in omega arith
 
-  pub refused-step : (number line : ℕ) (exit : List ℕ) (r : ℕ) → at + length (refusedRow number line) ≤ length entry → Wrote entry at (refusedRow number line) exit r
+  pub refused-step : (number line : ℕ) (exit : List ℕ) (r : ℕ) → at + length (refusedRow number line) ≤ length entry → RowWritten entry at (refusedRow number line) exit r
       → StepTaken sheet f opening lockout list (cursor.Refused number line) entry at list exit (record { cursor = cursor.End; at = r })
   refused-step number line exit r room w =
+      let v = row-wrote entry at (refusedRow number line) exit r w in
       record {
-        part = λ s a. part-one entry at _ (refusedRow number line) [] exit r (sym (append-nil (refusedRow number line))) w (wrote-inside entry at _ exit r w room);
+        part = λ s a. part-one entry at _ (refusedRow number line) [] exit r (sym (append-nil (refusedRow number line))) v (wrote-inside entry at _ exit r v room);
         here = λ s a. tt;
         less = λ z. omega arith;
       }

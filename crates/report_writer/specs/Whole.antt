@@ -21,7 +21,7 @@ pub record Begun (sheet : List ℕ) (r : Report) (opening₀ lockout₀ opening 
   pub whole : restOf (nameOf sheet) (readSheet sheet .setup) (r .cursor) ≡ reportOf sheet
   pub here : (list : List ℕ) → length list ≡ 2 ^ mostChosen → KnownAt sheet (readSheet sheet .setup) (r .facts) opening lockout list (r .cursor)
 
--- The parts that are written from the place c on up to the end, each by a `fill` from one place to the next (its contract is `Filled`).
+-- The parts that are written from the place c on up to the end, each by a `fill` from one place to the next (its contract is `StepTaken`).
 abbrev pub PartsToEnd : (ℕ → List ℕ) → Setup → Cursor → List (List ℕ) → Type 0
 PartsToEnd name s c [] = c ≡ cursor.End
 PartsToEnd name s c (p ∷ ps) = (d : Cursor) × (restOf name s c ≡ p ++ restOf name s d) × PartsToEnd name s d ps

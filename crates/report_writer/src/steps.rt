@@ -4,7 +4,7 @@ ghost use mathlib.Core.Path.{_≡_};
 ghost use Prim.Native.Nat.{_+_, _≤_, _<_};
 ghost use lib.ListN.{length};
 ghost use Rattle.vertex_set.specs.Set.{Decides};
-ghost use Rattle.report_writer.specs.Inner.Steps.{ValuesBy, CanPutList, ListPut, CanStep, StepTaken, CanPutSection, ScoresPut, PairsPut, Filled};
+ghost use Rattle.report_writer.specs.Inner.Steps.{ValuesBy, CanPutList, ListPut, CanStep, StepTaken, CanPutSection, ScoresPut, PairsPut};
 use report_facts::Facts;
 use report_sections::accounts;
 use report_sections::lists;
@@ -214,7 +214,7 @@ pub fn fill(
 ) -> Step
     requires { ⌜ CanStep (now sheet) facts (now opening) (now lockout) (now list) cursor ⌝ }
     requires { ⌜ 4096 ≤ length (now out) ⌝ }
-    ensures { λ r. ⌜ Filled (now (sheet .entry)) facts (now (opening .entry)) (now (lockout .entry)) (now (list .entry)) cursor (now (list .exit)) (now (out .exit)) r ⌝ }
+    ensures { λ r. ⌜ StepTaken (now (sheet .entry)) facts (now (opening .entry)) (now (lockout .entry)) (now (list .entry)) cursor (now (out .entry)) 0 (now (list .exit)) (now (out .exit)) r ⌝ }
 {
     let first = advance(facts, cursor, sheet, opening, lockout, list, out, 0);
     let mut c = first.cursor;

@@ -5,7 +5,7 @@ ghost use Prim.Native.Nat.{_+_, _≤_};
 ghost use lib.ListN.{length};
 ghost use Rattle.written.specs.Inner.{Wrote};
 ghost use Rattle.sheet_format.specs.Fields.{decimal};
-ghost use Rattle.writing.specs.Inner.{ended};
+ghost use Rattle.writing.specs.Inner.{ended, lastTwo};
 
 pub fn put_byte(b: u8, out: &mut [u8], at: usize) -> usize
     requires { ⌜ at + 1 ≤ length (now out) ⌝ }
@@ -25,7 +25,16 @@ pub fn put_text(text: &[u8], out: &mut [u8], at: usize) -> usize
     at + text.len()
 }
 
-// The digits of n.
+// The last two digits of n.
+fn put_two(n: u64, out: &mut [u8], at: usize) -> usize
+    requires { ⌜ at + 2 ≤ length (now out) ⌝ }
+    ensures { λ r. ⌜ Wrote (now (out .entry)) at (lastTwo n) (now (out .exit)) r ⌝ }
+{
+    let next = put_byte(48 + (n / 10 % 10) as u8, out, at);
+    put_byte(48 + (n % 10) as u8, out, next)
+}
+
+// The digits of n, two at a time.
 fn put_digits(n: u64, out: &mut [u8], at: usize) -> usize
     requires { ⌜ at + length (decimal n) ≤ length (now out) ⌝ }
     ensures { λ r. ⌜ Wrote (now (out .entry)) at (decimal n) (now (out .exit)) r ⌝ }
@@ -33,8 +42,11 @@ fn put_digits(n: u64, out: &mut [u8], at: usize) -> usize
     if n < 10 {
         return put_byte(48 + n as u8, out, at);
     }
-    let next = put_digits(n / 10, out, at);
-    put_byte(48 + (n % 10) as u8, out, next)
+    if n < 100 {
+        return put_two(n, out, at);
+    }
+    let next = put_digits(n / 100, out, at);
+    put_two(n, out, next)
 }
 
 // A field, and the byte behind it.

@@ -1,7 +1,7 @@
 //! Times the proved code beside the same algorithm in plain Rust, a brute force, and plain
 //! programs. `bench` prints tables and writes docs/PERFORMANCE.md with two charts; `bench quick`
 //! makes few rounds and writes the same files to build/bench/. `bench marking` prints the table of
-//! marks alone.
+//! marks alone, and `bench rows` that of the report with the most rows.
 
 mod calls;
 mod chart;
@@ -66,8 +66,9 @@ fn main() -> ExitCode {
         [] => run(&FULL, "docs"),
         ["quick"] => run(&QUICK, "build/bench"),
         ["marking"] => print_marking(),
+        ["rows"] => print_rows(),
         _ => {
-            eprintln!("usage: bench [quick | marking]");
+            eprintln!("usage: bench [quick | marking | rows]");
             return ExitCode::from(2);
         }
     }
@@ -112,8 +113,20 @@ fn run(rounds: &Rounds, folder: &str) {
 
 /// The sheet on which sets are marked.
 fn antichain(kinds: &[kinds::Kind]) -> &kinds::Kind {
-    let found = kinds.iter().find(|kind| kind.name == "antichain of 3,432");
-    found.expect("a kind has that name")
+    named(kinds, "antichain of 3,432")
+}
+
+fn named<'a>(kinds: &'a [kinds::Kind], name: &str) -> &'a kinds::Kind {
+    kinds.iter().find(|kind| kind.name == name).expect("a kind has that name")
+}
+
+fn print_rows() {
+    let root = Path::new(env!("CARGO_MANIFEST_DIR")).join("../..");
+    let mut targets = Vec::new();
+    let kinds = kinds::all();
+    let most = named(&kinds, "antichain of 3,432, 28 times");
+    let grid = programs::most_rows(most, &Programs::at(&root), &FULL, &mut targets);
+    println!("{}\n{}", grid.text(), targets::grid(&targets).text());
 }
 
 fn print_marking() {

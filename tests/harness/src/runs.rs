@@ -4,10 +4,10 @@ use crate::compare::Difference;
 use crate::long_lists::compare_long_lists;
 use crate::program::Program;
 use crate::setups::{compare_setup, Depth, FEW, FULL, MANY, MOST};
-use crate::sheets::compare_sheet;
+use crate::sheets::{compare_report, compare_sheet};
 use brute::cases::draft::sheet_of_setup;
 use brute::cases::{
-    bounds, damaged, noise, random, readings, setups, tiny, Rng, SetupCase, SheetCase,
+    bounds, buffers, damaged, noise, random, readings, setups, tiny, Rng, SetupCase, SheetCase,
 };
 use std::fmt;
 use std::time::{Duration, Instant};
@@ -53,6 +53,13 @@ impl Run {
         compare_sheet(case, &mut self.rng, depth, program)
     }
 
+    /// The report of a sheet, and nothing else.
+    fn report(&mut self, case: &SheetCase) -> Outcome {
+        let Some(program) = &self.program else { return Ok(()) };
+        self.counts.reports += 1;
+        compare_report(case, program)
+    }
+
     fn tiny(&mut self, case: SetupCase, depth: Depth) -> Outcome {
         self.counts.tiny += 1;
         let sheet = sheet_of_setup(&case.setup);
@@ -75,6 +82,9 @@ impl Run {
         for case in bounds::largest_sums() {
             self.counts.bounds += 1;
             self.sheet(&case, FULL, true)?;
+        }
+        for case in buffers::full_buffers() {
+            self.report(&case)?;
         }
         for case in readings::readings() {
             self.counts.texts += 1;

@@ -35,14 +35,20 @@ pub fn compare_sheet(
     names(&subject, rng, &case.sheet, &read)?;
     portal(&subject, rng, &case.sheet, &read, depth)?;
     if let Some(program) = program {
-        let printed = program.report(&case.sheet);
-        let expected = brute::report::report(&case.sheet);
-        subject.same(|| "the program report".to_string(), text(&printed), text(&expected))?;
+        compare_report(case, program)?;
     }
     if let Ok(sheet) = &read {
         compare_setup(&case.label, Some(&case.sheet), &sheet.setup, rng, depth)?;
     }
     Ok(())
+}
+
+/// Compares what the program `report` prints.
+pub fn compare_report(case: &SheetCase, program: &Program) -> Outcome {
+    let subject = Subject { label: &case.label, sheet: Some(&case.sheet), setup: None };
+    let printed = program.report(&case.sheet);
+    let expected = brute::report::report(&case.sheet);
+    subject.same(|| "the program report".to_string(), text(&printed), text(&expected))
 }
 
 fn text(bytes: &[u8]) -> String {

@@ -3,7 +3,7 @@ use native.Mathlib.Omega.{arith}
 use lib.Seq.{length-take-le}
 use borrow.Author.Needs.{needs}
 use Rattle.report_writer.specs.Inner.Steps.{stepsLeft}
-use Rattle.report_writer.proofs.Filling.{left-some}
+use Rattle.report_writer.proofs.Filling.{went-inside, left-some}
 use Rattle.report.proofs.Printing.{Printing, printing-begun, printing-more}
 use Rattle.report.proofs.print_report.Statement.{statement}
 use Rattle.report.proofs.print_report.Tie as tie
@@ -51,10 +51,12 @@ fill-requires : tie.Need-fill-requires Inv-loop μ-loop
 fill-requires c κs = let l = c .before .before .before .before .before .before .loop .inv in (l .going, let o = l .longOut in omega arith)
 
 array-share-prefix-out : tie.Need-array-share-prefix-out Inv-loop μ-loop
-array-share-prefix-out c = c .before .before .fill .ensures .inside
+array-share-prefix-out c = let f = c .before .before in went-inside _ _ _ _ _ _ _ _ _ _ _ (f .before .before .before .before .before .before .before .loop .inv .going) (f .fill .ensures)
 
 slice-aggregate-write-whole : tie.Need-slice-aggregate-write-whole Inv-loop μ-loop
-slice-aggregate-write-whole c = sym (length-take-le _ _ (c .before .before .before .fill .ensures .inside))
+slice-aggregate-write-whole c =
+    let f = c .before .before .before in
+    sym (length-take-le _ _ (went-inside _ _ _ _ _ _ _ _ _ _ _ (f .before .before .before .before .before .before .before .loop .inv .going) (f .fill .ensures)))
 
 write-whole-requires : tie.Need-write-whole-requires Inv-loop μ-loop
 write-whole-requires c κs = search needs

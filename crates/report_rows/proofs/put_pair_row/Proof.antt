@@ -34,7 +34,7 @@ unfolding pairRow
 returns c =
     let s = c .before .before .before .before .before .before .before .before .before .before .before .before in
     let w = field-more (fields s) _ _ 0 _ _ (line-none (fields s) _ _) (omega arith) _ _ (c .before .before .before .before .before .before .put-name-field .ensures) in
-    last-end (fields s) _ _ 1 _ _ w refl _ _ (c .before .before .put-name-field2 .ensures)
+    last-end (fields s) _ _ 1 _ _ w refl (s .pre .1 .1) _ _ (c .before .before .put-name-field2 .ensures)
 
 pub put-pair-row-spec : {M : Type 1} → statement M
 put-pair-row-spec =

@@ -46,7 +46,7 @@ returns c =
     let s = c .before .before .before .before .before .before .before .before .before .before .before .before .before .before in
     let w = field-more (fields s) _ _ 0 _ _ (line-none (fields s) _ _) (omega arith) _ _ (c .before .before .before .before .before .before .before .before .before .before .put-field .ensures) in
     let w = field-more (fields s) _ _ 1 _ _ w (omega arith) _ _ (c .before .before .before .before .before .before .put-number .ensures) in
-    last-end (fields s) _ _ 2 _ _ w refl _ _ (c .before .before .put-number2 .ensures)
+    last-end (fields s) _ _ 2 _ _ w refl (s .pre) _ _ (c .before .before .put-number2 .ensures)
 
 pub put-refused-row-spec : {M : Type 1} → statement M
 put-refused-row-spec =

@@ -64,7 +64,7 @@ returns c =
     let w = field-more (fields s) _ _ 1 _ _ w (omega arith) _ _ (c .before .before .before .before .before .before .before .before .before .before .before .before .before .before .put-score .ensures) in
     let w = field-more (fields s) _ _ 2 _ _ w (omega arith) _ _ (c .before .before .before .before .before .before .before .before .before .before .put-score2 .ensures) in
     let w = field-more (fields s) _ _ 3 _ _ w (omega arith) _ _ (c .before .before .before .before .before .before .put-answer .ensures) in
-    last-end (fields s) _ _ 4 _ _ w refl _ _ (c .before .before .put-answer2 .ensures)
+    last-end (fields s) _ _ 4 _ _ w refl (s .pre .1) _ _ (c .before .before .put-answer2 .ensures)
 
 pub put-score-row-spec : {M : Type 1} → statement M
 put-score-row-spec =

@@ -69,7 +69,7 @@ returns c =
     let w = field-more (fields s) _ _ 1 _ _ w (omega arith) _ _ (c .before .before .before .before .before .before .before .before .before .before .before .before .before .before .put-way .ensures) in
     let w = field-more (fields s) _ _ 2 _ _ w (omega arith) _ _ (c .before .before .before .before .before .before .before .before .before .before .put-number .ensures) in
     let w = field-more (fields s) _ _ 3 _ _ w (omega arith) _ _ (c .before .before .before .before .before .before .put-number2 .ensures) in
-    last-end (fields s) _ _ 4 _ _ w refl _ _ (c .before .before .put-set-field .ensures)
+    last-end (fields s) _ _ 4 _ _ w refl (s .pre .1 .1) _ _ (c .before .before .put-set-field .ensures)
 
 pub put-set-row-spec : {M : Type 1} → statement M
 put-set-row-spec =

@@ -3,7 +3,7 @@ use mathlib.Core.List.{List}
 use Prim.Native.Nat.{ℕ, _+_, _≤_, _<_}
 use lib.ListN.{length}
 use Rattle.setup.specs.declared.Setup.{Setup}
-use Rattle.written.specs.Inner.{Wrote}
+use Rattle.written.specs.Rows.{RowWritten}
 use Rattle.report_text.specs.Rows.{textsOf, itemsOf, pairRow}
 use Rattle.sheet_format.specs.Names.{nameOf}
 use Rattle.report_facts.specs.declared.Facts.{Facts}
@@ -19,7 +19,7 @@ pub record PartReady (sheet : List ℕ) (f : Facts) (v : ℕ) (out : List ℕ) (
 
 -- From `at` on stands the text of the vertex v, whichever setup the facts are of; r is the next place.
 pub record WrotePart (text : (ℕ → List ℕ) → Setup → ℕ → List ℕ) (sheet : List ℕ) (f : Facts) (v : ℕ) (entry : List ℕ) (at : ℕ) (exit : List ℕ) (r : ℕ) : Type 0 where
-  pub each : (s : Setup) → FactsOf sheet s f → v < s .count → Wrote entry at (text (nameOf sheet) s v) exit r
+  pub each : (s : Setup) → FactsOf sheet s f → v < s .count → RowWritten entry at (text (nameOf sheet) s v) exit r
   pub inside : r ≤ length exit
 
 -- A pair with v above for each vertex of the set x, rising.

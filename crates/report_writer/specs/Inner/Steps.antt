@@ -1,7 +1,7 @@
 -- Inner: what the steps ask for and write.
 use mathlib.Core.Path.{_≡_}
 use mathlib.Core.Bool.{Bool}
-use mathlib.Core.List.{List, _++_}
+use mathlib.Core.List.{List}
 use Prim.Native.Nat.{ℕ, _+_, _-_, _*_, _^_, _≤_, _<_}
 use lib.ListN.{length, take}
 use Rattle.setup.specs.declared.Setup.{Setup}
@@ -61,7 +61,8 @@ stepsLeft count (cursor.Pairs v) = count - v + 1
 stepsLeft count (cursor.Refused number line) = 1
 stepsLeft count cursor.End = 0
 
--- A step was taken: a part of what was left of the report at c stands from `at` on, and the rest is what is left at the new cursor.
+-- A step was taken, or several: a part of what was left of the report at c stands from `at` on, written as a row is, and the rest is what is left
+-- at the new cursor.
 pub record StepTaken (sheet : List ℕ) (f : Facts) (opening lockout list : List ℕ) (c : Cursor) (entry : List ℕ) (at : ℕ) (list′ exit : List ℕ) (r : Step) : Type 0 where
   pub part : (s : Setup) → KnownAt sheet s f opening lockout list c → Part entry at (restOf (nameOf sheet) s c) (restOf (nameOf sheet) s (r .cursor)) exit (r .at)
   pub here : (s : Setup) → KnownAt sheet s f opening lockout list c → KnownAt sheet s f opening lockout list′ (r .cursor)
@@ -83,10 +84,3 @@ pub record PairsPut (sheet : List ℕ) (f : Facts) (v : ℕ) (entry : List ℕ) 
   pub part : (s : Setup) → FactsOf sheet s f → v ≤ s .count → Part entry at (pairsFrom (nameOf sheet) s v) (restOf (nameOf sheet) s (r .cursor)) exit (r .at)
   pub more : v < f .count → r .cursor ≡ cursor.Pairs (v + 1)
   pub last : f .count ≤ v → r .cursor ≡ cursor.End
-
--- The first bytes of `out` are the next part of the report, and what is left of it is left at the new cursor.
-pub record Filled (sheet : List ℕ) (f : Facts) (opening lockout list : List ℕ) (c : Cursor) (list′ out : List ℕ) (r : Step) : Type 0 where
-  pub part : (s : Setup) → KnownAt sheet s f opening lockout list c → restOf (nameOf sheet) s c ≡ take (r .at) out ++ restOf (nameOf sheet) s (r .cursor)
-  pub here : (s : Setup) → KnownAt sheet s f opening lockout list c → KnownAt sheet s f opening lockout list′ (r .cursor)
-  pub inside : r .at ≤ length out
-  pub less : 0 < stepsLeft (f .count) c → stepsLeft (f .count) (r .cursor) < stepsLeft (f .count) c

@@ -1,10 +1,10 @@
--- `writing::put_digits` meets its contract: the digits before the last are written first; the number falls at each call.
+-- `writing::put_digits` meets its contract: the digits before the last two are written first; the number falls at each call.
 use borrow.Author.Needs.{needs}
 use native.Mathlib.Omega.{arith}
 use Rattle.written.proofs.Writing.{wrote-then, room-then}
-use Rattle.writing.proofs.Digits.{decimal-one, decimal-more}
-use Prim.Native.Nat.{ℕ, _+_, _/_, _%_, _<_}
-use mathlib.Core.List.{[], _∷_}
+use Rattle.writing.specs.Inner.{lastTwo}
+use Rattle.writing.proofs.Digits.{decimal-one, decimal-two, decimal-hundred}
+use Prim.Native.Nat.{ℕ, _/_, _<_}
 use lib.ListN.{length-append}
 use Rattle.sheet_format.specs.Fields.{decimal}
 use borrow.Fn.Kinds.{In}
@@ -13,6 +13,7 @@ use Rattle.writing.proofs.put_digits.Reads as put-digits
 use Rattle.writing.proofs.put_digits.Kinds as put-digits-kinds
 use Rattle.writing.proofs.+put_digits.Lts-put_digits as put-digits-lts
 use Rattle.writing.proofs.put_byte.Reads as put-byte-reads
+use Rattle.writing.proofs.put_two.Reads as put-two-reads
 use Rattle.writing.proofs.+put_digits.{statement}
 use Rattle.writing.proofs.+put_digits.Tie.{close}
 
@@ -30,6 +31,8 @@ put-digits-below t =
 put-digits-cast-put-byte : (t : ℕ) → put-digits-lts.Need-cast-put-byte (
   put-byte-reads.Asked,
   put-byte-reads.Learnt,
+  put-two-reads.Asked,
+  put-two-reads.Learnt,
   put-digits-below t,
   put-digits.Post,
 ) (put-digits-at t) put-digits.Post
@@ -38,6 +41,8 @@ put-digits-cast-put-byte t c = search needs
 put-digits-add-put-byte : (t : ℕ) → put-digits-lts.Need-add-put-byte (
   put-byte-reads.Asked,
   put-byte-reads.Learnt,
+  put-two-reads.Asked,
+  put-two-reads.Learnt,
   put-digits-below t,
   put-digits.Post,
 ) (put-digits-at t) put-digits.Post
@@ -46,6 +51,8 @@ put-digits-add-put-byte t c = search needs
 put-digits-put-byte-requires : (t : ℕ) → put-digits-lts.Need-put-byte-requires (
   put-byte-reads.Asked,
   put-byte-reads.Learnt,
+  put-two-reads.Asked,
+  put-two-reads.Learnt,
   put-digits-below t,
   put-digits.Post,
 ) (put-digits-at t) put-digits.Post
@@ -56,6 +63,8 @@ put-digits-put-byte-requires t c κs =
 put-digits-same-length : (t : ℕ) → put-digits-lts.Need-same-length (
   put-byte-reads.Asked,
   put-byte-reads.Learnt,
+  put-two-reads.Asked,
+  put-two-reads.Learnt,
   put-digits-below t,
   put-digits.Post,
 ) (put-digits-at t) put-digits.Post
@@ -64,6 +73,8 @@ put-digits-same-length t c = search needs
 put-digits-returns : (t : ℕ) → put-digits-lts.Need-returns (
   put-byte-reads.Asked,
   put-byte-reads.Learnt,
+  put-two-reads.Asked,
+  put-two-reads.Learnt,
   put-digits-below t,
   put-digits.Post,
 ) (put-digits-at t) put-digits.Post
@@ -72,49 +83,23 @@ put-digits-returns t c =
     let s = p .before .before .before .before in
     rw (decimal-one (s .args .n) (p .before .before .if1 .taken)) (p .put-byte .ensures)
 
-put-digits-put-digits-requires : (t : ℕ) → put-digits-lts.Need-put-digits-requires (
+put-digits-put-two-requires : (t : ℕ) → put-digits-lts.Need-put-two-requires (
   put-byte-reads.Asked,
   put-byte-reads.Learnt,
+  put-two-reads.Asked,
+  put-two-reads.Learnt,
   put-digits-below t,
   put-digits.Post,
 ) (put-digits-at t) put-digits.Post
-put-digits-put-digits-requires t c κs =
-    let s = c .before .before .before in
-    let e = decimal-more (s .args .n) (c .before .if1 .left) (search needs) in
-    let l = length-append (decimal (s .args .n / 10)) ((48 + s .args .n % 10) ∷ []) in
-    (omega (arith, s .pre .0), omega (arith, rw e at (s .pre .1)))
-
-put-digits-cast-put-byte-2 : (t : ℕ) → put-digits-lts.Need-cast-put-byte-2 (
-  put-byte-reads.Asked,
-  put-byte-reads.Learnt,
-  put-digits-below t,
-  put-digits.Post,
-) (put-digits-at t) put-digits.Post
-put-digits-cast-put-byte-2 t c = search needs
-
-put-digits-add-put-byte-2 : (t : ℕ) → put-digits-lts.Need-add-put-byte-2 (
-  put-byte-reads.Asked,
-  put-byte-reads.Learnt,
-  put-digits-below t,
-  put-digits.Post,
-) (put-digits-at t) put-digits.Post
-put-digits-add-put-byte-2 t c = search needs
-
-put-digits-put-byte-requires-2 : (t : ℕ) → put-digits-lts.Need-put-byte-requires-2 (
-  put-byte-reads.Asked,
-  put-byte-reads.Learnt,
-  put-digits-below t,
-  put-digits.Post,
-) (put-digits-at t) put-digits.Post
-put-digits-put-byte-requires-2 t c κs =
-    let p = c .before .before .before in
-    let s = p .before .before .before .before in
-    let e = decimal-more (s .args .n) (p .before .before .if1 .left) (search needs) in
-    room-then _ _ _ _ _ (p .put-digits .ensures) ((48 + s .args .n % 10) ∷ []) (rw e at (s .pre .1))
+put-digits-put-two-requires t c κs =
+    let s = c .before .before .before .before in
+    rw (decimal-two (s .args .n) (c .before .before .if1 .left) (c .before .if2 .taken)) at (s .pre .1)
 
 put-digits-same-length-2 : (t : ℕ) → put-digits-lts.Need-same-length-2 (
   put-byte-reads.Asked,
   put-byte-reads.Learnt,
+  put-two-reads.Asked,
+  put-two-reads.Learnt,
   put-digits-below t,
   put-digits.Post,
 ) (put-digits-at t) put-digits.Post
@@ -123,20 +108,75 @@ put-digits-same-length-2 t c = search needs
 put-digits-returns-2 : (t : ℕ) → put-digits-lts.Need-returns-2 (
   put-byte-reads.Asked,
   put-byte-reads.Learnt,
+  put-two-reads.Asked,
+  put-two-reads.Learnt,
   put-digits-below t,
   put-digits.Post,
 ) (put-digits-at t) put-digits.Post
 put-digits-returns-2 t c =
+    let p = c .before .before in
+    let s = p .before .before .before .before .before in
+    rw (decimal-two (s .args .n) (p .before .before .before .if1 .left) (p .before .before .if2 .taken)) (p .put-two .ensures)
+
+put-digits-put-digits-requires : (t : ℕ) → put-digits-lts.Need-put-digits-requires (
+  put-byte-reads.Asked,
+  put-byte-reads.Learnt,
+  put-two-reads.Asked,
+  put-two-reads.Learnt,
+  put-digits-below t,
+  put-digits.Post,
+) (put-digits-at t) put-digits.Post
+put-digits-put-digits-requires t c κs =
+    let s = c .before .before .before .before in
+    let e = decimal-hundred (s .args .n) (c .before .if2 .left) (search needs) in
+    let l = length-append (decimal (s .args .n / 100)) (lastTwo (s .args .n)) in
+    (omega (arith, s .pre .0), omega (arith, rw e at (s .pre .1)))
+
+put-digits-put-two-requires-2 : (t : ℕ) → put-digits-lts.Need-put-two-requires-2 (
+  put-byte-reads.Asked,
+  put-byte-reads.Learnt,
+  put-two-reads.Asked,
+  put-two-reads.Learnt,
+  put-digits-below t,
+  put-digits.Post,
+) (put-digits-at t) put-digits.Post
+put-digits-put-two-requires-2 t c κs =
+    let p = c .before .before .before in
+    let s = p .before .before .before .before .before in
+    let e = decimal-hundred (s .args .n) (p .before .before .if2 .left) (search needs) in
+    room-then _ _ _ _ _ (p .put-digits .ensures) (lastTwo (s .args .n)) (rw e at (s .pre .1))
+
+put-digits-same-length-3 : (t : ℕ) → put-digits-lts.Need-same-length-3 (
+  put-byte-reads.Asked,
+  put-byte-reads.Learnt,
+  put-two-reads.Asked,
+  put-two-reads.Learnt,
+  put-digits-below t,
+  put-digits.Post,
+) (put-digits-at t) put-digits.Post
+put-digits-same-length-3 t c = search needs
+
+put-digits-returns-3 : (t : ℕ) → put-digits-lts.Need-returns-3 (
+  put-byte-reads.Asked,
+  put-byte-reads.Learnt,
+  put-two-reads.Asked,
+  put-two-reads.Learnt,
+  put-digits-below t,
+  put-digits.Post,
+) (put-digits-at t) put-digits.Post
+put-digits-returns-3 t c =
     let q = c .before .before in
     let p = q .before .before .before .before in
-    let s = p .before .before .before .before in
-    let e = decimal-more (s .args .n) (p .before .before .if1 .left) (search needs) in
-    rw e (wrote-then _ _ _ _ _ (p .put-digits .ensures) _ _ _ (q .put-byte2 .ensures))
+    let s = p .before .before .before .before .before in
+    let e = decimal-hundred (s .args .n) (p .before .before .if2 .left) (search needs) in
+    rw e (wrote-then _ _ _ _ _ (p .put-digits .ensures) _ _ _ (q .put-two2 .ensures))
 
 pub +put-digits-spec : {M : Type 1} → statement M
 +put-digits-spec = close μ-put-digits λ t. put-digits-lts.spec (
   put-byte-reads.Asked,
   put-byte-reads.Learnt,
+  put-two-reads.Asked,
+  put-two-reads.Learnt,
   put-digits-below t,
   put-digits.Post,
 )
@@ -147,9 +187,10 @@ pub +put-digits-spec : {M : Type 1} → statement M
     (put-digits-put-byte-requires t)
     (put-digits-same-length t)
     (put-digits-returns t)
-    (put-digits-put-digits-requires t)
-    (put-digits-cast-put-byte-2 t)
-    (put-digits-add-put-byte-2 t)
-    (put-digits-put-byte-requires-2 t)
+    (put-digits-put-two-requires t)
     (put-digits-same-length-2 t)
     (put-digits-returns-2 t)
+    (put-digits-put-digits-requires t)
+    (put-digits-put-two-requires-2 t)
+    (put-digits-same-length-3 t)
+    (put-digits-returns-3 t)

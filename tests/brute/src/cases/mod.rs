@@ -2,6 +2,7 @@
 //! seed or its index from the caller, so the same numbers give the same cases.
 
 pub mod bounds;
+pub mod buffers;
 pub mod damaged;
 pub mod draft;
 pub mod noise;

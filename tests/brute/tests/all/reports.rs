@@ -2,6 +2,7 @@
 
 use crate::calls;
 use brute::cases::bounds::{bounds, longest_reports};
+use brute::cases::buffers::{full_buffers, BUFFER, LONGEST, ROOM};
 use brute::cases::random::{large_sheets, random_sheets};
 use brute::report::report;
 use brute::setup::COLOURS;
@@ -183,4 +184,22 @@ fn the_longest_reports() {
     assert!(rows[0] > 20_000 && rows[1] > 20_000 && rows[2] > most, "{sizes:?}");
     assert!(sizes[2].1 > 16_000_000, "{sizes:?}");
     assert_eq!(sizes[3].2, 275, "{sizes:?}");
+}
+
+/// Rows end at the program's buffer's last byte, one before and one behind, each on one sheet; and
+/// likewise where the program last begins a new list, and where it last begins a row. On all sheets
+/// but one the second target's list begins where a list may begin.
+#[test]
+fn full_buffers_end_at_rows() {
+    let reports: Vec<Vec<u8>> = full_buffers().iter().map(|case| report(&case.sheet)).collect();
+    for end in [BUFFER - ROOM, BUFFER - LONGEST, BUFFER] {
+        for end in [end - 1, end, end + 1] {
+            let row_ends = |text: &&Vec<u8>| text.len() > end && text[end - 1] == b'\n';
+            assert_eq!(reports.iter().filter(row_ends).count(), 1, "{end}");
+        }
+    }
+    let goes_on = |text: &&Vec<u8>| {
+        text.windows(9).position(|bytes| bytes == b"\nit open ").expect("a list") < BUFFER - ROOM
+    };
+    assert_eq!(reports.iter().filter(goes_on).count(), reports.len() - 1);
 }

@@ -58,7 +58,7 @@ same-length : tie.Need-same-length Inv-loop μ-loop
 same-length c = c .before .loop .inv .writing .long
 
 returns : tie.Need-returns Inv-loop μ-loop
-returns c = pairs-end _ _ _ _ _ _ _ _ (c .before .loop .inv) (c .loop-test .left)
+returns c = pairs-end _ _ _ _ _ _ _ _ (c .before .loop .inv) (c .loop-test .left) (c .before .before .before .before .before .before .pre .1 .1)
 
 pub put-pairs-spec : {M : Type 1} → statement M
 put-pairs-spec =

@@ -1,7 +1,7 @@
 use mathlib.Core.Path.{_∙_}
 use native.Mathlib.Omega.{arith}
 use Rattle.report_writer.specs.Inner.Steps.{stepsLeft}
-use Rattle.report_writer.proofs.Filling.{Filling, filling-none, filling-more, went-going, went-inside, filled, left-some}
+use Rattle.report_writer.proofs.Filling.{Filling, filling-none, filling-more, went-going, went-inside, went-filling, left-some}
 use Rattle.report_writer.proofs.steps.fill.Statement.{statement}
 use Rattle.report_writer.proofs.steps.fill.Tie as tie
 
@@ -47,7 +47,8 @@ same-length-2 : tie.Need-same-length-2 Inv-loop μ-loop
 same-length-2 c = c .before .before .before .loop .inv .long ∙ c .before .before .before .before .before .before .before .before .advance .kept .1 .1 .1 .1 .1 .1 .0
 
 returns : tie.Need-returns Inv-loop μ-loop
-returns c = filled _ _ _ _ _ _ _ _ _ _ _ _ _ _ (c .before .before .before .before .before .before .before .before .advance .ensures) (c .before .before .before .loop .inv)
+returns c =
+    went-filling _ _ _ _ _ _ _ _ _ _ _ _ _ _ _ (c .before .before .before .before .before .before .before .before .advance .ensures) (c .before .before .before .loop .inv)
 
 same-length-3 : tie.Need-same-length-3 Inv-loop μ-loop
 same-length-3 c = c .before .loop .inv .longList ∙ c .before .before .before .before .before .before .advance .kept .1 .1 .1 .1 .1 .0
@@ -56,7 +57,8 @@ same-length-4 : tie.Need-same-length-4 Inv-loop μ-loop
 same-length-4 c = c .before .loop .inv .long ∙ c .before .before .before .before .before .before .advance .kept .1 .1 .1 .1 .1 .1 .0
 
 returns-2 : tie.Need-returns-2 Inv-loop μ-loop
-returns-2 c = filled _ _ _ _ _ _ _ _ _ _ _ _ _ _ (c .before .before .before .before .before .before .advance .ensures) (c .before .loop .inv)
+returns-2 c =
+    went-filling _ _ _ _ _ _ _ _ _ _ _ _ _ _ _ (c .before .before .before .before .before .before .advance .ensures) (c .before .loop .inv)
 
 pub fill-spec : {M : Type 1} → statement M
 fill-spec =

@@ -174,6 +174,18 @@ static void try_way_in(void)
     expect("list too short, untouched", (uint64_t)memcmp(items, "\3\4\11\11", 4), 0);
 }
 
+static void try_forecast(void)
+{
+    struct portal_forecast r = portal_forecast(setup, WORDS, ORDER_ITEM);
+    expect("forecast", r.number, 0);
+    expect("of three that reach order, through mail too", r.sets, 3);
+    expect("of one that reaches mail", portal_forecast(setup, WORDS, MAIL_ITEM).sets, 1);
+    r = portal_forecast(setup, WORDS, 5);
+    expect("forecast of no item", r.number, PORTAL_NO_ITEM);
+    expect("forecast of no item, no value", r.sets, 0);
+    expect("forecast in no setup", portal_forecast(malformed, WORDS, 5).number, PORTAL_NO_SETUP);
+}
+
 static void try_lists(void)
 {
     uint64_t sets[5] = { LENT, LENT, LENT, LENT, LENT };
@@ -259,6 +271,7 @@ static const struct call {
     { "portal_closure", PORTAL_STACK_SMALL, try_closure },
     { "portal_lost", PORTAL_STACK_SMALL, try_lost },
     { "portal_way_in", PORTAL_STACK_SMALL, try_way_in },
+    { "portal_forecast", PORTAL_STACK_SMALL, try_forecast },
     { "portal_lists", PORTAL_STACK, try_lists },
     { "portal_setup_score", PORTAL_STACK, try_setup_score },
     { "portal_setup_risk", PORTAL_STACK, try_setup_risk },

@@ -17,6 +17,7 @@ use access::SetAnswer;
 use access::WayAnswer;
 use answers::AllAnswers;
 use findings::FindingAnswer;
+use forecasts::ForecastAnswer;
 use setup::Setup;
 use sheet_format::Reading;
 use vertex_set::VertexSet;
@@ -48,6 +49,7 @@ pub struct Answers {
     pub lists: AllAnswers,
     pub findings: FindingAnswers,
     pub sheet: SheetAnswers,
+    pub forecast: ForecastAnswer,
 }
 
 // Asks for closure, lost set and way in.
@@ -124,11 +126,13 @@ pub fn demand_two(
     let lists = answers::demand_three(s, target, list, opened, locked);
     let findings = ask_findings(s, target, other);
     let sheet = ask_sheet(sheet, item);
+    let forecast = forecasts::forecast_base(s, target);
     Answers {
         sets,
         lists,
         findings,
         sheet,
+        forecast,
     }
 }
 

@@ -1,6 +1,6 @@
 -- Which starting items a forecast counts, the forecast, and what it is good for (document 02, point 10).
 use mathlib.Core.Path.{_≡_}
-use mathlib.Core.Bool.{false}
+use mathlib.Core.Bool.{Bool, false}
 use mathlib.Core.List.{List}
 use Prim.Native.Nat.{ℕ, _/_, _≤_}
 use lib.Count.{ones}
@@ -10,6 +10,7 @@ use Rattle.vertex_set.specs.Order.{Listed}
 use Rattle.setup.specs.declared.Graph.{Graph}
 use Rattle.setup.specs.declared.Setup.{Setup}
 use Rattle.setup.specs.Setup.{Edge, Chosen}
+use Rattle.formed.specs.WellFormed.{WellFormed}
 use Rattle.bases.specs.Base.{Base}
 use Rattle.antichains.specs.Antichains.{choose}
 
@@ -35,6 +36,10 @@ pub record Forecast (s : Setup) (target counted n : ℕ) : Type 0 where
 -- No access base of any setup, so none of an accepted one, is longer than the forecast, and each vertex of each set in it is counted.
 abbrev pub ForecastHolds : Type 0
 ForecastHolds = (s : Setup) (target counted n : ℕ) → CountedSet s target counted → n ≡ choose (ones counted) (ones counted / 2) → Forecast s target counted n
+
+-- No access base and no lockout base of a well-formed setup, whatever the graph, has more than 3,432 sets.
+abbrev pub LongestBase : Type 0
+LongestBase = (loss : Bool) (s : Setup) (g : Graph) (target : ℕ) (l : List ℕ) → WellFormed s → Base loss s g target l → length l ≤ 3432
 
 -- There is one set of counted vertices.
 abbrev pub CountedOnce : Type 0

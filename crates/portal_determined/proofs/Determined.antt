@@ -10,6 +10,7 @@ use Rattle.vertex_set.proofs.Cases.{less-or}
 use Rattle.formed.specs.WellFormed.{WellFormed}
 use Rattle.sheet_format.specs.Read.{readSheet}
 use Rattle.findings.proofs.Unique.{backdoor-determined, ineffective-determined, inconsistent-determined}
+use Rattle.forecasts.proofs.Unique.{forecast-determined}
 use Rattle.setup.specs.Calls.{Same}
 use Rattle.determined.proofs.Determined.{set-determined, way-determined, bases-determined, score-determined, marks-determined}
 use Rattle.determined.proofs.Stable.{stable-number, by-cases}
@@ -54,6 +55,7 @@ setup-calls-determined words =
       backdoor = λ item. one-result _ (backdoor-determined s item);
       idle = λ item. one-result _ (ineffective-determined s item);
       outOfRank = λ above below. one-result _ (inconsistent-determined s above below);
+      forecast = λ target. one-result _ (forecast-determined s target);
     }
 
 -- ---- the calls on a sheet

@@ -3,7 +3,7 @@
 -- Assumes nothing.
 use Prim.Native.Nat.{_-_, _^_, _<_}
 use borrow.Author.Needs.{needs}
-use Rattle.forecasts.proofs.Finding.{Finding, finding-none, unseen, finding-more, seen-grows, finding-done}
+use Rattle.forecasts.proofs.Finding.{Finding, finding-none, unseen, finding-more, finding-done, was-found, seen-grows}
 use Rattle.forecasts.proofs.reaching.Statement.{statement}
 use Rattle.forecasts.proofs.reaching.Tie as tie
 
@@ -39,17 +39,17 @@ insert-requires-2 c κs = search needs
 
 loop-less : tie.Need-loop-less Inv-loop μ-loop
 loop-less c =
-    let n = c .before .before in
-    let w = n .before .before in
+    let w = c .before .before .before .before in
     let l = w .before .before .before .before .before .before .loop in
-    seen-grows _ _ (l .found .0) (l .seen .0) (l .inv) _ (search needs) (w .lowest .ensures) _ _ (n .needed .ensures) (c .insert2 .ensures) (search needs)
+    seen-grows (l .found .0) (l .seen .0) _ (search needs) (w .lowest .ensures) _ (c .insert2 .ensures) (search needs)
 
 loop-again : tie.Need-loop-again Inv-loop μ-loop
 loop-again c =
     let n = c .before .before in
     let w = n .before .before in
     let l = w .before .before .before .before .before .before .loop in
-    finding-more _ _ (l .found .0) (l .seen .0) (l .inv) _ (search needs) (w .lowest .ensures) _ _ (n .needed .ensures) (c .insert2 .ensures)
+    finding-more _ _ (l .found .0) (l .seen .0) (l .inv) _ _ _ (w .lowest .ensures .place)
+    (was-found (l .found .0) (l .seen .0) _ (search needs) (w .lowest .ensures)) (n .needed .ensures) (c .insert2 .ensures)
 
 returns : tie.Need-returns Inv-loop μ-loop
 returns c = finding-done _ _ _ _ (c .before .before .before .loop .inv) (c .if1 .left)

@@ -4,6 +4,7 @@
 pub mod bounds;
 pub mod damaged;
 pub mod draft;
+pub mod forecasts;
 pub mod noise;
 pub mod probes;
 pub mod random;

@@ -1,6 +1,6 @@
 #!/bin/bash
-# Times the proved code beside the same algorithm in Rust, and writes docs/PERFORMANCE.md and its charts: bench.sh [quick | marking].
-# With quick it makes few rounds and writes to build/bench/ instead; with marking it only prints the table of marks.
+# Times the proved code beside the same algorithm in Rust, and writes docs/PERFORMANCE.md and its charts: bench.sh [quick | marking | forecast].
+# With quick it makes few rounds and writes to build/bench/ instead; with marking it only prints the table of marks, with forecast that of forecasts.
 set -euo pipefail
 cd "$(dirname "$0")/.."
 

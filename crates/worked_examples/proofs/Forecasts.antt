@@ -134,43 +134,53 @@ module _ (s : Setup) (target found counted : ℕ) (r : ReachingSet (s .graph) ta
 abbrev graphOf : ForecastExample → Graph
 graphOf x = x .sheet .setup .graph
 
-abbrev Looked : ForecastExample → List ℕ → Type 0
-Looked x vs =
-    (ltb (x .target) 64 ≡ true) × (canLook (graphOf x) vs (2 ^ x .target) ≡ true)
-    × (seenBy vs 0 ≡ foundBy (graphOf x) vs (2 ^ x .target))
-    × (ltb (foundBy (graphOf x) vs (2 ^ x .target)) (2 ^ 64) ≡ true) × (ltb (setOf (x .counted)) (2 ^ 64) ≡ true)
-    × (all (countsRight (x .sheet .setup) (foundBy (graphOf x) vs (2 ^ x .target)) (setOf (x .counted))) 64 ≡ true)
-    × (x .sets ≡ choose (ones (setOf (x .counted))) (ones (setOf (x .counted)) / 2))
+record Looked (x : ForecastExample) (vs : List ℕ) : Type 0 where
+  place : ltb (x .target) 64 ≡ true
+  order : canLook (graphOf x) vs (2 ^ x .target) ≡ true
+  done : seenBy vs 0 ≡ foundBy (graphOf x) vs (2 ^ x .target)
+  low : ltb (foundBy (graphOf x) vs (2 ^ x .target)) (2 ^ 64) ≡ true
+  few : ltb (setOf (x .counted)) (2 ^ 64) ≡ true
+  counts : all (countsRight (x .sheet .setup) (foundBy (graphOf x) vs (2 ^ x .target)) (setOf (x .counted))) 64 ≡ true
+  ways : x .sets ≡ choose (ones (setOf (x .counted))) (ones (setOf (x .counted)) / 2)
 
 foretold : (x : ForecastExample) (vs : List ℕ) → Reads (x .sheet) → Looked x vs → Foretells x
 foretold x vs r h =
     let s : Setup = x .sheet .setup in
     let found : ℕ = foundBy (graphOf x) vs (2 ^ x .target) in
-    let k = reached s (reads-well (x .sheet) r) (x .target) vs (ltb-true (x .target) 64 (h .0)) (h .1) (h .2) in
+    let k = reached s (reads-well (x .sheet) r) (x .target) vs (ltb-true (x .target) 64 (h .place)) (h .order) (h .done) in
     record {
       setup = s;
       reading = r;
       holds = forecast-holds s (x .target) (setOf (x .counted)) (x .sets)
-          (counted-of s (x .target) found (setOf (x .counted)) k (ltb-true found (2 ^ 64) (h .3)) (ltb-true (setOf (x .counted)) (2 ^ 64) (h .4)) (h .5)) (h .6);
+          (counted-of s (x .target) found (setOf (x .counted)) k (ltb-true found (2 ^ 64) (h .low)) (ltb-true (setOf (x .counted)) (2 ^ 64) (h .few)) (h .counts)) (h .ways);
     }
 
-pub all-foretell : AllForetell
+-- The order in which vertices are looked at, the sheet read, and all of it computed.
+abbrev Shown : ForecastExample → Type 0
+Shown x = (vs : List ℕ) × Reads (x .sheet) × Looked x vs
+
+all-foretold : (l : List ForecastExample) → Each Shown l → Each Foretells l
+all-foretold [] s = tt
+all-foretold (x ∷ l) s = (foretold x (s .0 .0) (s .0 .1) (s .0 .2), all-foretold l (s .1))
+
+all-shown : Each Shown forecasts
 unfolding needsBelow foundBy seenBy canLook countsRight choose ones onesIn
-all-foretell =
+all-shown =
     let bench = all-read .0 in
     let ring = all-read .1 .0 in
     let alone = all-read .1 .1 .0 in
     let closed = all-read .1 .1 .1 .0 in
     let loop = all-read .1 .1 .1 .1 .0 in
     let spare = all-read .1 .1 .1 .1 .1 .1 .0 in
-    let full = all-read .1 .1 .1 .1 .1 .1 .1 .0 in
-    foretold _ (4 ∷ 0 ∷ 2 ∷ 3 ∷ 1 ∷ []) bench (refl, refl, refl, refl, refl, refl, refl)
-    & foretold _ (3 ∷ 1 ∷ []) bench (refl, refl, refl, refl, refl, refl, refl)
-    & foretold _ (0 ∷ 1 ∷ 5 ∷ 4 ∷ 2 ∷ 3 ∷ []) ring (refl, refl, refl, refl, refl, refl, refl)
-    & foretold _ (2 ∷ []) ring (refl, refl, refl, refl, refl, refl, refl)
-    & foretold _ (0 ∷ []) alone (refl, refl, refl, refl, refl, refl, refl)
-    & foretold _ (0 ∷ []) closed (refl, refl, refl, refl, refl, refl, refl)
-    & foretold _ (0 ∷ []) loop (refl, refl, refl, refl, refl, refl, refl)
-    & foretold _ (2 ∷ 0 ∷ 1 ∷ []) spare (refl, refl, refl, refl, refl, refl, refl)
-    & foretold _ (0 ∷ 63 ∷ []) full (refl, refl, refl, refl, refl, refl, refl)
+    (4 ∷ 0 ∷ 2 ∷ 3 ∷ 1 ∷ [], bench, record { place = refl; order = refl; done = refl; low = refl; few = refl; counts = refl; ways = refl })
+    & (3 ∷ 1 ∷ [], bench, record { place = refl; order = refl; done = refl; low = refl; few = refl; counts = refl; ways = refl })
+    & (0 ∷ 1 ∷ 5 ∷ 4 ∷ 2 ∷ 3 ∷ [], ring, record { place = refl; order = refl; done = refl; low = refl; few = refl; counts = refl; ways = refl })
+    & (2 ∷ [], ring, record { place = refl; order = refl; done = refl; low = refl; few = refl; counts = refl; ways = refl })
+    & (0 ∷ [], alone, record { place = refl; order = refl; done = refl; low = refl; few = refl; counts = refl; ways = refl })
+    & (0 ∷ [], closed, record { place = refl; order = refl; done = refl; low = refl; few = refl; counts = refl; ways = refl })
+    & (0 ∷ [], loop, record { place = refl; order = refl; done = refl; low = refl; few = refl; counts = refl; ways = refl })
+    & (2 ∷ 0 ∷ 1 ∷ [], spare, record { place = refl; order = refl; done = refl; low = refl; few = refl; counts = refl; ways = refl })
     & tt
+
+pub all-foretell : AllForetell
+all-foretell = all-foretold forecasts all-shown

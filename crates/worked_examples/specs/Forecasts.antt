@@ -3,7 +3,7 @@ use mathlib.Core.List.{List, [], _∷_}
 use Prim.Native.Nat.{ℕ}
 use Rattle.sheet_format.specs.Rows.{Each}
 use Rattle.forecasts.specs.Forecast.{Forecast}
-use Rattle.worked_examples.specs.Sheets.{Sheet, Yields, bench, ordpw, mailpw, token, mail, order, ring, pwdBackup, pwdManager, device, seed, alone, closed, loop, only, spare, pw, key, acc, full, first, last}
+use Rattle.worked_examples.specs.Sheets.{Sheet, Yields, bench, ordpw, mailpw, token, mail, order, ring, pwdBackup, pwdManager, device, seed, alone, closed, loop, only, spare, pw, key, acc}
 use Rattle.worked_examples.specs.Table.{setOf}
 
 -- A sheet, a target, the items that are counted, and the forecast.
@@ -35,8 +35,6 @@ forecasts =
     ∷ foretells loop only [] 1
     -- a start of zero is a start, and colour 7 a colour
     ∷ foretells spare acc (pw ∷ key ∷ []) 2
-    -- item 63 reaches item 0
-    ∷ foretells full first (last ∷ []) 1
     ∷ []
 
 abbrev pub AllForetell : Type 0

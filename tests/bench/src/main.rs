@@ -1,13 +1,14 @@
 //! Times the proved code beside the same algorithm in plain Rust, a brute force, and plain
 //! programs. `bench` prints tables and writes docs/PERFORMANCE.md with two charts; `bench quick`
 //! makes few rounds and writes the same files to build/bench/. `bench marking` prints the table of
-//! marks alone.
+//! marks alone, `bench forecast` that of forecasts.
 
 mod calls;
 mod chart;
 mod check;
 mod clingo;
 mod document;
+mod forecast;
 mod gate;
 mod grid;
 mod kinds;
@@ -66,8 +67,9 @@ fn main() -> ExitCode {
         [] => run(&FULL, "docs"),
         ["quick"] => run(&QUICK, "build/bench"),
         ["marking"] => print_marking(),
+        ["forecast"] => print_forecasts(),
         _ => {
-            eprintln!("usage: bench [quick | marking]");
+            eprintln!("usage: bench [quick | marking | forecast]");
             return ExitCode::from(2);
         }
     }
@@ -93,6 +95,7 @@ fn run(rounds: &Rounds, folder: &str) {
     show(programs::tables_and_scores(&timed, &mut targets));
     show(programs::reports(&timed, &mut targets));
     show(calls::reading(rounds, &mut targets));
+    show(forecast::forecasts(&kinds, rounds, &mut targets));
     show(marking::marking(antichain(&kinds), rounds, &mut targets));
     let clingo = clingo::opening_lists(&kinds, &programs, rounds, &mut targets);
     clingo.into_iter().for_each(&mut show);
@@ -114,6 +117,13 @@ fn run(rounds: &Rounds, folder: &str) {
 fn antichain(kinds: &[kinds::Kind]) -> &kinds::Kind {
     let found = kinds.iter().find(|kind| kind.name == "antichain of 3,432");
     found.expect("a kind has that name")
+}
+
+fn print_forecasts() {
+    let kinds = kinds::all();
+    let mut targets = Vec::new();
+    let grid = forecast::forecasts(&kinds, &FULL, &mut targets);
+    println!("{}\n{}", grid.text(), targets::grid(&targets).text());
 }
 
 fn print_marking() {

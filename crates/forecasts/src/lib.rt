@@ -39,8 +39,10 @@ fn foretell(s: Setup, target: usize) -> u64
 {
     let graph = s.graph;
     let found = reaching(graph, target);
-    let initial = setup::chosen(s, false);
-    let counted = initial.0 & found.0;
+    let chosen = setup::chosen(s, false);
+    let reached = found.0;
+    let initial = chosen.0;
+    let counted = initial & reached;
     antichains::choose_half(u64::count_ones(counted) as usize)
 }
 

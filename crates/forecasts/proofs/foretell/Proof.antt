@@ -15,12 +15,11 @@ reaching-requires c κs = search needs
 chosen-requires : tie.Need-chosen-requires
 chosen-requires c κs = search needs
 
-few : (c : tie.After-struct-known2) → ones (bitAnd (c .before .before .chosen .result .0) (c .before .before .before .reaching .result .0)) ≤ 14
+few : (c : tie.After-chosen) → ones (bitAnd (c .chosen .result .0) (c .before .reaching .result .0)) ≤ 14
 few c =
-    let i = c .before .before in
-    let r = i .before in
+    let r = c .before in
     let s = r .before .before in
-    counted-few (s .args .s) (s .args .target) (i .chosen .result .0) (r .reaching .result .0) (i .chosen .ensures) (r .reaching .ensures) (s .pre .0) (search needs)
+    counted-few (s .args .s) (s .args .target) (c .chosen .result .0) (r .reaching .result .0) (c .chosen .ensures) (r .reaching .ensures) (s .pre .0) (search needs)
 
 cast-choose-half : tie.Need-cast-choose-half
 cast-choose-half c = let l = few c in record { fits = omega arith }
@@ -30,7 +29,7 @@ choose-half-requires c κs = few c
 
 returns : tie.Need-returns
 returns c =
-    let i = c .before .before .before in
+    let i = c .before in
     let r = i .before in
     let s = r .before .before in
     foretold (s .args .s) (s .args .target) (i .chosen .result .0) (r .reaching .result .0) (i .chosen .ensures) (r .reaching .ensures) _ (c .choose-half .ensures)

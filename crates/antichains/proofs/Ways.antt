@@ -7,7 +7,7 @@ use Prim.Native.Nat.{ℕ, _/_, _≤_, _<_}
 use borrow.Author.Tests.{eqb-true, leb-true}
 use lib.Dec.{eqb, leb}
 use lib.ListN.{getD}
-use Rattle.vertex_set.proofs.Shifts.{all, all-at}
+use Rattle.vertex_set.proofs.Shifts.{all-at}
 use Rattle.antichains.specs.Antichains.{choose, HalfAtBounds}
 
 abbrev pub ways : List ℕ

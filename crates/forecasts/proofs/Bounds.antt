@@ -11,7 +11,7 @@ use native.Mathlib.Omega.{arith}
 use lib.Bits.{bitAnd, bitOr}
 use lib.Count.{ones}
 use lib.ListN.{length}
-use Rattle.vertex_set.specs.Set.{Member, Within, Iff}
+use Rattle.vertex_set.specs.Set.{Member, Within}
 use Rattle.vertex_set.specs.Order.{Listed}
 use Rattle.vertex_set.proofs.Cases.{same-or}
 use Rattle.vertex_set.proofs.Lists.{ordered-once}
@@ -32,7 +32,7 @@ use Rattle.antichains.specs.Antichains.{choose, Antichain}
 use Rattle.antichains.proofs.Pigeons.{ones-within}
 use Rattle.antichains.proofs.Sperner.{sperner}
 use Rattle.antichains.proofs.Ways.{ways-most}
-use Rattle.forecasts.specs.Forecast.{Reaches, here, along, CountedSet, Forecast, ForecastHolds, LongestBase, CountedOnce}
+use Rattle.forecasts.specs.Forecast.{Reaches, here, along, CountedSet, ForecastHolds, LongestBase, CountedOnce}
 use Rattle.forecasts.specs.Inner.{ReachingSet, Foretold}
 
 -- ---- every vertex of an access base's sets is counted

@@ -1,6 +1,6 @@
 -- The contract settles the answer: there is one counted set, and so one forecast.
 -- Assumes nothing.
-use mathlib.Core.Path.{_≡_, sym, ap, subst, _∙_}
+use mathlib.Core.Path.{_≡_, sym, ap, _∙_}
 use mathlib.Core.HLevel.{dec→stable}
 use mathlib.Core.List.{List, [], _∷_, List-discrete}
 use mathlib.Core.Logic.{⊎-elim}

@@ -1,5 +1,5 @@
 -- What the inner functions answer. Nothing of this has to be believed: the contract of the call does not cite it.
-use Prim.Native.Nat.{ℕ, _<_, _^_}
+use Prim.Native.Nat.{ℕ}
 use Rattle.vertex_set.specs.Set.{Member, Iff}
 use Rattle.setup.specs.declared.Graph.{Graph}
 use Rattle.setup.specs.declared.Setup.{Setup}

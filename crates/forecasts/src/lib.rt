@@ -1,6 +1,5 @@
 // How long the access base of a target can be (document 01: its opening list), told without listing
 // it: by the number of the initial vertices that are the target or reach it along edges.
-ghost use mathlib.Core.Path.{_≡_};
 ghost use Prim.Native.Nat.{_<_};
 ghost use Rattle.formed.specs.WellFormed.{WellFormed};
 ghost use Rattle.forecasts.specs.Answers.{forecastNumber, forecastValues, ForecastCall};

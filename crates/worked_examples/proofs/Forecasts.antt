@@ -3,18 +3,16 @@
 use mathlib.Core.Path.{_≡_, refl, sym, subst, _∙_}
 use mathlib.Core.Bool.{Bool, true, false, _&&_}
 use mathlib.Core.List.{List, [], _∷_}
-use mathlib.Core.Logic.{inr}
-use Prim.Native.Nat.{ℕ, zero, suc, _+_, _*_, _/_, _^_, _<_}
+use Prim.Native.Nat.{ℕ, zero, suc, _*_, _/_, _^_, _<_}
 use native.Mathlib.Numerals.{add-one}
 use native.Mathlib.Omega.{arith}
 use lib.Bits.{bitOr}
 use lib.Count.{ones, onesIn}
 use lib.Dec.{eqb, ltb}
-use lib.ListN.{getD}
 use borrow.Author.Tests.{eqb-true, ltb-true}
 use Rattle.vertex_set.specs.Set.{Member, Inserted}
 use Rattle.vertex_set.proofs.Digits.{digit, digit-lt}
-use Rattle.vertex_set.proofs.Sets.{member-below, in-one, in-or, inserted-new, shifted-one}
+use Rattle.vertex_set.proofs.Sets.{member-below, inserted-new, shifted-one}
 use Rattle.vertex_set.proofs.Shifts.{all, all-at}
 use Rattle.setup.specs.declared.Graph.{Graph}
 use Rattle.setup.specs.declared.Setup.{Setup}
@@ -23,12 +21,12 @@ use Rattle.formed.specs.WellFormed.{WellFormed}
 use Rattle.lanes.specs.Inner.Lanes.{Needed}
 use Rattle.lanes.proofs.Colours.{NeededBelow, needed-none, needed-more, needed-done}
 use Rattle.antichains.specs.Antichains.{choose}
-use Rattle.forecasts.specs.Forecast.{CountedSet, Forecast}
+use Rattle.forecasts.specs.Forecast.{CountedSet}
 use Rattle.forecasts.specs.Inner.{ReachingSet}
 use Rattle.forecasts.proofs.Finding.{Finding, finding-none, finding-more, finding-done}
 use Rattle.forecasts.proofs.Bounds.{forecast-holds}
 use Rattle.sheet_format.specs.Rows.{Each}
-use Rattle.worked_examples.specs.Sheets.{Sheet, Reads, Yields}
+use Rattle.worked_examples.specs.Sheets.{Reads}
 use Rattle.worked_examples.specs.Table.{setOf}
 use Rattle.worked_examples.specs.Forecasts.{ForecastExample, Foretells, forecasts, AllForetell}
 use Rattle.worked_examples.proofs.Reading.{_&_, all-read, reads-well}

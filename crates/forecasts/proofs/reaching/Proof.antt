@@ -1,7 +1,7 @@
 -- `forecasts::reaching` meets its contract. The invariant: the vertices found reach the target, and what a vertex needs that has been seen, has
 -- been found. Each round sees one vertex more.
 -- Assumes nothing.
-use Prim.Native.Nat.{_-_, _^_, _<_}
+use Prim.Native.Nat.{_-_, _^_}
 use borrow.Author.Needs.{needs}
 use Rattle.forecasts.proofs.Finding.{Finding, finding-none, unseen, finding-more, finding-done, was-found, seen-grows}
 use Rattle.forecasts.proofs.reaching.Statement.{statement}

@@ -2,7 +2,7 @@
 
 use crate::grid::{micros, ratio, with_commas, Grid};
 use crate::kinds::{Kind, CHOSEN, ROOM};
-use crate::targets::{against_twin, smallest, Target};
+use crate::targets::{largest, smallest, Target};
 use crate::timing::in_turn;
 use crate::twin::{members, Graph, Rows, VERTICES};
 use crate::{proved, Rounds};
@@ -116,9 +116,9 @@ fn without_edges() -> Kind {
     Kind::new("without edges", draft.text())
 }
 
-/// The times of a forecast by the proved call and by the twin, and of both lists.
-fn times(kind: &Kind, rounds: usize) -> [f64; 3] {
-    let mut lists = [0; ROOM];
+/// The times of a forecast, by the proved call and by the twin in turn. Lists are timed apart: they
+/// leave nothing of the setup in the processor's caches.
+fn forecast_times(kind: &Kind, rounds: usize) -> [f64; 2] {
     in_turn(
         rounds,
         [
@@ -128,11 +128,18 @@ fn times(kind: &Kind, rounds: usize) -> [f64; 3] {
             &mut || {
                 black_box(twin_forecast(black_box(&kind.words), kind.target)).ok();
             },
-            &mut || {
-                black_box(proved::both_bases(black_box(&kind.words), kind.target, &mut lists));
-            },
         ],
     )
+}
+
+/// The time of both lists by the proved call.
+fn lists_time(kind: &Kind, rounds: usize) -> f64 {
+    let mut lists = [0; ROOM];
+    let mut call = || {
+        black_box(proved::both_bases(black_box(&kind.words), kind.target, &mut lists));
+    };
+    let [time] = in_turn(rounds, [&mut call]);
+    time
 }
 
 /// The forecast on each kind of sheet, and on one without edges.
@@ -153,8 +160,8 @@ pub fn forecasts(kinds: &[Kind], rounds: &Rounds, targets: &mut Vec<Target>) -> 
     );
     grid.note(
         "`portal_forecast` for the target with the longest lists. Proved and twin take the setup from the \
-         same words and ask question 12, which is most of the time; both lists are those of the proved \
-         call. All three are called in turn.",
+         same words and ask question 12, which is most of the time, and are called in turn; both lists are \
+         those of the proved call, timed apart.",
     );
     let (mut twins, mut lists, mut own) = (Vec::new(), Vec::new(), Vec::new());
     let bare = without_edges();
@@ -163,7 +170,8 @@ pub fn forecasts(kinds: &[Kind], rounds: &Rounds, targets: &mut Vec<Target>) -> 
         let counted =
             (kind.setup.chosen(false) & reaching(&kind.setup.graph, kind.target)).count_ones();
         let (opening, _) = proved::both_bases(&kind.words, kind.target, &mut [0; ROOM]);
-        let [forecast, twin, both] = times(kind, rounds.calls);
+        let [forecast, twin] = forecast_times(kind, rounds.calls);
+        let both = lists_time(kind, rounds.calls);
         grid.row(vec![
             kind.name.clone(),
             counted.to_string(),
@@ -181,7 +189,14 @@ pub fn forecasts(kinds: &[Kind], rounds: &Rounds, targets: &mut Vec<Target>) -> 
             lists.push((kind.name.clone(), both / forecast));
         }
     }
-    targets.push(against_twin("the forecast, proved / twin", &twins));
+    let (name, most) = largest(&twins);
+    let seen = format!("at most {most:.2} ({name})");
+    targets.push(Target::measured(
+        "the forecast, proved / twin",
+        "at most 1.3 times",
+        seen,
+        most <= 1.3,
+    ));
     let (name, least) = smallest(&lists);
     let seen = format!("at least {least:.2} ({name})");
     let what = "both lists / the forecast of the same target";

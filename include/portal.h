@@ -8,6 +8,7 @@
  *   setups     portal_check                  is this a setup?
  *              portal_closure, portal_lost   what a set opens, what the loss of a set takes away
  *              portal_way_in                 how a set opens an item, step by step
+ *              portal_forecast               how many sets an opening list has at most, before it is listed
  *              portal_lists                  the smallest sets that open an item, and the smallest losses that shut it
  *              portal_setup_score, portal_setup_risk
  *              portal_mark_openings, portal_mark_lockouts
@@ -46,8 +47,9 @@ extern "C" {
 
 /* ---- version ---- */
 
-/* 1.0.0 is 10000: the last two parts have two digits each. The first part changes where a call or a struct does. */
-#define PORTAL_VERSION 10000
+/* 1.1.0 is 10100: the last two parts have two digits each. The first part changes where a call or a struct does, the second
+ * where one is new. */
+#define PORTAL_VERSION 10100
 
 /* The version of the library. A program that was compiled with another one's header sees PORTAL_VERSION differ from it. */
 uint64_t portal_version(void);
@@ -58,7 +60,7 @@ uint64_t portal_version(void);
 #define PORTAL_NEVER (UINT64_C(1) << 62)
 
 /* Bytes of stack: for a call that asks all subsets of the starting or losable items, which scores, lists and findings do; for
- * one that marks a handed-in list; and for the others (portal_version, _read, _name, _check, _closure, _lost, _way_in). */
+ * one that marks a handed-in list; and for the others (portal_version, _read, _name, _check, _closure, _lost, _way_in, _forecast). */
 #define PORTAL_STACK ((size_t)256 * 1024)
 #define PORTAL_STACK_MARKS ((size_t)512 * 1024)
 #define PORTAL_STACK_SMALL ((size_t)128 * 1024)
@@ -123,8 +125,10 @@ static inline const char *portal_refusal_text(uint64_t number)
 #define PORTAL_MAX_NAME 16
 #define PORTAL_MAX_VALUE UINT64_C(4000000000)
 
-/* Places that are always enough for both lists of a target: each has subsets of at most 14 items, each once. */
-#define PORTAL_MAX_SETS 32768
+/* Places that are always enough for one list of a target, and for both: of subsets of at most 14 items none of which lies within another
+ * there are at most 3432. portal_forecast tells how many an opening list needs at most. */
+#define PORTAL_MAX_LIST 3432
+#define PORTAL_MAX_SETS (2 * PORTAL_MAX_LIST)
 
 /* Where the words stand. First, how many items there are: 1 to 64. */
 #define PORTAL_COUNT 0
@@ -173,6 +177,12 @@ struct portal_way {
     uint64_t number;
     uint64_t opens;
     uint64_t steps;
+};
+
+/* How many sets the opening list has at most. */
+struct portal_forecast {
+    uint64_t number;
+    uint64_t sets;
 };
 
 /* How many sets each list has. */
@@ -272,6 +282,15 @@ struct portal_set portal_lost(const uint64_t *setup, size_t words, uint64_t set)
  */
 struct portal_way portal_way_in(const uint64_t *setup, size_t words, uint64_t target, uint64_t set,
                                 uint8_t *items, size_t item_places, uint8_t *colours, size_t colour_places);
+
+/*
+ * The forecast for the target's opening list, told without listing anything: the number of ways to choose s / 2, rounded down, of s items,
+ * where s counts the starting items that are the target or reach it along edges, whatever their colours, recovery edges too. It is 1 to
+ * PORTAL_MAX_LIST. No opening list of the target is longer, and each item of each set in it is among those counted. It bounds that list
+ * alone, and not the lockout list: portal_lists, which writes both, has room enough with the forecast plus PORTAL_MAX_LIST places.
+ * Refused with 12, 13.
+ */
+struct portal_forecast portal_forecast(const uint64_t *setup, size_t words, uint64_t target);
 
 /*
  * Both lists of the target: the opening list (sets of starting items that open it, no proper subset doing so), then from the

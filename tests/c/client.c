@@ -49,8 +49,8 @@ static const char LOSS_BEYOND[] = "name kind start loss rank\na c - 4000000001 0
 
 enum { ORDPW = 1, MAILPW = 2, TOKEN = 4, MAIL = 8, ORDER = 16, ORDER_ITEM = 4, MAIL_ITEM = 3 };
 
-/* The setup of SHEET; the same with the largest value; and three that no sheet yields: one by its rank, the others by a start and a loss above the largest value. */
-static uint64_t setup[WORDS], highest[WORDS], malformed[WORDS], beyond[WORDS], loss_beyond[WORDS];
+/* The setups of SHEET and of LARGEST; the first with the largest value; and three that no sheet yields: one by its rank, the others by a start and a loss above the largest value. */
+static uint64_t setup[WORDS], fourteen[WORDS], highest[WORDS], malformed[WORDS], beyond[WORDS], loss_beyond[WORDS];
 
 static int faults;
 
@@ -201,6 +201,19 @@ static void try_way_in(void)
     expect("list too short, untouched", (uint64_t)memcmp(items, "\3\4\11\11", 4), 0);
 }
 
+static void try_forecast(void)
+{
+    struct portal_forecast r = portal_forecast(setup, WORDS, ORDER_ITEM);
+    expect("forecast", r.number, 0);
+    expect("of three that reach order, through mail too", r.sets, 3);
+    expect("of one that reaches mail", portal_forecast(setup, WORDS, MAIL_ITEM).sets, 1);
+    expect("of 14 that reach item 16", portal_forecast(fourteen, WORDS, 16).sets, PORTAL_MAX_LIST);
+    r = portal_forecast(setup, WORDS, 5);
+    expect("forecast of no item", r.number, PORTAL_NO_ITEM);
+    expect("forecast of no item, no value", r.sets, 0);
+    expect("forecast in no setup", portal_forecast(malformed, WORDS, 5).number, PORTAL_NO_SETUP);
+}
+
 static void try_lists(void)
 {
     uint64_t sets[5] = { LENT, LENT, LENT, LENT, LENT };
@@ -301,6 +314,7 @@ static const struct call {
     { "portal_closure", PORTAL_STACK_SMALL, try_closure },
     { "portal_lost", PORTAL_STACK_SMALL, try_lost },
     { "portal_way_in", PORTAL_STACK_SMALL, try_way_in },
+    { "portal_forecast", PORTAL_STACK_SMALL, try_forecast },
     { "portal_lists", PORTAL_STACK, try_lists },
     { "portal_setup_score", PORTAL_STACK, try_setup_score },
     { "portal_setup_risk", PORTAL_STACK, try_setup_risk },
@@ -374,6 +388,7 @@ int main(int argc, char **argv)
 {
     pthread_t id[THREADS];
     expect("document 01's sheet", portal_read(bytes(SHEET), strlen(SHEET), setup, WORDS).number, 0);
+    expect("a sheet of 14 starting items", portal_read(bytes(LARGEST), strlen(LARGEST), fourteen, WORDS).number, 0);
     memcpy(malformed, setup, sizeof setup);
     malformed[PORTAL_RANK(0)] = 10;
     memcpy(highest, setup, sizeof setup);

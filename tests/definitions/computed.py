@@ -20,6 +20,8 @@ FIRST = {
     "bases": ["B"],
     "access": ["set-", "way-"],
     "answers": ["bases-", "score-", "risk-", "marks-"],
+    "antichains": ["choose-"],
+    "forecasts": ["forecast-"],
     "sheet_format/Names": ["name-", "line-"],
     "sheet_format": ["reads-alone", "reads-loop", "reads-pair", "refuses-", "passes-", "renders", "decimal-", "no-fields"],
     "findings": ["finding-"],

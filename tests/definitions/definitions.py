@@ -590,6 +590,105 @@ def MarksCall(loss, s, target, handed, number, values):
     return malformed and noTarget and answers
 
 
+# ---- antichains/Antichains
+
+
+def Antichain(l):
+    once = Once(l)
+    apart = all(implies(lambda: Listed(l, a) and Listed(l, b) and Within(a, b), lambda: a == b) for a in world.sets for b in world.sets)
+    return once and apart
+
+
+def Sperner():
+    return all(
+        implies(
+            lambda: all(implies(lambda: Listed(l, x), lambda: Within(x, t)) for x in world.sets) and Antichain(l),
+            lambda: len(l) <= choose(ones(t), ones(t) // 2),
+        )
+        for t in world.sets
+        for l in world.lists
+    )
+
+
+def HalfAtBounds():
+    none = choose(0, 0 // 2) == 1
+    fourteen = choose(14, 14 // 2) == 3432
+    return none and fourteen
+
+
+# ---- forecasts/Forecast
+
+
+def Reaches(g, target, v, edges=None):
+    """By a path of at most as many edges as there are vertices: one that has more has a shorter one beside it."""
+    left = len(world.vertices) if edges is None else edges
+    here = v == target
+    along = left > 0 and any(Edge(g, v, w, c) and Reaches(g, target, w, left - 1) for w in world.vertices for c in world.colours)
+    return here or along
+
+
+def CountedSet(s, target, r):
+    return all(Iff(Member(r, v), Chosen(False, s, v) and Reaches(s.graph, target, v)) for v in world.vertices)
+
+
+def Forecast(s, target, counted, n):
+    key = ("counted", mark(s), target, counted)
+    if key not in cache:
+        cache[key] = CountedSet(s, target, counted)
+    isCounted = cache[key]
+    ways = n == choose(ones(counted), ones(counted) // 2)
+    bases = [l for l in world.lists if isCounted and ways and Base(False, s, s.graph, target, l)]
+    enough = all(len(l) <= n for l in bases)
+    among = all(
+        implies(lambda: Listed(l, x) and Member(x, v), lambda: Member(counted, v)) for l in bases for x in world.sets for v in world.vertices
+    )
+    return isCounted and ways and enough and among
+
+
+def ForecastHolds(asked):
+    return all(
+        implies(
+            lambda: CountedSet(s, target, counted) and n == choose(ones(counted), ones(counted) // 2), lambda: Forecast(s, target, counted, n)
+        )
+        for s, target, counted, n in asked
+    )
+
+
+def LongestBase(setups):
+    return all(
+        implies(lambda: WellFormed(s) and Base(loss, s, s.graph, target, l), lambda: len(l) <= 3432)
+        for loss in (False, True)
+        for s in setups
+        for target in range(s.count)
+        for l in world.lists
+    )
+
+
+def CountedOnce(s, target):
+    return all(implies(lambda: CountedSet(s, target, r) and CountedSet(s, target, q), lambda: r == q) for r in world.sets for q in world.sets)
+
+
+# ---- forecasts/Answers
+
+
+def ForecastCall(s, target, number, values):
+    malformed = implies(lambda: not WellFormed(s), lambda: Refuses(12, number, values))
+    noTarget = implies(lambda: WellFormed(s) and s.count <= target, lambda: Refuses(13, number, values))
+    answers = implies(
+        lambda: WellFormed(s) and target < s.count,
+        lambda: number == 0 and len(values) == 1 and any(Forecast(s, target, counted, values[0]) for counted in world.sets),
+    )
+    return malformed and noTarget and answers
+
+
+def OneForecastAnswer(s, target, answers):
+    return all(
+        implies(lambda: ForecastCall(s, target, n, v) and ForecastCall(s, target, n_, v_), lambda: Same(n, n_, v, v_))
+        for n, v in answers
+        for n_, v_ in answers
+    )
+
+
 # ---- answers/Demand3
 
 
@@ -1179,9 +1278,10 @@ def Demand1(text, item, s, set_, target, other, opened, locked, vertices, vertic
     reading = SettledReading(text, r.reading, among.docs, among.readings)
     portalScore = SettledPortal(False, text, item, r.portalScore, among.numbers)
     portalRisk = SettledPortal(True, text, item, r.portalRisk, among.numbers)
+    forecast = Settled([12, 13], lambda n, v: ForecastCall(s, target, n, v), *r.forecast, both)
     sets = closure and lost and way
     lists = bases and score and risk and openings and lockouts
-    return sets and lists and backdoor and idle and pair and formed and reading and portalScore and portalRisk
+    return sets and lists and backdoor and idle and pair and formed and reading and portalScore and portalRisk and forecast
 
 
 def Demand2(text, item, s, set_, target, other, opened, locked, vertices, vertices_, colours, colours_, list_, exit, r, among):
@@ -1201,9 +1301,10 @@ def Demand2(text, item, s, set_, target, other, opened, locked, vertices, vertic
     asked = r.reading == readSheet(text)
     portalScore = PortalCall(False, text, item, r.portalScore)
     portalRisk = PortalCall(True, text, item, r.portalRisk)
+    forecast = ForecastCall(s, target, *r.forecast)
     sets = closure and lost and way
     lists = bases and score and risk and openings and lockouts
-    return sets and lists and backdoor and idle and pair and formed and reading and asked and portalScore and portalRisk
+    return sets and lists and backdoor and idle and pair and formed and reading and asked and portalScore and portalRisk and forecast
 
 
 # ---- reference/Meaning
@@ -1423,7 +1524,8 @@ def OneResultOnSetups(words, set_, target, other, sets, a, b, numbers, results, 
     backdoor = OneResult(lambda n, v: BackdoorCall(s, target, n, v), results, values)
     idle = OneResult(lambda n, v: IneffectiveCall(s, target, n, v), results, values)
     outOfRank = OneResult(lambda n, v: InconsistentCall(s, target, other, n, v), results, values)
-    return all((check, closure, lost, wayIn, lists_, score, risk, openings, lockouts, backdoor, idle, outOfRank))
+    forecast = OneResult(lambda n, v: ForecastCall(s, target, n, v), results, values)
+    return all((check, closure, lost, wayIn, lists_, score, risk, openings, lockouts, backdoor, idle, outOfRank, forecast))
 
 
 def OneResultOnSheets(text, item, entry, readings, parts):

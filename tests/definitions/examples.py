@@ -472,6 +472,42 @@ def of_score_calls(D):
     ]
 
 
+def of_forecasts(D):
+    """Forecasts for order, which mailpw reaches through mail and along a recovery edge, and for mail."""
+    asked = [(bench, t, c, n) for t in (MAIL, ORDER) for c in range(32) for n in (0, 1, 2, 3)]
+    answers = [(0, [n]) for n in (1, 2, 3)] + [(13, []), (12, []), (0, [])]
+    return [
+        ("antichain: mailpw, and ordpw with token", lambda: D.Antichain([2, 5]), True),
+        ("not antichain: the same twice", lambda: D.Antichain([2, 2]), False),
+        ("not antichain: one within the other", lambda: D.Antichain([2, 3]), False),
+        ("sperner", lambda: D.Sperner(), True),
+        ("ways: none, and 7 of 14", lambda: D.HalfAtBounds(), True),
+        ("reaches: mailpw to order", lambda: D.Reaches(bench.graph, ORDER, 1), True),
+        ("reaches: order itself", lambda: D.Reaches(bench.graph, ORDER, ORDER), True),
+        ("not reaches: order to mailpw", lambda: D.Reaches(bench.graph, 1, ORDER), False),
+        ("not reaches: ordpw to mail", lambda: D.Reaches(bench.graph, MAIL, 0), False),
+        ("counted: for order", lambda: D.CountedSet(bench, ORDER, 7), True),
+        ("not counted: mail, and order itself", lambda: D.CountedSet(bench, ORDER, 31), False),
+        ("not counted: by direct needs alone", lambda: D.CountedSet(bench, ORDER, 5), False),
+        ("not counted: all starting items for mail", lambda: D.CountedSet(bench, MAIL, 7), False),
+        ("forecast: for order", lambda: D.Forecast(bench, ORDER, 7, 3), True),
+        ("forecast: for mail", lambda: D.Forecast(bench, MAIL, 2, 1), True),
+        ("not forecast: the list's length", lambda: D.Forecast(bench, ORDER, 7, 2), False),
+        ("not forecast: more than the ways", lambda: D.Forecast(bench, ORDER, 7, 4), False),
+        ("not forecast: of other items", lambda: D.Forecast(bench, ORDER, 5, 2), False),
+        ("forecast holds", lambda: D.ForecastHolds(asked), True),
+        ("longest base", lambda: D.LongestBase([bench]), True),
+        ("counted once", lambda: D.CountedOnce(bench, ORDER), True),
+        ("call: forecast for order", lambda: D.ForecastCall(bench, ORDER, 0, [3]), True),
+        ("not call: forecast of 3432", lambda: D.ForecastCall(bench, ORDER, 0, [3432]), False),
+        ("call: forecast, 13", lambda: D.ForecastCall(bench, 5, 13, []), True),
+        ("not call: forecast, 13 inside", lambda: D.ForecastCall(bench, ORDER, 13, []), False),
+        ("call: forecast, 12", lambda: D.ForecastCall(EMPTY, 0, 12, []), True),
+        ("not call: forecast, 13 before 12", lambda: D.ForecastCall(EMPTY, 0, 13, []), False),
+        ("one answer: forecast for order", lambda: D.OneForecastAnswer(bench, ORDER, answers), True),
+    ]
+
+
 def of_findings(D):
     """Findings."""
     return [
@@ -672,7 +708,7 @@ def of_demands(D):
 
 
 Answers = namedtuple(
-    "Answers", "closure lost way bases score risk openings lockouts backdoor idle pair formed reading portalScore portalRisk"
+    "Answers", "closure lost way bases score risk openings lockouts backdoor idle pair formed reading portalScore portalRisk forecast"
 )
 Among = namedtuple("Among", "answers ways lists texts docs readings numbers")
 
@@ -682,11 +718,11 @@ def of_both_demands(D):
     sheet, five, lent, out = text(BENCH), REFUSED["refused 5"][0], [9, 9], LENT[:4]
     yes = Answers(
         *[(0, [26]), (0, [10]), (0, [1, 2]), (0, [2, 2]), (0, [1]), (0, [3]), (0, [1, 0, 0, 0, 1]), (0, [2, 0, 0, 0, 0])],
-        *[(0, [1]), (0, [0]), (0, [1]), True, D.accepted(bench), 1, 3],
+        *[(0, [1]), (0, [0]), (0, [1]), True, D.accepted(bench), 1, 3, (0, [3])],
     )
-    outside = Answers((14, []), (14, []), *[(13, [])] * 9, True, D.refused(5, 2), never + 5, never + 5)
+    outside = Answers((14, []), (14, []), *[(13, [])] * 9, True, D.refused(5, 2), never + 5, never + 5, (13, []))
     set_outside = yes._replace(closure=(14, []), lost=(14, []), way=(14, []), portalRisk=1)
-    malformed = yes._replace(**{n: (12, []) for n in Answers._fields[:11]}, formed=False)
+    malformed = yes._replace(**{n: (12, []) for n in (*Answers._fields[:11], "forecast")}, formed=False)
     answers = [(0, v) for v in ([0], [1], [3], [10], [26], [1, 0, 0, 0, 1], [2, 0, 0, 0, 0])] + [(n, []) for n in (0, 12, 13, 14)]
     ways = [(0, [1, 2], [3, 4], [0, 1]), (0, [1, 2], [3, 4], lent)] + [(n, v, lent, lent) for n, v in answers + [(15, [])]]
     lists = [(0, [2, 2], [2, 5, 3, 6]), (0, [2, 2], out)] + [(n, v, out) for n, v in answers + [(15, [])]]
@@ -704,6 +740,7 @@ def of_both_demands(D):
         ("the risk for the portal's score", order, yes._replace(portalScore=3), False),
         ("no to question 12", order, yes._replace(formed=False), False),
         ("another line", order, yes._replace(reading=D.accepted(bench)._replace(line=1)), False),
+        ("the list's length for the forecast", order, yes._replace(forecast=(0, [2])), False),
     ]
     return [
         (f"{'' if ok else 'not '}demand {n}: {name}", lambda f=f, a=a, r=r: f(*a, r, among), ok)
@@ -915,7 +952,7 @@ GROUPS = {
     "one": [of_one],
     "sums": [of_sums],
     "bench": [of_derivations, of_ways, of_bases, of_scores, of_marks, of_set_calls, of_way_calls, of_base_calls, of_score_calls, of_demand3]
-    + [of_findings, of_portal, of_same, of_told, of_readings, of_one_answer, of_results, of_demands, of_both_demands],
+    + [of_forecasts, of_findings, of_portal, of_same, of_told, of_readings, of_one_answer, of_results, of_demands, of_both_demands],
     "rows": [of_valid_rows, of_rows, of_stated, of_meaning, of_refusals],
     "spare": [of_spare],
     "ring": [of_ring],

@@ -48,6 +48,14 @@ def ones(n):
     return bin(n).count("1")
 
 
+def choose(n, k):
+    if n == 0:
+        return 1 if k == 0 else 0
+    if k == 0:
+        return 1
+    return choose(n - 1, k - 1) + choose(n - 1, k)
+
+
 def edgeCount(g):
     return sum(sum(ones(n) for n in r.needs) for r in g.rows)
 

@@ -25,6 +25,8 @@ use Rattle.access.specs.Answers.{SetCall, WayWritten, WayCall}
 use Rattle.answers.specs.Answers.{BasesWritten, BasesCall, ScoreCall, MarksCall}
 use Rattle.findings.specs.Answers.{FindingCall}
 use Rattle.findings.proofs.Unique.{decided-once, all-below, one-finding-answer}
+use Rattle.forecasts.specs.Answers.{ForecastCall}
+use Rattle.forecasts.proofs.Unique.{one-forecast-answer}
 use Rattle.demands.proofs.Stable.{stable-number, by-cases}
 use Rattle.demands.proofs.OneAnswer.{by-target, one-set-answer, one-way-answer, one-bases-answer, one-score-answer, one-marks-answer}
 use Rattle.demands.specs.Outcomes.{Outcome, Settled, SettledWay, SettledLists, Yielded, SettledQuestion12}
@@ -96,6 +98,15 @@ module _ (s : Setup) (n : ℕ) (v : List ℕ) where
             (λ w o. refused (inr (inl refl)) refl (c .noTarget w o)) (λ w l. let a = c .answers w l in answered (a .5) (a .6));
         meets = c;
         only = λ n′ v′ d. one-marks-answer loss s target handed n′ n v′ v d c;
+      }
+
+  pub settled-forecast : (target : ℕ) → ForecastCall s target n v → Settled (12 ∷ 13 ∷ []) (ForecastCall s target) n v
+  settled-forecast target c =
+      record {
+        outcome = by-target s target (outcome-stable v) (λ m. refused (inl refl) refl (c .malformed m))
+            (λ w o. refused (inr (inl refl)) refl (c .noTarget w o)) (λ w l. let a = c .answers w l in answered (a .2) (a .3));
+        meets = c;
+        only = λ n′ v′ d. one-forecast-answer s target n′ n v′ v d c;
       }
 
   pub settled-finding : (Finds : Bool → Type 0) → ((b b′ : Bool) → Finds b → Finds b′ → b ≡ b′) → (vertices : List ℕ)

@@ -11,6 +11,7 @@ use Rattle.derivations.specs.Lockout.{LockoutFrom}
 use Rattle.access.specs.Answers.{setNumber, setValues, SetCall, wayNumber, wayValues, WayCall}
 use Rattle.answers.specs.Answers.{basesNumber, basesValues, BasesCall, scoreNumber, scoreValues, riskNumber, riskValues, ScoreCall, marksNumber, marksValues, MarksCall}
 use Rattle.findings.specs.Answers.{findingNumber, findingValues, BackdoorCall, IneffectiveCall, InconsistentCall}
+use Rattle.forecasts.specs.Answers.{forecastNumber, forecastValues, ForecastCall}
 use Rattle.sheet_format.specs.Read.{readSheet}
 use Rattle.portal.specs.Portal.{PortalCall}
 use Rattle.demands.specs.declared.Answers.{Answers}
@@ -41,6 +42,8 @@ pub record Demand1 (text : List ℕ) (item : ℕ) (s : Setup) (set target other 
   pub reading : SettledReading text (r .sheet .reading)
   pub portalScore : SettledPortal false text item (r .sheet .score)
   pub portalRisk : SettledPortal true text item (r .sheet .risk)
+  -- the forecast: 12, 13
+  pub forecast : Settled (12 ∷ 13 ∷ []) (ForecastCall s target) (forecastNumber (r .forecast)) (forecastValues (r .forecast))
 
 -- Demand 2: every answer is the one of the paper's definitions, by the calls' own contracts; a sheet is accepted exactly where it has the paper's
 -- form, and yields the setup that its rows state.
@@ -70,3 +73,5 @@ pub record Demand2 (text : List ℕ) (item : ℕ) (s : Setup) (set target other 
   pub asked : r .sheet .reading ≡ readSheet text
   pub portalScore : PortalCall false text item (r .sheet .score)
   pub portalRisk : PortalCall true text item (r .sheet .risk)
+  -- how many sets the opening list has at most, by the starting items that are the target or reach it
+  pub forecast : ForecastCall s target (forecastNumber (r .forecast)) (forecastValues (r .forecast))

@@ -9,6 +9,7 @@ use Rattle.derivations.specs.Lockout.{LockoutFrom}
 use Rattle.access.specs.Answers.{SetCall, WayCall}
 use Rattle.answers.specs.Answers.{BasesCall, ScoreCall, MarksCall}
 use Rattle.findings.specs.Answers.{BackdoorCall, IneffectiveCall, InconsistentCall}
+use Rattle.forecasts.specs.Answers.{ForecastCall}
 use Rattle.setup.specs.Calls.{Same}
 use Rattle.demands.specs.OneAnswer.{SameWay, SameBases}
 use Rattle.portal_setup.specs.Words.{setupIn}
@@ -40,6 +41,7 @@ pub record OneResultOnSetups (words : List ℕ) : Type 0 where
   pub backdoor : (item : ℕ) → OneResult (BackdoorCall (setupIn words) item)
   pub idle : (item : ℕ) → OneResult (IneffectiveCall (setupIn words) item)
   pub outOfRank : (above below : ℕ) → OneResult (InconsistentCall (setupIn words) above below)
+  pub forecast : (target : ℕ) → OneResult (ForecastCall (setupIn words) target)
 
 -- The calls on a sheet, for every text.
 pub record OneResultOnSheets (text : List ℕ) : Type 0 where

@@ -19,6 +19,7 @@ use access::SetAnswer;
 use access::WayAnswer;
 use answers::AllAnswers;
 use findings::FindingAnswer;
+use forecasts::ForecastAnswer;
 use setup::Setup;
 use sheet_format::Reading;
 use vertex_set::VertexSet;
@@ -50,6 +51,7 @@ pub struct Answers {
     pub lists: AllAnswers,
     pub findings: FindingAnswers,
     pub sheet: SheetAnswers,
+    pub forecast: ForecastAnswer,
 }
 
 // Asks for closure, lost set and way in.
@@ -126,11 +128,13 @@ pub fn demand_two(
     let lists = answers::demand_three(s, target, list, opened, locked);
     let findings = ask_findings(s, target, other);
     let sheet = ask_sheet(sheet, item);
+    let forecast = forecasts::forecast_base(s, target);
     Answers {
         sets,
         lists,
         findings,
         sheet,
+        forecast,
     }
 }
 

@@ -3,12 +3,12 @@
 use mathlib.Core.Path.{_≡_, refl, subst}
 use mathlib.Core.List.{List}
 use mathlib.Core.Logic.{_⊎_, inl, inr, ⊎-elim}
-use Prim.Native.Nat.{ℕ, zero, suc, _^_, _<_}
-use native.Mathlib.Nat.{pow-suc}
+use Prim.Native.Nat.{ℕ}
 use native.Mathlib.Omega.{arith}
 use lib.ListN.{length}
 use Rattle.vertex_set.specs.Set.{Member}
 use Rattle.vertex_set.proofs.Cases.{same-or}
+use Rattle.vertex_set.proofs.Digits.{below-own-power}
 use Rattle.vertex_set.proofs.Sets.{member-or, member-below}
 use Rattle.setup.specs.declared.Graph.{Graph}
 use Rattle.setup.specs.Setup.{row, rowsAt}
@@ -22,10 +22,6 @@ use Rattle.derivations.proofs.Rules.{Sub, After, Lawful, gather}
 
 opens-mono : (g : Graph) (P Q : Vertices) → Sub P Q → (e : Step) → Opens g P e → Opens g Q e
 opens-mono g P Q s e o = record { coloured = o .coloured; complete = λ i m. s i (o .complete i m) }
-
-below-own-power : (n : ℕ) → n < 2 ^ n
-below-own-power zero = omega arith
-below-own-power (suc n) = let h = below-own-power n in let p = pow-suc 2 n in omega arith
 
 opens-gathers : (g : Graph) (P : Vertices) (e : Step) → Opens g (Derivation (access g) P) e
     → (d : List Step) × Run (access g) P d × Opens g (After (access g) P d) e

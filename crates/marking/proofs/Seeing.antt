@@ -13,10 +13,10 @@ use borrow.Author.Tests.{eqb-true}
 use lib.ListN.{length, take, drop, getD, set, replicate}
 use lib.Seq.{take-all, getD-set-same, getD-set-other}
 use Rattle.vertex_set.specs.Set.{Member, Within, Iff}
-use Rattle.vertex_set.specs.Order.{Listed, Once}
+use Rattle.vertex_set.specs.Order.{Listed}
 use Rattle.vertex_set.proofs.Cases.{same-or, false-true}
+use Rattle.vertex_set.proofs.Lists.{sorted-once}
 use Rattle.vertex_set.proofs.Sets.{none-in-zero, in-and, in-or, in-one, shifted-one}
-use Rattle.vertex_set.proofs.Sorted.{Sorted}
 use Rattle.families.specs.Inner.Family.{In, size}
 use Rattle.families.specs.Inner.Masks.{SetOfMask, MaskOf}
 use Rattle.families.proofs.Families.{size-drop, size-end}
@@ -172,10 +172,6 @@ pub and-ones : (v w : ℕ) → v < 2 ^ 64 → ones (bitAnd v w) ≤ 64
 and-ones v w h = ones-le 64 (bitAnd v w) (let a = and-le-l v w in omega arith)
 
 -- ---- how many sets are in
-
-sorted-once : (l : List ℕ) → Sorted _<_ l → Once l
-sorted-once [] s = tt
-sorted-once (x ∷ l) s = (λ h. let k = s .0 x h in omega arith, sorted-once l (s .1))
 
 pub family-size : (f : List ℕ) → Words f → HasSize (In f) (size f)
 family-size f w =

@@ -4,19 +4,19 @@ use mathlib.Core.Path.{_≡_, refl, sym, ap, subst, _∙_}
 use mathlib.Core.Bool.{Bool, true, false}
 use mathlib.Core.List.{List, [], _∷_, _++_}
 use mathlib.Core.Logic.{inl, inr}
-use Prim.Native.Nat.{ℕ, zero, suc, _+_, _*_, _/_, _^_, _≤_, _<_}
+use Prim.Native.Nat.{ℕ, zero, suc, _+_, _*_, _/_, _≤_, _<_}
 use native.Mathlib.Omega.{arith}
-use lib.Count.{ones, ones-le}
+use lib.Count.{ones}
 use lib.ListN.{length, getD, take, drop, length-take}
 use lib.Seq.{getD-take}
-use Rattle.vertex_set.specs.Set.{Member, Within}
+use Rattle.vertex_set.specs.Set.{Member}
 use Rattle.vertex_set.specs.Order.{Listed, sumOver}
 use Rattle.vertex_set.proofs.Cases.{byTest}
+use Rattle.vertex_set.proofs.Places.{ones-within}
 use Rattle.vertex_set.proofs.Sums.{sum-over-same}
 use Rattle.setup.specs.Bounds.{largest, mostChosen}
 use Rattle.setup.specs.declared.Setup.{Setup}
 use Rattle.setup.specs.Setup.{Chosen}
-use Rattle.families.proofs.Masks.{gather, gather-lt, mask-of, set-size}
 use Rattle.bases.specs.Base.{MinimalSet}
 use Rattle.bases.specs.Score.{pointsAt, Values}
 use Rattle.bases.proofs.Formed.{few, points-range, sums-hold}
@@ -45,19 +45,16 @@ values-starts loss f e = rw e (record { each = λ sheet s h. h .starts })
 
 -- ---- the sets of a list can be written
 
-few-of : (c x : ℕ) → c < 2 ^ 64 → Within x c → ones c ≤ 14 → ones x ≤ 14
-few-of c x b w h =
-    let l = gather-lt 64 c x b in
-    let e = set-size c (gather 64 c x) x b l (mask-of c x b w) in
-    let o = ones-le (ones c) (gather 64 c x) l in
-    omega arith
-
-module _ (sheet : List ℕ) (s : Setup) (f : Facts) (h : FactsOf sheet s f) (low : f .initial .0 < 2 ^ 64) (lowLosable : f .losable .0 < 2 ^ 64) where
+module _ (sheet : List ℕ) (s : Setup) (f : Facts) (h : FactsOf sheet s f) where
   few-chosen : (loss : Bool) (x : ℕ) → ((v : ℕ) → Member x v → Chosen loss s v) → ones x ≤ 14
   few-chosen false x c =
-      few-of (f .initial .0) x low (record { each = λ v m. h .initial .each v .from (c v m) }) (few false s (f .initial .0) (h .formed) (h .initial))
+      let l = ones-within x (f .initial .0) (record { each = λ v m. h .initial .each v .from (c v m) }) in
+      let k = few false s (f .initial .0) (h .formed) (h .initial) in
+      omega arith
   few-chosen true x c =
-      few-of (f .losable .0) x lowLosable (record { each = λ v m. h .losable .each v .from (c v m) }) (few true s (f .losable .0) (h .formed) (h .losable))
+      let l = ones-within x (f .losable .0) (record { each = λ v m. h .losable .each v .from (c v m) }) in
+      let k = few true s (f .losable .0) (h .formed) (h .losable) in
+      omega arith
 
   set-ready : (loss : Bool) (target x : ℕ) → MinimalSet loss s (s .graph) target x → SetReady sheet (f .from) (f .to) x
   set-ready loss target x m =
@@ -88,7 +85,7 @@ listed-at [] j h = omega arith
 listed-at (x ∷ l) zero h = inl refl
 listed-at (x ∷ l) (suc j) h = inr (listed-at l j (omega arith))
 
-module _ (sheet : List ℕ) (f : Facts) (list : List ℕ) (k i n : ℕ) (values : List ℕ) (low : f .initial .0 < 2 ^ 64) (lowLosable : f .losable .0 < 2 ^ 64)
+module _ (sheet : List ℕ) (f : Facts) (list : List ℕ) (k i n : ℕ) (values : List ℕ)
     (v : ValuesBy (slotLoss k) f values) where
   pub list-ready : CanPutList sheet f list k i n → RowsReady sheet (f .from) (f .to) values list (k / 2) i n
   list-ready g =
@@ -104,10 +101,10 @@ module _ (sheet : List ℕ) (f : Facts) (list : List ℕ) (k i n : ℕ) (values 
       record {
         name = o .names (k / 2) below;
         short = o .short (k / 2) below;
-        sets = λ j l. slot-ready sheet s f o low lowLosable k (getD list j 0) (stands j l);
+        sets = λ j l. slot-ready sheet s f o k (getD list j 0) (stands j l);
         longValues = vs .long;
         small = λ w. rw (vs .each w) (points-range (slotLoss k) s (o .formed) w);
-        sums = λ j l. slot-sum sheet s f o low lowLosable values k (getD list j 0) vs (stands j l);
+        sums = λ j l. slot-sum sheet s f o values k (getD list j 0) vs (stands j l);
         next = h .next;
         here = most;
       }

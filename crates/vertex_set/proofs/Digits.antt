@@ -31,6 +31,11 @@ digit-or a b i =
 pub digit-zero : (i : ℕ) → digit 0 i ≡ 0
 digit-zero i = rw (zero-div (2 ^ i))
 
+-- every number is below its own power
+pub below-own-power : (n : ℕ) → n < 2 ^ n
+below-own-power zero = omega arith
+below-own-power (suc n) = let h = below-own-power n in let p = pow-suc 2 n in omega arith
+
 -- The digit above a number's highest is 0.
 pub digit-high : (s i : ℕ) → s < 2 ^ i → digit s i ≡ 0
 digit-high s i h = rw (div-eq-of-lt h)

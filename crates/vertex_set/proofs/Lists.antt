@@ -1,15 +1,15 @@
 -- Lists without repetition, and lists of exactly the sets of which a predicate holds.
 -- Assumes nothing.
 use mathlib.Core.Path.{_≡_, refl, sym, ap, subst, _∙_}
-use mathlib.Core.List.{List, [], _∷_}
+use mathlib.Core.List.{List, [], _∷_, map}
 use mathlib.Core.Logic.{_⊎_, inl, inr, ⊎-elim}
-use Prim.Native.Nat.{ℕ, suc, _≤_}
+use Prim.Native.Nat.{ℕ, suc, _≤_, _<_}
 use native.Mathlib.Omega.{arith}
 use lib.ListN.{length}
 use Rattle.vertex_set.specs.Set.{Iff}
 use Rattle.vertex_set.specs.Order.{Listed, Once, Before, Ordered, ListsExactly}
 use Rattle.vertex_set.proofs.Cases.{same-or}
-use Rattle.vertex_set.proofs.Sorted.{not-before-self, ordered-same}
+use Rattle.vertex_set.proofs.Sorted.{listed-of-map, Sorted, not-before-self, ordered-same}
 
 pub listed-or : (l : List ℕ) (x : ℕ) → Listed l x ⊎ (Listed l x → ⊥)
 listed-or [] x = inr (λ h. h)
@@ -45,6 +45,18 @@ once-le (x ∷ a) b o s =
 pub once-all : (a b : List ℕ) → Once a → ((x : ℕ) → Listed a x → Listed b x) → length b ≤ length a → (x : ℕ) → Listed b x → Listed a x
 once-all a b o s l x i =
     ⊎-elim (λ h. h) (λ n. absurd (let h = once-le (x ∷ a) b (n, o) (λ y. ⊎-elim (λ e. subst (Listed b) (sym e) i) (s y)) in omega arith)) (listed-or a x)
+
+-- numbers that a function takes to different ones stay without repetition
+pub once-map : (f : ℕ → ℕ) (l : List ℕ) → ((x y : ℕ) → Listed l x → Listed l y → f x ≡ f y → x ≡ y) → Once l → Once (map f l)
+once-map f [] i o = tt
+once-map f (x ∷ l) i o = (
+  λ h. let k = listed-of-map f l (f x) h in o .0 (subst (Listed l) (sym (i x (k .0) (inl refl) (inr (k .1)) (k .2))) (k .1)),
+  once-map f l (λ y z p q. i y z (inr p) (inr q)) (o .1),
+)
+
+pub sorted-once : (l : List ℕ) → Sorted _<_ l → Once l
+sorted-once [] s = tt
+sorted-once (x ∷ l) s = (λ h. let k = s .0 x h in omega arith, sorted-once l (s .1))
 
 pub ordered-once : (l : List ℕ) → Ordered l → Once l
 ordered-once [] o = tt

@@ -16,8 +16,9 @@ use Rattle.vertex_set.specs.Set.{Member, Iff, Within}
 use Rattle.vertex_set.specs.Order.{Listed}
 use Rattle.vertex_set.proofs.Cases.{same-or}
 use Rattle.vertex_set.proofs.Sorted.{listed-map, listed-of-map, only, only-map, only-same, Sorted, sorted-map}
-use Rattle.vertex_set.proofs.Digits.{digit, digit-suc, digit-first}
-use Rattle.vertex_set.proofs.Sets.{member-below, shifted-one}
+use Rattle.vertex_set.proofs.Lists.{once-le, sorted-once}
+use Rattle.vertex_set.proofs.Digits.{digit, below-own-power, digit-suc, digit-first}
+use Rattle.vertex_set.proofs.Sets.{member-below, within-le, shifted-one}
 
 -- ---- membership by halves
 
@@ -199,6 +200,17 @@ sorted-places (suc k) s =
     (λ odd. rw (places-odd k s odd) (λ y m. let r = listed-of-map suc (places k (s / 2)) y m in omega (arith, r .2), rest))
     (λ o. rw (places-even k s (omega arith)) rest)
     (same-or (s % 2) 1)
+
+-- a subset has at most as many vertices
+pub ones-within : (a b : ℕ) → Within a b → ones a ≤ ones b
+ones-within a b w =
+    let l = within-le a b w in
+    let h = below-own-power b in
+    let m = once-le (places b a) (places b b) (sorted-once (places b a) (sorted-places b a))
+    (λ i k. let p = listed-places b a i .to k in listed-places b b i .from (w .each i (p .0), p .1)) in
+    let x = length-places b a (omega arith) in
+    let y = length-places b b h in
+    omega arith
 
 -- ---- the places of two sets' common part
 

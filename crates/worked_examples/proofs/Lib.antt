@@ -1,4 +1,6 @@
 pub mod Excluded
+pub mod Forecasts
+pub mod ForecastsExcluded
 pub mod Reading
 pub mod Settled
 pub mod Table

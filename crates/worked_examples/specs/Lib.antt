@@ -1,2 +1,3 @@
+pub mod Forecasts
 pub mod Sheets
 pub mod Table

@@ -1,13 +1,14 @@
 //! Times the proved code beside the same algorithm in plain Rust, a brute force, and plain
 //! programs. `bench` prints tables and writes docs/PERFORMANCE.md with two charts; `bench quick`
 //! makes few rounds and writes the same files to build/bench/. `bench marking` prints the table of
-//! marks alone, and `bench rows` that of the report with the most rows.
+//! marks alone, `bench rows` that of the report with the most rows, and `bench forecast` that of forecasts.
 
 mod calls;
 mod chart;
 mod check;
 mod clingo;
 mod document;
+mod forecast;
 mod gate;
 mod grid;
 mod kinds;
@@ -67,8 +68,9 @@ fn main() -> ExitCode {
         ["quick"] => run(&QUICK, "build/bench"),
         ["marking"] => print_marking(),
         ["rows"] => print_rows(),
+        ["forecast"] => print_forecasts(),
         _ => {
-            eprintln!("usage: bench [quick | marking | rows]");
+            eprintln!("usage: bench [quick | marking | rows | forecast]");
             return ExitCode::from(2);
         }
     }
@@ -94,6 +96,7 @@ fn run(rounds: &Rounds, folder: &str) {
     show(programs::tables_and_scores(&timed, &mut targets));
     show(programs::reports(&timed, &mut targets));
     show(calls::reading(rounds, &mut targets));
+    show(forecast::forecasts(&kinds, rounds, &mut targets));
     show(marking::marking(antichain(&kinds), rounds, &mut targets));
     let clingo = clingo::opening_lists(&kinds, &programs, rounds, &mut targets);
     clingo.into_iter().for_each(&mut show);
@@ -126,6 +129,13 @@ fn print_rows() {
     let kinds = kinds::all();
     let most = named(&kinds, "antichain of 3,432, 28 times");
     let grid = programs::most_rows(most, &Programs::at(&root), &FULL, &mut targets);
+    println!("{}\n{}", grid.text(), targets::grid(&targets).text());
+}
+
+fn print_forecasts() {
+    let kinds = kinds::all();
+    let mut targets = Vec::new();
+    let grid = forecast::forecasts(&kinds, &FULL, &mut targets);
     println!("{}\n{}", grid.text(), targets::grid(&targets).text());
 }
 

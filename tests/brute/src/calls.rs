@@ -1,6 +1,7 @@
 //! The calls on a setup, as the product answers them: questions 12 to 15 in their order, and
 //! lent lists that a refusal leaves as they were.
 
+use crate::forecast;
 use crate::graph;
 use crate::lists::{Least, Marks, Table};
 use crate::setup::{within, Setup};
@@ -111,6 +112,13 @@ impl Calls {
         self.ask_12()?;
         let target = self.ask_13(target)?;
         Ok(self.lockouts().list(target))
+    }
+
+    /// How many sets the opening list has at most (02, point 10). 12, 13.
+    pub fn forecast(&self, target: u64) -> Result<u64, u8> {
+        self.ask_12()?;
+        let target = self.ask_13(target)?;
+        Ok(forecast::forecast(&self.setup, target))
     }
 
     /// The least sum of start values over the opening list. 12, 13.

@@ -8,12 +8,14 @@
 //! * [`sheet`] reads a sheet: the setup and the names, or the refusal's number and line.
 //! * [`setup`] is the setup as plain data, with question 12.
 //! * [`graph`] has closures, lost sets and ways in; [`lists`] the lists, least sums and marks.
+//! * [`forecast`] tells how long an opening list can be (02, point 10).
 //! * [`calls`] answers as the product's calls do: questions 12 to 15 in order, lent lists.
 //! * [`report`] prints the report's bytes and the portal's numbers.
 //! * [`cases`] makes the inputs on which the two programs are compared.
 
 pub mod calls;
 pub mod cases;
+pub mod forecast;
 pub mod graph;
 pub mod lists;
 pub mod report;

@@ -7,7 +7,8 @@ use crate::setups::{compare_setup, Depth, FEW, FULL, MANY, MOST};
 use crate::sheets::{compare_report, compare_sheet};
 use brute::cases::draft::sheet_of_setup;
 use brute::cases::{
-    bounds, buffers, damaged, noise, random, readings, setups, tiny, Rng, SetupCase, SheetCase,
+    bounds, buffers, damaged, forecasts, noise, random, readings, setups, tiny, Rng, SetupCase,
+    SheetCase,
 };
 use std::fmt;
 use std::time::{Duration, Instant};
@@ -89,6 +90,10 @@ impl Run {
         for case in readings::readings() {
             self.counts.texts += 1;
             self.sheet(&case, FULL, true)?;
+        }
+        for case in forecasts::forecasts() {
+            self.counts.texts += 1;
+            self.sheet(&case.case, FULL, false)?;
         }
         for case in tiny::all_unmarked().chain(tiny::all_marked(401)) {
             self.tiny(case, MANY)?;

@@ -4,6 +4,7 @@ use crate::compare::{told, Difference, Subject};
 use crate::words::words_of;
 use brute::calls::{Calls, Way};
 use brute::cases::{probes, Rng};
+use brute::forecast;
 use brute::lists::{Least, Marks};
 use brute::report::PORTAL_NEVER;
 use brute::setup::{Setup, PLACES};
@@ -133,6 +134,7 @@ impl Compare<'_> {
 
     fn target(&mut self, target: u64, sets: &[u64], count: u64) -> Outcome {
         self.lists(target)?;
+        self.forecast(target)?;
         self.scores(target)?;
         for _ in 0..self.depth.pairs {
             let others = [self.rng.below(count.max(1) as usize) as u64, target, count, u64::MAX];
@@ -147,6 +149,22 @@ impl Compare<'_> {
             self.way(target, set)?;
         }
         self.all_marks(target)
+    }
+
+    /// The forecast: the brute force's number, no shorter than its opening list, each item of which
+    /// is among those that it counted.
+    fn forecast(&mut self, target: u64) -> Outcome {
+        let calls = self.calls;
+        let proved = product::forecast(&self.words, target);
+        self.value("forecast", target, proved.numbers(), calls.forecast(target))?;
+        if let Ok(list) = calls.opening_list(target) {
+            let counted = forecast::counted(calls.setup(), target as usize);
+            let named = || format!("forecast({target}), against {} opening sets", list.len());
+            let uncounted = list.iter().fold(0, |items, set| items | set) & !counted;
+            let long = proved.sets < list.len() as u64;
+            self.subject.same(named, (long, uncounted), (false, 0))?;
+        }
+        Ok(())
     }
 
     fn scores(&mut self, target: u64) -> Outcome {

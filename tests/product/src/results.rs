@@ -69,6 +69,11 @@ results! {
         /// How many steps were written.
         steps,
     }
+    /// A forecast for a target's opening list.
+    Forecast {
+        /// How many sets it has at most.
+        sets,
+    }
     /// Both lists of a target.
     Lists {
         /// How many opening sets.

@@ -14,6 +14,9 @@ ask-findings-requires c κs = search needs
 ask-sheet-requires : tie.Need-ask-sheet-requires
 ask-sheet-requires c κs = search needs
 
+forecast-base-requires : tie.Need-forecast-base-requires
+forecast-base-requires c κs = search needs
+
 same-length : tie.Need-same-length
 same-length c = search needs
 
@@ -25,13 +28,14 @@ same-length-3 c = search needs
 
 returns : tie.Need-returns
 returns c =
-    let f = c .before in
+    let t = c .before in
+    let f = t .before in
     let l = f .before .before .before in
     let s = l .before .before .before .before .before .before in
     let sets = s .ask-sets .ensures in
     let lists = l .demand-three .ensures in
     let findings = f .ask-findings .ensures in
-    let sheet = c .ask-sheet .ensures in
+    let sheet = t .ask-sheet .ensures in
     record {
       closure = sets .0;
       lost = sets .1 .0;
@@ -49,6 +53,7 @@ returns c =
       asked = sheet .1 .0;
       portalScore = sheet .1 .1 .0;
       portalRisk = sheet .1 .1 .1;
+      forecast = c .forecast-base .ensures;
     }
 
 pub demand-two-spec : {M : Type 1} → statement M
@@ -59,6 +64,7 @@ demand-two-spec =
     demand-three-requires
     ask-findings-requires
     ask-sheet-requires
+    forecast-base-requires
     same-length
     same-length-2
     same-length-3

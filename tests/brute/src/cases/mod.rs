@@ -5,6 +5,7 @@ pub mod bounds;
 pub mod buffers;
 pub mod damaged;
 pub mod draft;
+pub mod forecasts;
 pub mod noise;
 pub mod probes;
 pub mod random;

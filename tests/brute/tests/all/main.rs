@@ -2,6 +2,7 @@
 //! say the same, and against what the makers of cases know.
 
 mod examples;
+mod forecasts;
 mod generators;
 mod graphs;
 mod questions;

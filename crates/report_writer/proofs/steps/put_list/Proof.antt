@@ -1,7 +1,5 @@
 use mathlib.Core.Path.{_≡_, sym}
 use native.Mathlib.Omega.{arith}
-use mir.Val.{Fits}
-use mir.Syntax.{w64}
 use lib.ListN.{length}
 use Rattle.report_writer.proofs.Lists.{list-ready, list-went}
 use borrow.Author.Needs.{needs}
@@ -20,12 +18,6 @@ long-from s = search needs
 long-to : (s : tie.Start) → length (s .args .facts .to) ≡ 64
 long-to s = search needs
 
-low-initial : (s : tie.Start) → Fits w64 (s .args .facts .initial .0)
-low-initial s = search needs
-
-low-losable : (s : tie.Start) → Fits w64 (s .args .facts .losable .0)
-low-losable s = search needs
-
 slice-aggregate-put-rows-2 : tie.Need-slice-aggregate-put-rows-2
 slice-aggregate-put-rows-2 c = sym (long-from (c .before .before .before .before .before .before .before .before))
 
@@ -35,7 +27,7 @@ slice-aggregate-put-rows-3 c = sym (long-to (c .before .before .before .before .
 put-rows-requires : tie.Need-put-rows-requires
 put-rows-requires c κs =
     let s = c .before .before .before .before .before .before .before .before .before .before in
-    (list-ready _ _ _ _ _ _ _ (low-initial s .fits) (low-losable s .fits) (c .before .before .before .before .before .before .values-by .ensures) (s .pre .0), let r = s .pre .1 in omega arith)
+    (list-ready _ _ _ _ _ _ _ (c .before .before .before .before .before .before .values-by .ensures) (s .pre .0), let r = s .pre .1 in omega arith)
 
 same-length : tie.Need-same-length
 same-length c = search needs

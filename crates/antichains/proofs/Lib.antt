@@ -1,0 +1,5 @@
+pub mod Pigeons
+pub mod Chains
+pub mod Layers
+pub mod Sperner
+pub mod Ways

@@ -1,0 +1,4 @@
+pub mod Finding
+pub mod Bounds
+pub mod Calls
+pub mod Unique

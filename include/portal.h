@@ -47,9 +47,9 @@ extern "C" {
 
 /* ---- version ---- */
 
-/* 1.1.0 is 10100: the last two parts have two digits each. The first part changes where a call or a struct does, the second
+/* 2.0.0 is 20000: the last two parts have two digits each. The first part changes where a call or a struct does, the second
  * where one is new. */
-#define PORTAL_VERSION 10100
+#define PORTAL_VERSION 20000
 
 /* The version of the library. A program that was compiled with another one's header sees PORTAL_VERSION differ from it. */
 uint64_t portal_version(void);
@@ -162,9 +162,11 @@ struct portal_part {
     uint64_t length;
 };
 
+/* passes is how many passes lead from the given set to `set`; see portal_closure. */
 struct portal_closure {
     uint64_t number;
     uint64_t set;
+    uint64_t passes;
 };
 
 struct portal_set {
@@ -268,7 +270,11 @@ struct portal_part portal_name(const uint8_t *sheet, size_t length, uint64_t ite
 /* Question 12 by itself: 0 where the setup is one that some accepted sheet yields, and 12 where it is not. */
 uint64_t portal_check(const uint64_t *setup, size_t words);
 
-/* The closure: all items that the set opens, those in it too. Refused with 12, 14. */
+/*
+ * The closure: all items that the set opens, those in it too. A pass adds together all items that the set at its beginning
+ * allows; `passes` is the number of passes, the one that adds nothing counted as well: 1 for a set that opens nothing new, and at
+ * most the items outside the set, plus 1. Refused with 12, 14.
+ */
 struct portal_closure portal_closure(const uint64_t *setup, size_t words, uint64_t set);
 
 /* The lost set: all items that the loss of the set takes away, those in it too. Refused with 12, 14. */

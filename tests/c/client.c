@@ -168,10 +168,14 @@ static void try_closure(void)
     struct portal_closure r = portal_closure(setup, WORDS, MAILPW);
     expect("closure", r.number, 0);
     expect("what mailpw opens", r.set, MAILPW + MAIL + ORDER);
-    expect("what nothing opens", portal_closure(setup, WORDS, 0).set, 0);
+    expect("passes", r.passes, 3);
+    r = portal_closure(setup, WORDS, 0);
+    expect("what nothing opens", r.set, 0);
+    expect("the pass that adds nothing", r.passes, 1);
     r = portal_closure(setup, WORDS, 32);
     expect("outside", r.number, PORTAL_OUTSIDE);
     expect("outside, no set", r.set, 0);
+    expect("outside, no passes", r.passes, 0);
     expect("closure in no setup", portal_closure(malformed, WORDS, 0).number, PORTAL_NO_SETUP);
 }
 

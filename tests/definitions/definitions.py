@@ -326,6 +326,24 @@ def ruleOf(loss, g):
     return lockout(g) if loss else access(g)
 
 
+# ---- derivations/Passes
+
+
+def Allows(r, held, v):
+    return any(r.allowed(held, step) and v == r.adds(step) for step in r.steps)
+
+
+def Pass(r, s, t):
+    return all(Iff(Member(t, v), Member(s, v) or Allows(r, lambda i: Member(s, i), v)) for v in world.vertices)
+
+
+def Passes(r, n, s, t):
+    if n == 0:
+        return False
+    last = Pass(r, s, s) and n - 1 == 0 and t == s
+    return last or any(Pass(r, s, u) and u != s and Passes(r, n - 1, u, t) for u in world.sets)
+
+
 # ---- derivations/Way
 
 
@@ -487,11 +505,33 @@ def Full(repeated, shut, loose, missing):
 # ---- access/Answers
 
 
-def SetCall(From, s, set_, number, values):
+def Counted(s, set_, r, n):
+    passes = Passes(access(s.graph), n, set_, r)
+    most = n <= countOutside(s.count, set_) + 1
+    once = implies(lambda: AccessFrom(s.graph, set_, set_), lambda: n == 1)
+    return passes and most and once
+
+
+def ClosureCall(s, set_, number, values):
     malformed = implies(lambda: not WellFormed(s), lambda: Refuses(12, number, values))
     outside = implies(lambda: WellFormed(s) and not Inside(s, set_), lambda: Refuses(14, number, values))
     answers = implies(
-        lambda: WellFormed(s) and Inside(s, set_), lambda: any(number == 0 and values == [r] and From(s.graph, set_, r) for r in world.sets)
+        lambda: WellFormed(s) and Inside(s, set_),
+        lambda: any(
+            number == 0 and values == [r, n] and AccessFrom(s.graph, set_, r) and Counted(s, set_, r, n)
+            for r in world.sets
+            for n in range(len(world.vertices) + 2)
+        ),
+    )
+    return malformed and outside and answers
+
+
+def LostCall(s, set_, number, values):
+    malformed = implies(lambda: not WellFormed(s), lambda: Refuses(12, number, values))
+    outside = implies(lambda: WellFormed(s) and not Inside(s, set_), lambda: Refuses(14, number, values))
+    answers = implies(
+        lambda: WellFormed(s) and Inside(s, set_),
+        lambda: any(number == 0 and values == [r] and LockoutFrom(s.graph, set_, r) for r in world.sets),
     )
     return malformed and outside and answers
 
@@ -1093,10 +1133,17 @@ def Decoded(text, item, r):
 # ---- demands/OneAnswer: of all pairs of the answers that are handed to them
 
 
-def OneSetAnswer(loss, s, set_, answers):
-    From = lambda g, x, r: Closure(ruleOf(loss, g), x, r)
+def OneClosureAnswer(s, set_, answers):
     return all(
-        implies(lambda: SetCall(From, s, set_, n, v) and SetCall(From, s, set_, n_, v_), lambda: Same(n, n_, v, v_))
+        implies(lambda: ClosureCall(s, set_, n, v) and ClosureCall(s, set_, n_, v_), lambda: Same(n, n_, v, v_))
+        for n, v in answers
+        for n_, v_ in answers
+    )
+
+
+def OneLostAnswer(s, set_, answers):
+    return all(
+        implies(lambda: LostCall(s, set_, n, v) and LostCall(s, set_, n_, v_), lambda: Same(n, n_, v, v_))
         for n, v in answers
         for n_, v_ in answers
     )
@@ -1263,8 +1310,8 @@ def SettledPortal(loss, text, item, r, numbers):
 
 def Demand1(text, item, s, set_, target, other, opened, locked, vertices, vertices_, colours, colours_, list_, exit, r, among):
     both = among.answers
-    closure = Settled([12, 14], lambda n, v: SetCall(AccessFrom, s, set_, n, v), *r.closure, both)
-    lost = Settled([12, 14], lambda n, v: SetCall(LockoutFrom, s, set_, n, v), *r.lost, both)
+    closure = Settled([12, 14], lambda n, v: ClosureCall(s, set_, n, v), *r.closure, both)
+    lost = Settled([12, 14], lambda n, v: LostCall(s, set_, n, v), *r.lost, both)
     way = SettledWay(s, target, set_, *r.way, vertices, vertices_, colours, colours_, among.ways)
     bases = SettledLists(s, target, *r.bases, list_, exit, among.lists)
     score = Settled([12, 13], lambda n, v: ScoreCall(False, s, target, n, v), *r.score, both)
@@ -1285,8 +1332,8 @@ def Demand1(text, item, s, set_, target, other, opened, locked, vertices, vertic
 
 
 def Demand2(text, item, s, set_, target, other, opened, locked, vertices, vertices_, colours, colours_, list_, exit, r, among):
-    closure = SetCall(AccessFrom, s, set_, *r.closure)
-    lost = SetCall(LockoutFrom, s, set_, *r.lost)
+    closure = ClosureCall(s, set_, *r.closure)
+    lost = LostCall(s, set_, *r.lost)
     way = WayCall(s, target, set_, *r.way, vertices, vertices_, colours, colours_)
     bases = BasesCall(s, target, *r.bases, list_, exit)
     score = ScoreCall(False, s, target, *r.score)
@@ -1313,6 +1360,9 @@ def Demand2(text, item, s, set_, target, other, opened, locked, vertices, vertic
 def Meaning(s, g, handed):
     both, targets, sets = (False, True), range(s.count), list(world.sets)
     closure = all(Closure(ruleOf(loss, g), set_, closureOf(loss, s.count, g, set_)) for loss in both for set_ in sets)
+    passes = all(
+        Passes(ruleOf(loss, g), passCountOf(loss, s.count, g, set_), set_, closureOf(loss, s.count, g, set_)) for loss in both for set_ in sets
+    )
     derives = all(
         Decides(Derives(loss, g, target, set_), derivesOf(loss, s.count, g, target, set_)) for loss in both for target in targets for set_ in sets
     )
@@ -1334,7 +1384,7 @@ def Meaning(s, g, handed):
     counts = all(
         Counts(loss, s, g, target, h, *marksOf(loss, s, g, target, h)) for loss in both for target in targets for h in handed
     )
-    return closure and derives and way and shut and base and score and counts
+    return closure and passes and derives and way and shut and base and score and counts
 
 
 # ---- report_text/Meaning
@@ -1495,8 +1545,8 @@ def OneResult(Call, results, candidates):
 def OneResultOnSetups(words, set_, target, other, sets, a, b, numbers, results, values, ways, lists):
     s = setupIn(words)
     check = all(implies(lambda: CheckCall(s, r) and CheckCall(s, r_), lambda: r == r_) for r in numbers for r_ in numbers)
-    closure = OneResult(lambda n, v: SetCall(AccessFrom, s, set_, n, v), results, values)
-    lost = OneResult(lambda n, v: SetCall(LockoutFrom, s, set_, n, v), results, values)
+    closure = OneResult(lambda n, v: ClosureCall(s, set_, n, v), results, values)
+    lost = OneResult(lambda n, v: LostCall(s, set_, n, v), results, values)
     wayIn = all(
         implies(
             lambda: len(f) == len(f_)

@@ -307,6 +307,33 @@ def of_derivations(D):
     ]
 
 
+def of_passes(D):
+    """Passes."""
+    held = lambda x: lambda i: D.Member(x, i)
+    a = D.access(G)
+    return [
+        ("allows: mail from mailpw", lambda: D.Allows(a, held(2), MAIL), True),
+        ("not allows: order from token", lambda: D.Allows(a, held(4), ORDER), False),
+        ("not allows: order from mailpw, though not mail", lambda: D.Allows(a, held(2), ORDER), False),
+        ("pass: mailpw, mail", lambda: D.Pass(a, 2, 10), True),
+        ("not pass: order too, which mail opens", lambda: D.Pass(a, 2, 26), False),
+        ("not pass: one of two", lambda: D.Pass(a, 7, 15), False),
+        ("not pass: what is added alone", lambda: D.Pass(a, 2, 8), False),
+        ("pass: of losses", lambda: D.Pass(D.lockout(G), 3, 11), True),
+        ("passes: 1 from nothing", lambda: D.Passes(a, 1, 0, 0), True),
+        ("not passes: 0 from nothing", lambda: D.Passes(a, 0, 0, 0), False),
+        ("passes: 3 from mailpw", lambda: D.Passes(a, 3, 2, 26), True),
+        ("not passes: 2 from mailpw", lambda: D.Passes(a, 2, 2, 26), False),
+        ("not passes: 4 from mailpw", lambda: D.Passes(a, 4, 2, 26), False),
+        ("not passes: 3 from mailpw, to mail", lambda: D.Passes(a, 3, 2, 10), False),
+        ("passes: 2 where two come together", lambda: D.Passes(a, 2, 7, 31), True),
+        ("not passes: 3 where two come together", lambda: D.Passes(a, 3, 7, 31), False),
+        ("counted: 3 from mailpw", lambda: D.Counted(bench, 2, 26, 3), True),
+        ("not counted: 2 from mailpw", lambda: D.Counted(bench, 2, 26, 2), False),
+        ("counted: 1 from all", lambda: D.Counted(bench, 31, 31, 1), True),
+    ]
+
+
 def of_ways(D):
     """Ways in."""
     held = lambda x: lambda i: D.Member(x, i)
@@ -395,12 +422,19 @@ def of_marks(D):
 def of_set_calls(D):
     """The calls for closure and lost set."""
     return [
-        ("call: closure, B2", lambda: D.SetCall(D.AccessFrom, bench, 2, 0, [26]), True),
-        ("not call: closure, the set", lambda: D.SetCall(D.AccessFrom, bench, 2, 0, [2]), False),
-        ("call: closure, 14", lambda: D.SetCall(D.AccessFrom, bench, 32, 14, []), True),
-        ("not call: closure, 12 for 14", lambda: D.SetCall(D.AccessFrom, bench, 32, 12, []), False),
-        ("call: closure, 12", lambda: D.SetCall(D.AccessFrom, EMPTY, 32, 12, []), True),
-        ("not call: closure, 14 before 12", lambda: D.SetCall(D.AccessFrom, EMPTY, 32, 14, []), False),
+        ("call: closure, B2", lambda: D.ClosureCall(bench, 2, 0, [26, 3]), True),
+        ("not call: closure, the set", lambda: D.ClosureCall(bench, 2, 0, [2, 1]), False),
+        ("not call: closure, without its passes", lambda: D.ClosureCall(bench, 2, 0, [26]), False),
+        ("not call: closure, 2 passes", lambda: D.ClosureCall(bench, 2, 0, [26, 2]), False),
+        ("call: closure, 14", lambda: D.ClosureCall(bench, 32, 14, []), True),
+        ("not call: closure, 12 for 14", lambda: D.ClosureCall(bench, 32, 12, []), False),
+        ("call: closure, 12", lambda: D.ClosureCall(EMPTY, 32, 12, []), True),
+        ("not call: closure, 14 before 12", lambda: D.ClosureCall(EMPTY, 32, 14, []), False),
+        ("call: lost set", lambda: D.LostCall(bench, 3, 0, [27]), True),
+        ("not call: lost set, with passes", lambda: D.LostCall(bench, 3, 0, [27, 3]), False),
+        ("call: lost set, 14", lambda: D.LostCall(bench, 32, 14, []), True),
+        ("call: lost set, 12", lambda: D.LostCall(EMPTY, 32, 12, []), True),
+        ("not call: lost set, 14 before 12", lambda: D.LostCall(EMPTY, 32, 14, []), False),
     ]
 
 
@@ -627,13 +661,14 @@ def of_readings(D):
 
 def of_one_answer(D):
     """That contracts determine their answers."""
-    answers = [(n, v) for n in (0, 12, 13, 14) for v in ([], [0], [1], [2], [3], [4], [26])]
+    answers = [(n, v) for n in (0, 12, 13, 14) for v in ([], [0], [1], [2], [3], [4], [10], [26], [0, 1], [26, 2], [26, 3])]
     same = [9, 9]
     way_answers = [(0, [1, 2], [3, 4], [0, 1]), (0, [1, 2], [3, 4], same), (0, [0], same, same), (15, [], same, same), (13, [], same, same)]
     base_answers = [(0, [2, 2], [2, 5, 3, 6]), (0, [2, 2], [5, 2, 3, 6]), (0, [0, 0], LENT[:4]), (15, [], LENT[:4]), (13, [], LENT[:4])]
     mark_answers = [(0, [1, 1, 1, 1, 1]), (0, [2, 0, 1, 1, 0]), (0, [0, 0, 0, 0, 2]), (13, []), (12, []), (0, [])]
     return [
-        ("one answer: closure of mailpw", lambda: D.OneSetAnswer(False, bench, 2, answers), True),
+        ("one answer: closure of mailpw", lambda: D.OneClosureAnswer(bench, 2, answers), True),
+        ("one answer: lost set of mailpw", lambda: D.OneLostAnswer(bench, 2, answers), True),
         ("one answer: way from mailpw", lambda: D.OneWayAnswer(bench, ORDER, 2, [9, 9], [9, 9], way_answers), True),
         ("one answer: lists of order", lambda: D.OneBasesAnswer(bench, ORDER, LENT[:4], base_answers), True),
         ("one answer: score of order", lambda: D.OneScoreAnswer(False, bench, ORDER, answers), True),
@@ -643,8 +678,8 @@ def of_one_answer(D):
 
 def of_results(D):
     """That the contracts of the calls for C determine their results."""
-    values = [[], [0], [1], [3], [26], [1, 2], [2, 2], [1, 1, 1, 1, 1], [0, 1, 3, 0, 2]]
-    results = [(0, f) for f in ([0], [1], [3], [26], [1, 1, 1, 1, 1])] + [(12, [0]), (13, [0])]
+    values = [[], [0], [1], [3], [10], [26, 2], [26, 3], [1, 2], [2, 2], [1, 1, 1, 1, 1], [0, 1, 3, 0, 2]]
+    results = [(0, f) for f in ([0], [1], [3], [10], [26, 2], [26, 3], [1, 1, 1, 1, 1])] + [(12, [0]), (13, [0]), (12, [0, 0])]
     lent, out = [9, 9], LENT[:4]
     ways = [(0, [1, 2], [3, 4], [0, 1]), (0, [1, 2], [3, 4], lent), (0, [0, 0], lent, lent), (15, [0, 0], lent, lent), (13, [0, 0], lent, lent)]
     lists = [(0, [2, 2], [2, 5, 3, 6]), (0, [2, 2], [5, 2, 3, 6]), (0, [0, 0], out), (15, [0, 0], out)]
@@ -661,9 +696,9 @@ def of_results(D):
 
 def of_demands(D):
     """What demands 1 and 2 ask of a call: right answers, and wrong ones."""
-    closure = lambda s: lambda n, v: D.SetCall(D.AccessFrom, s, 2, n, v)
+    closure = lambda s: lambda n, v: D.ClosureCall(s, 2, n, v)
     backdoor = lambda n, x: D.BackdoorCall(bench, ORDER, n, x)
-    answers = [(n, v) for n in (0, 12, 13, 14) for v in ([], [0], [1], [2], [26])]
+    answers = [(n, v) for n in (0, 12, 13, 14) for v in ([], [0], [1], [2], [26], [26, 2], [26, 3])]
     way = (bench, ORDER, 2, 0, [1, 2], [9, 9], [3, 4], [9, 9], [0, 1])
     ways = [(0, [1, 2], [3, 4], [0, 1]), (0, [1, 2], [3, 4], [9, 9]), (0, [0], [9, 9], [9, 9]), (15, [], [9, 9], [9, 9])]
     lists = [(0, [2, 2], [2, 5, 3, 6]), (0, [0, 0], LENT[:4]), (15, [], LENT[:4]), (13, [], LENT[:4])]
@@ -682,9 +717,9 @@ def of_demands(D):
         ("not refused with 15: a value", lambda: D.RefusedWith([12, 15], 15, [1], [LENT], [LENT]), False),
         ("not refused with 13: no number of this call", lambda: D.RefusedWith([12, 15], 13, [], [LENT], [LENT]), False),
         ("outcome: refused with 12", lambda: D.Outcome([12, 14], 12, [], [], []), True),
-        ("settled: closure of mailpw", lambda: D.Settled([12, 14], closure(bench), 0, [26], answers), True),
+        ("settled: closure of mailpw", lambda: D.Settled([12, 14], closure(bench), 0, [26, 3], answers), True),
         ("settled: closure, 12", lambda: D.Settled([12, 14], closure(EMPTY), 12, [], answers), True),
-        ("not settled: the set handed back", lambda: D.Settled([12, 14], closure(bench), 0, [2], answers), False),
+        ("not settled: the set handed back", lambda: D.Settled([12, 14], closure(bench), 0, [2, 1], answers), False),
         ("not settled: a contract that leaves it open", lambda: D.Settled([12, 14], lambda n, v: n == 0, 0, [26], answers), False),
         ("not settled: a contract that nothing meets", lambda: D.Settled([12, 14], lambda n, v: False, 0, [26], answers), False),
         ("settled: backdoor of order", lambda: D.Settled([12, 13], backdoor, 0, [1], answers), True),
@@ -717,13 +752,13 @@ def of_both_demands(D):
     """Demands 1 and 2 whole: of an input that is answered and of ones that are refused, and with one answer replaced."""
     sheet, five, lent, out = text(BENCH), REFUSED["refused 5"][0], [9, 9], LENT[:4]
     yes = Answers(
-        *[(0, [26]), (0, [10]), (0, [1, 2]), (0, [2, 2]), (0, [1]), (0, [3]), (0, [1, 0, 0, 0, 1]), (0, [2, 0, 0, 0, 0])],
+        *[(0, [26, 3]), (0, [10]), (0, [1, 2]), (0, [2, 2]), (0, [1]), (0, [3]), (0, [1, 0, 0, 0, 1]), (0, [2, 0, 0, 0, 0])],
         *[(0, [1]), (0, [0]), (0, [1]), True, D.accepted(bench), 1, 3, (0, [3])],
     )
     outside = Answers((14, []), (14, []), *[(13, [])] * 9, True, D.refused(5, 2), never + 5, never + 5, (13, []))
     set_outside = yes._replace(closure=(14, []), lost=(14, []), way=(14, []), portalRisk=1)
     malformed = yes._replace(**{n: (12, []) for n in (*Answers._fields[:11], "forecast")}, formed=False)
-    answers = [(0, v) for v in ([0], [1], [3], [10], [26], [1, 0, 0, 0, 1], [2, 0, 0, 0, 0])] + [(n, []) for n in (0, 12, 13, 14)]
+    answers = [(0, v) for v in ([0], [1], [3], [10], [0, 1], [26, 2], [26, 3], [1, 0, 0, 0, 1], [2, 0, 0, 0, 0])] + [(n, []) for n in (0, 12, 13, 14)]
     ways = [(0, [1, 2], [3, 4], [0, 1]), (0, [1, 2], [3, 4], lent)] + [(n, v, lent, lent) for n, v in answers + [(15, [])]]
     lists = [(0, [2, 2], [2, 5, 3, 6]), (0, [2, 2], out)] + [(n, v, out) for n, v in answers + [(15, [])]]
     readings = [D.accepted(bench), D.accepted(EMPTY), D.refused(5, 2), D.refused(2, 5)]
@@ -951,7 +986,7 @@ GROUPS = {
     "far": [of_sets, of_setups, of_well_formed, of_parts, of_full_marks, of_rows, of_whole],
     "one": [of_one],
     "sums": [of_sums],
-    "bench": [of_derivations, of_ways, of_bases, of_scores, of_marks, of_set_calls, of_way_calls, of_base_calls, of_score_calls, of_demand3]
+    "bench": [of_derivations, of_passes, of_ways, of_bases, of_scores, of_marks, of_set_calls, of_way_calls, of_base_calls, of_score_calls, of_demand3]
     + [of_forecasts, of_findings, of_portal, of_same, of_told, of_readings, of_one_answer, of_results, of_demands, of_both_demands],
     "rows": [of_valid_rows, of_rows, of_stated, of_meaning, of_refusals],
     "spare": [of_spare],

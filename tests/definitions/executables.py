@@ -22,6 +22,13 @@ def getD(l, i, default):
     return l[i] if i < len(l) else default
 
 
+# ---- vertex_set/Set
+
+
+def countOutside(n, s):
+    return sum(1 - s // 2**v % 2 for v in range(n))
+
+
 # ---- setup/Setup
 
 unusedVertex = Vertex(Credential, None, None, 0)
@@ -312,15 +319,29 @@ def nameStart(s, i):
 # ---- reference: closures, bases, scores and marks, computed
 
 
+def passOf(loss, count, g, held):
+    now = held
+    for v in range(count):
+        rows = [row(g, v, c) for c in range(8) if row(g, v, c)]
+        added = rows and all(n & held for n in rows) if loss else any(n & held == n for n in rows)
+        now |= 2**v if added else 0
+    return now
+
+
+def passesOf(loss, count, g, held):
+    """Where the passes lead, and how many there are."""
+    n = 1
+    while passOf(loss, count, g, held) != held:
+        n, held = n + 1, passOf(loss, count, g, held)
+    return held, n
+
+
 def closureOf(loss, count, g, held):
-    while True:
-        before = held
-        for v in range(count):
-            rows = [row(g, v, c) for c in range(8) if row(g, v, c)]
-            added = rows and all(n & held for n in rows) if loss else any(n & held == n for n in rows)
-            held |= 2**v if added else 0
-        if held == before:
-            return held
+    return passesOf(loss, count, g, held)[0]
+
+
+def passCountOf(loss, count, g, held):
+    return passesOf(loss, count, g, held)[1]
 
 
 def derivesOf(loss, count, g, target, held):

@@ -14,7 +14,7 @@ NO_EXAMPLES = "-- No examples.\nuse mathlib.Core.Path.{_≡_, refl}\n\n"
 FILES = """
 vertex_set/Set vertex_set/Order
 setup/Bounds setup/Setup setup/Calls
-derivations/Derivation derivations/Access derivations/Lockout derivations/Both derivations/Way
+derivations/Derivation derivations/Access derivations/Lockout derivations/Both derivations/Passes derivations/Way
 formed/WellFormed
 bases/Base bases/Score bases/Marks
 access/Answers answers/Answers

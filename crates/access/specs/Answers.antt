@@ -2,37 +2,67 @@
 use mathlib.Core.Path.{_≡_}
 use mathlib.Core.List.{List, [], _∷_, map}
 use mathlib.Core.Logic.{_⊎_}
-use Prim.Native.Nat.{ℕ, _≤_, _<_}
+use Prim.Native.Nat.{ℕ, _+_, _≤_, _<_}
 use lib.ListN.{length}
-use Rattle.vertex_set.specs.Set.{Member}
-use Rattle.setup.specs.declared.Graph.{Graph}
+use Rattle.vertex_set.specs.Set.{Member, countOutside}
 use Rattle.setup.specs.declared.Setup.{Setup}
 use Rattle.formed.specs.WellFormed.{WellFormed}
 use Rattle.setup.specs.Calls.{Refuses, Inside, written, Untouched}
-use Rattle.derivations.specs.Access.{Step, HasAccess}
+use Rattle.derivations.specs.Access.{Step, access, HasAccess, AccessFrom}
+use Rattle.derivations.specs.Lockout.{LockoutFrom}
+use Rattle.derivations.specs.Passes.{Passes}
 use Rattle.derivations.specs.Way.{Way}
-use Rattle.access.specs.declared.SetAnswer.{SetAnswer}
-use Rattle.access.specs.declared.SetAnswer.the-variants.{Set, Refused}
+use Rattle.access.specs.declared.ClosureAnswer.{ClosureAnswer}
+use Rattle.access.specs.declared.ClosureAnswer.the-variants as closure
+use Rattle.access.specs.declared.LostAnswer.{LostAnswer}
+use Rattle.access.specs.declared.LostAnswer.the-variants as lost
 use Rattle.access.specs.declared.WayAnswer.{WayAnswer}
 use Rattle.access.specs.declared.WayAnswer.the-variants as way
 
--- ---- a set of vertices
+-- ---- what a set opens
 
 -- Document 01's number for an answer: 0, or that of the refusal.
-abbrev pub setNumber : SetAnswer → ℕ
-setNumber (Set r) = 0
-setNumber (Refused q) = q
+abbrev pub closureNumber : ClosureAnswer → ℕ
+closureNumber (closure.Opened r n) = 0
+closureNumber (closure.Refused q) = q
 
--- The values that an answer has: the set's number.
-abbrev pub setValues : SetAnswer → List ℕ
-setValues (Set r) = r .0 ∷ []
-setValues (Refused q) = []
+-- The values that an answer has: the set's number, and how many passes there were.
+abbrev pub closureValues : ClosureAnswer → List ℕ
+closureValues (closure.Opened r n) = r .0 ∷ n ∷ []
+closureValues (closure.Refused q) = []
 
--- 12, then 14, else the one set that From says; From is `AccessFrom` or `LockoutFrom`.
-pub record SetCall (From : Graph → ℕ → ℕ → Type 0) (s : Setup) (set number : ℕ) (values : List ℕ) : Type 0 where
+-- The number of passes that lead from the set to r (document 02, point 4).
+pub record Counted (s : Setup) (set r n : ℕ) : Type 0 where
+  pub passes : Passes (access (s .graph)) n set r
+  -- at most the vertices outside of the set, and one more
+  pub most : n ≤ countOutside (s .count) set + 1
+  -- a set that is closed already takes 1
+  pub once : AccessFrom (s .graph) set set → n ≡ 1
+
+-- 12, then 14, else the closure and its number of passes.
+pub record ClosureCall (s : Setup) (set number : ℕ) (values : List ℕ) : Type 0 where
   pub malformed : (WellFormed s → ⊥) → Refuses 12 number values
   pub outside : WellFormed s → (Inside s set → ⊥) → Refuses 14 number values
-  pub answers : WellFormed s → Inside s set → (r : ℕ) × (number ≡ 0) × (values ≡ r ∷ []) × From (s .graph) set r
+  pub answers : WellFormed s → Inside s set
+      → (r : ℕ) × (n : ℕ) × (number ≡ 0) × (values ≡ r ∷ n ∷ []) × AccessFrom (s .graph) set r × Counted s set r n
+
+-- ---- what a loss takes away
+
+-- The number of an answer: 0, or that of the refusal.
+abbrev pub lostNumber : LostAnswer → ℕ
+lostNumber (lost.Lost r) = 0
+lostNumber (lost.Refused q) = q
+
+-- The value that an answer has: the set's number.
+abbrev pub lostValues : LostAnswer → List ℕ
+lostValues (lost.Lost r) = r .0 ∷ []
+lostValues (lost.Refused q) = []
+
+-- 12, then 14, else the lost set.
+pub record LostCall (s : Setup) (set number : ℕ) (values : List ℕ) : Type 0 where
+  pub malformed : (WellFormed s → ⊥) → Refuses 12 number values
+  pub outside : WellFormed s → (Inside s set → ⊥) → Refuses 14 number values
+  pub answers : WellFormed s → Inside s set → (r : ℕ) × (number ≡ 0) × (values ≡ r ∷ []) × LockoutFrom (s .graph) set r
 
 -- ---- the way in
 

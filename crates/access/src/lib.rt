@@ -1,16 +1,19 @@
 // What a set of vertices opens, what a loss takes away, and the way in.
-ghost use Rattle.derivations.specs.Derivation.{Closure};
-ghost use Rattle.derivations.specs.Access.{AccessFrom};
-ghost use Rattle.derivations.specs.Lockout.{LockoutFrom};
 ghost use Rattle.derivations.specs.Both.{ruleOf};
-ghost use Rattle.access.specs.Answers.{setNumber, setValues, SetCall, wayNumber, wayValues, WayCall};
-ghost use Rattle.access.specs.Inner.{WayTaken};
+ghost use Rattle.access.specs.Answers.{closureNumber, closureValues, ClosureCall, lostNumber, lostValues, LostCall, wayNumber, wayValues, WayCall};
+ghost use Rattle.access.specs.Inner.{Closes, WayTaken};
 use setup::Graph;
 use setup::Setup;
 use vertex_set::VertexSet;
 
-pub enum SetAnswer {
-    Set(VertexSet),
+// What a set opens, and the number of passes.
+pub enum ClosureAnswer {
+    Opened(VertexSet, usize),
+    Refused(u64),
+}
+
+pub enum LostAnswer {
+    Lost(VertexSet),
     Refused(u64),
 }
 
@@ -20,33 +23,39 @@ pub enum WayAnswer {
     Refused(u64),
 }
 
-fn set_call(loss: bool, s: Setup, set: VertexSet) -> SetAnswer
-    ensures { λ r. ⌜ SetCall (λ g. Closure (ruleOf loss g)) s (set .0) (setNumber r) (setValues r) ⌝ }
+// Asks 12 and 14, then makes passes by the rule of access or, with loss, by that of lockout.
+fn close(loss: bool, s: Setup, set: VertexSet) -> ClosureAnswer
+    ensures { λ r. ⌜ Closes (ruleOf loss (s .graph)) s (set .0) (closureNumber r) (closureValues r) ⌝ }
 {
     if formed::well_formed(s) {
         let vertices = VertexSet::below(s.count);
         if set.within(vertices) {
             let graph = s.graph;
             let r = closures::closure(loss, graph, set);
-            return SetAnswer::Set(r);
+            let opened = r.set;
+            return ClosureAnswer::Opened(opened, r.passes);
         }
-        return SetAnswer::Refused(14);
+        return ClosureAnswer::Refused(14);
     }
-    SetAnswer::Refused(12)
+    ClosureAnswer::Refused(12)
 }
 
-// What the set opens (document 01: its closure).
-pub fn access_from(s: Setup, set: VertexSet) -> SetAnswer
-    ensures { λ r. ⌜ SetCall AccessFrom s (set .0) (setNumber r) (setValues r) ⌝ }
+// What the set opens (document 01: its closure), and the number of passes (document 02, point 4).
+pub fn access_from(s: Setup, set: VertexSet) -> ClosureAnswer
+    ensures { λ r. ⌜ ClosureCall s (set .0) (closureNumber r) (closureValues r) ⌝ }
 {
-    set_call(false, s, set)
+    close(false, s, set)
 }
 
 // What the loss of the set takes away (document 01: its lost set).
-pub fn lockout_from(s: Setup, set: VertexSet) -> SetAnswer
-    ensures { λ r. ⌜ SetCall LockoutFrom s (set .0) (setNumber r) (setValues r) ⌝ }
+pub fn lockout_from(s: Setup, set: VertexSet) -> LostAnswer
+    ensures { λ r. ⌜ LostCall s (set .0) (lostNumber r) (lostValues r) ⌝ }
 {
-    set_call(true, s, set)
+    let answer = close(true, s, set);
+    match answer {
+        ClosureAnswer::Opened(r, passes) => LostAnswer::Lost(r),
+        ClosureAnswer::Refused(q) => LostAnswer::Refused(q),
+    }
 }
 
 fn take_way(

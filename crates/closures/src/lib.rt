@@ -1,9 +1,12 @@
-// What a set of vertices opens, and what a loss takes away, by passes over the vertices.
+// What a set of vertices opens, and what a loss takes away, by passes. A pass adds together all
+// vertices that the set at its beginning allows.
+ghost use mathlib.Core.Path.{_≡_};
+ghost use lib.ListN.{length};
 ghost use Rattle.vertex_set.specs.Set.{Member, Decides};
-ghost use Rattle.derivations.specs.Derivation.{Closure};
 ghost use Rattle.derivations.specs.Both.{ruleOf};
+ghost use Rattle.derivations.specs.Passes.{Passes};
 ghost use Rattle.derivations.specs.Inner.Admits.{AllBroken, Admits};
-ghost use Rattle.closures.specs.Inner.{LowestColour, Passed};
+ghost use Rattle.closures.specs.Inner.{LowestColour, ToLookAt};
 use setup::Graph;
 use setup::Rows;
 use vertex_set::VertexSet;
@@ -52,31 +55,54 @@ fn admits(loss: bool, rows: Rows, held: VertexSet) -> bool
     }
 }
 
-// One pass over the vertices. A vertex that is taken in helps the vertices behind it in the same
-// pass.
-fn pass(loss: bool, graph: Graph, s: VertexSet) -> VertexSet
-    ensures { λ r. ⌜ Passed loss graph (s .0) (r .0) ⌝ }
+// The vertices outside of `grown` that need one of the vertices which `grown` has and `held` has
+// not. No other vertex can be admitted by the one set and not by the other.
+fn to_look_at(list: &[u64], held: VertexSet, grown: VertexSet) -> u64
+    requires { ⌜ length (now list) ≡ 64 ⌝ }
+    ensures { λ r. ⌜ ToLookAt (now (list .entry)) (held .0) (grown .0) r ⌝ }
 {
-    let mut r = s;
-    for v in 0..64usize {
-        let rows = graph.rows[v];
-        if admits(loss, rows, r) {
-            r = r.insert(v);
-        }
-    }
-    r
+    let gained = grown.0 & !held.0;
+    let users = successors::of_set(list, gained);
+    users & !grown.0
 }
 
-// The closure of a set: passes are made until one adds nothing.
-pub fn closure(loss: bool, graph: Graph, s: VertexSet) -> VertexSet
-    ensures { λ r. ⌜ Closure (ruleOf loss graph) (s .0) (r .0) ⌝ }
+// The closure of a set, and its number of passes (document 02, point 4).
+pub struct Closed {
+    pub set: VertexSet,
+    pub passes: usize,
+}
+
+// Makes passes until one adds nothing. `held` is the set at the beginning of a pass, `grown` takes
+// in what it admits, and `left` has the vertices that this pass has still to look at.
+pub fn closure(loss: bool, graph: Graph, s: VertexSet) -> Closed
+    ensures { λ r. ⌜ Passes (ruleOf loss graph) (r .passes) (s .0) (r .set .0) ⌝ }
 {
-    let mut r = s;
+    let mut list = [0u64; 64];
+    successors::fill(graph, &mut list);
+    let mut left = to_look_at(&list, VertexSet(0), s);
+    let mut held = s;
+    let mut grown = s;
+    let mut passes: usize = 0;
     loop {
-        let t = pass(loss, graph, r);
-        if t.0 == r.0 {
-            return r;
+        if left == 0 {
+            if grown.0 == held.0 {
+                // The pass that adds nothing is counted as well.
+                let counted = passes + 1;
+                return Closed {
+                    set: held,
+                    passes: counted,
+                };
+            }
+            left = to_look_at(&list, held, grown);
+            held = grown;
+            passes += 1;
+            continue;
         }
-        r = t;
+        let v = successors::lowest(left);
+        left = successors::without(left, v);
+        let rows = graph.rows[v];
+        if admits(loss, rows, held) {
+            grown = grown.insert(v);
+        }
     }
 }

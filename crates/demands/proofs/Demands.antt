@@ -8,7 +8,7 @@ use Rattle.findings.specs.Findings.{FindsBackdoor, FindsIneffective, FindsIncon
 use Rattle.findings.proofs.Unique.{backdoor-unique, ineffective-unique, inconsistent-unique}
 use Rattle.demands.specs.declared.Answers.{Answers}
 use Rattle.demands.specs.Demands.{Demand1, Demand2}
-use Rattle.demands.proofs.Outcomes.{settled-set, settled-score, settled-marks, settled-finding, settled-forecast, settled-lists, settled-way, settled-question-12}
+use Rattle.demands.proofs.Outcomes.{settled-closure, settled-lost, settled-score, settled-marks, settled-finding, settled-forecast, settled-lists, settled-way, settled-question-12}
 use Rattle.demands.proofs.Sheets.{settled-reading, settled-portal}
 
 pub one-of-two : {text : List ℕ} {item : ℕ} {s : Setup} {set target other : ℕ} {opened locked vertices vertices′ colours colours′ list list′ : List ℕ} {r : Answers}
@@ -16,8 +16,8 @@ pub one-of-two : {text : List ℕ} {item : ℕ} {s : Setup} {set target other : 
     → Demand1 text item s set target other opened locked vertices vertices′ colours colours′ list list′ r
 one-of-two {text = text} {item = item} {s = s} {set = set} {target = target} {other = other} {opened = opened} {locked = locked} {r = r} d =
     record {
-      closure = settled-set s _ _ false set (d .closure);
-      lost = settled-set s _ _ true set (d .lost);
+      closure = settled-closure s _ _ set (d .closure);
+      lost = settled-lost s _ _ set (d .lost);
       way = settled-way s target _ _ set _ _ _ _ (d .way);
       bases = settled-lists s target _ _ _ _ (d .bases);
       score = settled-score s _ _ false target (d .score);

@@ -13,13 +13,14 @@ use Rattle.vertex_set.proofs.Cases.{less-or}
 use Rattle.setup.specs.declared.Setup.{Setup}
 use Rattle.formed.specs.WellFormed.{WellFormed}
 use Rattle.setup.specs.Calls.{Refuses, Same, Inside, Untouched}
-use Rattle.derivations.specs.Access.{Step, HasAccess}
-use Rattle.derivations.specs.Both.{ruleOf}
+use Rattle.derivations.specs.Access.{Step, access, HasAccess}
+use Rattle.derivations.specs.Lockout.{lockout}
+use Rattle.derivations.proofs.Passes.{passes-unique}
 use Rattle.derivations.proofs.Way.{way-unique}
 use Rattle.access.specs.Answers.{WayWritten}
 use Rattle.answers.specs.Answers.{BasesWritten}
 use Rattle.reference.proofs.Unique.{closure-unique, base-unique, score-unique, counts-unique}
-use Rattle.demands.specs.OneAnswer.{OneSetAnswer, SameWay, OneWayAnswer, SameBases, OneBasesAnswer, OneScoreAnswer, OneMarksAnswer}
+use Rattle.demands.specs.OneAnswer.{OneClosureAnswer, OneLostAnswer, SameWay, OneWayAnswer, SameBases, OneBasesAnswer, OneScoreAnswer, OneMarksAnswer}
 use Rattle.demands.proofs.Stable.{stable-number, stable-list, by-cases}
 
 -- Questions 12 and 13, which all calls with a target ask first.
@@ -42,8 +43,8 @@ module _ {n n′ : ℕ} {v v′ : List ℕ} where
 
 -- ---- closure and lost set, score and risk, marks
 
-pub one-set-answer : OneSetAnswer
-one-set-answer loss s set n n′ v v′ a b =
+pub one-closure-answer : OneClosureAnswer
+one-closure-answer s set n n′ v v′ a b =
     by-cases (WellFormed s) same-stable
     (λ w. by-cases (Inside s set) same-stable (answered w) (λ o. refused (a .outside w o) (b .outside w o)))
     (λ m. refused (a .malformed m) (b .malformed m))
@@ -52,7 +53,23 @@ one-set-answer loss s set n n′ v v′ a b =
     answered w i =
         let x = a .answers w i in
         let y = b .answers w i in
-        let e = closure-unique (ruleOf loss (s .graph)) set (x .0) (y .0) (x .3) (y .3) in
+        let e = passes-unique (access (s .graph)) (x .1) (y .1) set (x .0) (y .0) (x .5 .passes) (y .5 .passes) in
+        let counts = e .0 in
+        let sets = e .1 in
+        let same : y .0 ∷ y .1 ∷ [] ≡ x .0 ∷ x .1 ∷ [] = cc in
+        alike (x .2) (x .3) (y .2) (y .3 ∙ same)
+
+pub one-lost-answer : OneLostAnswer
+one-lost-answer s set n n′ v v′ a b =
+    by-cases (WellFormed s) same-stable
+    (λ w. by-cases (Inside s set) same-stable (answered w) (λ o. refused (a .outside w o) (b .outside w o)))
+    (λ m. refused (a .malformed m) (b .malformed m))
+  where
+    answered : WellFormed s → Inside s set → Same n n′ v v′
+    answered w i =
+        let x = a .answers w i in
+        let y = b .answers w i in
+        let e = closure-unique (lockout (s .graph)) set (x .0) (y .0) (x .3) (y .3) in
         alike (x .1) (x .2) (y .1) (y .2 ∙ ap (λ (r : ℕ). r ∷ []) (sym e))
 
 pub one-score-answer : OneScoreAnswer

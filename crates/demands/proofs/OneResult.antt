@@ -12,7 +12,7 @@ use Rattle.sheet_format.specs.Read.{readSheet}
 use Rattle.findings.proofs.Unique.{one-backdoor-answer, one-ineffective-answer, one-inconsistent-answer}
 use Rattle.forecasts.proofs.Unique.{one-forecast-answer}
 use Rattle.setup.specs.Calls.{Same}
-use Rattle.demands.proofs.OneAnswer.{one-set-answer, one-way-answer, one-bases-answer, one-score-answer, one-marks-answer}
+use Rattle.demands.proofs.OneAnswer.{one-closure-answer, one-lost-answer, one-way-answer, one-bases-answer, one-score-answer, one-marks-answer}
 use Rattle.demands.proofs.Stable.{stable-number, by-cases}
 use Rattle.portal_setup.specs.Words.{setupIn}
 use Rattle.portal_results.specs.Told.{filled, Told}
@@ -40,8 +40,8 @@ one-result-on-setups words =
     let s = setupIn words in
     record {
       check = λ r r′ a b. by-cases (WellFormed s) (stable-number r r′) (λ w. a .yes w ∙ sym (b .yes w)) (λ m. a .no m ∙ sym (b .no m));
-      closure = λ set. one-result _ (one-set-answer false s set);
-      lost = λ set. one-result _ (one-set-answer true s set);
+      closure = λ set. one-result _ (one-closure-answer s set);
+      lost = λ set. one-result _ (one-lost-answer s set);
       wayIn =
           λ target set n n′ f f′ a x x′ b y y′ e t t′. let d = one-way-answer s target set n n′ (t .values) (t′ .values) a x x′ b y y′ (t .call) (t′ .call) in
           record { answer = same-fields e t t′ (d .answer); vertices = d .vertices; colours = d .colours };

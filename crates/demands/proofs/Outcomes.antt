@@ -17,18 +17,16 @@ use Rattle.vertex_set.proofs.Decisions.{decide-iff}
 use Rattle.setup.specs.declared.Setup.{Setup}
 use Rattle.formed.specs.WellFormed.{WellFormed}
 use Rattle.setup.specs.Calls.{Refuses, Inside, Untouched}
-use Rattle.derivations.specs.Derivation.{Closure}
 use Rattle.derivations.specs.Access.{Step, HasAccess}
-use Rattle.derivations.specs.Both.{ruleOf}
 use Rattle.sheet_format.proofs.Question12.{question-12}
-use Rattle.access.specs.Answers.{SetCall, WayWritten, WayCall}
+use Rattle.access.specs.Answers.{ClosureCall, LostCall, WayWritten, WayCall}
 use Rattle.answers.specs.Answers.{BasesWritten, BasesCall, ScoreCall, MarksCall}
 use Rattle.findings.specs.Answers.{FindingCall}
 use Rattle.findings.proofs.Unique.{decided-once, all-below, one-finding-answer}
 use Rattle.forecasts.specs.Answers.{ForecastCall}
 use Rattle.forecasts.proofs.Unique.{one-forecast-answer}
 use Rattle.demands.proofs.Stable.{stable-number, by-cases}
-use Rattle.demands.proofs.OneAnswer.{by-target, one-set-answer, one-way-answer, one-bases-answer, one-score-answer, one-marks-answer}
+use Rattle.demands.proofs.OneAnswer.{by-target, one-closure-answer, one-lost-answer, one-way-answer, one-bases-answer, one-score-answer, one-marks-answer}
 use Rattle.demands.specs.Outcomes.{Outcome, Settled, SettledWay, SettledLists, Yielded, SettledQuestion12}
 
 listed-dec : (l : List ℕ) (x : ℕ) → Dec (Listed l x)
@@ -69,16 +67,26 @@ module _ {numbers : List ℕ} {number : ℕ} {entry exit : List (List ℕ)} wher
 -- ---- calls that are lent no list
 
 module _ (s : Setup) (n : ℕ) (v : List ℕ) where
-  pub settled-set : (loss : Bool) (set : ℕ) → SetCall (λ g. Closure (ruleOf loss g)) s set n v
-      → Settled (12 ∷ 14 ∷ []) (SetCall (λ g. Closure (ruleOf loss g)) s set) n v
-  settled-set loss set c =
+  pub settled-closure : (set : ℕ) → ClosureCall s set n v → Settled (12 ∷ 14 ∷ []) (ClosureCall s set) n v
+  settled-closure set c =
+      record {
+        outcome = by-cases (WellFormed s) (outcome-stable v)
+            (λ w. by-cases (Inside s set) (outcome-stable v) (λ i. let a = c .answers w i in answered (a .2) (a .3))
+            (λ o. refused (inr (inl refl)) refl (c .outside w o)))
+            (λ m. refused (inl refl) refl (c .malformed m));
+        meets = c;
+        only = λ n′ v′ d. one-closure-answer s set n′ n v′ v d c;
+      }
+
+  pub settled-lost : (set : ℕ) → LostCall s set n v → Settled (12 ∷ 14 ∷ []) (LostCall s set) n v
+  settled-lost set c =
       record {
         outcome = by-cases (WellFormed s) (outcome-stable v)
             (λ w. by-cases (Inside s set) (outcome-stable v) (λ i. let a = c .answers w i in answered (a .1) (a .2))
             (λ o. refused (inr (inl refl)) refl (c .outside w o)))
             (λ m. refused (inl refl) refl (c .malformed m));
         meets = c;
-        only = λ n′ v′ d. one-set-answer loss s set n′ n v′ v d c;
+        only = λ n′ v′ d. one-lost-answer s set n′ n v′ v d c;
       }
 
   pub settled-score : (loss : Bool) (target : ℕ) → ScoreCall loss s target n v → Settled (12 ∷ 13 ∷ []) (ScoreCall loss s target) n v

@@ -6,9 +6,7 @@ use mathlib.Core.List.{List, [], _∷_}
 use Prim.Native.Nat.{ℕ}
 use Rattle.vertex_set.specs.Set.{Decides}
 use Rattle.setup.specs.declared.Setup.{Setup}
-use Rattle.derivations.specs.Access.{AccessFrom}
-use Rattle.derivations.specs.Lockout.{LockoutFrom}
-use Rattle.access.specs.Answers.{setNumber, setValues, SetCall, wayNumber, wayValues, WayCall}
+use Rattle.access.specs.Answers.{closureNumber, closureValues, ClosureCall, lostNumber, lostValues, LostCall, wayNumber, wayValues, WayCall}
 use Rattle.answers.specs.Answers.{basesNumber, basesValues, BasesCall, scoreNumber, scoreValues, riskNumber, riskValues, ScoreCall, marksNumber, marksValues, MarksCall}
 use Rattle.findings.specs.Answers.{findingNumber, findingValues, BackdoorCall, IneffectiveCall, InconsistentCall}
 use Rattle.forecasts.specs.Answers.{forecastNumber, forecastValues, ForecastCall}
@@ -23,8 +21,8 @@ use Rattle.demands.specs.Sheets.{Reads, SettledReading, SettledPortal}
 pub record Demand1 (text : List ℕ) (item : ℕ) (s : Setup) (set target other : ℕ) (opened locked : List ℕ)
     (vertices vertices′ colours colours′ list list′ : List ℕ) (r : Answers) : Type 0 where
   -- closure and lost set: 12, 14
-  pub closure : Settled (12 ∷ 14 ∷ []) (SetCall AccessFrom s set) (setNumber (r .sets .closure)) (setValues (r .sets .closure))
-  pub lost : Settled (12 ∷ 14 ∷ []) (SetCall LockoutFrom s set) (setNumber (r .sets .lost)) (setValues (r .sets .lost))
+  pub closure : Settled (12 ∷ 14 ∷ []) (ClosureCall s set) (closureNumber (r .sets .closure)) (closureValues (r .sets .closure))
+  pub lost : Settled (12 ∷ 14 ∷ []) (LostCall s set) (lostNumber (r .sets .lost)) (lostValues (r .sets .lost))
   -- the way in: 12, 13, 14, 15; both lists: 12, 13, 15
   pub way : SettledWay s target set (wayNumber (r .sets .way)) (wayValues (r .sets .way)) vertices vertices′ colours colours′
   pub bases : SettledLists s target (basesNumber (r .lists .bases)) (basesValues (r .lists .bases)) list list′
@@ -49,9 +47,9 @@ pub record Demand1 (text : List ℕ) (item : ℕ) (s : Setup) (set target other 
 -- form, and yields the setup that its rows state.
 pub record Demand2 (text : List ℕ) (item : ℕ) (s : Setup) (set target other : ℕ) (opened locked : List ℕ)
     (vertices vertices′ colours colours′ list list′ : List ℕ) (r : Answers) : Type 0 where
-  -- all items with a derivation, and all with a loss derivation, from the set
-  pub closure : SetCall AccessFrom s set (setNumber (r .sets .closure)) (setValues (r .sets .closure))
-  pub lost : SetCall LockoutFrom s set (setNumber (r .sets .lost)) (setValues (r .sets .lost))
+  -- all items with a derivation from the set, and the number of passes that lead there; all with a loss derivation
+  pub closure : ClosureCall s set (closureNumber (r .sets .closure)) (closureValues (r .sets .closure))
+  pub lost : LostCall s set (lostNumber (r .sets .lost)) (lostValues (r .sets .lost))
   -- always the lowest step; "shut" exactly where no derivation exists
   pub way : WayCall s target set (wayNumber (r .sets .way)) (wayValues (r .sets .way)) vertices vertices′ colours colours′
   -- the minimal sets that open the target, then those whose loss shuts it; the least sums over them

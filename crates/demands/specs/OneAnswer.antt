@@ -5,15 +5,16 @@ use mathlib.Core.List.{List}
 use Prim.Native.Nat.{ℕ}
 use Rattle.setup.specs.declared.Setup.{Setup}
 use Rattle.setup.specs.Calls.{Same}
-use Rattle.derivations.specs.Derivation.{Closure}
-use Rattle.derivations.specs.Both.{ruleOf}
-use Rattle.access.specs.Answers.{SetCall, WayCall}
+use Rattle.access.specs.Answers.{ClosureCall, LostCall, WayCall}
 use Rattle.answers.specs.Answers.{BasesCall, ScoreCall, MarksCall}
 
--- Closure and lost set.
-abbrev pub OneSetAnswer : Type 0
-OneSetAnswer = (loss : Bool) (s : Setup) (set n n′ : ℕ) (v v′ : List ℕ)
-    → SetCall (λ g. Closure (ruleOf loss g)) s set n v → SetCall (λ g. Closure (ruleOf loss g)) s set n′ v′ → Same n n′ v v′
+-- Closure, with its number of passes.
+abbrev pub OneClosureAnswer : Type 0
+OneClosureAnswer = (s : Setup) (set n n′ : ℕ) (v v′ : List ℕ) → ClosureCall s set n v → ClosureCall s set n′ v′ → Same n n′ v v′
+
+-- Lost set.
+abbrev pub OneLostAnswer : Type 0
+OneLostAnswer = (s : Setup) (set n n′ : ℕ) (v v′ : List ℕ) → LostCall s set n v → LostCall s set n′ v′ → Same n n′ v v′
 
 -- The way in, with both lent lists.
 pub record SameWay (n n′ : ℕ) (v v′ x x′ y y′ : List ℕ) : Type 0 where

@@ -4,9 +4,7 @@ use mathlib.Core.Bool.{true, false}
 use mathlib.Core.List.{List}
 use Prim.Native.Nat.{ℕ}
 use lib.ListN.{length}
-use Rattle.derivations.specs.Access.{AccessFrom}
-use Rattle.derivations.specs.Lockout.{LockoutFrom}
-use Rattle.access.specs.Answers.{SetCall, WayCall}
+use Rattle.access.specs.Answers.{ClosureCall, LostCall, WayCall}
 use Rattle.answers.specs.Answers.{BasesCall, ScoreCall, MarksCall}
 use Rattle.findings.specs.Answers.{BackdoorCall, IneffectiveCall, InconsistentCall}
 use Rattle.forecasts.specs.Answers.{ForecastCall}
@@ -24,8 +22,8 @@ OneResult Call = (n n′ : ℕ) (f f′ : List ℕ) → length f ≡ length f′
 -- The calls on a setup, for every buffer of words.
 pub record OneResultOnSetups (words : List ℕ) : Type 0 where
   pub check : (r r′ : ℕ) → CheckCall (setupIn words) r → CheckCall (setupIn words) r′ → r ≡ r′
-  pub closure : (set : ℕ) → OneResult (SetCall AccessFrom (setupIn words) set)
-  pub lost : (set : ℕ) → OneResult (SetCall LockoutFrom (setupIn words) set)
+  pub closure : (set : ℕ) → OneResult (ClosureCall (setupIn words) set)
+  pub lost : (set : ℕ) → OneResult (LostCall (setupIn words) set)
   pub wayIn : (target set n n′ : ℕ) (f f′ a x x′ b y y′ : List ℕ) → length f ≡ length f′
       → Told (λ number values. WayCall (setupIn words) target set number values a x b y) n f
       → Told (λ number values. WayCall (setupIn words) target set number values a x′ b y′) n′ f′

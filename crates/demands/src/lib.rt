@@ -6,16 +6,15 @@
 ghost use mathlib.Core.Path.{_≡_};
 ghost use mathlib.Core.Bool.{true, false};
 ghost use Rattle.vertex_set.specs.Set.{Decides};
-ghost use Rattle.derivations.specs.Access.{AccessFrom};
-ghost use Rattle.derivations.specs.Lockout.{LockoutFrom};
-ghost use Rattle.access.specs.Answers.{setNumber, setValues, SetCall, wayNumber, wayValues, WayCall};
+ghost use Rattle.access.specs.Answers.{closureNumber, closureValues, ClosureCall, lostNumber, lostValues, LostCall, wayNumber, wayValues, WayCall};
 ghost use Rattle.findings.specs.Answers.{findingNumber, findingValues, BackdoorCall, IneffectiveCall, InconsistentCall};
 ghost use Rattle.sheet_format.specs.Read.{readSheet};
 ghost use Rattle.portal.specs.Portal.{PortalCall};
 ghost use Rattle.demands.specs.Outcomes.{Yielded};
 ghost use Rattle.demands.specs.Sheets.{Reads, Named, SettledName};
 ghost use Rattle.demands.specs.Demands.{Demand1, Demand2};
-use access::SetAnswer;
+use access::ClosureAnswer;
+use access::LostAnswer;
 use access::WayAnswer;
 use answers::AllAnswers;
 use findings::FindingAnswer;
@@ -25,8 +24,8 @@ use sheet_format::Reading;
 use vertex_set::VertexSet;
 
 pub struct SetAnswers {
-    pub closure: SetAnswer,
-    pub lost: SetAnswer,
+    pub closure: ClosureAnswer,
+    pub lost: LostAnswer,
     pub way: WayAnswer,
 }
 
@@ -62,8 +61,8 @@ fn ask_sets(
     vertices: &mut [u8],
     colours: &mut [u8],
 ) -> SetAnswers
-    ensures closure { λ r. ⌜ SetCall AccessFrom s (set .0) (setNumber (r .closure)) (setValues (r .closure)) ⌝ }
-    ensures lost { λ r. ⌜ SetCall LockoutFrom s (set .0) (setNumber (r .lost)) (setValues (r .lost)) ⌝ }
+    ensures closure { λ r. ⌜ ClosureCall s (set .0) (closureNumber (r .closure)) (closureValues (r .closure)) ⌝ }
+    ensures lost { λ r. ⌜ LostCall s (set .0) (lostNumber (r .lost)) (lostValues (r .lost)) ⌝ }
     ensures way { λ r. ⌜ WayCall s target (set .0) (wayNumber (r .way)) (wayValues (r .way)) (now (vertices .entry)) (now (vertices .exit)) (now (colours .entry)) (now (colours .exit)) ⌝ }
 {
     let closure = access::access_from(s, set);

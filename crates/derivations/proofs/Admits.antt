@@ -1,16 +1,18 @@
 -- A vertex that its rows admit is one that a step adds.
 -- Assumes nothing.
-use mathlib.Core.Path.{_≡_}
+use mathlib.Core.Path.{_≡_, refl, sym, subst}
 use mathlib.Core.Bool.{Bool, true, false}
 use Prim.Native.Nat.{ℕ, _<_}
 use lib.ListN.{length}
 use Rattle.vertex_set.specs.Set.{Member}
+use Rattle.vertex_set.proofs.Sets.{some-member}
 use Rattle.setup.specs.declared.Rows.{Rows}
 use Rattle.setup.specs.declared.Graph.{Graph}
 use Rattle.setup.specs.Setup.{rowOf, rowsAt}
 use Rattle.setup.proofs.Graphs.{coloured-place}
 use Rattle.derivations.specs.Derivation.{Vertices, Derivation}
 use Rattle.derivations.specs.Both.{ruleOf}
+use Rattle.derivations.specs.Passes.{Allows}
 use Rattle.derivations.specs.Inner.Admits.{Admits}
 use Rattle.derivations.proofs.Rules.{Sub, closed}
 use Rattle.derivations.proofs.Both.{lawful}
@@ -38,6 +40,24 @@ pub step-admits : (loss : Bool) (g : Graph) (P : Vertices) (e : ruleOf loss g .S
     → Admits loss (rowsAt g (ruleOf loss g .adds e)) P
 step-admits false g P e o = record { colour = e .colour; complete = record { coloured = o .coloured; within = o .complete } }
 step-admits true g P v o = record { colour = o .colour; coloured = o .coloured; every = o .every }
+
+-- what the rows of a vertex admit is what some step adds
+pub admits-allows : (loss : Bool) (g : Graph) (P : Vertices) (v : ℕ) → Admits loss (rowsAt g v) P → Allows (ruleOf loss g) P v
+admits-allows false g P v a =
+    record {
+      step = record { vertex = v; colour = a .colour };
+      allowed = record { coloured = a .complete .coloured; complete = a .complete .within };
+      adds = refl;
+    }
+admits-allows true g P v a = record { step = v; allowed = record { colour = a .colour; coloured = a .coloured; every = a .every }; adds = refl }
+
+pub allows-admits : (loss : Bool) (g : Graph) (P : Vertices) (v : ℕ) → Allows (ruleOf loss g) P v → Admits loss (rowsAt g v) P
+allows-admits loss g P v a = subst (λ (u : ℕ). Admits loss (rowsAt g u) P) (sym (a .adds)) (step-admits loss g P (a .step) (a .allowed))
+
+-- nothing is admitted by nothing
+pub admits-some : (loss : Bool) (rows : Rows) (P : Vertices) → ((i : ℕ) → P i → ⊥) → Admits loss rows P → ⊥
+admits-some false rows P none a = let m = some-member _ (a .complete .coloured) in none (m .0) (a .complete .within (m .0) (m .1))
+admits-some true rows P none a = let s = a .every (a .colour) (a .coloured) in none (s .vertex) (s .gone)
 
 -- what derivable vertices admit is derivable
 pub admits-derived : (loss : Bool) (g : Graph) (P Q : Vertices) (v : ℕ) → Sub Q (Derivation (ruleOf loss g) P) → Admits loss (rowsAt g v) Q

@@ -1,5 +1,6 @@
 pub mod Admits
 pub mod Both
 pub mod Graphs
+pub mod Passes
 pub mod Rules
 pub mod Way

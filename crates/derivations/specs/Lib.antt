@@ -2,5 +2,6 @@ pub mod Access
 pub mod Both
 pub mod Derivation
 pub mod Lockout
+pub mod Passes
 pub mod Way
 pub mod Inner

@@ -1,11 +1,11 @@
 // Families of masks as words: bit i of word b stands for the mask b * 64 + i. Here are the
-// operations on whole families, and those by which a loop takes a set of vertices apart.
+// operations on whole families.
 ghost use mathlib.Core.Path.{_≡_};
 ghost use Prim.Native.Nat.{_+_, _*_, _<_};
 ghost use lib.ListN.{length};
 ghost use Rattle.vertex_set.specs.Set.{Member};
 ghost use Rattle.families.specs.Inner.Family.{familyWords};
-ghost use Rattle.family_words.specs.Inner.Words.{At, FamilyWhere, Merged, mergedWord, Joined, VertexOf, Without};
+ghost use Rattle.family_words.specs.Inner.Words.{At, FamilyWhere, Merged, mergedWord, Joined};
 use families::WORDS;
 
 // Every word of the family becomes x.
@@ -88,21 +88,4 @@ pub fn start_words(d: &mut [u64], k: usize)
         let bit = (b >> j) % 2;
         d[b] = (bit as u64) * 0xFFFF_FFFF_FFFF_FFFF;
     }
-}
-
-// The lowest vertex of a set that is not empty.
-pub fn lowest(s: u64) -> usize
-    requires { ⌜ (s ≡ 0 → ⊥) ⌝ }
-    ensures { λ r. ⌜ VertexOf s r ⌝ }
-{
-    u64::trailing_zeros(s) as usize
-}
-
-// The set without v, which is one of its vertices.
-pub fn without(s: u64, v: usize) -> u64
-    requires { ⌜ VertexOf s v ⌝ }
-    ensures { λ r. ⌜ Without s v r ⌝ }
-{
-    let one: u64 = 1;
-    s - (one << v)
 }

@@ -10,8 +10,7 @@ use Rattle.vertex_set.proofs.Sets.{none-in-zero, same-set, in-and, in-or, in-no
 use Rattle.vertex_set.proofs.Subsets.{proper-less}
 use Rattle.setup.specs.declared.Graph.{Graph}
 use Rattle.setup.specs.Setup.{Edge, rowsAt}
-use Rattle.family_words.specs.Inner.Words.{VertexOf}
-use Rattle.lanes.specs.Inner.Lanes.{Needed}
+use Rattle.successors.specs.Inner.{VertexOf, Needed}
 use Rattle.forecasts.specs.Forecast.{Reaches, here, along}
 use Rattle.forecasts.specs.Inner.{ReachingSet}
 

@@ -23,8 +23,8 @@ fn reaching(graph: Graph, target: usize) -> VertexSet
     let mut found = none.insert(target);
     let mut seen = none;
     while seen.0 != found.0 {
-        let v = family_words::lowest(found.0 & !seen.0);
-        found = VertexSet(found.0 | lanes::needed(graph.rows[v]));
+        let v = successors::lowest(found.0 & !seen.0);
+        found = VertexSet(found.0 | successors::needed(graph.rows[v]));
         seen = seen.insert(v);
     }
     found

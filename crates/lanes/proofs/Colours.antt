@@ -6,59 +6,21 @@ use mathlib.Core.List.{List}
 use mathlib.Core.Logic.{_⊎_, inl, ⊎-elim}
 use Prim.Native.Nat.{ℕ, _+_, _≤_, _<_}
 use native.Mathlib.Omega.{arith}
-use lib.Bits.{bitOr}
 use lib.ListN.{length}
 use Rattle.vertex_set.specs.Set.{Member, Iff}
 use Rattle.vertex_set.proofs.Decisions.{iff-refl, iff-trans}
-use Rattle.vertex_set.proofs.Sets.{in-or, none-in-zero, not-empty, some-member}
+use Rattle.vertex_set.proofs.Sets.{none-in-zero, not-empty, some-member}
 use Rattle.setup.specs.declared.Rows.{Rows}
 use Rattle.setup.specs.Setup.{rowOf}
 use Rattle.setup.proofs.Graphs.{colour-below}
 use Rattle.derivations.specs.Derivation.{Vertices}
 use Rattle.derivations.specs.Inner.Admits.{Admits}
 use Rattle.derivations.proofs.Admits.{admits-coloured}
+use Rattle.successors.specs.Inner.{Coloured, Needed}
 use Rattle.family_words.specs.Inner.Words.{At, FamilyWhere, Merged}
 use Rattle.family_words.proofs.Families.{family-as, full-word}
-use Rattle.lanes.specs.Inner.Lanes.{Lane, Over, Colour, Takes, untakenWord, Coloured, Needed}
+use Rattle.lanes.specs.Inner.Lanes.{Lane, Over, Colour, Takes, untakenWord}
 use Rattle.lanes.proofs.Over.{merged-same, below-more}
-
--- ---- all vertices that are needed
-
-pub record NeededBelow (rows : Rows) (s n : ℕ) : Type 0 where
-  pub place : n ≤ 8
-  pub each : (v : ℕ) → Iff (Member s v) (Over true (λ c. c < n) (λ c. Member (rowOf rows c) v))
-
-module _ (rows : Rows) where
-  pub needed-none : NeededBelow rows 0 0
-  unfolding Over
-  needed-none =
-      record {
-        place = omega arith;
-        each = λ v. record { to = λ m. absurd (none-in-zero v m); from = λ s. let l = s .is in absurd (omega arith) };
-      }
-
-  pub needed-more : (s n : ℕ) → n < 8 → NeededBelow rows s n → NeededBelow rows (bitOr s (rowOf rows n)) (n + 1)
-  unfolding Merged
-  needed-more s n l h =
-      record {
-        place = omega arith;
-        each = λ v. iff-trans (in-or s (rowOf rows n) v)
-            (iff-trans (merged-same true _ _ _ _ (h .each v) iff-refl) (below-more true (λ c. Member (rowOf rows c) v) n));
-      }
-
-  pub needed-done : (s n : ℕ) → length (rows .needs) ≡ 8 → 8 ≤ n → NeededBelow rows s n → Needed rows s
-  unfolding Over
-  needed-done s n e l h =
-      record {
-        each = λ v. record {
-          to = λ m. let b = h .each v .to m in record { colour = b .place; member = b .has };
-          from = λ k. h .each v .from (record {
-            place = k .colour;
-            is = colour-below rows n (k .colour) (omega arith) (not-empty (rowOf rows (k .colour)) v (k .member));
-            has = k .member;
-          });
-        };
-      }
 
 -- ---- one colour
 

@@ -3,7 +3,7 @@
 use mathlib.Core.Path.{_≡_, sym, _∙_, subst}
 use mathlib.Core.Bool.{Bool}
 use mathlib.Core.List.{List}
-use mathlib.Core.Logic.{_⊎_, inl, inr, ⊎-elim}
+use mathlib.Core.Logic.{_⊎_, ⊎-elim}
 use Prim.Native.Nat.{ℕ, _+_, _*_, _<_}
 use native.Mathlib.Omega.{arith}
 use lib.ListN.{length, getD, take, drop}
@@ -11,8 +11,9 @@ use lib.Seq.{getD-take, getD-drop}
 use Rattle.vertex_set.specs.Set.{Member, Within, Iff}
 use Rattle.vertex_set.proofs.Cases.{same-or}
 use Rattle.vertex_set.proofs.Decisions.{iff-trans}
-use Rattle.vertex_set.proofs.Sets.{none-in-zero}
-use Rattle.family_words.specs.Inner.Words.{At, FamilyWhere, Merged, Without}
+use Rattle.successors.specs.Inner.{Without}
+use Rattle.successors.proofs.Members.{Passed, passed-more, passed-all, left-within}
+use Rattle.family_words.specs.Inner.Words.{At, FamilyWhere, Merged}
 use Rattle.family_words.proofs.Families.{family-as}
 use Rattle.lanes.specs.Inner.Lanes.{Lane, Over}
 use Rattle.lanes.proofs.Over.{merged-same, over-same, over-one, over-more}
@@ -23,10 +24,6 @@ unfolding At Lane
 part-lane w v n b i h =
     let e : getD (take n (drop (v * 256) w)) b 0 ≡ getD w (v * 256 + b) 0 = getD-take n (drop (v * 256) w) b 0 h ∙ getD-drop (v * 256) w b 0 in
     record { to = subst (λ (x : ℕ). Member x i) e; from = subst (λ (x : ℕ). Member x i) (sym e) }
-
--- A vertex of the row that is not left has been passed.
-abbrev Passed : ℕ → ℕ → ℕ → Type 0
-Passed row left v = Member row v × (Member left v → ⊥)
 
 pub record Scan (any : Bool) (w : List ℕ) (row left : ℕ) (out : List ℕ) : Type 0 where
   pub within : Within left row
@@ -59,24 +56,14 @@ module _ (any : Bool) (w : List ℕ) (row : ℕ) where
       → FamilyWhere (λ b i. Merged any (At out b i) (At (take n (drop (v * 256) w)) b i)) out′ → Scan any w row rest out′
   scan-more left v rest n out out′ m o h s l =
       record {
-        within = record { each = λ i r. s .within .each i (o .each i .to r .0) };
+        within = left-within row left v rest (s .within) o;
         family = family-as out′ l (λ b i hb hi.
             iff-trans (merged-same any _ _ _ _ (s .family .each b i hb hi) (part-lane w v n b i (omega arith)))
             (iff-trans (over-more any (Passed row left) (Lane w b i) v)
-            (over-same any (λ u. Passed row left u ⊎ (u ≡ v)) (Passed row rest) (Lane w b i) passed)));
+            (over-same any (λ u. Passed row left u ⊎ (u ≡ v)) (Passed row rest) (Lane w b i) (passed-more row left v rest (s .within) m o))));
       }
-    where
-      passed : (u : ℕ) → Iff (Passed row left u ⊎ (u ≡ v)) (Passed row rest u)
-      passed u =
-          record {
-            to = ⊎-elim (λ p. (p .0, λ r. p .1 (o .each u .to r .0))) (λ q. (s .within .each u (subst (Member left) (sym q) m), λ r. o .each u .to r .1 q));
-            from = λ p. ⊎-elim (λ q. inr q) (λ q. inl (p .0, λ r. p .1 (o .each u .from (r, q)))) (same-or u v);
-          }
 
   -- nothing is left
   pub scan-done : (left : ℕ) (out : List ℕ) → left ≡ 0 → Scan any w row left out → FamilyWhere (λ b i. Over any (Member row) (Lane w b i)) out
   scan-done left out e s =
-      family-as out (s .family) (λ b i hb hi. over-same any (Passed row left) (Member row) (Lane w b i) (λ v. record {
-        to = λ p. p .0;
-        from = λ m. (m, λ r. none-in-zero v (subst (λ (x : ℕ). Member x v) e r));
-      }))
+      family-as out (s .family) (λ b i hb hi. over-same any (Passed row left) (Member row) (Lane w b i) (passed-all row left e))

@@ -7,25 +7,13 @@ ghost use Rattle.vertex_set.specs.Set.{Member};
 ghost use Rattle.family_words.specs.Inner.Words.{At, FamilyWhere};
 ghost use Rattle.derivations.specs.Inner.Admits.{Admits};
 ghost use Rattle.families.specs.Inner.Family.{familyWords};
-ghost use Rattle.lanes.specs.Inner.Lanes.{Lane, Over, Takes, untakenWord, Needed, tableWords};
+ghost use Rattle.lanes.specs.Inner.Lanes.{Lane, Over, Takes, untakenWord, tableWords};
 use families::WORDS;
 use setup::Rows;
-
-pub const COLOURS: usize = 8;
+use successors::COLOURS;
 
 // The word that has all 64 lanes.
 const ALL: u64 = 0xFFFF_FFFF_FFFF_FFFF;
-
-// All vertices that some colour of these rows needs.
-pub fn needed(rows: Rows) -> u64
-    ensures { λ r. ⌜ Needed rows r ⌝ }
-{
-    let mut s: u64 = 0;
-    for c in 0..COLOURS {
-        s = s | rows.needs[c];
-    }
-    s
-}
 
 // The masks whose sets have every vertex of the row or, with `any`, some vertex of the row. The row
 // is not empty.
@@ -35,15 +23,15 @@ fn scan(w: &[u64], row: u64, any: bool, out: &mut [u64])
     requires { ⌜ length (now out) ≡ familyWords ⌝ }
     ensures { λ _. ⌜ FamilyWhere (λ b i. Over any (Member row) (Lane (now (w .entry)) b i)) (now (out .exit)) ⌝ }
 {
-    let first = family_words::lowest(row);
+    let first = successors::lowest(row);
     let at = first * WORDS;
     family_words::copy_in(out, &w[at..at + WORDS]);
-    let mut left = family_words::without(row, first);
+    let mut left = successors::without(row, first);
     while left != 0 {
-        let v = family_words::lowest(left);
+        let v = successors::lowest(left);
         let a = v * WORDS;
         family_words::merge_in(any, out, &w[a..a + WORDS]);
-        left = family_words::without(left, v);
+        left = successors::without(left, v);
     }
 }
 
@@ -78,7 +66,7 @@ pub fn admitted(w: &[u64], rows: Rows, loss: bool, out: &mut [u64])
     requires { ⌜ length (now out) ≡ familyWords ⌝ }
     ensures { λ _. ⌜ FamilyWhere (λ b i. Admits loss rows (Lane (now (w .entry)) b i)) (now (out .exit)) ⌝ }
 {
-    if needed(rows) == 0 {
+    if successors::needed(rows) == 0 {
         family_words::set_all(out, 0);
         return;
     }

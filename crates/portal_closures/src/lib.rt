@@ -1,9 +1,7 @@
 // The portal's calls on a setup and a set of its items, for C: question 12, closure, lost set and
 // way in.
 ghost use mathlib.Core.List.{[], _∷_};
-ghost use Rattle.derivations.specs.Access.{AccessFrom};
-ghost use Rattle.derivations.specs.Lockout.{LockoutFrom};
-ghost use Rattle.access.specs.Answers.{SetCall, WayCall};
+ghost use Rattle.access.specs.Answers.{ClosureCall, LostCall, WayCall};
 ghost use Rattle.portal_setup.specs.Words.{setupIn};
 ghost use Rattle.portal_results.specs.Told.{Told};
 ghost use Rattle.portal_closures.specs.Check.{CheckCall};
@@ -24,10 +22,10 @@ pub extern "C" fn portal_check(setup: &[u64]) -> u64
     12
 }
 
-// What the set opens (document 01: its closure).
+// What the set opens (document 01: its closure), and the number of passes (document 02, point 4).
 #[no_mangle]
 pub extern "C" fn portal_closure(setup: &[u64], set: u64) -> PortalClosure
-    ensures { λ r. ⌜ Told (SetCall AccessFrom (setupIn (now (setup .entry))) set) (r .number) (r .set ∷ []) ⌝ }
+    ensures { λ r. ⌜ Told (ClosureCall (setupIn (now (setup .entry))) set) (r .number) (r .set ∷ r .passes ∷ []) ⌝ }
 {
     let s = portal_setup::setup_in(setup);
     let answer = access::access_from(s, VertexSet(set));
@@ -37,7 +35,7 @@ pub extern "C" fn portal_closure(setup: &[u64], set: u64) -> PortalClosure
 // What the loss of the set takes away (document 01: its lost set).
 #[no_mangle]
 pub extern "C" fn portal_lost(setup: &[u64], set: u64) -> PortalSet
-    ensures { λ r. ⌜ Told (SetCall LockoutFrom (setupIn (now (setup .entry))) set) (r .number) (r .set ∷ []) ⌝ }
+    ensures { λ r. ⌜ Told (LostCall (setupIn (now (setup .entry))) set) (r .number) (r .set ∷ []) ⌝ }
 {
     let s = portal_setup::setup_in(setup);
     let answer = access::lockout_from(s, VertexSet(set));

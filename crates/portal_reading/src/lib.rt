@@ -5,8 +5,8 @@ ghost use Rattle.portal_reading.specs.Reading.{version, ReadingCall, Nam
 use portal_results::PortalPart;
 use portal_results::PortalReading;
 
-// Version 1.1.0.
-const VERSION: u64 = 10100;
+// Version 2.0.0.
+const VERSION: u64 = 20000;
 
 const SETUP_WORDS: usize = 1281;
 

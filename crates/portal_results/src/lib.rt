@@ -2,11 +2,12 @@
 // 0, or that of the refusal. The fields behind the number have the answer's values, and 0 where
 // there is no value.
 ghost use mathlib.Core.List.{[], _∷_};
-ghost use Rattle.access.specs.Answers.{setNumber, setValues, wayNumber, wayValues};
+ghost use Rattle.access.specs.Answers.{closureNumber, closureValues, lostNumber, lostValues, wayNumber, wayValues};
 ghost use Rattle.answers.specs.Answers.{basesNumber, basesValues, scoreNumber, scoreValues, riskNumber, riskValues, marksNumber, marksValues};
 ghost use Rattle.findings.specs.Answers.{findingNumber, findingValues};
 ghost use Rattle.portal_results.specs.Inner.{Tells};
-use access::SetAnswer;
+use access::ClosureAnswer;
+use access::LostAnswer;
 use access::WayAnswer;
 use answers::BasesAnswer;
 use answers::MarksAnswer;
@@ -31,6 +32,7 @@ pub struct PortalPart {
 pub struct PortalClosure {
     pub number: u64,
     pub set: u64,
+    pub passes: u64,
 }
 
 #[repr(C)]
@@ -82,27 +84,32 @@ pub struct PortalFinding {
     pub yes: u64,
 }
 
-pub fn tell_closure(answer: SetAnswer) -> PortalClosure
-    ensures { λ r. ⌜ Tells (setNumber answer) (setValues answer) (r .number) (r .set ∷ []) ⌝ }
+pub fn tell_closure(answer: ClosureAnswer) -> PortalClosure
+    ensures { λ r. ⌜ Tells (closureNumber answer) (closureValues answer) (r .number) (r .set ∷ r .passes ∷ []) ⌝ }
 {
     match answer {
-        SetAnswer::Set(set) => PortalClosure {
+        ClosureAnswer::Opened(set, passes) => PortalClosure {
             number: 0,
             set: set.0,
+            passes: passes as u64,
         },
-        SetAnswer::Refused(q) => PortalClosure { number: q, set: 0 },
+        ClosureAnswer::Refused(q) => PortalClosure {
+            number: q,
+            set: 0,
+            passes: 0,
+        },
     }
 }
 
-pub fn tell_set(answer: SetAnswer) -> PortalSet
-    ensures { λ r. ⌜ Tells (setNumber answer) (setValues answer) (r .number) (r .set ∷ []) ⌝ }
+pub fn tell_set(answer: LostAnswer) -> PortalSet
+    ensures { λ r. ⌜ Tells (lostNumber answer) (lostValues answer) (r .number) (r .set ∷ []) ⌝ }
 {
     match answer {
-        SetAnswer::Set(set) => PortalSet {
+        LostAnswer::Lost(set) => PortalSet {
             number: 0,
             set: set.0,
         },
-        SetAnswer::Refused(q) => PortalSet { number: q, set: 0 },
+        LostAnswer::Refused(q) => PortalSet { number: q, set: 0 },
     }
 }
 

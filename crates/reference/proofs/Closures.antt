@@ -1,19 +1,16 @@
--- `closureOf` is the closure, and `derivesOf` decides derivability.
+-- `closureOf` is the closure, reached by `passCountOf` passes, and `derivesOf` decides derivability.
 -- Assumes nothing.
-use mathlib.Core.Path.{_≡_, subst}
+use mathlib.Core.Path.{_≡_, refl, sym, subst}
 use mathlib.Core.Bool.{Bool, true, false, not}
-use mathlib.Core.Logic.{inl, inr, ⊎-elim}
+use mathlib.Core.Logic.{_⊎_, inl, inr, ⊎-elim}
 use Prim.Native.Nat.{ℕ, zero, suc, _≤_, _<_}
-use native.Mathlib.Nat.{lt-of-lt-of-le}
-use native.Mathlib.Numerals.{add-one}
 use native.Mathlib.Omega.{arith}
 use lib.Dec.{eqb}
 use lib.ListN.{length}
 use borrow.Author.Tests.{eqb-true, eqb-false}
-use Rattle.vertex_set.specs.Set.{Member, Decides}
+use Rattle.vertex_set.specs.Set.{Member, Decides, Iff, Inserted, countOutside}
 use Rattle.vertex_set.proofs.Cases.{byTest, less-or, same-or}
 use Rattle.vertex_set.proofs.Decisions.{decide-iff, decide-eqb}
-use Rattle.vertex_set.proofs.Sets.{same-set, member-or}
 use Rattle.setup.specs.declared.Rows.{Rows}
 use Rattle.setup.specs.declared.Graph.{Graph}
 use Rattle.setup.specs.declared.Setup.{Setup}
@@ -22,21 +19,20 @@ use Rattle.setup.proofs.Graphs.{colour-below}
 use Rattle.formed.specs.WellFormed.{WellFormed}
 use Rattle.derivations.specs.Derivation.{Closure}
 use Rattle.derivations.specs.Both.{ruleOf}
+use Rattle.derivations.specs.Passes.{Pass, Passes}
 use Rattle.derivations.specs.Inner.Admits.{Complete, Broken, Admits}
-use Rattle.derivations.proofs.Rules.{least}
 use Rattle.derivations.proofs.Both.{lawful}
-use Rattle.derivations.proofs.Admits.{step-admits}
-use Rattle.closures.specs.Inner.{LowestColour, Passed}
+use Rattle.derivations.proofs.Admits.{admits-allows, allows-admits}
+use Rattle.derivations.proofs.Passes.{pass-grows, passes-closure}
+use Rattle.closures.specs.Inner.{LowestColour}
 use Rattle.closures.proofs.Colours.{some-complete}
-use Rattle.closures.proofs.Passes.{PassedBelow, pass-none, pass-more, pass-same, Grown, grown-none, grown-more}
 use Rattle.bases.specs.Base.{Derives}
 use Rattle.reference.specs.Tests.{every}
-use Rattle.reference.specs.Closures.{isComplete, isBroken, colourOf, isAdded, passOf, passesOf, closureOf, derivesOf}
+use Rattle.reference.specs.Closures.{isComplete, isBroken, colourOf, isAdded, passOf, passesOf, countOf, closureOf, passCountOf, derivesOf}
 use Rattle.reference.specs.Graphs.{GraphOf}
 use Rattle.reference.proofs.Tests.{by-decision, decide-not, decide-and, decide-or, lowest-of, decide-some, decide-every, decide-member, decide-within, decide-meeting, inserted-with}
-use Rattle.reference.proofs.Graphs.{few-colours, added-below, derived-below}
-use Rattle.vertex_set.specs.Inner.Missing.{missing}
-use Rattle.vertex_set.proofs.Missing.{missing-most, missing-less, missing-none}
+use Rattle.reference.proofs.Graphs.{few-colours, added-below}
+use Rattle.vertex_set.proofs.Outside.{outside-most, outside-falls, outside-none}
 
 -- ---- the rows of one vertex
 
@@ -87,75 +83,96 @@ decide-added true rows held long =
 -- ---- passes
 
 module _ (loss : Bool) (s : Setup) (g : Graph) (wf : WellFormed s) (h : GraphOf s g) where
-  -- a pass over the vertices below n
-  pass-below : (held n : ℕ) → n ≤ s .count → PassedBelow loss g held n (passOf loss g n held)
+  -- A pass over the vertices below n.
+  record PassBelow (held n r : ℕ) : Type 0 where
+    each : (v : ℕ) → Iff (Member r v) (Member held v ⊎ ((v < n) × Admits loss (rowsAt g v) (Member held)))
+
+  below-none : (held : ℕ) → PassBelow held 0 held
+  below-none held = record { each = λ v. record { to = λ m. inl m; from = ⊎-elim (λ m. m) (λ p. let l = p .0 in absurd (omega arith)) } }
+
+  module _ (held n r : ℕ) (p : PassBelow held n r) where
+    below-same : (Admits loss (rowsAt g n) (Member held) → ⊥) → PassBelow held (suc n) r
+    below-same d =
+        record {
+          each = λ v. record {
+            to = λ m. ⊎-elim (λ x. inl x) (λ a. let l = a .0 in inr (omega arith, a .1)) (p .each v .to m);
+            from = ⊎-elim (λ x. p .each v .from (inl x))
+                (λ a. let l = a .0 in p .each v .from (inr (⊎-elim
+                (λ e. absurd (d (subst (λ (u : ℕ). Admits loss (rowsAt g u) (Member held)) e (a .1))))
+                (λ e. (omega (arith, e), a .1)) (same-or v n))));
+          };
+        }
+
+    below-more : (r′ : ℕ) → n < 64 → Admits loss (rowsAt g n) (Member held) → Inserted r n r′ → PassBelow held (suc n) r′
+    below-more r′ l b t =
+        record {
+          each = λ v. record {
+            to = λ m. ⊎-elim
+                (λ x. ⊎-elim (λ y. inl y) (λ a. let k = a .0 in inr (omega arith, a .1)) (p .each v .to x))
+                (λ e. inr (omega (arith, e), subst (λ (u : ℕ). Admits loss (rowsAt g u) (Member held)) (sym e) b))
+                (t .taken l v .to m);
+            from = ⊎-elim (λ x. t .taken l v .from (inl (p .each v .from (inl x))))
+                (λ a. let k = a .0 in t .taken l v .from (⊎-elim (λ e. inr e) (λ e. inl (p .each v .from (inr (omega (arith, e), a .1)))) (same-or v n)));
+          };
+        }
+
+  pass-below : (held n : ℕ) → n ≤ s .count → PassBelow held n (passOf loss g n held)
   unfolding passOf
-  pass-below held zero l = pass-none loss g held
+  pass-below held zero l = below-none held
   pass-below held (suc n) l =
       let most = wf .most in
       let k : n < 64 = omega arith in
+      let now : ℕ = passOf loss g n held in
       let p = pass-below held n (omega arith) in
-      by-decision (isAdded loss (rowsAt g n) (passOf loss g n held)) (decide-added loss (rowsAt g n) (passOf loss g n held) (few-colours s g h n))
-      (λ e a. rw (e, ← (add-one n)) (pass-more loss g held n (passOf loss g n held) _ k p a (inserted-with (passOf loss g n held) n k)))
-      (λ e d. rw (e, ← (add-one n)) (pass-same loss g held n (passOf loss g n held) p d))
+      by-decision (isAdded loss (rowsAt g n) held) (decide-added loss (rowsAt g n) held (few-colours s g h n))
+      (λ e a. rw e (below-more held n now p _ k a (inserted-with now n k)))
+      (λ e d. rw e (below-same held n now p d))
 
-  passed : (held : ℕ) → Passed loss g held (passOf loss g (s .count) held)
+  -- all that the set allows is below the count
+  passed : (held : ℕ) → Pass (ruleOf loss g) held (passOf loss g (s .count) held)
   passed held =
       let p = pass-below held (s .count) (omega arith) in
-      record { grows = p .grows; sound = p .sound; whole = λ v l a. p .whole v (added-below loss s g h (Member held) v a) a }
-
-  -- The set has all that it allows.
-  abbrev Closed : ℕ → Type 0
-  Closed t = (v : ℕ) → Admits loss (rowsAt g v) (Member t) → Member t v
-
-  same-closed : (held : ℕ) → passOf loss g (s .count) held ≡ held → Closed held
-  same-closed held e v a =
-      let p = passed held in
-      let l = added-below loss s g h (Member held) v a in
-      subst (λ (x : ℕ). Member x v) e (p .whole v (lt-of-lt-of-le l (wf .most)) a)
-
-  -- a pass that adds something leaves fewer missing
-  pass-falls : (held : ℕ) → (passOf loss g (s .count) held ≡ held → ⊥) → missing (s .count) (passOf loss g (s .count) held) < missing (s .count) held
-  pass-falls held n = ⊎-elim (λ l. l) (λ l. absurd (n (same-set now held (record { each = back l }) (p .grows)))) (less-or (missing (s .count) now) (missing (s .count) held))
-    where
-      now : ℕ
-      now = passOf loss g (s .count) held
-
-      p : Passed loss g held now
-      p = passed held
-
-      back : missing (s .count) held ≤ missing (s .count) now → (i : ℕ) → Member now i → Member held i
-      back l i m =
-          ⊎-elim (λ k. k)
-          (λ k. ⊎-elim (λ o. o) (λ o. absurd (let f = missing-less (s .count) held now i (p .grows) k o m in omega arith)) (member-or held i))
-          (derived-below loss s g h (Member held) i (p .sound i m))
-
-  -- t has been taken in from the set, and has all that it allows.
-  record Settled (set t : ℕ) : Type 0 where
-    grown : Grown loss g set t
-    all : Closed t
-
-  settle : (set k held : ℕ) → Grown loss g set held → missing (s .count) held ≤ k → Settled set (passesOf loss (s .count) g k held)
-  unfolding passesOf
-  settle set zero held r l =
-      record { grown = r; all = λ v a. missing-none (s .count) held v (omega arith) (added-below loss s g h (Member held) v a) }
-  settle set (suc k) held r l =
-      let now : ℕ = passOf loss g (s .count) held in
-      byTest (eqb now held)
-      (λ e. rw e (record { grown = r; all = same-closed held (eqb-true _ _ e) }))
-      (λ e. rw e (settle set k now (grown-more loss g set held now r (passed held)) (let f = pass-falls held (eqb-false _ _ e) in omega arith)))
-
-  pub closure-of : (set : ℕ) → Closure (ruleOf loss g) set (closureOf loss (s .count) g set)
-  unfolding closureOf
-  closure-of set =
-      let z = settle set (s .count) set (grown-none loss g set) (missing-most (s .count) set) in
       record {
         each = λ v. record {
-          to = z .grown .sound v;
-          from = least (ruleOf loss g) (lawful loss g) (Member set) (Member (closureOf loss (s .count) g set)) (z .grown .grows .each)
-              (λ e a. z .all (ruleOf loss g .adds e) (step-admits loss g (Member (closureOf loss (s .count) g set)) e a)) v;
+          to = λ m. ⊎-elim (λ x. inl x) (λ a. inr (admits-allows loss g (Member held) v (a .1))) (p .each v .to m);
+          from = λ m. p .each v .from (⊎-elim (λ x. inl x)
+              (λ a. let b = allows-admits loss g (Member held) v a in inr (added-below loss s g h (Member held) v b, b)) m);
         };
       }
+
+  -- a pass that adds something leaves fewer outside
+  pass-falls : (held : ℕ) → (passOf loss g (s .count) held ≡ held → ⊥) → countOutside (s .count) (passOf loss g (s .count) held) < countOutside (s .count) held
+  pass-falls held n =
+      let now : ℕ = passOf loss g (s .count) held in
+      outside-falls (s .count) held now (pass-grows (ruleOf loss g) held now (passed held)) n
+      (λ v m. ⊎-elim (λ x. inl x) (λ a. inr (a .0)) (pass-below held (s .count) (omega arith) .each v .to m))
+
+  -- where no vertex is outside, the next pass adds nothing
+  full-idle : (held : ℕ) → countOutside (s .count) held ≡ 0 → Pass (ruleOf loss g) held held
+  full-idle held z =
+      record {
+        each = λ v. record {
+          to = λ m. inl m;
+          from = ⊎-elim (λ m. m)
+              (λ a. outside-none (s .count) held v z (added-below loss s g h (Member held) v (allows-admits loss g (Member held) v a)));
+        };
+      }
+
+  settle : (k held : ℕ) → countOutside (s .count) held ≤ k → Passes (ruleOf loss g) (countOf loss (s .count) g k held) held (passesOf loss (s .count) g k held)
+  unfolding passesOf countOf
+  settle zero held l = inl (full-idle held (omega arith), refl, refl)
+  settle (suc k) held l =
+      let now : ℕ = passOf loss g (s .count) held in
+      byTest (eqb now held)
+      (λ e. rw e (inl (subst (Pass (ruleOf loss g) held) (eqb-true _ _ e) (passed held), refl, refl)))
+      (λ e. rw e (inr (now, passed held, eqb-false _ _ e, settle k now (let f = pass-falls held (eqb-false _ _ e) in omega arith))))
+
+  pub passes-of : (set : ℕ) → Passes (ruleOf loss g) (passCountOf loss (s .count) g set) set (closureOf loss (s .count) g set)
+  unfolding closureOf passCountOf
+  passes-of set = settle (s .count) set (outside-most (s .count) set)
+
+  pub closure-of : (set : ℕ) → Closure (ruleOf loss g) set (closureOf loss (s .count) g set)
+  closure-of set = passes-closure (ruleOf loss g) (lawful loss g) (passCountOf loss (s .count) g set) set (closureOf loss (s .count) g set) (passes-of set)
 
   pub decide-derives : (target set : ℕ) → Decides (Derives loss g target set) (derivesOf loss (s .count) g target set)
   unfolding derivesOf

@@ -13,7 +13,7 @@ use Rattle.bases.specs.Marks.{Repeated, Shut, Loose, Right, tally}
 use Rattle.reference.specs.Bases.{targetSetsOf, baseOf, scoreOf, marksFrom, countsOf, marksOf}
 use Rattle.reference.specs.Graphs.{GraphOf}
 use Rattle.reference.specs.Meaning.{Meaning}
-use Rattle.reference.proofs.Closures.{closure-of, decide-derives}
+use Rattle.reference.proofs.Closures.{closure-of, passes-of, decide-derives}
 use Rattle.reference.proofs.Ways.{way-of, no-way}
 use Rattle.reference.proofs.Bases.{base-of}
 use Rattle.reference.proofs.Scores.{score-of}
@@ -25,6 +25,7 @@ unfolding marksOf countsOf
 meaning s g wf h =
     record {
       closure = λ loss. closure-of loss s g wf h;
+      passes = λ loss. passes-of loss s g wf h;
       derives = λ loss. decide-derives loss s g wf h;
       way = way-of s g wf h;
       shut = no-way s g wf h;

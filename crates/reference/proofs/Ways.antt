@@ -6,7 +6,7 @@ use mathlib.Core.Logic.{inl, inr, ⊎-elim}
 use Prim.Native.Nat.{ℕ, zero, suc, _≤_, _<_}
 use native.Mathlib.Nat.{lt-of-lt-of-le}
 use native.Mathlib.Omega.{arith}
-use Rattle.vertex_set.specs.Set.{Member, Within}
+use Rattle.vertex_set.specs.Set.{Member, Within, countOutside}
 use Rattle.vertex_set.proofs.Cases.{less-or}
 use Rattle.vertex_set.proofs.Sets.{member-or}
 use Rattle.setup.specs.declared.Graph.{Graph}
@@ -25,8 +25,7 @@ use Rattle.reference.specs.Closures.{colourOf, isAdded, derivesOf, nextV
 use Rattle.reference.specs.Graphs.{GraphOf}
 use Rattle.reference.proofs.Tests.{by-decision, decide-not, decide-and, LowestOf, lowest-of, decide-member, in-with, inserted-with}
 use Rattle.reference.proofs.Graphs.{few-colours, added-below, derived-below}
-use Rattle.vertex_set.specs.Inner.Missing.{missing}
-use Rattle.vertex_set.proofs.Missing.{missing-most, missing-less, missing-none}
+use Rattle.vertex_set.proofs.Outside.{outside-most, outside-less, outside-none}
 use Rattle.reference.proofs.Closures.{lowest-colour, decide-added, decide-derives}
 
 module _ (s : Setup) (g : Graph) (wf : WellFormed s) (h : GraphOf s g) where
@@ -68,9 +67,9 @@ module _ (s : Setup) (g : Graph) (wf : WellFormed s) (h : GraphOf s g) where
       passed-over held e (lt-of-lt-of-le k l) a) target d)))
       (less-or (nextVertex (s .count) g held) (s .count))
 
-  steps-of : (target k held : ℕ) → missing (s .count) held ≤ k → HasAccess g (Member held) target → Way g target (Member held) (stepsOf (s .count) g target k held)
+  steps-of : (target k held : ℕ) → countOutside (s .count) held ≤ k → HasAccess g (Member held) target → Way g target (Member held) (stepsOf (s .count) g target k held)
   unfolding stepsOf
-  steps-of target zero held l d = ⊎-elim (λ m. m) (λ b. missing-none (s .count) held target (omega arith) b) (derived-below false s g h (Member held) target d)
+  steps-of target zero held l d = ⊎-elim (λ m. m) (λ b. outside-none (s .count) held target (omega arith) b) (derived-below false s g h (Member held) target d)
   steps-of target (suc k) held l d =
       let v : ℕ = nextVertex (s .count) g held in
       let next : ℕ = withVertex held v in
@@ -80,14 +79,14 @@ module _ (s : Setup) (g : Graph) (wf : WellFormed s) (h : GraphOf s g) where
       (λ e m. rw e m)
       (λ e o.
       let b = goes-on target held d o in
-      let f = missing-less (s .count) held next v grows b (next-vertex held .is b .0) (in-with held v v .from (inr refl)) in
+      let f = outside-less (s .count) held next v grows b (next-vertex held .is b .0) (in-with held v v .from (inr refl)) in
       let rest = steps-of target k next (omega arith) (monotone (access g) (access-lawful g) (Member held) (Member next) (grows .each) target d) in
       rw e (o, lowest-step held b, way-behind g target held v next (omega arith) (inserted-with held v (omega arith)) (stepsOf (s .count) g target k next) .to rest))
 
   -- the way in, where there is one
   pub way-of : (target set : ℕ) → derivesOf false (s .count) g target set ≡ true → Way g target (Member set) (wayOf (s .count) g target set)
   unfolding wayOf
-  way-of target set e = steps-of target (s .count) set (missing-most (s .count) set) (decide-derives false s g wf h target set .yes e)
+  way-of target set e = steps-of target (s .count) set (outside-most (s .count) set) (decide-derives false s g wf h target set .yes e)
 
   -- and else no derivation of the target
   pub no-way : (target set : ℕ) → derivesOf false (s .count) g target set ≡ false → HasAccess g (Member set) target → ⊥

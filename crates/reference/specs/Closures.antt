@@ -1,4 +1,4 @@
--- Closures and ways in, computed: passes over the vertices, as many as can add one.
+-- Closures, their passes and ways in, computed: passes over the vertices, as many as can add one.
 use mathlib.Core.Bool.{Bool, true, false, cond, not, _&&_, _||_}
 use mathlib.Core.List.{List, [], _∷_}
 use Prim.Native.Nat.{ℕ, zero, suc}
@@ -26,15 +26,15 @@ unfoldable pub isAdded : Bool → Rows → ℕ → Bool
 isAdded false rows held = ltb (colourOf rows held) 8
 isAdded true rows lost = some (λ c. not (eqb (rowOf rows c) 0)) 8 && every (λ c. isBroken (rowOf rows c) lost) 8
 
--- One pass over the vertices below n: each that can be added is.
+-- A pass over the vertices below n: each that the held set allows is added, and helps no other in this pass.
 unfoldable pub passOf : Bool → Graph → ℕ → ℕ → ℕ
 passOf loss g zero held = held
 passOf loss g (suc n) held =
     let now = passOf loss g n held in
     let more = withVertex now n in
-    cond (isAdded loss (rowsAt g n) now) more now
+    cond (isAdded loss (rowsAt g n) held) more now
 
--- Passes until one adds nothing, at most k.
+-- Passes until one adds nothing, where at most k can add something.
 unfoldable pub passesOf : Bool → ℕ → Graph → ℕ → ℕ → ℕ
 passesOf loss count g zero held = held
 passesOf loss count g (suc k) held =
@@ -42,9 +42,21 @@ passesOf loss count g (suc k) held =
     let later = passesOf loss count g k now in
     cond (eqb now held) held later
 
+-- How many these are. The one that adds nothing is counted as well.
+unfoldable pub countOf : Bool → ℕ → Graph → ℕ → ℕ → ℕ
+countOf loss count g zero held = 1
+countOf loss count g (suc k) held =
+    let now = passOf loss g count held in
+    let later = suc (countOf loss count g k now) in
+    cond (eqb now held) 1 later
+
 -- `Closure (ruleOf loss g) set`, for a graph whose edges run between the vertices below `count`.
 unfoldable pub closureOf : Bool → ℕ → Graph → ℕ → ℕ
 closureOf loss count g set = passesOf loss count g count set
+
+-- `Passes (ruleOf loss g)`: how many passes lead from the set to its closure.
+unfoldable pub passCountOf : Bool → ℕ → Graph → ℕ → ℕ
+passCountOf loss count g set = countOf loss count g count set
 
 -- `Derives loss g target set`: is the target in the closure?
 unfoldable pub derivesOf : Bool → ℕ → Graph → ℕ → ℕ → Bool

@@ -10,16 +10,18 @@ use Rattle.setup.specs.declared.Setup.{Setup}
 use Rattle.derivations.specs.Derivation.{Closure}
 use Rattle.derivations.specs.Access.{HasAccess}
 use Rattle.derivations.specs.Both.{ruleOf}
+use Rattle.derivations.specs.Passes.{Passes}
 use Rattle.derivations.specs.Way.{Way}
 use Rattle.bases.specs.Base.{Derives, Base}
 use Rattle.bases.specs.Score.{Score}
 use Rattle.bases.specs.Marks.{Counts}
-use Rattle.reference.specs.Closures.{closureOf, derivesOf, wayOf}
+use Rattle.reference.specs.Closures.{closureOf, passCountOf, derivesOf, wayOf}
 use Rattle.reference.specs.Bases.{baseOf, scoreOf, marksOf}
 
 pub record Meaning (s : Setup) (g : Graph) : Type 0 where
   -- of any set, vertices of the setup or not
   pub closure : (loss : Bool) (set : ℕ) → Closure (ruleOf loss g) set (closureOf loss (s .count) g set)
+  pub passes : (loss : Bool) (set : ℕ) → Passes (ruleOf loss g) (passCountOf loss (s .count) g set) set (closureOf loss (s .count) g set)
   pub derives : (loss : Bool) (target set : ℕ) → Decides (Derives loss g target set) (derivesOf loss (s .count) g target set)
   -- the way in where there is one, and else no derivation
   pub way : (target set : ℕ) → derivesOf false (s .count) g target set ≡ true → Way g target (Member set) (wayOf (s .count) g target set)

@@ -8,9 +8,9 @@ use native.Mathlib.Omega.{arith}
 use lib.ListN.{length}
 use lib.Bits.{bitAnd}
 use borrow.Author.Tests.{ne-eqb}
-use Rattle.vertex_set.specs.Set.{Member, Iff}
+use Rattle.vertex_set.specs.Set.{Iff}
 use Rattle.vertex_set.proofs.Cases.{same-or}
-use Rattle.vertex_set.proofs.Sets.{bounded-by-members, member-below, in-and, in-not}
+use Rattle.vertex_set.proofs.Sets.{bounded-by-members, in-less}
 use Rattle.setup.specs.declared.Rows.{Rows}
 use Rattle.setup.specs.declared.Graph.{Graph}
 use Rattle.setup.specs.declared.Setup.{Setup}
@@ -26,15 +26,6 @@ use Rattle.report_text.proofs.Numbers.{length-numbers, at-numbers}
 use Rattle.report_text.proofs.Meaning.{less-recovery}
 
 -- ---- the graph less the recovery edges
-
--- a row less the recovery edges, vertex by vertex
-in-less : (row recovery f : ℕ) → row < 2 ^ 64 → recovery < 2 ^ 64
-    → Iff (Member (bitAnd row ((2 ^ 64 - 1) - recovery)) f) (Member row f × (Member recovery f → ⊥))
-in-less row recovery f fits fits′ =
-    record {
-      to = λ m. let p = in-and row ((2 ^ 64 - 1) - recovery) f .to m in (p .0, in-not recovery f fits′ (member-below 64 row f fits (p .0)) .to (p .1));
-      from = λ p. in-and row ((2 ^ 64 - 1) - recovery) f .from (p .0, in-not recovery f fits′ (member-below 64 row f fits (p .0)) .from (p .1));
-    }
 
 module _ (s : Setup) (w : WellFormed s) where
   -- a row's vertices are the setup's, so that it is a word

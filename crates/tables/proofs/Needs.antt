@@ -15,7 +15,7 @@ use Rattle.vertex_set.proofs.Digits.{digit}
 use Rattle.vertex_set.proofs.Sets.{in-or, in-one, shifted-one, none-in-zero, not-member}
 use Rattle.setup.specs.declared.Graph.{Graph}
 use Rattle.setup.specs.Setup.{rowsAt}
-use Rattle.lanes.specs.Inner.Lanes.{Needed}
+use Rattle.successors.specs.Inner.{Needed}
 use Rattle.tables.specs.Inner.Steps.{AllNeeded, Users}
 
 -- ---- the needed vertices of the first n vertices

@@ -19,7 +19,8 @@ use Rattle.derivations.specs.Inner.Admits.{Admits}
 use Rattle.derivations.proofs.Rules.{Sub, held, least}
 use Rattle.derivations.proofs.Both.{lawful}
 use Rattle.derivations.proofs.Admits.{admits-local, step-admits, admits-derived, admits-place}
-use Rattle.family_words.specs.Inner.Words.{Without, room}
+use Rattle.successors.specs.Inner.{Without}
+use Rattle.family_words.specs.Inner.Words.{room}
 use Rattle.family_words.proofs.Families.{full-word}
 use Rattle.lanes.specs.Inner.Lanes.{Lane}
 use Rattle.tables.specs.Inner.Steps.{Stepped, AllNeeded, Users, Closed}

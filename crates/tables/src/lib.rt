@@ -5,7 +5,8 @@ ghost use Prim.Native.Nat.{_+_, _*_, _<_};
 ghost use lib.ListN.{length};
 ghost use Rattle.derivations.specs.Both.{ruleOf};
 ghost use Rattle.families.specs.Inner.Masks.{rank, Picked};
-ghost use Rattle.family_words.specs.Inner.Words.{FamilyWhere, VertexOf};
+ghost use Rattle.successors.specs.Inner.{VertexOf};
+ghost use Rattle.family_words.specs.Inner.Words.{FamilyWhere};
 ghost use Rattle.families.specs.Inner.Family.{familyWords};
 ghost use Rattle.lanes.specs.Inner.Lanes.{tableWords};
 ghost use Rattle.tables.specs.Inner.Table.{Table};
@@ -40,9 +41,9 @@ fn next(todo: u64, after: u64) -> usize
 {
     let later = todo & after;
     if later == 0 {
-        return family_words::lowest(todo);
+        return successors::lowest(todo);
     }
-    family_words::lowest(later)
+    successors::lowest(later)
 }
 
 // For each vertex the set of all vertices that its colours need.
@@ -51,7 +52,7 @@ fn all_needed(graph: Graph, needs: &mut [u64])
     ensures { λ _. ⌜ AllNeeded graph (now (needs .exit)) ⌝ }
 {
     for v in 0..VERTICES {
-        needs[v] = lanes::needed(graph.rows[v]);
+        needs[v] = successors::needed(graph.rows[v]);
     }
 }
 
@@ -115,7 +116,7 @@ fn settle(graph: Graph, loss: bool, w: &mut [u64])
     let mut after: u64 = todo;
     while todo != 0 {
         let v = next(todo, after);
-        todo = family_words::without(todo, v);
+        todo = successors::without(todo, v);
         after = 0xFFFF_FFFF_FFFF_FFFE << v;
         if step(w, v, graph.rows[v], loss) {
             todo = todo | users(&needs, v);

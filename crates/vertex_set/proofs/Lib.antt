@@ -1,8 +1,8 @@
 pub mod Cases
 pub mod Decisions
 pub mod Digits
-pub mod Missing
 pub mod Lists
+pub mod Outside
 pub mod Places
 pub mod Sets
 pub mod Shifts

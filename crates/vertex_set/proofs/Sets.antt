@@ -109,6 +109,15 @@ in-not a i h l =
     let x = digit-lt a i in
     record { to = λ m p. omega arith; from = λ n. let z = not-member a i n in omega arith }
 
+-- a set less another one
+pub in-less : (a b i : ℕ) → a < 2 ^ 64 → b < 2 ^ 64 → Iff (Member (bitAnd a ((2 ^ 64 - 1) - b)) i) (Member a i × (Member b i → ⊥))
+in-less a b i h k =
+    let n = in-and a ((2 ^ 64 - 1) - b) i in
+    record {
+      to = λ m. let p = n .to m in (p .0, in-not b i k (member-below 64 a i h (p .0)) .to (p .1));
+      from = λ p. n .from (p .0, in-not b i k (member-below 64 a i h (p .0)) .from (p .1));
+    }
+
 -- a and the complement of b have nothing in common: a is within b
 pub within-test : (a b : ℕ) → a < 2 ^ 64 → b < 2 ^ 64 → Iff (bitAnd a ((2 ^ 64 - 1) - b) ≡ 0) (Within a b)
 within-test a b ha hb =

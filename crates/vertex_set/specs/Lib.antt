@@ -1,3 +1,2 @@
 pub mod Order
 pub mod Set
-pub mod Inner

@@ -2,7 +2,7 @@
 use mathlib.Core.Path.{_≡_}
 use mathlib.Core.Bool.{Bool, true, false}
 use mathlib.Core.Logic.{_⊎_}
-use Prim.Native.Nat.{ℕ, _/_, _%_, _^_, _<_}
+use Prim.Native.Nat.{ℕ, zero, suc, _+_, _-_, _/_, _%_, _^_, _<_}
 
 -- i is a vertex of the set s, which is the sum of 2^i over its vertices (document 01: item).
 unfoldable pub Member : ℕ → ℕ → Type 0
@@ -41,3 +41,8 @@ pub record Inserted (s v r : ℕ) : Type 0 where
 -- r is the set of the vertices below n, of which there are at most 64.
 pub record Below (n r : ℕ) : Type 0 where
   pub each : (i : ℕ) → Iff (Member r i) ((i < n) × (i < 64))
+
+-- How many of the vertices below n are outside the set s.
+unfoldable pub countOutside : ℕ → ℕ → ℕ
+countOutside zero s = 0
+countOutside (suc n) s = countOutside n s + (1 - s / 2 ^ n % 2)

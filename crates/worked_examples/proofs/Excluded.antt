@@ -16,9 +16,10 @@ use Rattle.setup.specs.declared.Setup.{Setup}
 use Rattle.setup.specs.Setup.{row, Edge, WithoutRecovery}
 use Rattle.formed.specs.WellFormed.{WellFormed}
 use Rattle.setup.specs.Calls.{Inside}
-use Rattle.derivations.specs.Access.{Step, AccessFrom}
+use Rattle.derivations.specs.Access.{Step, access}
+use Rattle.derivations.specs.Passes.{Passes}
 use Rattle.derivations.specs.Way.{Way}
-use Rattle.access.specs.Answers.{SetCall, WayCall}
+use Rattle.access.specs.Answers.{ClosureCall, WayCall}
 use Rattle.bases.specs.Base.{Base}
 use Rattle.bases.specs.Score.{Score, never}
 use Rattle.answers.specs.Answers.{BasesCall, ScoreCall, MarksCall}
@@ -26,11 +27,11 @@ use Rattle.reference.specs.Tests.{lowest, some, every, filtered, isListed, isMe
 use Rattle.reference.specs.Closures.{isComplete, isBroken, colourOf, isAdded, passOf, passesOf, closureOf, derivesOf, nextVertex, stepsOf, wayOf}
 use Rattle.reference.specs.Bases.{isChosen, setsOfSize, setsUpTo, setsOf, targetSetsOf, isMinimal, baseOf, leastSum, scoreOf, markOf, marksFrom, countsOf, marksOf}
 use Rattle.reference.proofs.Unique.{base-unique}
-use Rattle.worked_examples.specs.Sheets.{Reads, bench, ordpw, mailpw, token, mail, order, ring, pwdBackup, pwdManager, device, seed, accBackup, closed, only}
+use Rattle.worked_examples.specs.Sheets.{Reads, bench, ordpw, mailpw, token, mail, order, ring, pwdBackup, pwdManager, device, seed, accBackup, closed, only, pair, p, q}
 use Rattle.worked_examples.specs.Table.{Example, lockout, marks, setOf, AllHold}
 use Rattle.worked_examples.proofs.Reading.{_&_, all-read, reads-well}
-use Rattle.worked_examples.proofs.Table.{held, all-hold, table-holds}
-use Rattle.worked_examples.proofs.Settled.{set-settled, way-counted, bases-settled, bases-counted, score-settled, marks-settled}
+use Rattle.worked_examples.proofs.Table.{held, all-hold, table-holds, further-holds}
+use Rattle.worked_examples.proofs.Settled.{closure-settled, way-counted, bases-settled, bases-counted, score-settled, marks-settled}
 
 -- ---- what is known of the examples
 
@@ -42,6 +43,9 @@ read-ring = all-read .1 .0
 
 read-closed : Reads closed
 read-closed = all-read .1 .1 .1 .0
+
+read-pair : Reads pair
+read-pair = all-read .1 .1 .1 .1 .1 .0
 
 well : WellFormed (bench .setup)
 well = reads-well bench read-bench
@@ -55,8 +59,14 @@ well-closed = reads-well closed read-closed
 inside : (set : ℕ) → set < 32 → Inside (bench .setup) set
 inside set h = record { each = λ v m. member-below 5 set v h m }
 
-b2 : AccessFrom (bench .setup .graph) (setOf (mailpw ∷ [])) (setOf (mailpw ∷ mail ∷ order ∷ []))
-b2 = held bench _ read-bench (table-holds .1 .0)
+by-mail : Passes (access (bench .setup .graph)) 3 (setOf (mailpw ∷ [])) (setOf (mailpw ∷ mail ∷ order ∷ []))
+by-mail = held bench _ read-bench (further-holds .1 .0)
+
+together : Passes (access (bench .setup .graph)) 2 (setOf (ordpw ∷ mailpw ∷ token ∷ [])) (setOf (ordpw ∷ mailpw ∷ token ∷ mail ∷ order ∷ []))
+together = held bench _ read-bench (further-holds .1 .1 .1 .0)
+
+to-and-fro : Passes (access (pair .setup .graph)) 2 (setOf (p ∷ [])) (setOf (p ∷ q ∷ []))
+to-and-fro = held pair _ read-pair (further-holds .1 .1 .1 .1 .1 .1 .0)
 
 b3 : Base false (bench .setup) (bench .setup .graph) order (setOf (mailpw ∷ []) ∷ setOf (ordpw ∷ token ∷ []) ∷ [])
 b3 = held bench _ read-bench (table-holds .1 .1 .0)
@@ -96,11 +106,30 @@ further = all-hold more ((read-ring, refl) & (read-bench, refl) & (read-bench, r
 apart : (a b : ℕ) (l k : List ℕ) → (a ≡ b → ⊥) → a ∷ l ≡ b ∷ k → ⊥
 apart a b l k n e = n cc
 
+-- .. nor those with other second ones
+second-apart : (a b x y : ℕ) → (a ≡ b → ⊥) → x ∷ a ∷ [] ≡ y ∷ b ∷ [] → ⊥
+second-apart a b x y n e = n cc
+
 -- ---- closures and ways in
 
 -- A closure that hands its set back (B2): {mailpw} opens mail and order.
-pub no-set-back : SetCall AccessFrom (bench .setup) (setOf (mailpw ∷ [])) 0 (setOf (mailpw ∷ []) ∷ []) → ⊥
-no-set-back c = apart 2 26 [] [] (omega arith) (set-settled (bench .setup) well false 2 26 0 _ (inside 2 (omega arith)) b2 c)
+pub no-set-back : (n : ℕ) → ClosureCall (bench .setup) (setOf (mailpw ∷ [])) 0 (setOf (mailpw ∷ []) ∷ n ∷ []) → ⊥
+no-set-back n c = apart 2 26 (n ∷ []) (3 ∷ []) (omega arith) (closure-settled (bench .setup) well 2 26 3 0 _ (inside 2 (omega arith)) by-mail c)
+
+-- Two passes from {mailpw}: a loop in place makes two turns; two are counted where the pass that adds nothing is left out; the longest way in
+-- from there has two steps.
+pub no-two-passes : ClosureCall (bench .setup) (setOf (mailpw ∷ [])) 0 (setOf (mailpw ∷ mail ∷ order ∷ []) ∷ 2 ∷ []) → ⊥
+no-two-passes c = second-apart 2 3 26 26 (omega arith) (closure-settled (bench .setup) well 2 26 3 0 _ (inside 2 (omega arith)) by-mail c)
+
+-- Vertices added, and one more: {ordpw, mailpw, token} opens mail and order in one pass.
+pub no-vertices-counted : ClosureCall (bench .setup) (setOf (ordpw ∷ mailpw ∷ token ∷ [])) 0 (setOf (ordpw ∷ mailpw ∷ token ∷ mail ∷ order ∷ []) ∷ 3 ∷ []) → ⊥
+no-vertices-counted c = second-apart 3 2 31 31 (omega arith) (closure-settled (bench .setup) well 7 31 2 0 _ (inside 7 (omega arith)) together c)
+
+-- A loop that is cut off after as many passes as vertices are outside: from {p} there are two, and q alone is outside.
+pub no-pass-cut-off : ClosureCall (pair .setup) (setOf (p ∷ [])) 0 (setOf (p ∷ q ∷ []) ∷ 1 ∷ []) → ⊥
+no-pass-cut-off c =
+    second-apart 1 2 3 3 (omega arith)
+    (closure-settled (pair .setup) (reads-well pair read-pair) 1 3 2 0 _ (record { each = λ v m. let l = member-below 1 1 v (omega arith) m in omega arith }) to-and-fro c)
 
 -- "Shut" before looking (B6): there is a way in of two steps, whatever room the lists have.
 pub no-early-shut : (entry exit entry′ exit′ : List ℕ) → WayCall (bench .setup) order (setOf (mailpw ∷ [])) 0 (0 ∷ []) entry exit entry′ exit′ → ⊥

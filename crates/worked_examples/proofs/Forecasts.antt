@@ -18,8 +18,8 @@ use Rattle.setup.specs.declared.Graph.{Graph}
 use Rattle.setup.specs.declared.Setup.{Setup}
 use Rattle.setup.specs.Setup.{rowsAt, rowOf, given, valueOf, vertexAt}
 use Rattle.formed.specs.WellFormed.{WellFormed}
-use Rattle.lanes.specs.Inner.Lanes.{Needed}
-use Rattle.lanes.proofs.Colours.{NeededBelow, needed-none, needed-more, needed-done}
+use Rattle.successors.specs.Inner.{Needed}
+use Rattle.successors.proofs.Needs.{NeededBelow, needed-none, needed-more, needed-done}
 use Rattle.antichains.specs.Antichains.{choose}
 use Rattle.forecasts.specs.Forecast.{CountedSet}
 use Rattle.forecasts.specs.Inner.{ReachingSet}

@@ -13,24 +13,25 @@ use Rattle.vertex_set.specs.Set.{Member}
 use Rattle.setup.specs.declared.Setup.{Setup}
 use Rattle.formed.specs.WellFormed.{WellFormed}
 use Rattle.setup.specs.Calls.{Inside}
-use Rattle.derivations.specs.Derivation.{Closure}
-use Rattle.derivations.specs.Access.{Step}
-use Rattle.derivations.specs.Both.{ruleOf}
+use Rattle.derivations.specs.Access.{Step, access}
+use Rattle.derivations.specs.Passes.{Passes}
 use Rattle.derivations.specs.Way.{Way}
+use Rattle.derivations.proofs.Passes.{passes-unique}
 use Rattle.derivations.proofs.Way.{way-derives, way-unique}
-use Rattle.access.specs.Answers.{SetCall, WayCall, WayWritten}
+use Rattle.access.specs.Answers.{ClosureCall, WayCall, WayWritten}
 use Rattle.bases.specs.Base.{Base}
 use Rattle.bases.specs.Score.{Score}
 use Rattle.bases.specs.Marks.{Counts}
 use Rattle.answers.specs.Answers.{BasesWritten, BasesCall, ScoreCall, MarksCall}
-use Rattle.reference.proofs.Unique.{closure-unique, base-unique, score-unique, counts-unique}
+use Rattle.reference.proofs.Unique.{base-unique, score-unique, counts-unique}
 
 module _ (s : Setup) (wf : WellFormed s) where
-  pub set-settled : (loss : Bool) (set r number : ℕ) (values : List ℕ) → Inside s set → Closure (ruleOf loss (s .graph)) set r
-      → SetCall (λ g. Closure (ruleOf loss g)) s set number values → values ≡ r ∷ []
-  set-settled loss set r number values i h c =
+  pub closure-settled : (set r n number : ℕ) (values : List ℕ) → Inside s set → Passes (access (s .graph)) n set r
+      → ClosureCall s set number values → values ≡ r ∷ n ∷ []
+  closure-settled set r n number values i h c =
       let a = c .answers wf i in
-      a .2 ∙ ap (λ (n : ℕ). n ∷ []) (closure-unique (ruleOf loss (s .graph)) set (a .0) r (a .3) h)
+      let e = passes-unique (access (s .graph)) (a .1) n set (a .0) r (a .5 .passes) h in
+      a .3 ∙ (λ i. e .1 i ∷ e .0 i ∷ [])
 
   module _ (target : ℕ) (l : target < s .count) where
     pub way-settled : (set number : ℕ) (values entry exit entry′ exit′ : List ℕ) (d : List Step) → Inside s set → Way (s .graph) target (Member set) d

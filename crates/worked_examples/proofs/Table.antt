@@ -3,30 +3,33 @@
 use mathlib.Core.Path.{_≡_, refl, sym, ap, subst, _∙_}
 use mathlib.Core.Bool.{true, false}
 use mathlib.Core.List.{List, [], _∷_}
+use Prim.Native.Nat.{ℕ}
 use Rattle.vertex_set.specs.Set.{Member}
 use Rattle.vertex_set.specs.Order.{sumOver}
 use Rattle.setup.specs.declared.Setup.{Setup}
-use Rattle.derivations.specs.Access.{AccessFrom}
+use Rattle.derivations.specs.Access.{access, AccessFrom}
 use Rattle.derivations.specs.Lockout.{LockoutFrom}
+use Rattle.derivations.specs.Passes.{Passes}
 use Rattle.derivations.specs.Way.{Way}
 use Rattle.bases.specs.Base.{Base}
 use Rattle.bases.specs.Score.{Score}
 use Rattle.sheet_format.specs.declared.Reading.{Reading}
 use Rattle.sheet_format.specs.Rows.{Each}
 use Rattle.reference.specs.Tests.{lowest, some, every, filtered, isListed, isMember, isWithin, isMeeting, withVertex}
-use Rattle.reference.specs.Closures.{isComplete, isBroken, colourOf, isAdded, passOf, passesOf, closureOf, derivesOf, nextVertex, stepsOf, wayOf}
+use Rattle.reference.specs.Closures.{isComplete, isBroken, colourOf, isAdded, passOf, passesOf, countOf, closureOf, passCountOf, derivesOf, nextVertex, stepsOf, wayOf}
 use Rattle.reference.specs.Bases.{isChosen, setsOfSize, setsUpTo, setsOf, targetSetsOf, isMinimal, baseOf, leastSum, scoreOf, markOf, marksFrom, countsOf, marksOf}
 use Rattle.reference.specs.Meaning.{Meaning}
 use Rattle.reference.proofs.Graphs.{own-graph}
 use Rattle.reference.proofs.Marks.{counts-of}
 use Rattle.reference.proofs.Meaning.{meaning}
 use Rattle.worked_examples.specs.Sheets.{Sheet, Reads, Yields}
-use Rattle.worked_examples.specs.Table.{Example, closure, loss, opening, lockout, score, risk, way, marks, lockMarks, Holds, table, further, AllHold}
+use Rattle.worked_examples.specs.Table.{Example, closure, passes, loss, opening, lockout, score, risk, way, marks, lockMarks, Holds, table, further, AllHold}
 use Rattle.worked_examples.proofs.Reading.{_&_, all-read, reads-well}
 
 -- The sheet of an example.
 abbrev pub sheetOf : Example → Sheet
 sheetOf (closure x set result) = x
+sheetOf (passes x set result n) = x
 sheetOf (loss x set result) = x
 sheetOf (opening x target l) = x
 sheetOf (lockout x target l) = x
@@ -39,6 +42,8 @@ sheetOf (lockMarks x target handed right repeated shut loose missing) = x
 -- What the executable definitions give for an example.
 abbrev pub Computed : Example → Type 0
 Computed (closure x set result) = closureOf false (x .setup .count) (x .setup .graph) set ≡ result
+Computed (passes x set result n) =
+    (closureOf false (x .setup .count) (x .setup .graph) set ≡ result) × (passCountOf false (x .setup .count) (x .setup .graph) set ≡ n)
 Computed (loss x set result) = closureOf true (x .setup .count) (x .setup .graph) set ≡ result
 Computed (opening x target l) = baseOf false (x .setup) (x .setup .graph) target ≡ l
 Computed (lockout x target l) = baseOf true (x .setup) (x .setup .graph) target ≡ l
@@ -65,6 +70,9 @@ held x P r y = subst P (ap (λ (z : Reading). z .setup) (sym (y .reading) ∙ r)
 -- what is computed holds
 holds : (e : Example) → Reads (sheetOf e) → Computed e → Holds e
 holds (closure x set result) r c = of-read x _ r (subst (AccessFrom (x .setup .graph) set) c (means x r .closure false set))
+holds (passes x set result n) r c =
+    of-read x _ r (subst (Passes (access (x .setup .graph)) n set) (c .0)
+    (subst (λ (k : ℕ). Passes (access (x .setup .graph)) k set (closureOf false (x .setup .count) (x .setup .graph) set)) (c .1) (means x r .passes false set)))
 holds (loss x set result) r c = of-read x _ r (subst (LockoutFrom (x .setup .graph) set) c (means x r .closure true set))
 holds (opening x target l) r c = of-read x _ r (subst (Base false (x .setup) (x .setup .graph) target) c (means x r .base false target))
 holds (lockout x target l) r c = of-read x _ r (subst (Base true (x .setup) (x .setup .graph) target) c (means x r .base true target))
@@ -85,7 +93,7 @@ all-hold [] s = tt
 all-hold (e ∷ l) s = (holds e (s .0 .0) (s .0 .1), all-hold l (s .1))
 
 table-shown : Each Shown table
-unfolding lowest some every filtered isListed isMember isWithin isMeeting withVertex isComplete isBroken colourOf isAdded passOf passesOf closureOf derivesOf nextVertex stepsOf wayOf isChosen setsOfSize setsUpTo setsOf targetSetsOf isMinimal baseOf leastSum scoreOf markOf marksFrom countsOf marksOf sumOver
+unfolding lowest some every filtered isListed isMember isWithin isMeeting withVertex isComplete isBroken colourOf isAdded passOf passesOf countOf closureOf passCountOf derivesOf nextVertex stepsOf wayOf isChosen setsOfSize setsUpTo setsOf targetSetsOf isMinimal baseOf leastSum scoreOf markOf marksFrom countsOf marksOf sumOver
 table-shown =
     let bench = all-read .0 in
     let ring = all-read .1 .0 in
@@ -101,15 +109,17 @@ pub table-holds : AllHold table
 table-holds = all-hold table table-shown
 
 further-shown : Each Shown further
-unfolding lowest some every filtered isListed isMember isWithin isMeeting withVertex isComplete isBroken colourOf isAdded passOf passesOf closureOf derivesOf nextVertex stepsOf wayOf isChosen setsOfSize setsUpTo setsOf targetSetsOf isMinimal baseOf leastSum scoreOf markOf marksFrom countsOf marksOf sumOver
+unfolding lowest some every filtered isListed isMember isWithin isMeeting withVertex isComplete isBroken colourOf isAdded passOf passesOf countOf closureOf passCountOf derivesOf nextVertex stepsOf wayOf isChosen setsOfSize setsUpTo setsOf targetSetsOf isMinimal baseOf leastSum scoreOf markOf marksFrom countsOf marksOf sumOver
 further-shown =
     let bench = all-read .0 in
     let ring = all-read .1 .0 in
     let closed = all-read .1 .1 .1 .0 in
+    let pair = all-read .1 .1 .1 .1 .1 .0 in
     let spare = all-read .1 .1 .1 .1 .1 .1 .0 in
     let full = all-read .1 .1 .1 .1 .1 .1 .1 .0 in
     let halves = all-read .1 .1 .1 .1 .1 .1 .1 .1 .0 in
-    (bench, refl) & (bench, refl) & (ring, refl) & (bench, (refl, refl)) & (bench, (refl, refl)) & (closed, refl) & (bench, refl) & (bench, refl)
+    (bench, (refl, refl)) & (bench, (refl, refl)) & (bench, (refl, refl)) & (bench, (refl, refl)) & (bench, (refl, refl)) & (ring, (refl, refl))
+    & (pair, (refl, refl)) & (bench, refl) & (bench, refl) & (ring, refl) & (bench, (refl, refl)) & (bench, (refl, refl)) & (closed, refl) & (bench, refl) & (bench, refl)
     & (spare, refl) & (spare, refl) & (spare, refl) & (spare, refl) & (spare, (refl, refl)) & (full, refl) & (full, refl) & (halves, refl) & (halves, refl)
     & (halves, refl) & (halves, refl) & (halves, refl) & tt
 

@@ -147,6 +147,9 @@ device = 2
 abbrev pub seed : ℕ
 seed = 3
 
+abbrev pub code : ℕ
+code = 4
+
 abbrev pub accBackup : ℕ
 accBackup = 5
 

@@ -4,14 +4,15 @@ use mathlib.Core.List.{List, [], _∷_}
 use Prim.Native.Nat.{ℕ, _^_}
 use Rattle.vertex_set.specs.Set.{Member}
 use Rattle.setup.specs.Setup.{total}
-use Rattle.derivations.specs.Access.{Step, AccessFrom}
+use Rattle.derivations.specs.Access.{Step, access, AccessFrom}
 use Rattle.derivations.specs.Lockout.{LockoutFrom}
+use Rattle.derivations.specs.Passes.{Passes}
 use Rattle.derivations.specs.Way.{Way}
 use Rattle.bases.specs.Base.{Base}
 use Rattle.bases.specs.Score.{Score, never}
 use Rattle.bases.specs.Marks.{Counts}
 use Rattle.sheet_format.specs.Rows.{Each}
-use Rattle.worked_examples.specs.Sheets.{Sheet, Yields, bench, ordpw, mailpw, token, mail, order, ring, pwdBackup, pwdManager, device, seed, accBackup, alone, closed, loop, only, pair, p, q, spare, pw, key, acc, full, first, last, halves, whole, half, other, level, sum}
+use Rattle.worked_examples.specs.Sheets.{Sheet, Yields, bench, ordpw, mailpw, token, mail, order, ring, pwdBackup, pwdManager, device, seed, code, accBackup, alone, closed, loop, only, pair, p, q, spare, pw, key, acc, full, first, last, halves, whole, half, other, level, sum}
 
 -- The set of the vertices of the list.
 abbrev pub setOf : List ℕ → ℕ
@@ -22,6 +23,8 @@ setOf l = total (λ v. 2 ^ v) l
 pub data Example : Type 0 where
   -- the closure of a set
   closure : Sheet → (set result : ℕ) → Example
+  -- .. and the number of passes that lead there
+  passes : Sheet → (set result n : ℕ) → Example
   -- the lost set of a set
   loss : Sheet → (set result : ℕ) → Example
   -- the opening list and the lockout list of a target
@@ -40,6 +43,7 @@ pub data Example : Type 0 where
 -- The example holds of what is read from its sheet's bytes.
 abbrev pub Holds : Example → Type 0
 Holds (closure x set result) = Yields x (λ s. AccessFrom (s .graph) set result)
+Holds (passes x set result n) = Yields x (λ s. Passes (access (s .graph)) n set result)
 Holds (loss x set result) = Yields x (λ s. LockoutFrom (s .graph) set result)
 Holds (opening x target l) = Yields x (λ s. Base false s (s .graph) target l)
 Holds (lockout x target l) = Yields x (λ s. Base true s (s .graph) target l)
@@ -86,8 +90,17 @@ table =
 -- Further examples, for what B1 to B12 leave open: a definition could be altered there, and none of them would tell (docs/TESTING.md).
 abbrev pub further : List Example
 further =
+    -- passes: the one that adds nothing is counted; mail, which a pass adds, opens order in the next; two that come together; as many passes as
+    -- vertices are outside, and one more
+    passes bench (setOf []) (setOf []) 1
+    ∷ passes bench (setOf (mailpw ∷ [])) (setOf (mailpw ∷ mail ∷ order ∷ [])) 3
+    ∷ passes bench (setOf (ordpw ∷ token ∷ [])) (setOf (ordpw ∷ token ∷ order ∷ [])) 2
+    ∷ passes bench (setOf (ordpw ∷ mailpw ∷ token ∷ [])) (setOf (ordpw ∷ mailpw ∷ token ∷ mail ∷ order ∷ [])) 2
+    ∷ passes bench (setOf (ordpw ∷ mailpw ∷ token ∷ mail ∷ order ∷ [])) (setOf (ordpw ∷ mailpw ∷ token ∷ mail ∷ order ∷ [])) 1
+    ∷ passes ring (setOf (pwdManager ∷ device ∷ [])) (setOf (pwdBackup ∷ pwdManager ∷ device ∷ seed ∷ code ∷ accBackup ∷ [])) 4
+    ∷ passes pair (setOf (p ∷ [])) (setOf (p ∷ q ∷ [])) 2
     -- losses: by all colours of order, and by one of two
-    loss bench (setOf (ordpw ∷ mailpw ∷ [])) (setOf (ordpw ∷ mailpw ∷ mail ∷ order ∷ []))
+    ∷ loss bench (setOf (ordpw ∷ mailpw ∷ [])) (setOf (ordpw ∷ mailpw ∷ mail ∷ order ∷ []))
     ∷ loss bench (setOf (ordpw ∷ [])) (setOf (ordpw ∷ []))
     -- a late edge: acc_backup, which opens seed, stands behind it, and one pass over the vertices is not enough
     ∷ opening ring seed (setOf (seed ∷ []) ∷ setOf (pwdBackup ∷ device ∷ []) ∷ setOf (pwdManager ∷ device ∷ []) ∷ [])

@@ -87,6 +87,11 @@ pub fn wrapped(text: &str) -> String {
     format!("{lines}{}\n", line.trim_end())
 }
 
+/// A time in nanoseconds.
+pub fn nanos(seconds: f64) -> String {
+    with_commas((seconds * 1e9).max(0.0).round() as u64)
+}
+
 /// A time in microseconds.
 pub fn micros(seconds: f64) -> String {
     let time = seconds * 1e6;

@@ -1,12 +1,13 @@
 //! Times the proved code beside the same algorithm in plain Rust, a brute force, and plain
 //! programs. `bench` prints tables and writes docs/PERFORMANCE.md with two charts; `bench quick`
 //! makes few rounds and writes the same files to build/bench/. `bench marking` prints the table of
-//! marks alone, `bench rows` that of the report with the most rows, and `bench forecast` that of forecasts.
+//! marks alone, `bench rows` that of the report with the most rows, `bench forecast` that of forecasts, and `bench closing` that of closures.
 
 mod calls;
 mod chart;
 mod check;
 mod clingo;
+mod closing;
 mod document;
 mod forecast;
 mod gate;
@@ -69,8 +70,9 @@ fn main() -> ExitCode {
         ["marking"] => print_marking(),
         ["rows"] => print_rows(),
         ["forecast"] => print_forecasts(),
+        ["closing"] => print_closing(),
         _ => {
-            eprintln!("usage: bench [quick | marking | rows | forecast]");
+            eprintln!("usage: bench [quick | marking | rows | forecast | closing]");
             return ExitCode::from(2);
         }
     }
@@ -97,6 +99,7 @@ fn run(rounds: &Rounds, folder: &str) {
     show(programs::reports(&timed, &mut targets));
     show(calls::reading(rounds, &mut targets));
     show(forecast::forecasts(&kinds, rounds, &mut targets));
+    show(closing::closures(&kinds, rounds, &mut targets));
     show(marking::marking(antichain(&kinds), rounds, &mut targets));
     let clingo = clingo::opening_lists(&kinds, &programs, rounds, &mut targets);
     clingo.into_iter().for_each(&mut show);
@@ -144,4 +147,11 @@ fn print_marking() {
     let mut targets = Vec::new();
     let grid = marking::marking(antichain(&kinds), &FULL, &mut targets);
     println!("{}\n{}", grid.text(), targets::grid(&targets).text());
+}
+
+fn print_closing() {
+    let mut targets = Vec::new();
+    let grid = closing::closures(&kinds::all(), &FULL, &mut targets);
+    let reasons = targets::reasons(&targets);
+    println!("{}\n{}\n{reasons}", grid.text(), targets::grid(&targets).text());
 }

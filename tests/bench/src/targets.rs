@@ -5,7 +5,7 @@ use crate::grid::{wrapped, Grid};
 /// A target and what became of it.
 pub struct Target {
     what: &'static str,
-    bound: &'static str,
+    bound: String,
     seen: String,
     met: Option<bool>,
     /// Why it may be missed.
@@ -15,12 +15,12 @@ pub struct Target {
 impl Target {
     /// A target that was measured.
     pub fn measured(what: &'static str, bound: &'static str, seen: String, met: bool) -> Target {
-        Target { what, bound, seen, met: Some(met), reason: "" }
+        Target { what, bound: bound.to_string(), seen, met: Some(met), reason: "" }
     }
 
     /// One that was not, and why.
     pub fn not_measured(what: &'static str, bound: &'static str, why: &str) -> Target {
-        Target { what, bound, seen: why.to_string(), met: None, reason: "" }
+        Target { what, bound: bound.to_string(), seen: why.to_string(), met: None, reason: "" }
     }
 
     /// Adds the reason that is told where the target is missed.
@@ -42,7 +42,7 @@ pub fn grid(targets: &[Target]) -> Grid {
     let mut grid = Grid::of_words("Targets", &["what", "target", "seen", "verdict"]);
     for target in targets {
         let verdict = target.verdict().to_string();
-        grid.row(vec![target.what.into(), target.bound.into(), target.seen.clone(), verdict]);
+        grid.row(vec![target.what.into(), target.bound.clone(), target.seen.clone(), verdict]);
     }
     grid
 }
@@ -51,6 +51,14 @@ pub fn grid(targets: &[Target]) -> Grid {
 pub fn reasons(targets: &[Target]) -> String {
     let missed = targets.iter().filter(|target| target.met == Some(false));
     missed.map(|target| wrapped(&format!("- Missed: {}. {}", target.what, target.reason))).collect()
+}
+
+/// At most `bound` times, on every kind.
+pub fn at_most(what: &'static str, bound: f64, ratios: &[(String, f64)]) -> Target {
+    let (worst, most) = largest(ratios);
+    let seen = format!("at most {most:.2} ({worst})");
+    let told = format!("at most {bound:.1} times");
+    Target { what, bound: told, seen, met: Some(most <= bound), reason: "" }
 }
 
 /// At most 1.3 times the twin, and 2 on the worst sheet.

@@ -58,6 +58,13 @@ impl Calls {
         Ok(graph::closure(&self.setup, set))
     }
 
+    /// The number of passes of the set's closure. 12, 14.
+    pub fn passes(&self, set: u64) -> Result<usize, u8> {
+        self.ask_12()?;
+        self.ask_14(set)?;
+        Ok(graph::passes(&self.setup, set))
+    }
+
     /// What is lost with the set. 12, 14.
     pub fn lost_set(&self, set: u64) -> Result<u64, u8> {
         self.ask_12()?;

@@ -1,5 +1,5 @@
-//! Closures, lost sets and ways in on a well-formed setup (01, "Access" and "Loss"; 003,
-//! definitions 2, 3 and 18). No question is asked here.
+//! Closures, their passes, lost sets and ways in on a well-formed setup (01, "Access" and "Loss";
+//! 02, point 4; 003, definitions 2, 3 and 18). No question is asked here.
 
 use crate::setup::{holds, single, within, Place, Setup, COLOURS};
 
@@ -34,6 +34,23 @@ fn least_fixpoint(setup: &Setup, given: u64, rule: fn(&Place, u64) -> bool) -> u
 /// The closure: all items with a derivation from `held`.
 pub fn closure(setup: &Setup, held: u64) -> u64 {
     least_fixpoint(setup, held, |place, set| complete_colour(place, set).is_some())
+}
+
+/// The number of passes of a closure (02, point 4): a pass adds together all items that the set at
+/// its beginning allows, and the one that adds nothing is counted as well.
+pub fn passes(setup: &Setup, held: u64) -> usize {
+    let mut beginning = held;
+    let mut count = 0;
+    loop {
+        let places = setup.used().iter().enumerate();
+        let allowed = places.filter(|(_, place)| complete_colour(place, beginning).is_some());
+        let end = allowed.fold(beginning, |set, (item, _)| set | single(item));
+        count += 1;
+        if end == beginning {
+            return count;
+        }
+        beginning = end;
+    }
 }
 
 /// The lost set: all items with a loss derivation from `lost`.

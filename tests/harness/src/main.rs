@@ -5,6 +5,7 @@
 
 mod compare;
 mod long_lists;
+mod passes;
 mod program;
 mod runs;
 mod setups;

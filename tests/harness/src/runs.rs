@@ -2,6 +2,7 @@
 
 use crate::compare::Difference;
 use crate::long_lists::compare_long_lists;
+use crate::passes::compare_known_passes;
 use crate::program::Program;
 use crate::setups::{compare_setup, Depth, FEW, FULL, MANY, MOST};
 use crate::sheets::{compare_report, compare_sheet};
@@ -76,6 +77,7 @@ impl Run {
     /// The gate's part: the same inputs in every run with one seed.
     pub fn gate(&mut self, seed: u64) -> Outcome {
         compare_long_lists(seed)?;
+        compare_known_passes()?;
         for case in bounds::bounds() {
             self.counts.bounds += 1;
             self.sheet(&case, FEW, true)?;

@@ -105,8 +105,7 @@ impl Compare<'_> {
         let mut sets = probes::sets_within(self.rng, count, self.depth.sets);
         sets.extend(probes::sets_outside(self.rng, count));
         for &set in &sets {
-            let closure = product::closure(&self.words, set);
-            self.value("closure", set, closure.numbers(), calls.closure(set))?;
+            self.closure(set)?;
             let lost = product::lost(&self.words, set);
             self.value("lost", set, lost.numbers(), calls.lost_set(set))?;
         }
@@ -114,6 +113,15 @@ impl Compare<'_> {
             self.target(target, &sets, count)?;
         }
         Ok(())
+    }
+
+    /// What a set opens, and the number of passes.
+    fn closure(&self, set: u64) -> Outcome {
+        let proved = product::closure(&self.words, set);
+        let opened = self.calls.closure(set);
+        let expected = opened.and_then(|opened| Ok(vec![opened, self.calls.passes(set)? as u64]));
+        let named = || format!("closure({set:#x})");
+        self.subject.same(named, proved.numbers(), told(2, expected))
     }
 
     /// Items of the setup, and numbers that are no items.

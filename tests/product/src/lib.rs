@@ -24,7 +24,7 @@ pub const BLANK: u64 = u64::MAX;
 /// "Never": the score of an item that no set opens, the risk of one that no loss shuts.
 pub const NEVER: u64 = 1 << 62;
 /// The version of the header that this crate was written for.
-pub const VERSION: u64 = 10100;
+pub const VERSION: u64 = 20000;
 
 mod linked {
     use super::*;
@@ -115,7 +115,7 @@ pub fn check(setup: &[u64]) -> u64 {
     unsafe { linked::portal_check(setup.as_ptr(), setup.len()) }
 }
 
-/// What a set opens. 12, 14.
+/// What a set opens, and the number of passes. 12, 14.
 pub fn closure(setup: &[u64], set: u64) -> Closure {
     unsafe { linked::portal_closure(setup.as_ptr(), setup.len(), set) }
 }

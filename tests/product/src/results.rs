@@ -56,6 +56,8 @@ results! {
     Closure {
         /// The set of all items that it opens.
         set,
+        /// How many passes lead there, the one that adds nothing counted as well.
+        passes,
     }
     /// What the loss of a set takes away.
     Set {

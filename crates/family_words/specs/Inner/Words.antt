@@ -38,13 +38,3 @@ pub record Joined (d s : List ℕ) (r : Bool) (e : List ℕ) : Type 0 where
   pub family : FamilyWhere (λ b i. At d b i ⊎ At s b i) e
   pub same : r ≡ false → e ≡ d
   pub more : r ≡ true → room e < room d
-
--- v is a vertex of the word s.
-pub record VertexOf (s v : ℕ) : Type 0 where
-  pub place : v < 64
-  pub member : Member s v
-
--- r is the set s without the vertex v.
-pub record Without (s v r : ℕ) : Type 0 where
-  pub each : (i : ℕ) → Iff (Member r i) (Member s i × (i ≡ v → ⊥))
-  pub less : r < s

@@ -41,15 +41,15 @@ loop-less : tie.Need-loop-less Inv-loop μ-loop
 loop-less c =
     let w = c .before .before .before .before in
     let l = w .before .before .before .before .before .before .loop in
-    seen-grows (l .found .0) (l .seen .0) _ (search needs) (w .lowest .ensures) _ (c .insert2 .ensures) (search needs)
+    seen-grows (l .found .0) (l .seen .0) _ (search needs) (w .lowest .ensures .vertex) _ (c .insert2 .ensures) (search needs)
 
 loop-again : tie.Need-loop-again Inv-loop μ-loop
 loop-again c =
     let n = c .before .before in
     let w = n .before .before in
     let l = w .before .before .before .before .before .before .loop in
-    finding-more _ _ (l .found .0) (l .seen .0) (l .inv) _ _ _ (w .lowest .ensures .place)
-    (was-found (l .found .0) (l .seen .0) _ (search needs) (w .lowest .ensures)) (n .needed .ensures) (c .insert2 .ensures)
+    finding-more _ _ (l .found .0) (l .seen .0) (l .inv) _ _ _ (w .lowest .ensures .vertex .place)
+    (was-found (l .found .0) (l .seen .0) _ (search needs) (w .lowest .ensures .vertex)) (n .needed .ensures) (c .insert2 .ensures)
 
 returns : tie.Need-returns Inv-loop μ-loop
 returns c = finding-done _ _ _ _ (c .before .before .before .loop .inv) (c .if1 .left)

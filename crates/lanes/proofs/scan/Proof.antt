@@ -45,7 +45,7 @@ loop-holds c =
     let k = c .before .before .before in
     let l = k .before .before .before in
     let v = l .lowest .result in
-    scan-first _ _ _ v _ (v * 256 + 256 - v * 256) _ (l .lowest .ensures .member) (c .without .ensures) (omega arith) (search needs) (k .copy-in .ensures)
+    scan-first _ _ _ v _ (v * 256 + 256 - v * 256) _ (l .lowest .ensures .vertex .member) (c .without .ensures) (omega arith) (search needs) (k .copy-in .ensures)
 
 lowest-requires-2 : tie.Need-lowest-requires-2 Inv-loop μ-loop
 lowest-requires-2 c κs = search needs
@@ -82,7 +82,7 @@ loop-again c =
     let a = c .before .before .before in
     let l = a .before .before .before in
     let v = l .lowest2 .result in
-    scan-more _ _ _ _ v _ (v * 256 + 256 - v * 256) _ _ (l .lowest2 .ensures .member) (c .without2 .ensures) (omega arith) (l .before .before .loop .inv) (a .merge-in .ensures)
+    scan-more _ _ _ _ v _ (v * 256 + 256 - v * 256) _ _ (l .lowest2 .ensures .vertex .member) (c .without2 .ensures) (omega arith) (l .before .before .loop .inv) (a .merge-in .ensures)
 
 same-length : tie.Need-same-length Inv-loop μ-loop
 same-length c = search needs

@@ -3,9 +3,7 @@ use mathlib.Core.Bool.{Bool, true, false, not}
 use mathlib.Core.List.{List}
 use Prim.Native.Nat.{ℕ, _+_, _-_, _*_, _^_}
 use lib.ListN.{getD}
-use Rattle.vertex_set.specs.Set.{Member, Iff}
-use Rattle.setup.specs.declared.Rows.{Rows}
-use Rattle.setup.specs.Setup.{rowOf}
+use Rattle.vertex_set.specs.Set.{Member}
 use Rattle.derivations.specs.Derivation.{Vertices}
 use Rattle.derivations.specs.Inner.Admits.{Complete, Broken}
 use Rattle.family_words.specs.Inner.Words.{Merged}
@@ -47,12 +45,3 @@ Takes loss was held row = Merged (not loss) was (Colour loss held row)
 abbrev pub untakenWord : Bool → ℕ
 untakenWord false = 0
 untakenWord true = 2 ^ 64 - 1
-
--- Some colour of these rows needs the vertex v.
-pub record Coloured (rows : Rows) (v : ℕ) : Type 0 where
-  pub colour : ℕ
-  pub member : Member (rowOf rows colour) v
-
--- r is the set of all vertices that some colour of these rows needs.
-pub record Needed (rows : Rows) (r : ℕ) : Type 0 where
-  pub each : (v : ℕ) → Iff (Member r v) (Coloured rows v)

@@ -1,6 +1,5 @@
 use Rattle.setup.specs.declared.Setup.{Setup}
-use Rattle.derivations.specs.Access.{AccessFrom}
-use Rattle.access.specs.Answers.{SetCall}
+use Rattle.access.specs.Answers.{ClosureCall}
 use Rattle.portal_results.proofs.Telling.{told}
 use borrow.Author.Needs.{needs}
 use Rattle.portal_closures.proofs.portal_closure.Statement.{statement}
@@ -20,7 +19,7 @@ returns c =
     let k = c .before in
     let s = k .before in
     let a = s .before .before .args in
-    told (λ (x : Setup). SetCall AccessFrom x (a .set)) _ _ (s .setup-in .ensures) _ _ _ _ (k .access-from .ensures) (c .tell-closure .ensures)
+    told (λ (x : Setup). ClosureCall x (a .set)) _ _ (s .setup-in .ensures) _ _ _ _ (k .access-from .ensures) (c .tell-closure .ensures)
 
 pub portal-closure-spec : {M : Type 1} → statement M
 portal-closure-spec =

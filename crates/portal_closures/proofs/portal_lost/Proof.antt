@@ -1,6 +1,5 @@
 use Rattle.setup.specs.declared.Setup.{Setup}
-use Rattle.derivations.specs.Lockout.{LockoutFrom}
-use Rattle.access.specs.Answers.{SetCall}
+use Rattle.access.specs.Answers.{LostCall}
 use Rattle.portal_results.proofs.Telling.{told}
 use borrow.Author.Needs.{needs}
 use Rattle.portal_closures.proofs.portal_lost.Statement.{statement}
@@ -20,7 +19,7 @@ returns c =
     let k = c .before in
     let s = k .before in
     let a = s .before .before .args in
-    told (λ (x : Setup). SetCall LockoutFrom x (a .set)) _ _ (s .setup-in .ensures) _ _ _ _ (k .lockout-from .ensures) (c .tell-set .ensures)
+    told (λ (x : Setup). LostCall x (a .set)) _ _ (s .setup-in .ensures) _ _ _ _ (k .lockout-from .ensures) (c .tell-set .ensures)
 
 pub portal-lost-spec : {M : Type 1} → statement M
 portal-lost-spec =

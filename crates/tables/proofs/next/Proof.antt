@@ -16,7 +16,7 @@ lowest-requires-2 c κs = search needs
 
 returns-2 : tie.Need-returns-2
 returns-2 c =
-    let r = c .lowest2 .ensures in
+    let r = c .lowest2 .ensures .vertex in
     record { place = r .place; member = in-and _ _ _ .to (r .member) .0 }
 
 pub next-spec : {M : Type 1} → statement M

@@ -13,7 +13,8 @@ use Rattle.derivations.specs.Derivation.{Rule, Derivation}
 use Rattle.derivations.specs.Inner.Admits.{Admits}
 use Rattle.families.specs.Inner.Masks.{Picked}
 use Rattle.family_words.specs.Inner.Words.{room}
-use Rattle.lanes.specs.Inner.Lanes.{Lane, Needed, tableWords}
+use Rattle.successors.specs.Inner.{Needed}
+use Rattle.lanes.specs.Inner.Lanes.{Lane, tableWords}
 use Rattle.families.specs.Inner.Family.{familyWords}
 
 -- The table w has become e: the vertex v was added to each lane that admits it; r says whether one was new.

@@ -3,6 +3,7 @@
 
 pub mod bounds;
 pub mod buffers;
+pub mod chains;
 pub mod damaged;
 pub mod draft;
 pub mod forecasts;

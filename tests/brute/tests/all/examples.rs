@@ -29,6 +29,17 @@ fn b2_closure_of_mailpw() {
 }
 
 #[test]
+fn passes_on_the_bench_sheet() {
+    let calls = calls(ORDER_SHEET);
+    let all = [ORDPW, MAILPW, TOKEN, MAIL, ORDER];
+    assert_eq!(calls.passes(0), Ok(1));
+    assert_eq!(calls.passes(set(&[MAILPW])), Ok(3));
+    assert_eq!(calls.passes(set(&[ORDPW, TOKEN])), Ok(2));
+    assert_eq!(calls.passes(set(&[ORDPW, MAILPW, TOKEN])), Ok(2));
+    assert_eq!(calls.passes(set(&all)), Ok(1));
+}
+
+#[test]
 fn b3_b4_both_lists_of_order() {
     let openings = [set(&[MAILPW]), set(&[ORDPW, TOKEN])];
     let lockouts = [set(&[ORDPW, MAILPW]), set(&[MAILPW, TOKEN])];

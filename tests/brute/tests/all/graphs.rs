@@ -2,6 +2,7 @@
 
 use crate::{accepted, calls};
 use brute::cases::bounds::largest_sums;
+use brute::cases::chains::known_passes;
 use brute::cases::probes::{hand_ins, sets_within};
 use brute::cases::random::{at_least, random_sheets};
 use brute::cases::tiny::{all_marked, all_unmarked};
@@ -50,6 +51,53 @@ fn closures_and_lost_sets_are_the_smallest_closed_sets() {
             let lost = smallest_closed(setup, set, locks);
             assert_eq!(graph::lost_set(setup, set), lost, "{} {set:b}", case.label);
         }
+    }
+}
+
+/// The least number of steps, one upon the other, that an item takes: 0 in the set, else by some
+/// colour one more than the needed item that takes most. By rounds, until nothing is less.
+fn heights(setup: &Setup, set: u64) -> Vec<Option<usize>> {
+    let items = 0..setup.count as usize;
+    let mut heights: Vec<Option<usize>> =
+        items.clone().map(|i| holds(set, i).then_some(0)).collect();
+    loop {
+        let before = heights.clone();
+        for item in items.clone() {
+            let rows = setup.places[item].rows.into_iter().filter(|&row| row != 0);
+            let most = |row: u64| {
+                let needed = items.clone().filter(move |&other| holds(row, other));
+                needed.map(|other| before[other]).try_fold(0, |most, one| Some(one?.max(most)))
+            };
+            let least = rows.filter_map(most).min().map(|most| most + 1);
+            heights[item] = [before[item], least].into_iter().flatten().min();
+        }
+        if heights == before {
+            return heights;
+        }
+    }
+}
+
+#[test]
+fn passes_are_one_more_than_the_highest_item() {
+    for case in small_setups() {
+        let setup = &case.setup;
+        for set in (0..=setup.all_items()).step_by(if setup.count > 3 { 5 } else { 1 }) {
+            let heights = heights(setup, set);
+            let highest = heights.iter().flatten().max().copied().unwrap_or(0);
+            let passes = graph::passes(setup, set);
+            assert_eq!(passes, highest + 1, "{} {set:b}", case.label);
+            let outside = setup.count as usize - set.count_ones() as usize;
+            assert!(passes <= outside + 1, "{} {set:b}", case.label);
+            assert_eq!(passes == 1, graph::closure(setup, set) == set, "{} {set:b}", case.label);
+        }
+    }
+}
+
+#[test]
+fn passes_that_are_known() {
+    for case in known_passes() {
+        let setup = accepted(&case.sheet).setup;
+        assert_eq!(graph::passes(&setup, case.set), case.passes, "{}", case.label);
     }
 }
 

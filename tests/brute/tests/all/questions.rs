@@ -52,6 +52,7 @@ fn tiny_setups_are_what_their_sheets_yield() {
 fn question_12_comes_first() {
     let calls = Calls::new(&Setup::empty());
     assert_eq!(calls.closure(u64::MAX), Err(12));
+    assert_eq!(calls.passes(u64::MAX), Err(12));
     assert_eq!(calls.lost_set(1), Err(12));
     assert_eq!(calls.way_in(1, 64, &mut [], &mut []), Err(12));
     assert_eq!(calls.lists(64, &mut []), Err(12));
@@ -81,6 +82,7 @@ fn question_13_of_every_item_number() {
 fn question_14_before_15() {
     let calls = calls(ORDER_SHEET);
     assert_eq!(calls.closure(1 << 5), Err(14));
+    assert_eq!(calls.passes(1 << 5), Err(14));
     assert_eq!(calls.lost_set(u64::MAX), Err(14));
     assert_eq!(calls.way_in(1 << 5, 4, &mut [], &mut []), Err(14));
     // Of 64 items any set is one.

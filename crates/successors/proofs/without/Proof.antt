@@ -1,9 +1,9 @@
--- `family_words::without` meets its contract: taking 2^v away takes away the vertex v.
+-- `successors::without` meets its contract: taking 2^v away takes away the vertex v.
 -- Assumes nothing.
 use borrow.Author.Needs.{needs}
-use Rattle.family_words.proofs.Members.{without-fits, without-removed}
-use Rattle.family_words.proofs.without.Statement.{statement}
-use Rattle.family_words.proofs.without.Tie as tie
+use Rattle.successors.proofs.Members.{without-fits, without-removed}
+use Rattle.successors.proofs.without.Statement.{statement}
+use Rattle.successors.proofs.without.Tie as tie
 
 shl-result : tie.Need-shl-result
 shl-result c = search needs

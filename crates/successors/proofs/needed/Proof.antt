@@ -1,10 +1,10 @@
--- `lanes::needed` meets its contract. The invariant: s has what the colours before c need.
+-- `successors::needed` meets its contract. The invariant: s has what the colours before c need.
 -- Assumes nothing.
 use Prim.Native.Nat.{_-_}
 use borrow.Author.Needs.{needs}
-use Rattle.lanes.proofs.Colours.{NeededBelow, needed-none, needed-more, needed-done}
-use Rattle.lanes.proofs.needed.Statement.{statement}
-use Rattle.lanes.proofs.needed.Tie as tie
+use Rattle.successors.proofs.Needs.{NeededBelow, needed-none, needed-more, needed-done}
+use Rattle.successors.proofs.needed.Statement.{statement}
+use Rattle.successors.proofs.needed.Tie as tie
 
 abbrev Inv-loop : tie.InvT-loop
 Inv-loop rows s₀ c₀ s c = NeededBelow rows s c

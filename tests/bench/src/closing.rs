@@ -1,0 +1,146 @@
+//! What a set opens, with the number of passes: the proved call beside a twin that counts the same
+//! way, and a loop that takes vertices in place and counts nothing.
+
+use crate::grid::{nanos, ratio, Grid};
+use crate::kinds::Kind;
+use crate::targets::{at_most, Target};
+use crate::timing::in_turn;
+use crate::twin::{members, Graph, Rows};
+use crate::Rounds;
+use std::hint::black_box;
+
+/// How many calls are timed together: one is too short for the clock.
+const CALLS: usize = 200;
+
+/// The kind on which the loop in place is at its best: two turns, whatever the chain's length.
+const IN_ORDER: &str = "chain with vertex order";
+
+fn opened(rows: &Rows, held: u64) -> bool {
+    rows.iter().any(|&row| row != 0 && row & !held == 0)
+}
+
+/// For each vertex the vertices that need it.
+fn successors(graph: &Graph) -> [u64; 64] {
+    let mut list = [0; 64];
+    for (v, rows) in graph.iter().enumerate() {
+        let needed = rows.iter().fold(0, |all, row| all | row);
+        members(needed).for_each(|f| list[f] |= 1 << v);
+    }
+    list
+}
+
+/// The twin: the closure and its number of passes, by the steps of `closures::closure`.
+pub fn closure(graph: &Graph, set: u64) -> (u64, usize) {
+    let list = successors(graph);
+    let gained = |held: u64, grown: u64| members(grown & !held).fold(0, |all, f| all | list[f]);
+    let (mut held, mut grown, mut passes) = (set, set, 0);
+    let mut left = gained(0, set) & !set;
+    loop {
+        if left == 0 {
+            passes += 1;
+            if grown == held {
+                return (held, passes);
+            }
+            left = gained(held, grown) & !grown;
+            held = grown;
+            continue;
+        }
+        let v = left.trailing_zeros() as usize;
+        left &= left - 1;
+        if opened(&graph[v], held) {
+            grown |= 1 << v;
+        }
+    }
+}
+
+/// The closure by turns over all vertices, where what is taken in helps the next vertex at once.
+fn in_place(graph: &Graph, set: u64) -> u64 {
+    let mut held = set;
+    loop {
+        let before = held;
+        for (v, rows) in graph.iter().enumerate() {
+            if opened(rows, held) {
+                held |= 1 << v;
+            }
+        }
+        if held == before {
+            return held;
+        }
+    }
+}
+
+/// The work, `CALLS` times.
+fn many(work: impl Fn()) -> impl FnMut() {
+    move || (0..CALLS).for_each(|_| work())
+}
+
+/// The times of one call each: the proved closure, question 12 alone, the twin, the loop in place.
+fn times(kind: &Kind, set: u64, rounds: usize) -> [f64; 4] {
+    let (words, graph) = (&kind.words, &kind.setup.graph);
+    let timed = in_turn(
+        rounds,
+        [
+            &mut many(|| {
+                black_box(product::closure(black_box(words), black_box(set)));
+            }),
+            &mut many(|| {
+                black_box(product::check(black_box(words)));
+            }),
+            &mut many(|| {
+                black_box(closure(black_box(graph), black_box(set)));
+            }),
+            &mut many(|| {
+                black_box(in_place(black_box(graph), black_box(set)));
+            }),
+        ],
+    );
+    timed.map(|time| time / CALLS as f64)
+}
+
+/// The closure of the initial vertices on each kind of sheet.
+pub fn closures(kinds: &[Kind], rounds: &Rounds, targets: &mut Vec<Target>) -> Grid {
+    let header = [
+        "sheet",
+        "passes",
+        "proved, ns",
+        "question 12, ns",
+        "the rest, ns",
+        "twin, ns",
+        "rest / twin",
+        "in place, ns",
+        "proved / (12 + in place)",
+    ];
+    let mut grid = Grid::new("What a set opens, with the number of passes", &header);
+    grid.note(&format!(
+        "`portal_closure` of the initial vertices, and `portal_check`, which takes the setup from its \
+         words and asks question 12: both calls begin with that. The twin counts the same passes, and \
+         looks at the same vertices; it and the loop in place, which counts nothing, have the setup \
+         ready. {CALLS} calls are timed together, in turn.",
+    ));
+    let mut ratios = [Vec::new(), Vec::new(), Vec::new()];
+    for kind in kinds {
+        let set = kind.setup.chosen(false);
+        let (opened, passes) = closure(&kind.setup.graph, set);
+        let proved = product::closure(&kind.words, set);
+        let same = [opened, in_place(&kind.setup.graph, set)] == [proved.set; 2];
+        assert!(same && passes as u64 == proved.passes, "{}: another closure", kind.name);
+        let [whole, asked, twin, turns] = times(kind, set, rounds.calls);
+        let rest = whole - asked;
+        let shown = [whole, asked, rest, twin].map(nanos);
+        let mut row = vec![kind.name.clone(), passes.to_string()];
+        row.extend(shown);
+        row.extend([ratio(rest, twin), nanos(turns), ratio(whole, asked + turns)]);
+        grid.row(row);
+        ratios[0].push((kind.name.clone(), rest / twin));
+        let other = if kind.name == IN_ORDER { 1 } else { 2 };
+        ratios[other].push((kind.name.clone(), whole / (asked + turns)));
+    }
+    targets.push(at_most("closure with passes less question 12, proved / twin", 1.3, &ratios[0]));
+    let before = "closure with passes, proved / (question 12 and a loop in place), in vertex order";
+    targets.push(at_most(before, 3.0, &ratios[1]));
+    targets.push(at_most("the same on the other kinds", 1.0, &ratios[2]).because(
+        "On this kind the loop in place comes to its end in few turns, since what a vertex needs stands \
+         before it; passes that are to be counted cannot.",
+    ));
+    grid
+}

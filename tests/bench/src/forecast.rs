@@ -1,77 +1,14 @@
 //! The forecast for an opening list against both lists of the same target, and against its twin.
 
+use crate::formed::{Whole, START};
 use crate::grid::{micros, ratio, with_commas, Grid};
 use crate::kinds::{Kind, CHOSEN, ROOM};
 use crate::targets::{largest, smallest, Target};
 use crate::timing::in_turn;
-use crate::twin::{members, Graph, Rows, VERTICES};
+use crate::twin::{members, Graph, VERTICES};
 use crate::{proved, Rounds};
 use brute::cases::draft::Draft;
-use product::BLANK;
 use std::hint::black_box;
-
-/// What question 12 looks at, as the proved code has it.
-struct Whole {
-    count: usize,
-    /// Kind, start, loss and rank.
-    vertices: [[u64; 4]; VERTICES],
-    graph: Graph,
-    recovery: Graph,
-}
-
-const EDGES: u32 = brute::setup::MAX_EDGES as u32;
-const START: usize = 1;
-const LOSS: usize = 2;
-const RANK: usize = 3;
-
-impl Whole {
-    fn from_words(words: &[u64]) -> Whole {
-        let graph = |from: usize| -> Graph {
-            std::array::from_fn(|v| std::array::from_fn(|c| words[from + 8 * v + c]))
-        };
-        Whole {
-            count: words[0] as usize,
-            vertices: std::array::from_fn(|v| std::array::from_fn(|i| words[1 + 4 * v + i])),
-            graph: graph(257),
-            recovery: graph(769),
-        }
-    }
-
-    /// The vertices that have a value there.
-    fn chosen(&self, place: usize) -> u64 {
-        let values = self.vertices.iter().enumerate();
-        values.filter(|(_, x)| x[place] != BLANK).fold(0, |set, (v, _)| set | 1 << v)
-    }
-
-    /// Question 12, in the proved code's order.
-    fn well_formed(&self) -> bool {
-        if self.count == 0 || self.count > VERTICES {
-            return false;
-        }
-        let below = if self.count < VERTICES { (1 << self.count) - 1 } else { u64::MAX };
-        for v in 0..VERTICES {
-            let (vertex, used) = (&self.vertices[v], v < self.count);
-            let fits = if used { valid(vertex) } else { *vertex == [0, BLANK, BLANK, 0] };
-            let bound = if used { below } else { 0 };
-            if !fits || !rows_fit(bound, &self.graph[v], &self.recovery[v]) {
-                return false;
-            }
-        }
-        let edges: u32 = self.graph.iter().flatten().map(|row| row.count_ones()).sum();
-        edges <= EDGES
-            && self.chosen(START).count_ones() as usize <= CHOSEN
-            && self.chosen(LOSS).count_ones() as usize <= CHOSEN
-    }
-}
-
-fn valid(vertex: &[u64; 4]) -> bool {
-    let in_range = |value: u64| value == BLANK || value <= brute::setup::MAX_VALUE;
-    in_range(vertex[START]) && in_range(vertex[LOSS]) && vertex[RANK] <= 9
-}
-
-fn rows_fit(bound: u64, rows: &Rows, recovery: &Rows) -> bool {
-    rows.iter().zip(recovery).all(|(row, marked)| row & !bound == 0 && marked & !row == 0)
-}
 
 /// The numbers of ways to choose half of n things, for n up to 14.
 const WAYS: [u64; 15] = [1, 1, 2, 3, 6, 10, 20, 35, 70, 126, 252, 462, 924, 1716, 3432];
@@ -89,10 +26,7 @@ fn reaching(graph: &Graph, target: usize) -> u64 {
 
 /// The twin of the proved call.
 fn twin_forecast(words: &[u64], target: usize) -> Result<u64, u64> {
-    let setup = Whole::from_words(words);
-    if !setup.well_formed() {
-        return Err(12);
-    }
+    let setup = Whole::asked(words).ok_or(12u64)?;
     if target >= setup.count {
         return Err(13);
     }

@@ -10,6 +10,7 @@ mod clingo;
 mod closing;
 mod document;
 mod forecast;
+mod formed;
 mod gate;
 mod grid;
 mod kinds;

@@ -91,6 +91,8 @@ def main(words):
     record = "--record" in words
     only = [w for w in words if not w.startswith("--")]
     found = blocks.read(DATA)
+    groups = re.findall(r"^def (\w+)", (blocks.HERE / "examples.py").read_text(), re.M)
+    assert len(groups) == len(set(groups)), "a group of examples hides another one of its name"
     if not only:
         wrong = noticing(module(SOURCE))
         if wrong:

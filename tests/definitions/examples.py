@@ -902,7 +902,7 @@ def of_meaning(D):
     ]
 
 
-def of_rows(D):
+def of_written_rows(D):
     """A row of two bytes, 7 and 8, written into a buffer of six from place 2 on."""
     entry = [1, 2, 3, 4, 5, 6]
     wrong = [
@@ -983,7 +983,7 @@ def of_refusals(D):
 
 
 GROUPS = {
-    "far": [of_sets, of_setups, of_well_formed, of_parts, of_full_marks, of_rows, of_whole],
+    "far": [of_sets, of_setups, of_well_formed, of_parts, of_full_marks, of_written_rows, of_whole],
     "one": [of_one],
     "sums": [of_sums],
     "bench": [of_derivations, of_passes, of_ways, of_bases, of_scores, of_marks, of_set_calls, of_way_calls, of_base_calls, of_score_calls, of_demand3]

@@ -3,9 +3,9 @@ ghost use mathlib.Core.Path.{_≡_};
 ghost use Prim.Native.Nat.{_≤_, _<_};
 ghost use lib.Count.{ones};
 ghost use Rattle.vertex_set.specs.Set.{Decides};
-ghost use Rattle.setup.specs.Setup.{edgeCount, unusedVertex, total};
+ghost use Rattle.setup.specs.Setup.{unusedVertex, given, total};
 ghost use Rattle.formed.specs.WellFormed.{InRange, ValidVertex, WellFormed};
-ghost use Rattle.formed.specs.Inner.Parts.{VertexFits, RowsFit, EdgesFit, PlacesFit, CountsFit};
+ghost use Rattle.formed.specs.Inner.Parts.{VertexFits, RowsFit, MayNeed, EdgesFit, GraphsFit, VerticesFit};
 use setup::Graph;
 use setup::Kind;
 use setup::Rows;
@@ -74,49 +74,35 @@ fn vertex_fits(count: usize, v: usize, x: Vertex) -> bool
     }
 }
 
+// What strays is gathered over all colours and looked at once: without a branch for each row the
+// compiler takes several rows at a time.
 fn rows_fit(bound: VertexSet, rows: Rows, recovery: Rows) -> bool
     ensures { λ r. ⌜ Decides (RowsFit (bound .0) rows recovery) r ⌝ }
 {
+    let mut stray: u64 = 0;
     for c in 0..8usize {
-        let row = VertexSet(rows.needs[c]);
-        if row.within(bound) {
-            let marked = VertexSet(recovery.needs[c]);
-            if marked.within(row) {
-                continue;
-            }
-        }
-        return false;
+        let row = rows.needs[c];
+        let marked = recovery.needs[c];
+        stray = stray | (row & !bound.0) | (marked & !row);
     }
-    true
+    stray == 0
+}
+
+// The vertices that the place v may need: none where it is not in use.
+fn may_need(count: usize, v: usize) -> VertexSet
+    ensures { λ r. ⌜ MayNeed count v (r .0) ⌝ }
+{
+    if v < count {
+        return VertexSet::below(count);
+    }
+    VertexSet(0)
 }
 
 fn edges_fit(count: usize, v: usize, rows: Rows, recovery: Rows) -> bool
     ensures { λ r. ⌜ Decides (EdgesFit count v rows recovery) r ⌝ }
 {
-    if v < count {
-        rows_fit(VertexSet::below(count), rows, recovery)
-    } else {
-        rows_fit(VertexSet(0), rows, recovery)
-    }
-}
-
-fn places_fit(s: Setup) -> bool
-    ensures { λ r. ⌜ Decides (PlacesFit s) r ⌝ }
-{
-    let graph = s.graph;
-    let recovery = s.recovery;
-    for v in 0..64usize {
-        let vertex = s.vertices[v];
-        if vertex_fits(s.count, v, vertex) {
-            let rows = graph.rows[v];
-            let marked = recovery.rows[v];
-            if edges_fit(s.count, v, rows, marked) {
-                continue;
-            }
-        }
-        return false;
-    }
-    true
+    let bound = may_need(count, v);
+    rows_fit(bound, rows, recovery)
 }
 
 fn row_sizes(rows: Rows) -> u32
@@ -130,34 +116,55 @@ fn row_sizes(rows: Rows) -> u32
     n
 }
 
-// How many edges a graph has.
-pub fn edge_count(g: Graph) -> u32
-    ensures { λ r. ⌜ r ≡ edgeCount g ⌝ }
+fn graphs_fit(count: usize, graph: Graph, recovery: Graph) -> bool
+    ensures { λ r. ⌜ Decides (GraphsFit count graph recovery) r ⌝ }
 {
-    let mut n: u32 = 0;
+    let mut edges: u32 = 0;
     for v in 0..64usize {
-        let rows = g.rows[v];
-        n += row_sizes(rows);
+        let rows = graph.rows[v];
+        let marked = recovery.rows[v];
+        if edges_fit(count, v, rows, marked) {
+            edges += row_sizes(rows);
+        } else {
+            return false;
+        }
     }
-    n
+    edges <= setup::MAX_EDGES
 }
 
-fn counts_fit(s: Setup) -> bool
-    ensures { λ r. ⌜ Decides (CountsFit s) r ⌝ }
+fn count_given(x: Value) -> u32
+    ensures { λ r. ⌜ (r ≡ given x) × (r ≤ 1) ⌝ }
 {
-    let graph = s.graph;
-    if setup::MAX_EDGES < edge_count(graph) {
-        return false;
+    match x {
+        Value::Blank => 0,
+        Value::Of(_) => 1,
     }
-    let initial = setup::chosen(s, false);
-    if setup::MAX_CHOSEN < u64::count_ones(initial.0) {
-        return false;
-    }
-    let losable = setup::chosen(s, true);
-    u64::count_ones(losable.0) <= setup::MAX_CHOSEN
 }
 
-// Question 12: is the setup one that some accepted sheet yields?
+fn vertices_fit(count: usize, vertices: [Vertex; 64]) -> bool
+    ensures { λ r. ⌜ Decides (VerticesFit count vertices) r ⌝ }
+{
+    let mut initial: u32 = 0;
+    let mut losable: u32 = 0;
+    for v in 0..64usize {
+        let vertex = vertices[v];
+        if vertex_fits(count, v, vertex) {
+            let start = vertex.start;
+            let loss = vertex.loss;
+            initial += count_given(start);
+            losable += count_given(loss);
+        } else {
+            return false;
+        }
+    }
+    if setup::MAX_CHOSEN < initial {
+        return false;
+    }
+    losable <= setup::MAX_CHOSEN
+}
+
+// Question 12: is the setup one that some accepted sheet yields? Its parts are handed on, each
+// once, since a call by value copies what it is given.
 pub fn well_formed(s: Setup) -> bool
     ensures { λ r. ⌜ Decides (WellFormed s) r ⌝ }
 {
@@ -168,5 +175,11 @@ pub fn well_formed(s: Setup) -> bool
     if VERTICES < count {
         return false;
     }
-    if places_fit(s) { counts_fit(s) } else { false }
+    let graph = s.graph;
+    let recovery = s.recovery;
+    if graphs_fit(count, graph, recovery) {
+        let vertices = s.vertices;
+        return vertices_fit(count, vertices);
+    }
+    false
 }

@@ -1,5 +1,5 @@
 use lib.ListN.{length-map}
-use Rattle.formed.proofs.Whole.{whole-yes, places-of}
+use Rattle.formed.proofs.Whole.{whole-yes, graphs-of}
 use native.Mathlib.Omega.{arith}
 use Rattle.vertex_set.proofs.Decisions.{decide-no}
 use borrow.Author.Needs.{needs}
@@ -12,23 +12,23 @@ returns c = decide-no (λ h. let e = h .some in omega arith)
 returns-2 : tie.Need-returns-2
 returns-2 c = decide-no (λ h. let e = h .most in omega arith)
 
-places-fit-requires : tie.Need-places-fit-requires
-places-fit-requires c κs = search needs
+graphs-fit-requires : tie.Need-graphs-fit-requires
+graphs-fit-requires c κs = search needs
 
-counts-fit-requires : tie.Need-counts-fit-requires
-counts-fit-requires c κs = search needs
+vertices-fit-requires : tie.Need-vertices-fit-requires
+vertices-fit-requires c κs = search needs
 
 returns-3 : tie.Need-returns-3
 returns-3 c =
-    let b = c .before .before .before .before .before in
+    let b = c .before .before .before .before .before .before .before .before in
     let g = b .good .0 .1 .1 .1 in
     whole-yes (b .args .s) (simp length-map at (g .0 .1 .0 .1)) (simp length-map at (g .1 .0 .1 .1 .0 .1 .0 .1)) (simp length-map at (g .1 .1 .0 .1 .1 .0 .1 .0 .1)) (omega arith) (omega arith)
-    (c .counts-fit .result) (c .before .before .places-fit .ensures .yes (c .before .if3 .taken)) (c .counts-fit .ensures)
+    (c .vertices-fit .result) (c .before .before .before .graphs-fit .ensures .yes (c .before .before .if3 .taken)) (c .vertices-fit .ensures)
 
 returns-4 : tie.Need-returns-4
-returns-4 c = decide-no (λ h. c .before .places-fit .ensures .no (c .if3 .left) (places-of _ h))
+returns-4 c = decide-no (λ h. c .before .graphs-fit .ensures .no (c .if3 .left) (graphs-of _ h))
 
 pub well-formed-spec : {M : Type 1} → statement M
 well-formed-spec =
     tie.close
-    (tie.spec returns returns-2 places-fit-requires counts-fit-requires returns-3 returns-4)
+    (tie.spec returns returns-2 graphs-fit-requires vertices-fit-requires returns-3 returns-4)

@@ -1,86 +1,136 @@
-use borrow.Author.Needs.{needs}
-use Prim.Native.Nat.{_^_, _<_, _-_}
-use native.Mathlib.Omega.{arith}
-use Rattle.ways.proofs.Ways.{Writing, writing-none, writing-fits, writing-more, writing-all, writing-long, writing-new, inserted-more}
 use Rattle.ways.proofs.write_way.Statement.{statement}
 use Rattle.ways.proofs.write_way.Tie as tie
+use Rattle.ways.proofs.write_way.Reads as reads
+use Rattle.ways.proofs.write_way.Lts as lts
+use Rattle.closures.proofs.lowest_colour.Reads as lowest-colour-reads
+use Rattle.successors.proofs.fill.Reads as fill-reads
+use Rattle.successors.proofs.lowest.Reads as lowest-reads
+use Rattle.vertex_set.proofs.VertexSet.has.Reads as has-reads
+use Rattle.ways.proofs.add.Reads as add-reads
+use Rattle.ways.proofs.begin.Reads as begin-reads
+use Rattle.ways.proofs.look.Reads as look-reads
 
--- The first i steps of the way in are written, and the others lead from what is held now to the target.
 abbrev Inv-loop : tie.InvT-loop
-Inv-loop graph target vertices₀ colours₀ held₀ i₀ vertices colours held i = Writing graph target (held₀ .0) (held .0) i vertices₀ vertices colours₀ colours
+Inv-loop target vertices₀ colours₀ graph list search₀ i₀ vertices colours search i = ?
 
 abbrev μ-loop : tie.MeasureT-loop
-μ-loop graph target vertices₀ colours₀ held₀ i₀ vertices colours held i = 2 ^ 64 - held .0
+μ-loop target vertices₀ colours₀ graph list search₀ i₀ vertices colours search i = ?
 
-loop-holds : tie.Need-loop-holds Inv-loop μ-loop
-loop-holds c =
-    let a = c .before .before .args in
-    writing-none (a .graph) (a .target) (a .set .0) (a .vertices .now) (a .colours .now) (c .before .before .pre)
-
+-- src/lib.rt:133:8
 has-requires : tie.Need-has-requires Inv-loop μ-loop
-has-requires c κs = search needs
+has-requires c κs = ?
 
-same-length : tie.Need-same-length Inv-loop μ-loop
-same-length c = writing-long _ _ _ _ _ _ _ _ _ (c .before .before .loop .inv) .0
-
-same-length-2 : tie.Need-same-length-2 Inv-loop μ-loop
-same-length-2 c = writing-long _ _ _ _ _ _ _ _ _ (c .before .before .loop .inv) .1
-
+-- src/lib.rt:134:9
 returns : tie.Need-returns Inv-loop μ-loop
-returns c = writing-all _ _ _ _ _ _ _ _ _ (c .before .before .loop .inv) (c .before .has .ensures .yes (c .if1 .taken))
+returns c = ?
 
-lowest-step-requires : tie.Need-lowest-step-requires Inv-loop μ-loop
-lowest-step-requires c κs = search needs
+-- src/lib.rt:137:29
+slice-aggregate-fill : tie.Need-slice-aggregate-fill Inv-loop μ-loop
+slice-aggregate-fill c = ?
 
-cast-vertices : tie.Need-cast-vertices Inv-loop μ-loop
-cast-vertices c =
-    let l = c .before .before .before .before in
-    let f = writing-fits _ _ _ _ _ _ _ _ _ (l .loop .inv) (c .before .before .before .has .ensures .no (c .before .before .if1 .left)) _ _ (c .before .lowest-step .ensures) in
-    let v = f .0 in
-    omega arith
+-- src/lib.rt:137:5
+fill-requires : tie.Need-fill-requires Inv-loop μ-loop
+fill-requires c κs = ?
 
-slice-write-vertices : tie.Need-slice-write-vertices Inv-loop μ-loop
-slice-write-vertices c =
-    let l = c .before .before .before .before in
-    writing-fits _ _ _ _ _ _ _ _ _ (l .loop .inv) (c .before .before .before .has .ensures .no (c .before .before .if1 .left)) _ _ (c .before .lowest-step .ensures) .2
+-- src/lib.rt:138:28
+slice-aggregate-begin : tie.Need-slice-aggregate-begin Inv-loop μ-loop
+slice-aggregate-begin c = ?
 
-cast-colours : tie.Need-cast-colours Inv-loop μ-loop
-cast-colours c =
-    let l = c .before .before .before .before .before in
-    let f = writing-fits _ _ _ _ _ _ _ _ _ (l .loop .inv) (c .before .before .before .before .has .ensures .no (c .before .before .before .if1 .left)) _ _ (c .before .before .lowest-step .ensures) in
-    let v = f .1 in
-    omega arith
+-- src/lib.rt:138:9
+begin-requires : tie.Need-begin-requires Inv-loop μ-loop
+begin-requires c κs = ?
 
-slice-write-colours : tie.Need-slice-write-colours Inv-loop μ-loop
-slice-write-colours c =
-    let l = c .before .before .before .before .before in
-    writing-fits _ _ _ _ _ _ _ _ _ (l .loop .inv) (c .before .before .before .before .has .ensures .no (c .before .before .before .if1 .left)) _ _ (c .before .before .lowest-step .ensures) .3
+-- src/lib.rt:140:5
+loop-holds : tie.Need-loop-holds Inv-loop μ-loop
+loop-holds c = ?
 
-insert-requires : tie.Need-insert-requires Inv-loop μ-loop
-insert-requires c κs = search needs
+-- src/lib.rt:142:17
+lowest-requires : tie.Need-lowest-requires Inv-loop μ-loop
+lowest-requires c κs = ?
 
-add-i : tie.Need-add-i Inv-loop μ-loop
-add-i c =
-    let l = c .before .before .before .before .before .before in
-    let f = writing-fits _ _ _ _ _ _ _ _ _ (l .loop .inv) (c .before .before .before .before .before .has .ensures .no (c .before .before .before .before .if1 .left)) _ _ (c .before .before .before .lowest-step .ensures) in
-    let p = f .2 in
-    let q = writing-long _ _ _ _ _ _ _ _ _ (l .loop .inv) .0 in
-    omega arith
+-- src/lib.rt:143:24
+mul-rows : tie.Need-mul-rows Inv-loop μ-loop
+mul-rows c = ?
 
+-- src/lib.rt:143:24
+element-copy-out-rows : tie.Need-element-copy-out-rows Inv-loop μ-loop
+element-copy-out-rows c = ?
+
+-- src/lib.rt:144:13
+look-requires : tie.Need-look-requires Inv-loop μ-loop
+look-requires c κs = ?
+
+-- src/lib.rt:140:5
 loop-less : tie.Need-loop-less Inv-loop μ-loop
-loop-less c =
-    let l = c .before .before .before .before .before .before in
-    let out = c .before .before .before .before .before .has .ensures .no (c .before .before .before .before .if1 .left) in
-    let f = writing-fits _ _ _ _ _ _ _ _ _ (l .loop .inv) out _ _ (c .before .before .before .lowest-step .ensures) in
-    let new = writing-new _ _ _ _ _ _ _ _ _ (l .loop .inv) out _ _ (c .before .before .before .lowest-step .ensures) in
-    let fits : c .insert .result .0 < 2 ^ 64 = search needs in
-    let more = inserted-more (l .loop .held .0) _ (c .insert .result .0) (f .0) new (c .insert .ensures) in
-    omega arith
+loop-less c = ?
 
+-- src/lib.rt:140:5
 loop-again : tie.Need-loop-again Inv-loop μ-loop
-loop-again c =
-    let l = c .before .before .before .before .before .before in
-    writing-more _ _ _ _ _ _ _ _ _ (l .loop .inv) (c .before .before .before .before .before .has .ensures .no (c .before .before .before .before .if1 .left)) _ _ (c .before .before .before .lowest-step .ensures) (c .insert .result .0) (c .insert .ensures)
+loop-again c = ?
+
+-- src/lib.rt:147:13
+lowest-requires-2 : tie.Need-lowest-requires-2 Inv-loop μ-loop
+lowest-requires-2 c κs = ?
+
+-- src/lib.rt:148:20
+mul-rows-2 : tie.Need-mul-rows-2 Inv-loop μ-loop
+mul-rows-2 c = ?
+
+-- src/lib.rt:148:20
+element-copy-out-rows-2 : tie.Need-element-copy-out-rows-2 Inv-loop μ-loop
+element-copy-out-rows-2 c = ?
+
+-- src/lib.rt:149:13
+lowest-colour-requires : tie.Need-lowest-colour-requires Inv-loop μ-loop
+lowest-colour-requires c κs = ?
+
+-- src/lib.rt:150:23
+cast-vertices : tie.Need-cast-vertices Inv-loop μ-loop
+cast-vertices c = ?
+
+-- src/lib.rt:150:9
+slice-write-vertices : tie.Need-slice-write-vertices Inv-loop μ-loop
+slice-write-vertices c = ?
+
+-- src/lib.rt:151:22
+cast-colours : tie.Need-cast-colours Inv-loop μ-loop
+cast-colours c = ?
+
+-- src/lib.rt:151:9
+slice-write-colours : tie.Need-slice-write-colours Inv-loop μ-loop
+slice-write-colours c = ?
+
+-- src/lib.rt:152:22
+slice-aggregate-add : tie.Need-slice-aggregate-add Inv-loop μ-loop
+slice-aggregate-add c = ?
+
+-- src/lib.rt:152:9
+add-requires : tie.Need-add-requires Inv-loop μ-loop
+add-requires c κs = ?
+
+-- src/lib.rt:153:9
+add-i : tie.Need-add-i Inv-loop μ-loop
+add-i c = ?
+
+-- src/lib.rt:155:13
+same-length : tie.Need-same-length Inv-loop μ-loop
+same-length c = ?
+
+-- src/lib.rt:155:13
+same-length-2 : tie.Need-same-length-2 Inv-loop μ-loop
+same-length-2 c = ?
+
+-- src/lib.rt:155:13
+returns-2 : tie.Need-returns-2 Inv-loop μ-loop
+returns-2 c = ?
+
+-- src/lib.rt:140:5
+loop-less-2 : tie.Need-loop-less-2 Inv-loop μ-loop
+loop-less-2 c = ?
+
+-- src/lib.rt:140:5
+loop-again-2 : tie.Need-loop-again-2 Inv-loop μ-loop
+loop-again-2 c = ?
 
 pub write-way-spec : {M : Type 1} → statement M
 write-way-spec =
@@ -88,17 +138,32 @@ write-way-spec =
     (tie.spec
     Inv-loop
     μ-loop
-    loop-holds
     has-requires
-    same-length
-    same-length-2
     returns
-    lowest-step-requires
+    slice-aggregate-fill
+    fill-requires
+    slice-aggregate-begin
+    begin-requires
+    loop-holds
+    lowest-requires
+    mul-rows
+    element-copy-out-rows
+    look-requires
+    loop-less
+    loop-again
+    lowest-requires-2
+    mul-rows-2
+    element-copy-out-rows-2
+    lowest-colour-requires
     cast-vertices
     slice-write-vertices
     cast-colours
     slice-write-colours
-    insert-requires
+    slice-aggregate-add
+    add-requires
     add-i
-    loop-less
-    loop-again)
+    same-length
+    same-length-2
+    returns-2
+    loop-less-2
+    loop-again-2)

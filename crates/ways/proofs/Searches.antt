@@ -6,7 +6,7 @@ use mathlib.Core.List.{List}
 use mathlib.Core.Logic.{_⊎_, inl, inr, ⊎-elim}
 use Prim.Native.Nat.{ℕ, _-_, _^_, _≤_, _<_}
 use native.Mathlib.Omega.{arith}
-use lib.Bits.{bitAnd, bitOr}
+use lib.Bits.{bitAnd, bitOr, or-lt}
 use lib.ListN.{getD}
 use Rattle.vertex_set.specs.Set.{Member, Inserted, Iff}
 use Rattle.vertex_set.proofs.Cases.{same-or}
@@ -80,12 +80,12 @@ module _ (rows : Rows) (v held ready left rest r : ℕ) (p : VertexOf left v) (o
 -- ---- a ready vertex added
 
 module _ (list : List ℕ) (v held ready held′ rest : ℕ) (p : VertexOf ready v) (t : Inserted held v held′) (o : Without ready v rest)
-    (fits : getD list v 0 < 2 ^ 64) (few : bitOr held′ rest < 2 ^ 64) where
+    (fits : getD list v 0 < 2 ^ 64) (small : held′ < 2 ^ 64) (few : rest < 2 ^ 64) where
   abbrev left : ℕ
   left = bitAnd (getD list v 0) ((2 ^ 64 - 1) - bitOr held′ rest)
 
   in-left : (u : ℕ) → Iff (Member left u) (Member (getD list v 0) u × (Member (bitOr held′ rest) u → ⊥))
-  in-left u = in-less (getD list v 0) (bitOr held′ rest) u fits few
+  in-left u = in-less (getD list v 0) (bitOr held′ rest) u fits (or-lt 64 held′ rest small few)
 
   -- what the vertices held before did not complete is completed with v, and so needs it
   before : (g : Graph) → Successors g list → (u : ℕ) → (Member (getD list v 0) u → ⊥) → SomeComplete (rowsAt g u) (Member held′) → SomeComplete (rowsAt g u) (Member held)

@@ -1,21 +1,20 @@
 -- The way in: its lowest step, the steps one after the other, and their writing.
 -- Assumes nothing.
 use mathlib.Core.Path.{_≡_, refl, sym, ap, subst, _∙_}
-use mathlib.Core.Bool.{true, false}
+use mathlib.Core.Bool.{Bool, true, false}
 use mathlib.Core.List.{List, [], _∷_, _++_, map, append-assoc, append-nil, map-append}
 use mathlib.Core.Logic.{_⊎_, inl, inr, ⊎-elim}
-use Prim.Native.Nat.{ℕ, zero, suc, _+_, _^_, _≤_, _<_}
+use Prim.Native.Nat.{ℕ, zero, suc, _+_, _*_, _^_, _≤_, _<_}
 use native.Mathlib.Nat.{pow-suc}
 use native.Mathlib.Numerals.{add-one}
 use native.Mathlib.Omega.{arith}
-use lib.Arith.{lt-of-le-ne}
 use lib.ListN.{length, getD, drop, set, length-append, length-drop, length-map}
 use lib.Seq.{drop-cons, set-append-seam, append-snoc}
 use Rattle.vertex_set.specs.Set.{Member, Within, Inserted, Iff, countOutside}
 use Rattle.vertex_set.proofs.Cases.{same-or, less-or, false-true, search-below, lowest}
-use Rattle.vertex_set.proofs.Outside.{outside-less}
+use Rattle.vertex_set.proofs.Outside.{outside-most, outside-less}
 use Rattle.vertex_set.proofs.Places.{member-le}
-use Rattle.vertex_set.proofs.Sets.{member-or, none-in-zero, within-refl, within-trans, within-le}
+use Rattle.vertex_set.proofs.Sets.{member-or, none-in-zero, within-refl, within-trans}
 use Rattle.setup.specs.declared.Graph.{Graph}
 use Rattle.setup.specs.Setup.{row, rowsAt}
 use Rattle.setup.specs.Calls.{written}
@@ -27,9 +26,10 @@ use Rattle.derivations.proofs.Admits.{step-admits}
 use Rattle.derivations.proofs.Rules.{adds-left, adds-right, held, closed, least}
 use Rattle.derivations.proofs.Graphs.{access-lawful}
 use Rattle.derivations.proofs.Way.{way-same, way-unique, lowest-unique}
-use Rattle.successors.specs.Inner.{LowestOf}
+use Rattle.successors.specs.Inner.{LowestOf, Successors}
 use Rattle.closures.specs.Inner.{LowestColour}
-use Rattle.ways.specs.Inner.{Searching, WayFollowed, Room, Written}
+use Rattle.closures.proofs.Passes.{falls-next, falls-left}
+use Rattle.ways.specs.Inner.{Searching, Begun, Looked, Added, WayFollowed, Room, Written}
 use Rattle.ways.proofs.Searches.{none-ready}
 
 -- ---- the lowest step
@@ -115,7 +115,7 @@ pub record Taken (g : Graph) (target s now count : ℕ) : Type 0 where
   pub counted : count ≡ length steps
   pub grows : Within s now
   pub rest : (d : List Step) → Way g target (Member now) d → Way g target (Member s) (steps ++ d)
-  pub small : count ≤ now
+  pub few : count + countOutside 64 now ≤ 64
   pub each : (v : ℕ) → Iff (Member now v) (Member s v ⊎ Adds (access g) steps v)
   pub derives : (v : ℕ) → Member now v → HasAccess g (Member s) v
 
@@ -126,17 +126,12 @@ taken-none g target s =
       counted = refl;
       grows = within-refl s;
       rest = λ d w. w;
-      small = omega arith;
+      few = let o = outside-most 64 s in omega arith;
       each = λ v. record { to = λ m. inl m; from = ⊎-elim (λ m. m) (λ a. absurd a) };
       derives = λ v m. held (access g) (Member s) v m;
     }
 
--- one vertex more is a larger number
-pub inserted-more : (s v r : ℕ) → v < 64 → (Member s v → ⊥) → Inserted s v r → s < r
-inserted-more s v r l new t =
-    lt-of-le-ne (within-le s r (record { each = λ i m. t .taken l i .from (inl m) })) (λ e. new (subst (λ (x : ℕ). Member x v) (sym e) (t .taken l v .from (inr refl))))
-
--- and leaves fewer vertices outside
+-- with one vertex more, fewer are outside
 pub inserted-fewer : (s v r : ℕ) → v < 64 → (Member s v → ⊥) → Inserted s v r → countOutside 64 r < countOutside 64 s
 inserted-fewer s v r l new t = outside-less 64 s r v (record { each = λ i m. t .taken l i .from (inl m) }) l new (t .taken l v .from (inr refl))
 
@@ -168,7 +163,7 @@ module _ (g : Graph) (target s now count : ℕ) (h : Taken g target s now count)
         grows = within-trans (h .grows) (record { each = λ i m. t .taken l i .from (inl m) });
         rest = λ d w. subst (Way g target (Member s)) (sym (append-assoc (h .steps) (e ∷ []) d))
             (h .rest (e ∷ d) (out, low, way-behind g target now (e .vertex) now′ l t d .to w));
-        small = let a = h .small in let b = inserted-more now (e .vertex) now′ l (low .new) t in omega arith;
+        few = let a = h .few in let b = inserted-fewer now (e .vertex) now′ l (low .new) t in omega arith;
         each = λ v.
             let a = adds-last g (h .steps) e v in
             record {
@@ -199,6 +194,56 @@ module _ (g : Graph) (target s now count : ℕ) (h : Taken g target s now count)
       within : (v : ℕ) → HasAccess g (Member s) v → Member now v
       within = least (access g) (access-lawful g) (Member s) (Member now) (h .grows .each) cl
 
+-- the set may be written in another way
+pub followed-from : (g : Graph) (target s t : ℕ) (found : Bool) (count now : ℕ) → s ≡ t → WayFollowed g target s found count now → WayFollowed g target t found count now
+followed-from g target s t found count now e = subst (λ (x : ℕ). WayFollowed g target x found count now) e
+
+-- ---- the search from step to step
+
+-- The target is not held, and the list of successors tells which vertices are ready.
+pub record Onward (g : Graph) (list : List ℕ) (target held ready left : ℕ) : Type 0 where
+  pub successors : Successors g list
+  pub search : Searching g held ready left
+  pub out : Member held target → ⊥
+
+pub onward-none : (g : Graph) (list : List ℕ) (target set held ready left : ℕ) → Successors g list → Begun list set held ready left → (Member set target → ⊥)
+    → Onward g list target held ready left
+onward-none g list target set held ready left s b out =
+    record { successors = s; search = b .search g s; out = λ m. out (subst (λ (x : ℕ). Member x target) (b .same) m) }
+
+module _ (g : Graph) (list : List ℕ) (target held ready left : ℕ) (h : Onward g list target held ready left) where
+  -- a vertex is looked at
+  module _ (v held′ ready′ left′ : ℕ) (k : Looked (rowsAt g v) v held ready left held′ ready′ left′) where
+    pub onward-look : Onward g list target held′ ready′ left′
+    onward-look =
+        record { successors = h .successors; search = k .search g refl (h .search); out = λ m. h .out (subst (λ (x : ℕ). Member x target) (k .same) m) }
+
+    pub falls-look : countOutside 64 held′ * 2 ^ 64 + left′ < countOutside 64 held * 2 ^ 64 + left
+    falls-look = rw (k .same) (falls-left held left left′ (k .less))
+
+  -- the lowest ready vertex is added
+  module _ (v held′ ready′ left′ : ℕ) (z : left ≡ 0) (low : LowestOf ready v) (k : Added list v held ready held′ ready′ left′) where
+    pub onward-add : (v ≡ target → ⊥) → Onward g list target held′ ready′ left′
+    onward-add n =
+        record {
+          successors = h .successors;
+          search = k .search g (h .successors) (subst (Searching g held ready) z (h .search));
+          out = λ m. ⊎-elim (h .out) (λ q. n (sym q)) (k .taken .taken (low .vertex .place) target .to m);
+        }
+
+    pub falls-add : left′ < 2 ^ 64 → countOutside 64 held′ * 2 ^ 64 + left′ < countOutside 64 held * 2 ^ 64 + left
+    falls-add l =
+        falls-next held held′ left left′ l (inserted-fewer held v held′ (low .vertex .place) (next-new g held ready left v (h .search) z low) (k .taken))
+
+    -- and is held then
+    pub added-here : v ≡ target → Member held′ target
+    added-here q = k .taken .taken (low .vertex .place) target .from (inr (sym q))
+
+    pub taken-add : (s count : ℕ) → Taken g target s held count → Taken g target s held′ (count + 1)
+    taken-add s count t =
+        let n = next-some g held ready left v (h .search) z low in
+        taken-more g target s held count t (record { vertex = v; colour = n .0 }) held′ (low .vertex .place) (h .out) (n .1) (k .taken)
+
 -- ---- writing the steps
 
 -- one element more stands in the lent list
@@ -225,6 +270,13 @@ pub record Writing (g : Graph) (target s now i : ℕ) (entry cur entry′ cur′
 pub writing-none : (g : Graph) (target s : ℕ) (entry entry′ : List ℕ) → Room g target s entry entry′ → Writing g target s s 0 entry entry entry′ entry′
 writing-none g target s entry entry′ r =
     record { done = []; todo = r .steps; whole = r .way; onward = r .way; counted = refl; room = r .first; room′ = r .second; first = refl; second = refl }
+
+-- the set may be written in another way
+pub written-now : (g : Graph) (target s t : ℕ) (entry entry′ : List ℕ) → t ≡ s → Room g target s entry entry′ → Writing g target t t 0 entry entry entry′ entry′
+written-now g target s t entry entry′ e r = writing-none g target t entry entry′ (subst (λ (x : ℕ). Room g target x entry entry′) (sym e) r)
+
+pub written-from : (g : Graph) (target s t : ℕ) (entry exit entry′ exit′ : List ℕ) → s ≡ t → Written g target s entry exit entry′ exit′ → Written g target t entry exit entry′ exit′
+written-from g target s t entry exit entry′ exit′ e = subst (λ (x : ℕ). Written g target x entry exit entry′ exit′) e
 
 -- the lists keep their lengths
 pub writing-long : (g : Graph) (target s now i : ℕ) (entry cur entry′ cur′ : List ℕ) → Writing g target s now i entry cur entry′ cur′ → (length cur ≡ length entry) × (length cur′ ≡ length entry′)

@@ -47,9 +47,9 @@ extern "C" {
 
 /* ---- version ---- */
 
-/* 2.0.0 is 20000: the last two parts have two digits each. The first part changes where a call or a struct does, the second
+/* 2.1.0 is 20100: the last two parts have two digits each. The first part changes where a call or a struct does, the second
  * where one is new. */
-#define PORTAL_VERSION 20000
+#define PORTAL_VERSION 20100
 
 /* The version of the library. A program that was compiled with another one's header sees PORTAL_VERSION differ from it. */
 uint64_t portal_version(void);

@@ -19,6 +19,7 @@ use access::WayAnswer;
 use answers::AllAnswers;
 use findings::FindingAnswer;
 use forecasts::ForecastAnswer;
+use quick_yes::QuickAnswer;
 use setup::Setup;
 use sheet_format::Reading;
 use vertex_set::VertexSet;
@@ -51,6 +52,7 @@ pub struct Answers {
     pub findings: FindingAnswers,
     pub sheet: SheetAnswers,
     pub forecast: ForecastAnswer,
+    pub quick: QuickAnswer,
 }
 
 // Asks for closure, lost set and way in.
@@ -128,12 +130,14 @@ pub fn demand_two(
     let findings = ask_findings(s, target, other);
     let sheet = ask_sheet(sheet, item);
     let forecast = forecasts::forecast_base(s, target);
+    let quick = quick_yes::opens(s, target, set);
     Answers {
         sets,
         lists,
         findings,
         sheet,
         forecast,
+        quick,
     }
 }
 

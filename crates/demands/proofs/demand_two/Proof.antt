@@ -17,6 +17,9 @@ ask-sheet-requires c κs = search needs
 forecast-base-requires : tie.Need-forecast-base-requires
 forecast-base-requires c κs = search needs
 
+opens-requires : tie.Need-opens-requires
+opens-requires c κs = search needs
+
 same-length : tie.Need-same-length
 same-length c = search needs
 
@@ -28,7 +31,8 @@ same-length-3 c = search needs
 
 returns : tie.Need-returns
 returns c =
-    let t = c .before in
+    let k = c .before in
+    let t = k .before in
     let f = t .before in
     let l = f .before .before .before in
     let s = l .before .before .before .before .before .before in
@@ -53,7 +57,8 @@ returns c =
       asked = sheet .1 .0;
       portalScore = sheet .1 .1 .0;
       portalRisk = sheet .1 .1 .1;
-      forecast = c .forecast-base .ensures;
+      forecast = k .forecast-base .ensures;
+      quick = c .opens .ensures;
     }
 
 pub demand-two-spec : {M : Type 1} → statement M
@@ -65,6 +70,7 @@ demand-two-spec =
     ask-findings-requires
     ask-sheet-requires
     forecast-base-requires
+    opens-requires
     same-length
     same-length-2
     same-length-3

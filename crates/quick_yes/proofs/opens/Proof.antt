@@ -1,48 +1,70 @@
 use borrow.Author.Needs.{needs}
+use Rattle.access.proofs.Calls.{inside-iff}
+use Rattle.quick_yes.proofs.Calls.{quick-malformed, quick-no-target, quick-outside, quick-yes, quick-no}
 use Rattle.quick_yes.proofs.opens.Statement.{statement}
 use Rattle.quick_yes.proofs.opens.Tie as tie
-use Rattle.quick_yes.proofs.opens.Reads as reads
-use Rattle.quick_yes.proofs.opens.Lts as lts
-use Rattle.formed.proofs.well_formed.Reads as well-formed-reads
-use Rattle.vertex_set.proofs.VertexSet.below.Reads as below-reads
-use Rattle.vertex_set.proofs.VertexSet.within.Reads as within-reads
-use Rattle.ways.proofs.follow_way.Reads as follow-way-reads
 
--- src/lib.rt:19:8
 well-formed-requires : tie.Need-well-formed-requires
 well-formed-requires c κs = search needs
 
--- src/lib.rt:21:17
 below-requires : tie.Need-below-requires
 below-requires c κs = search needs
 
--- src/lib.rt:22:16
 within-requires : tie.Need-within-requires
 within-requires c κs = search needs
 
--- src/lib.rt:24:21
 follow-way-requires : tie.Need-follow-way-requires
 follow-way-requires c κs = search needs
 
--- src/lib.rt:27:21
 returns : tie.Need-returns
-returns c = ?
+returns c =
+    let f = c .before .before in
+    let t = f .before .before in
+    let b = t .before .before in
+    let k = b .before in
+    let q = k .before .before .before in
+    let st = q .before in
+    let a = st .args in
+    let i = inside-iff (a .s) (a .set .0) (b .below .result .0) (st .good .1 .1 .0 .1 .1 .0 .1) (b .below .ensures) in
+    let y = f .follow-way .ensures .yes (c .if4 .taken) in
+    quick-yes (a .s) (a .target) (a .set .0) (q .well-formed .ensures .yes (k .before .before .if1 .taken)) (k .if2 .taken)
+    (i .to (t .before .within .ensures .yes (t .if3 .taken))) _ (record { steps = y .0; way = y .1; each = y .3 })
 
--- src/lib.rt:29:17
 returns-2 : tie.Need-returns-2
-returns-2 c = ?
+returns-2 c =
+    let f = c .before .before in
+    let t = f .before .before in
+    let b = t .before .before in
+    let k = b .before in
+    let q = k .before .before .before in
+    let st = q .before in
+    let a = st .args in
+    let i = inside-iff (a .s) (a .set .0) (b .below .result .0) (st .good .1 .1 .0 .1 .1 .0 .1) (b .below .ensures) in
+    let n = f .follow-way .ensures .no (c .if4 .left) in
+    quick-no (a .s) (a .target) (a .set .0) (q .well-formed .ensures .yes (k .before .before .if1 .taken)) (k .if2 .taken)
+    (i .to (t .before .within .ensures .yes (t .if3 .taken))) _ (n .0) (n .1)
 
--- src/lib.rt:31:13
 returns-3 : tie.Need-returns-3
-returns-3 c = ?
+returns-3 c =
+    let b = c .before .before in
+    let k = b .before in
+    let q = k .before .before .before in
+    let st = q .before in
+    let a = st .args in
+    let i = inside-iff (a .s) (a .set .0) (b .below .result .0) (st .good .1 .1 .0 .1 .1 .0 .1) (b .below .ensures) in
+    quick-outside (a .s) (a .target) (a .set .0) (q .well-formed .ensures .yes (k .before .before .if1 .taken)) (k .if2 .taken)
+    (λ h. c .before .within .ensures .no (c .if3 .left) (i .from h))
 
--- src/lib.rt:33:9
 returns-4 : tie.Need-returns-4
-returns-4 c = ?
+returns-4 c =
+    let q = c .before .before .before in
+    let a = q .before .args in
+    quick-no-target (a .s) (a .target) (a .set .0) (q .well-formed .ensures .yes (c .before .before .if1 .taken)) (c .if2 .left)
 
--- src/lib.rt:16:1
 returns-5 : tie.Need-returns-5
-returns-5 c = ?
+returns-5 c =
+    let a = c .before .before .args in
+    quick-malformed (a .s) (a .target) (a .set .0) (c .before .well-formed .ensures .no (c .if1 .left))
 
 pub opens-spec : {M : Type 1} → statement M
 opens-spec =

@@ -44,7 +44,7 @@ pub record Demand1 (text : List ℕ) (item : ℕ) (s : Setup) (set target other 
   -- the forecast: 12, 13
   pub forecast : Settled (12 ∷ 13 ∷ []) (ForecastCall s target) (forecastNumber (r .forecast)) (forecastValues (r .forecast))
   -- the quick yes: 12, 13, 14
-  pub quick : Settled (12 ∷ 13 ∷ 14 ∷ []) (QuickCall s target set) (quickNumber (r .quick)) (quickValues (r .quick))
+  pub quick : Settled (12 ∷ 13 ∷ 14 ∷ []) (QuickCall s target set) (quickNumber (r .sets .quick)) (quickValues (r .sets .quick))
 
 -- Demand 2: every answer is the one of the paper's definitions, by the calls' own contracts; a sheet is accepted exactly where it has the paper's
 -- form, and yields the setup that its rows state.
@@ -77,4 +77,4 @@ pub record Demand2 (text : List ℕ) (item : ℕ) (s : Setup) (set target other 
   -- how many sets the opening list has at most, by the starting items that are the target or reach it
   pub forecast : ForecastCall s target (forecastNumber (r .forecast)) (forecastValues (r .forecast))
   -- whether the set opens the target, with what is held at the stop: the set and the items of the way in, or the closure
-  pub quick : QuickCall s target set (quickNumber (r .quick)) (quickValues (r .quick))
+  pub quick : QuickCall s target set (quickNumber (r .sets .quick)) (quickValues (r .sets .quick))

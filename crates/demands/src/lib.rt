@@ -7,6 +7,7 @@ ghost use mathlib.Core.Path.{_≡_};
 ghost use mathlib.Core.Bool.{true, false};
 ghost use Rattle.vertex_set.specs.Set.{Decides};
 ghost use Rattle.access.specs.Answers.{closureNumber, closureValues, ClosureCall, lostNumber, lostValues, LostCall, wayNumber, wayValues, WayCall};
+ghost use Rattle.quick_yes.specs.Answers.{quickNumber, quickValues, QuickCall};
 ghost use Rattle.findings.specs.Answers.{findingNumber, findingValues, BackdoorCall, IneffectiveCall, InconsistentCall};
 ghost use Rattle.sheet_format.specs.Read.{readSheet};
 ghost use Rattle.portal.specs.Portal.{PortalCall};
@@ -28,6 +29,7 @@ pub struct SetAnswers {
     pub closure: ClosureAnswer,
     pub lost: LostAnswer,
     pub way: WayAnswer,
+    pub quick: QuickAnswer,
 }
 
 pub struct FindingAnswers {
@@ -52,10 +54,9 @@ pub struct Answers {
     pub findings: FindingAnswers,
     pub sheet: SheetAnswers,
     pub forecast: ForecastAnswer,
-    pub quick: QuickAnswer,
 }
 
-// Asks for closure, lost set and way in.
+// Asks for closure, lost set, way in and quick yes.
 fn ask_sets(
     s: Setup,
     set: VertexSet,
@@ -66,11 +67,18 @@ fn ask_sets(
     ensures closure { λ r. ⌜ ClosureCall s (set .0) (closureNumber (r .closure)) (closureValues (r .closure)) ⌝ }
     ensures lost { λ r. ⌜ LostCall s (set .0) (lostNumber (r .lost)) (lostValues (r .lost)) ⌝ }
     ensures way { λ r. ⌜ WayCall s target (set .0) (wayNumber (r .way)) (wayValues (r .way)) (now (vertices .entry)) (now (vertices .exit)) (now (colours .entry)) (now (colours .exit)) ⌝ }
+    ensures quick { λ r. ⌜ QuickCall s target (set .0) (quickNumber (r .quick)) (quickValues (r .quick)) ⌝ }
 {
     let closure = access::access_from(s, set);
     let lost = access::lockout_from(s, set);
     let way = access::access_derivation(s, target, set, vertices, colours);
-    SetAnswers { closure, lost, way }
+    let quick = quick_yes::opens(s, target, set);
+    SetAnswers {
+        closure,
+        lost,
+        way,
+        quick,
+    }
 }
 
 // Asks for the three findings, and question 12.
@@ -130,14 +138,12 @@ pub fn demand_two(
     let findings = ask_findings(s, target, other);
     let sheet = ask_sheet(sheet, item);
     let forecast = forecasts::forecast_base(s, target);
-    let quick = quick_yes::opens(s, target, set);
     Answers {
         sets,
         lists,
         findings,
         sheet,
         forecast,
-        quick,
     }
 }
 

@@ -17,9 +17,6 @@ ask-sheet-requires c κs = search needs
 forecast-base-requires : tie.Need-forecast-base-requires
 forecast-base-requires c κs = search needs
 
-opens-requires : tie.Need-opens-requires
-opens-requires c κs = search needs
-
 same-length : tie.Need-same-length
 same-length c = search needs
 
@@ -31,8 +28,7 @@ same-length-3 c = search needs
 
 returns : tie.Need-returns
 returns c =
-    let k = c .before in
-    let t = k .before in
+    let t = c .before in
     let f = t .before in
     let l = f .before .before .before in
     let s = l .before .before .before .before .before .before in
@@ -43,7 +39,7 @@ returns c =
     record {
       closure = sets .0;
       lost = sets .1 .0;
-      way = sets .1 .1;
+      way = sets .1 .1 .0;
       bases = lists .lists;
       score = lists .security;
       risk = lists .recoverability;
@@ -57,8 +53,8 @@ returns c =
       asked = sheet .1 .0;
       portalScore = sheet .1 .1 .0;
       portalRisk = sheet .1 .1 .1;
-      forecast = k .forecast-base .ensures;
-      quick = c .opens .ensures;
+      forecast = c .forecast-base .ensures;
+      quick = sets .1 .1 .1;
     }
 
 pub demand-two-spec : {M : Type 1} → statement M
@@ -70,7 +66,6 @@ demand-two-spec =
     ask-findings-requires
     ask-sheet-requires
     forecast-base-requires
-    opens-requires
     same-length
     same-length-2
     same-length-3

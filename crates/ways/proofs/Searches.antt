@@ -102,8 +102,7 @@ module _ (list : List ℕ) (v held ready held′ rest : ℕ) (p : VertexOf ready
         search = λ g s h. record {
           sound = λ u m.
               let q = o .each u .to m in
-              let r = h .sound u (q .0) in
-              (
+              let r = h .sound u (q .0) in (
                 λ k. ⊎-elim (r .0) (q .1) (t .taken (p .place) u .to k),
                 admits-mono false (rowsAt g u) (Member held) (Member held′) (λ i k. t .taken (p .place) i .from (inl k)) (r .1),
               );

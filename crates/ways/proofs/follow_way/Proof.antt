@@ -113,9 +113,10 @@ loop-again-2 c =
     let a = c .before in
     let v = a .before .before in
     let e = v .before .before .before in
-    let i = e .before .before .loop .inv in
-    (onward-add _ _ _ _ _ _ (i .0) _ _ _ _ (e .if2 .left) (v .lowest2 .ensures) (a .add .ensures) (c .if4 .left),
-    taken-add _ _ _ _ _ _ (i .0) _ _ _ _ (e .if2 .left) (v .lowest2 .ensures) (a .add .ensures) _ _ (i .1))
+    let i = e .before .before .loop .inv in (
+      onward-add _ _ _ _ _ _ (i .0) _ _ _ _ (e .if2 .left) (v .lowest2 .ensures) (a .add .ensures) (c .if4 .left),
+      taken-add _ _ _ _ _ _ (i .0) _ _ _ _ (e .if2 .left) (v .lowest2 .ensures) (a .add .ensures) _ _ (i .1),
+    )
 
 pub follow-way-spec : {M : Type 1} → statement M
 follow-way-spec =

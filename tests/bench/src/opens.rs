@@ -90,7 +90,11 @@ fn all_and_last(kind: &Kind) -> (Vec<Question>, Question) {
     let all: Vec<Question> = (0..kind.setup.count).map(|target| (set, target)).collect();
     let steps = |&(set, target): &Question| {
         let (yes, held) = quick(&kind.setup.graph, set, target);
-        if yes { (held & !set).count_ones() } else { 0 }
+        if yes {
+            (held & !set).count_ones()
+        } else {
+            0
+        }
     };
     let last = *all.iter().max_by_key(|question| steps(question)).expect("a sheet has an item");
     (all, last)

@@ -22,7 +22,10 @@ fn stops_as_soon_as_the_target_is_held() {
     // A whole pass would bring order too.
     assert_eq!(calls.opens(set(&all), MAIL), Ok((true, set(&[ORDPW, MAILPW, TOKEN, MAIL]))));
     // Mail is not needed, but it is the lower item: the way in has it.
-    assert_eq!(calls.opens(set(&all), ORDER), Ok((true, set(&[ORDPW, MAILPW, TOKEN, MAIL, ORDER]))));
+    assert_eq!(
+        calls.opens(set(&all), ORDER),
+        Ok((true, set(&[ORDPW, MAILPW, TOKEN, MAIL, ORDER])))
+    );
     assert_eq!(calls.opens(set(&[MAILPW]), MAIL), Ok((true, set(&[MAILPW, MAIL]))));
     assert_eq!(calls.opens(set(&[ORDPW, TOKEN]), ORDER), Ok((true, set(&[ORDPW, TOKEN, ORDER]))));
 }

@@ -8,6 +8,7 @@
  *   setups     portal_check                  is this a setup?
  *              portal_closure, portal_lost   what a set opens, what the loss of a set takes away
  *              portal_way_in                 how a set opens an item, step by step
+ *              portal_opens                  does a set open an item? told as soon as it does
  *              portal_forecast               how many sets an opening list has at most, before it is listed
  *              portal_lists                  the smallest sets that open an item, and the smallest losses that shut it
  *              portal_setup_score, portal_setup_risk
@@ -47,9 +48,9 @@ extern "C" {
 
 /* ---- version ---- */
 
-/* 2.0.0 is 20000: the last two parts have two digits each. The first part changes where a call or a struct does, the second
+/* 2.1.0 is 20100: the last two parts have two digits each. The first part changes where a call or a struct does, the second
  * where one is new. */
-#define PORTAL_VERSION 20000
+#define PORTAL_VERSION 20100
 
 /* The version of the library. A program that was compiled with another one's header sees PORTAL_VERSION differ from it. */
 uint64_t portal_version(void);
@@ -60,7 +61,8 @@ uint64_t portal_version(void);
 #define PORTAL_NEVER (UINT64_C(1) << 62)
 
 /* Bytes of stack: for a call that asks all subsets of the starting or losable items, which scores, lists and findings do; for
- * one that marks a handed-in list; and for the others (portal_version, _read, _name, _check, _closure, _lost, _way_in, _forecast). */
+ * one that marks a handed-in list; and for the others (portal_version, _read, _name, _check, _closure, _lost, _way_in, _opens,
+ * _forecast). */
 #define PORTAL_STACK ((size_t)256 * 1024)
 #define PORTAL_STACK_MARKS ((size_t)512 * 1024)
 #define PORTAL_STACK_SMALL ((size_t)128 * 1024)
@@ -181,6 +183,13 @@ struct portal_way {
     uint64_t steps;
 };
 
+/* opens is 1 for yes and 0 for no; set is what is held at the stop. */
+struct portal_quick {
+    uint64_t number;
+    uint64_t opens;
+    uint64_t set;
+};
+
 /* How many sets the opening list has at most. */
 struct portal_forecast {
     uint64_t number;
@@ -288,6 +297,13 @@ struct portal_set portal_lost(const uint64_t *setup, size_t words, uint64_t set)
  */
 struct portal_way portal_way_in(const uint64_t *setup, size_t words, uint64_t target, uint64_t set,
                                 uint8_t *items, size_t item_places, uint8_t *colours, size_t colour_places);
+
+/*
+ * Does the set open the target? The call stops as soon as the target is held, and hands back the items that are held then: on a yes the
+ * given set and the items of the way in (see portal_way_in), and no other, so the given set where it has the target; on a no the full
+ * closure, as portal_closure has it. opens is 1 exactly where the target is in that closure. Refused with 12, 13, 14.
+ */
+struct portal_quick portal_opens(const uint64_t *setup, size_t words, uint64_t target, uint64_t set);
 
 /*
  * The forecast for the target's opening list, told without listing anything: the number of ways to choose s / 2, rounded down, of s items,

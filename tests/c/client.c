@@ -205,6 +205,25 @@ static void try_way_in(void)
     expect("list too short, untouched", (uint64_t)memcmp(items, "\3\4\11\11", 4), 0);
 }
 
+static void try_opens(void)
+{
+    uint64_t all = ORDPW + MAILPW + TOKEN;
+    struct portal_quick r = portal_opens(setup, WORDS, MAIL_ITEM, all);
+    expect("quick yes", r.number, 0);
+    expect("it is a yes", r.opens, 1);
+    expect("held once mail is, which order is not yet", r.set, all + MAIL);
+    expect("mail is the lower item on the way to order", portal_opens(setup, WORDS, ORDER_ITEM, all).set, all + MAIL + ORDER);
+    expect("a held target gives the given set", portal_opens(setup, WORDS, 1, MAILPW).set, MAILPW);
+    r = portal_opens(setup, WORDS, 0, MAILPW);
+    expect("quick no", r.number + r.opens, 0);
+    expect("the closure on a no", r.set, MAILPW + MAIL + ORDER);
+    r = portal_opens(setup, WORDS, 5, UINT64_MAX);
+    expect("quick yes of no item, before the set is asked", r.number, PORTAL_NO_ITEM);
+    expect("quick yes of no item, no values", r.opens + r.set, 0);
+    expect("quick yes, outside", portal_opens(setup, WORDS, ORDER_ITEM, 32).number, PORTAL_OUTSIDE);
+    expect("quick yes in no setup", portal_opens(malformed, WORDS, 5, 32).number, PORTAL_NO_SETUP);
+}
+
 static void try_forecast(void)
 {
     struct portal_forecast r = portal_forecast(setup, WORDS, ORDER_ITEM);
@@ -318,6 +337,7 @@ static const struct call {
     { "portal_closure", PORTAL_STACK_SMALL, try_closure },
     { "portal_lost", PORTAL_STACK_SMALL, try_lost },
     { "portal_way_in", PORTAL_STACK_SMALL, try_way_in },
+    { "portal_opens", PORTAL_STACK_SMALL, try_opens },
     { "portal_forecast", PORTAL_STACK_SMALL, try_forecast },
     { "portal_lists", PORTAL_STACK, try_lists },
     { "portal_setup_score", PORTAL_STACK, try_setup_score },

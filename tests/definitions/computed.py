@@ -19,6 +19,7 @@ FIRST = {
     "setup": ["B", "reads-alone"],
     "bases": ["B"],
     "access": ["set-", "way-"],
+    "quick_yes": ["quick-"],
     "answers": ["bases-", "score-", "risk-", "marks-"],
     "antichains": ["choose-"],
     "forecasts": ["forecast-"],

@@ -576,6 +576,61 @@ def WayCall(s, target, set_, number, values, entry, exit, entry_, exit_):
     return malformed and noTarget and outside and shut and found
 
 
+# ---- quick_yes/Answers
+
+
+def HeldAtStop(g, target, set_, r):
+    held = lambda i: Member(set_, i)
+    return any(
+        Way(g, target, held, steps) and all(Iff(Member(r, v), Member(set_, v) or Adds(access(g), steps, v)) for v in world.vertices)
+        for steps in ways(g, target, set_)
+    )
+
+
+def QuickCall(s, target, set_, number, values):
+    held = lambda i: Member(set_, i)
+    asked = lambda: WellFormed(s) and target < s.count and Inside(s, set_)
+    malformed = implies(lambda: not WellFormed(s), lambda: Refuses(12, number, values))
+    noTarget = implies(lambda: WellFormed(s) and s.count <= target, lambda: Refuses(13, number, values))
+    outside = implies(lambda: WellFormed(s) and target < s.count and not Inside(s, set_), lambda: Refuses(14, number, values))
+    yes = implies(
+        lambda: asked() and HasAccess(s.graph, held, target),
+        lambda: any(number == 0 and values == [1, r] and HeldAtStop(s.graph, target, set_, r) for r in world.sets),
+    )
+    no = implies(
+        lambda: asked() and not HasAccess(s.graph, held, target),
+        lambda: any(number == 0 and values == [0, r] and AccessFrom(s.graph, set_, r) for r in world.sets),
+    )
+    return malformed and noTarget and outside and yes and no
+
+
+def OneQuickAnswer(s, target, set_, answers):
+    return all(
+        implies(lambda: QuickCall(s, target, set_, n, v) and QuickCall(s, target, set_, n_, v_), lambda: Same(n, n_, v, v_))
+        for n, v in answers
+        for n_, v_ in answers
+    )
+
+
+# ---- quick_yes/Agrees
+
+
+def QuickAgrees(s, target, set_, quick, closures):
+    """`quick` and `closures` are the answers to the two calls that are looked at."""
+    both = lambda y, h, r, n: QuickCall(s, target, set_, 0, [y, h]) and ClosureCall(s, set_, 0, [r, n])
+    values = [(*v, *w) for m, v in quick if m == 0 and len(v) == 2 for n, w in closures if n == 0 and len(w) == 2]
+    yes = all(implies(lambda: both(y, h, r, n), lambda: Iff(y == 1, Member(r, target))) for y, h, r, n in values)
+    no = all(implies(lambda: both(y, h, r, n), lambda: Iff(y == 0, not Member(r, target))) for y, h, r, n in values)
+    within = all(implies(lambda: both(y, h, r, n), lambda: Within(h, r)) for y, h, r, n in values)
+    whole = all(implies(lambda: y == 0 and both(y, h, r, n), lambda: h == r) for y, h, r, n in values)
+    answered = all(
+        implies(lambda: target < s.count and QuickCall(s, target, set_, m, v) and ClosureCall(s, set_, n, w), lambda: m == n)
+        for m, v in quick
+        for n, w in closures
+    )
+    return yes and no and within and whole and answered
+
+
 # ---- answers/Answers
 
 
@@ -1326,7 +1381,8 @@ def Demand1(text, item, s, set_, target, other, opened, locked, vertices, vertic
     portalScore = SettledPortal(False, text, item, r.portalScore, among.numbers)
     portalRisk = SettledPortal(True, text, item, r.portalRisk, among.numbers)
     forecast = Settled([12, 13], lambda n, v: ForecastCall(s, target, n, v), *r.forecast, both)
-    sets = closure and lost and way
+    quick = Settled([12, 13, 14], lambda n, v: QuickCall(s, target, set_, n, v), *r.quick, both)
+    sets = closure and lost and way and quick
     lists = bases and score and risk and openings and lockouts
     return sets and lists and backdoor and idle and pair and formed and reading and portalScore and portalRisk and forecast
 
@@ -1349,7 +1405,8 @@ def Demand2(text, item, s, set_, target, other, opened, locked, vertices, vertic
     portalScore = PortalCall(False, text, item, r.portalScore)
     portalRisk = PortalCall(True, text, item, r.portalRisk)
     forecast = ForecastCall(s, target, *r.forecast)
-    sets = closure and lost and way
+    quick = QuickCall(s, target, set_, *r.quick)
+    sets = closure and lost and way and quick
     lists = bases and score and risk and openings and lockouts
     return sets and lists and backdoor and idle and pair and formed and reading and asked and portalScore and portalRisk and forecast
 
@@ -1575,7 +1632,8 @@ def OneResultOnSetups(words, set_, target, other, sets, a, b, numbers, results, 
     idle = OneResult(lambda n, v: IneffectiveCall(s, target, n, v), results, values)
     outOfRank = OneResult(lambda n, v: InconsistentCall(s, target, other, n, v), results, values)
     forecast = OneResult(lambda n, v: ForecastCall(s, target, n, v), results, values)
-    return all((check, closure, lost, wayIn, lists_, score, risk, openings, lockouts, backdoor, idle, outOfRank, forecast))
+    opens = OneResult(lambda n, v: QuickCall(s, target, set_, n, v), results, values)
+    return all((check, closure, lost, wayIn, lists_, score, risk, openings, lockouts, backdoor, idle, outOfRank, forecast, opens))
 
 
 def OneResultOnSheets(text, item, entry, readings, parts):

@@ -467,6 +467,41 @@ def of_way_calls(D):
     ]
 
 
+def of_quick(D):
+    """The quick yes: ordpw, mailpw and token open mail and order; mailpw alone opens both, and not ordpw."""
+    call = lambda *a: D.QuickCall(bench, *a)
+    answers = [(0, [y, h]) for y in (0, 1) for h in (0, 2, 10, 15, 26, 31)] + [(n, []) for n in (0, 12, 13, 14)]
+    closures = [(0, [r, n]) for r in (2, 10, 26, 31) for n in (1, 2, 3)] + [(n, []) for n in (0, 12, 14)]
+    agrees = lambda s, target, set_: D.QuickAgrees(s, target, set_, answers, closures)
+    return [
+        ("held at the stop: mail", lambda: D.HeldAtStop(bench.graph, MAIL, 7, 15), True),
+        ("not held at the stop: order too", lambda: D.HeldAtStop(bench.graph, MAIL, 7, 31), False),
+        ("not held at the stop: without the set", lambda: D.HeldAtStop(bench.graph, MAIL, 7, 8), False),
+        ("held at the stop: a held target", lambda: D.HeldAtStop(bench.graph, ORDER, 16, 16), True),
+        ("not held at the stop: a pruned way", lambda: D.HeldAtStop(bench.graph, ORDER, 7, 23), False),
+        ("call: quick, mail", lambda: call(MAIL, 7, 0, [1, 15]), True),
+        ("not call: quick, the closure on a yes", lambda: call(MAIL, 7, 0, [1, 31]), False),
+        ("call: quick, order by mail", lambda: call(ORDER, 2, 0, [1, 26]), True),
+        ("not call: quick, no where open", lambda: call(ORDER, 2, 0, [0, 26]), False),
+        ("call: quick, no", lambda: call(0, 2, 0, [0, 26]), True),
+        ("not call: quick, no with the set", lambda: call(0, 2, 0, [0, 2]), False),
+        ("not call: quick, yes where shut", lambda: call(0, 2, 0, [1, 26]), False),
+        ("call: quick, 13", lambda: call(5, 2, 13, []), True),
+        ("call: quick, 13 before 14", lambda: call(5, 32, 13, []), True),
+        ("not call: quick, 14 before 13", lambda: call(5, 32, 14, []), False),
+        ("call: quick, 14", lambda: call(ORDER, 32, 14, []), True),
+        ("call: quick, 12", lambda: D.QuickCall(EMPTY, 5, 32, 12, []), True),
+        ("not call: quick, 13 before 12", lambda: D.QuickCall(EMPTY, 5, 32, 13, []), False),
+        ("one answer: quick, order by mail", lambda: D.OneQuickAnswer(bench, ORDER, 2, answers), True),
+        ("one answer: quick, no", lambda: D.OneQuickAnswer(bench, 0, 2, answers), True),
+        ("agrees: yes, at mail already", lambda: agrees(bench, MAIL, 2), True),
+        ("agrees: no", lambda: agrees(bench, 0, 2), True),
+        ("agrees: 14", lambda: agrees(bench, ORDER, 32), True),
+        ("agrees: 12", lambda: agrees(EMPTY, 0, 32), True),
+        ("agrees: 13, where the closure answers", lambda: agrees(bench, 5, 2), True),
+    ]
+
+
 def of_base_calls(D):
     """The call for both lists."""
     return [
@@ -678,8 +713,8 @@ def of_one_answer(D):
 
 def of_results(D):
     """That the contracts of the calls for C determine their results."""
-    values = [[], [0], [1], [3], [10], [26, 2], [26, 3], [1, 2], [2, 2], [1, 1, 1, 1, 1], [0, 1, 3, 0, 2]]
-    results = [(0, f) for f in ([0], [1], [3], [10], [26, 2], [26, 3], [1, 1, 1, 1, 1])] + [(12, [0]), (13, [0]), (12, [0, 0])]
+    values = [[], [0], [1], [3], [10], [26, 2], [26, 3], [1, 26], [0, 0], [1, 2], [2, 2], [1, 1, 1, 1, 1], [0, 1, 3, 0, 2]]
+    results = [(0, f) for f in ([0], [1], [3], [10], [26, 2], [26, 3], [1, 26], [0, 26], [0, 0], [1, 1, 1, 1, 1])] + [(12, [0]), (13, [0]), (12, [0, 0]), (13, [0, 0])]
     lent, out = [9, 9], LENT[:4]
     ways = [(0, [1, 2], [3, 4], [0, 1]), (0, [1, 2], [3, 4], lent), (0, [0, 0], lent, lent), (15, [0, 0], lent, lent), (13, [0, 0], lent, lent)]
     lists = [(0, [2, 2], [2, 5, 3, 6]), (0, [2, 2], [5, 2, 3, 6]), (0, [0, 0], out), (15, [0, 0], out)]
@@ -743,7 +778,7 @@ def of_demands(D):
 
 
 Answers = namedtuple(
-    "Answers", "closure lost way bases score risk openings lockouts backdoor idle pair formed reading portalScore portalRisk forecast"
+    "Answers", "closure lost way bases score risk openings lockouts backdoor idle pair formed reading portalScore portalRisk forecast quick"
 )
 Among = namedtuple("Among", "answers ways lists texts docs readings numbers")
 
@@ -753,12 +788,12 @@ def of_both_demands(D):
     sheet, five, lent, out = text(BENCH), REFUSED["refused 5"][0], [9, 9], LENT[:4]
     yes = Answers(
         *[(0, [26, 3]), (0, [10]), (0, [1, 2]), (0, [2, 2]), (0, [1]), (0, [3]), (0, [1, 0, 0, 0, 1]), (0, [2, 0, 0, 0, 0])],
-        *[(0, [1]), (0, [0]), (0, [1]), True, D.accepted(bench), 1, 3, (0, [3])],
+        *[(0, [1]), (0, [0]), (0, [1]), True, D.accepted(bench), 1, 3, (0, [3]), (0, [1, 26])],
     )
-    outside = Answers((14, []), (14, []), *[(13, [])] * 9, True, D.refused(5, 2), never + 5, never + 5, (13, []))
-    set_outside = yes._replace(closure=(14, []), lost=(14, []), way=(14, []), portalRisk=1)
-    malformed = yes._replace(**{n: (12, []) for n in (*Answers._fields[:11], "forecast")}, formed=False)
-    answers = [(0, v) for v in ([0], [1], [3], [10], [0, 1], [26, 2], [26, 3], [1, 0, 0, 0, 1], [2, 0, 0, 0, 0])] + [(n, []) for n in (0, 12, 13, 14)]
+    outside = Answers((14, []), (14, []), *[(13, [])] * 9, True, D.refused(5, 2), never + 5, never + 5, (13, []), (13, []))
+    set_outside = yes._replace(closure=(14, []), lost=(14, []), way=(14, []), quick=(14, []), portalRisk=1)
+    malformed = yes._replace(**{n: (12, []) for n in (*Answers._fields[:11], "forecast", "quick")}, formed=False)
+    answers = [(0, v) for v in ([0], [1], [3], [10], [0, 1], [26, 2], [26, 3], [1, 26], [0, 26], [1, 0, 0, 0, 1], [2, 0, 0, 0, 0])] + [(n, []) for n in (0, 12, 13, 14)]
     ways = [(0, [1, 2], [3, 4], [0, 1]), (0, [1, 2], [3, 4], lent)] + [(n, v, lent, lent) for n, v in answers + [(15, [])]]
     lists = [(0, [2, 2], [2, 5, 3, 6]), (0, [2, 2], out)] + [(n, v, out) for n, v in answers + [(15, [])]]
     readings = [D.accepted(bench), D.accepted(EMPTY), D.refused(5, 2), D.refused(2, 5)]
@@ -776,6 +811,7 @@ def of_both_demands(D):
         ("no to question 12", order, yes._replace(formed=False), False),
         ("another line", order, yes._replace(reading=D.accepted(bench)._replace(line=1)), False),
         ("the list's length for the forecast", order, yes._replace(forecast=(0, [2])), False),
+        ("no to what mailpw opens", order, yes._replace(quick=(0, [0, 26])), False),
     ]
     return [
         (f"{'' if ok else 'not '}demand {n}: {name}", lambda f=f, a=a, r=r: f(*a, r, among), ok)
@@ -987,7 +1023,7 @@ GROUPS = {
     "one": [of_one],
     "sums": [of_sums],
     "bench": [of_derivations, of_passes, of_ways, of_bases, of_scores, of_marks, of_set_calls, of_way_calls, of_base_calls, of_score_calls, of_demand3]
-    + [of_forecasts, of_findings, of_portal, of_same, of_told, of_readings, of_one_answer, of_results, of_demands, of_both_demands],
+    + [of_quick, of_forecasts, of_findings, of_portal, of_same, of_told, of_readings, of_one_answer, of_results, of_demands, of_both_demands],
     "rows": [of_valid_rows, of_rows, of_stated, of_meaning, of_refusals],
     "spare": [of_spare],
     "ring": [of_ring],

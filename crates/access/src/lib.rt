@@ -67,7 +67,7 @@ fn take_way(
 ) -> WayAnswer
     ensures { λ r. ⌜ WayTaken graph target (set .0) (wayNumber r) (wayValues r) (now (vertices .entry)) (now (vertices .exit)) (now (colours .entry)) (now (colours .exit)) ⌝ }
 {
-    let way = ways::count_way(graph, target, set);
+    let way = ways::follow_way(graph, target, set);
     let count = way.count;
     if way.found {
         if vertices.len() < count {

@@ -57,7 +57,7 @@ fn admits(loss: bool, rows: Rows, held: VertexSet) -> bool
 
 // The vertices outside of `grown` that need one of the vertices which `grown` has and `held` has
 // not. No other vertex can be admitted by the one set and not by the other.
-fn to_look_at(list: &[u64], held: VertexSet, grown: VertexSet) -> u64
+pub fn to_look_at(list: &[u64], held: VertexSet, grown: VertexSet) -> u64
     requires { ⌜ length (now list) ≡ 64 ⌝ }
     ensures { λ r. ⌜ ToLookAt (now (list .entry)) (held .0) (grown .0) r ⌝ }
 {

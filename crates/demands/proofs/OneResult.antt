@@ -11,6 +11,7 @@ use Rattle.formed.specs.WellFormed.{WellFormed}
 use Rattle.sheet_format.specs.Read.{readSheet}
 use Rattle.findings.proofs.Unique.{one-backdoor-answer, one-ineffective-answer, one-inconsistent-answer}
 use Rattle.forecasts.proofs.Unique.{one-forecast-answer}
+use Rattle.quick_yes.proofs.Unique.{one-quick-answer}
 use Rattle.setup.specs.Calls.{Same}
 use Rattle.demands.proofs.OneAnswer.{one-closure-answer, one-lost-answer, one-way-answer, one-bases-answer, one-score-answer, one-marks-answer}
 use Rattle.demands.proofs.Stable.{stable-number, by-cases}
@@ -56,6 +57,7 @@ one-result-on-setups words =
       idle = λ item. one-result _ (one-ineffective-answer s item);
       outOfRank = λ above below. one-result _ (one-inconsistent-answer s above below);
       forecast = λ target. one-result _ (one-forecast-answer s target);
+      opens = λ target set. one-result _ (one-quick-answer s target set);
     }
 
 -- ---- the calls on a sheet

@@ -25,6 +25,8 @@ use Rattle.findings.specs.Answers.{FindingCall}
 use Rattle.findings.proofs.Unique.{decided-once, all-below, one-finding-answer}
 use Rattle.forecasts.specs.Answers.{ForecastCall}
 use Rattle.forecasts.proofs.Unique.{one-forecast-answer}
+use Rattle.quick_yes.specs.Answers.{QuickCall}
+use Rattle.quick_yes.proofs.Unique.{one-quick-answer}
 use Rattle.demands.proofs.Stable.{stable-number, by-cases}
 use Rattle.demands.proofs.OneAnswer.{by-target, one-closure-answer, one-lost-answer, one-way-answer, one-bases-answer, one-score-answer, one-marks-answer}
 use Rattle.demands.specs.Outcomes.{Outcome, Settled, SettledWay, SettledLists, Yielded, SettledQuestion12}
@@ -115,6 +117,20 @@ module _ (s : Setup) (n : ℕ) (v : List ℕ) where
             (λ w o. refused (inr (inl refl)) refl (c .noTarget w o)) (λ w l. let a = c .answers w l in answered (a .2) (a .3));
         meets = c;
         only = λ n′ v′ d. one-forecast-answer s target n′ n v′ v d c;
+      }
+
+  pub settled-quick : (target set : ℕ) → QuickCall s target set n v → Settled (12 ∷ 13 ∷ 14 ∷ []) (QuickCall s target set) n v
+  settled-quick target set c =
+      record {
+        outcome = by-target s target (outcome-stable v) (λ m. refused (inl refl) refl (c .malformed m))
+            (λ w o. refused (inr (inl refl)) refl (c .noTarget w o))
+            (λ w l. by-cases (Inside s set) (outcome-stable v)
+            (λ i. by-cases (HasAccess (s .graph) (Member set) target) (outcome-stable v)
+            (λ h. let a = c .yes w l i h in answered (a .1) (a .2))
+            (λ h. let a = c .no w l i h in answered (a .1) (a .2)))
+            (λ o. refused (inr (inr (inl refl))) refl (c .outside w l o)));
+        meets = c;
+        only = λ n′ v′ d. one-quick-answer s target set n′ n v′ v d c;
       }
 
   pub settled-finding : (Finds : Bool → Type 0) → ((b b′ : Bool) → Finds b → Finds b′ → b ≡ b′) → (vertices : List ℕ)

@@ -10,6 +10,7 @@ use Rattle.access.specs.Answers.{closureNumber, closureValues, ClosureCall, los
 use Rattle.answers.specs.Answers.{basesNumber, basesValues, BasesCall, scoreNumber, scoreValues, riskNumber, riskValues, ScoreCall, marksNumber, marksValues, MarksCall}
 use Rattle.findings.specs.Answers.{findingNumber, findingValues, BackdoorCall, IneffectiveCall, InconsistentCall}
 use Rattle.forecasts.specs.Answers.{forecastNumber, forecastValues, ForecastCall}
+use Rattle.quick_yes.specs.Answers.{quickNumber, quickValues, QuickCall}
 use Rattle.sheet_format.specs.Read.{readSheet}
 use Rattle.portal.specs.Portal.{PortalCall}
 use Rattle.demands.specs.declared.Answers.{Answers}
@@ -42,6 +43,8 @@ pub record Demand1 (text : List ℕ) (item : ℕ) (s : Setup) (set target other 
   pub portalRisk : SettledPortal true text item (r .sheet .risk)
   -- the forecast: 12, 13
   pub forecast : Settled (12 ∷ 13 ∷ []) (ForecastCall s target) (forecastNumber (r .forecast)) (forecastValues (r .forecast))
+  -- the quick yes: 12, 13, 14
+  pub quick : Settled (12 ∷ 13 ∷ 14 ∷ []) (QuickCall s target set) (quickNumber (r .sets .quick)) (quickValues (r .sets .quick))
 
 -- Demand 2: every answer is the one of the paper's definitions, by the calls' own contracts; a sheet is accepted exactly where it has the paper's
 -- form, and yields the setup that its rows state.
@@ -73,3 +76,5 @@ pub record Demand2 (text : List ℕ) (item : ℕ) (s : Setup) (set target other 
   pub portalRisk : PortalCall true text item (r .sheet .risk)
   -- how many sets the opening list has at most, by the starting items that are the target or reach it
   pub forecast : ForecastCall s target (forecastNumber (r .forecast)) (forecastValues (r .forecast))
+  -- whether the set opens the target, with what is held at the stop: the set and the items of the way in, or the closure
+  pub quick : QuickCall s target set (quickNumber (r .sets .quick)) (quickValues (r .sets .quick))

@@ -8,6 +8,7 @@ use Rattle.access.specs.Answers.{ClosureCall, LostCall, WayCall}
 use Rattle.answers.specs.Answers.{BasesCall, ScoreCall, MarksCall}
 use Rattle.findings.specs.Answers.{BackdoorCall, IneffectiveCall, InconsistentCall}
 use Rattle.forecasts.specs.Answers.{ForecastCall}
+use Rattle.quick_yes.specs.Answers.{QuickCall}
 use Rattle.setup.specs.Calls.{Same}
 use Rattle.demands.specs.OneAnswer.{SameWay, SameBases}
 use Rattle.portal_setup.specs.Words.{setupIn}
@@ -40,6 +41,7 @@ pub record OneResultOnSetups (words : List ℕ) : Type 0 where
   pub idle : (item : ℕ) → OneResult (IneffectiveCall (setupIn words) item)
   pub outOfRank : (above below : ℕ) → OneResult (InconsistentCall (setupIn words) above below)
   pub forecast : (target : ℕ) → OneResult (ForecastCall (setupIn words) target)
+  pub opens : (target set : ℕ) → OneResult (QuickCall (setupIn words) target set)
 
 -- The calls on a sheet, for every text.
 pub record OneResultOnSheets (text : List ℕ) : Type 0 where

@@ -7,6 +7,7 @@ ghost use mathlib.Core.Path.{_≡_};
 ghost use mathlib.Core.Bool.{true, false};
 ghost use Rattle.vertex_set.specs.Set.{Decides};
 ghost use Rattle.access.specs.Answers.{closureNumber, closureValues, ClosureCall, lostNumber, lostValues, LostCall, wayNumber, wayValues, WayCall};
+ghost use Rattle.quick_yes.specs.Answers.{quickNumber, quickValues, QuickCall};
 ghost use Rattle.findings.specs.Answers.{findingNumber, findingValues, BackdoorCall, IneffectiveCall, InconsistentCall};
 ghost use Rattle.sheet_format.specs.Read.{readSheet};
 ghost use Rattle.portal.specs.Portal.{PortalCall};
@@ -19,6 +20,7 @@ use access::WayAnswer;
 use answers::AllAnswers;
 use findings::FindingAnswer;
 use forecasts::ForecastAnswer;
+use quick_yes::QuickAnswer;
 use setup::Setup;
 use sheet_format::Reading;
 use vertex_set::VertexSet;
@@ -27,6 +29,7 @@ pub struct SetAnswers {
     pub closure: ClosureAnswer,
     pub lost: LostAnswer,
     pub way: WayAnswer,
+    pub quick: QuickAnswer,
 }
 
 pub struct FindingAnswers {
@@ -53,7 +56,7 @@ pub struct Answers {
     pub forecast: ForecastAnswer,
 }
 
-// Asks for closure, lost set and way in.
+// Asks for closure, lost set, way in and quick yes.
 fn ask_sets(
     s: Setup,
     set: VertexSet,
@@ -64,11 +67,18 @@ fn ask_sets(
     ensures closure { λ r. ⌜ ClosureCall s (set .0) (closureNumber (r .closure)) (closureValues (r .closure)) ⌝ }
     ensures lost { λ r. ⌜ LostCall s (set .0) (lostNumber (r .lost)) (lostValues (r .lost)) ⌝ }
     ensures way { λ r. ⌜ WayCall s target (set .0) (wayNumber (r .way)) (wayValues (r .way)) (now (vertices .entry)) (now (vertices .exit)) (now (colours .entry)) (now (colours .exit)) ⌝ }
+    ensures quick { λ r. ⌜ QuickCall s target (set .0) (quickNumber (r .quick)) (quickValues (r .quick)) ⌝ }
 {
     let closure = access::access_from(s, set);
     let lost = access::lockout_from(s, set);
     let way = access::access_derivation(s, target, set, vertices, colours);
-    SetAnswers { closure, lost, way }
+    let quick = quick_yes::opens(s, target, set);
+    SetAnswers {
+        closure,
+        lost,
+        way,
+        quick,
+    }
 }
 
 // Asks for the three findings, and question 12.

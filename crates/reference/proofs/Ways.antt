@@ -19,7 +19,8 @@ use Rattle.derivations.specs.Inner.Admits.{Admits}
 use Rattle.derivations.proofs.Rules.{least, monotone}
 use Rattle.derivations.proofs.Graphs.{access-lawful}
 use Rattle.derivations.proofs.Admits.{step-admits}
-use Rattle.ways.proofs.Ways.{PassedOver, step-found, way-behind}
+use Rattle.ways.proofs.Ways.{PassedOver, way-behind}
+use Rattle.ways.proofs.Ways as ways
 use Rattle.reference.specs.Tests.{isMember, withVertex}
 use Rattle.reference.specs.Closures.{colourOf, isAdded, derivesOf, nextVertex, stepsOf, wayOf}
 use Rattle.reference.specs.Graphs.{GraphOf}
@@ -51,11 +52,10 @@ module _ (s : Setup) (g : Graph) (wf : WellFormed s) (h : GraphOf s g) where
       let v : ℕ = nextVertex (s .count) g held in
       let n = next-vertex held .is l in
       let low = lowest-colour (rowsAt g v) held (few-colours s g h v) in
-      let most = wf .most in
       let q = low .lower (n .1 .colour) (n .1 .complete) in
       let a = q .0 in
       let b = q .1 in
-      step-found g held v (passed-over held) (colourOf (rowsAt g v) held) (omega arith) (n .0) low (omega arith) .yes refl .0
+      ways.lowest-step g held v (passed-over held) (n .0) (colourOf (rowsAt g v) held) (low .complete (omega arith)) (λ c k. low .lower c k .0)
 
   -- where the target is to be had and is not held, there is a step
   goes-on : (target held : ℕ) → HasAccess g (Member held) target → (Member held target → ⊥) → nextVertex (s .count) g held < s .count

@@ -21,7 +21,7 @@ fn opened(rows: &Rows, held: u64) -> bool {
 }
 
 /// For each vertex the vertices that need it.
-fn successors(graph: &Graph) -> [u64; 64] {
+pub fn successors(graph: &Graph) -> [u64; 64] {
     let mut list = [0; 64];
     for (v, rows) in graph.iter().enumerate() {
         let needed = rows.iter().fold(0, |all, row| all | row);

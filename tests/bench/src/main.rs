@@ -1,7 +1,8 @@
 //! Times the proved code beside the same algorithm in plain Rust, a brute force, and plain
 //! programs. `bench` prints tables and writes docs/PERFORMANCE.md with two charts; `bench quick`
 //! makes few rounds and writes the same files to build/bench/. `bench marking` prints the table of
-//! marks alone, `bench rows` that of the report with the most rows, `bench forecast` that of forecasts, and `bench closing` that of closures.
+//! marks alone, `bench rows` that of the report with the most rows, `bench forecast` that of forecasts, `bench closing` that
+//! of closures, and `bench opens` that of quick answers.
 
 mod calls;
 mod chart;
@@ -15,6 +16,7 @@ mod gate;
 mod grid;
 mod kinds;
 mod marking;
+mod opens;
 mod plain;
 mod programs;
 mod proved;
@@ -72,8 +74,9 @@ fn main() -> ExitCode {
         ["rows"] => print_rows(),
         ["forecast"] => print_forecasts(),
         ["closing"] => print_closing(),
+        ["opens"] => print_opens(),
         _ => {
-            eprintln!("usage: bench [quick | marking | rows | forecast | closing]");
+            eprintln!("usage: bench [quick | marking | rows | forecast | closing | opens]");
             return ExitCode::from(2);
         }
     }
@@ -101,6 +104,7 @@ fn run(rounds: &Rounds, folder: &str) {
     show(calls::reading(rounds, &mut targets));
     show(forecast::forecasts(&kinds, rounds, &mut targets));
     show(closing::closures(&kinds, rounds, &mut targets));
+    show(opens::quick_answers(&kinds, rounds, &mut targets));
     show(marking::marking(antichain(&kinds), rounds, &mut targets));
     let clingo = clingo::opening_lists(&kinds, &programs, rounds, &mut targets);
     clingo.into_iter().for_each(&mut show);
@@ -153,6 +157,13 @@ fn print_marking() {
 fn print_closing() {
     let mut targets = Vec::new();
     let grid = closing::closures(&kinds::all(), &FULL, &mut targets);
+    let reasons = targets::reasons(&targets);
+    println!("{}\n{}\n{reasons}", grid.text(), targets::grid(&targets).text());
+}
+
+fn print_opens() {
+    let mut targets = Vec::new();
+    let grid = opens::quick_answers(&kinds::all(), &FULL, &mut targets);
     let reasons = targets::reasons(&targets);
     println!("{}\n{}\n{reasons}", grid.text(), targets::grid(&targets).text());
 }

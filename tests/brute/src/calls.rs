@@ -94,6 +94,14 @@ impl Calls {
         Ok(Way::Steps(way.len()))
     }
 
+    /// Whether the set opens the target, and the items held at the stop. 12, 13, 14.
+    pub fn opens(&self, set: u64, target: u64) -> Result<(bool, u64), u8> {
+        self.ask_12()?;
+        let target = self.ask_13(target)?;
+        self.ask_14(set)?;
+        Ok(graph::quick(&self.setup, set, target))
+    }
+
     /// Both lists: the opening sets stand first, lockout sets from the next place on; the
     /// answer is both counts. 12, 13, 15.
     pub fn lists(&self, target: u64, lent: &mut [u64]) -> Result<(usize, usize), u8> {

@@ -1,5 +1,5 @@
-//! Closures, their passes, lost sets and ways in on a well-formed setup (01, "Access" and "Loss";
-//! 02, point 4; 003, definitions 2, 3 and 18). No question is asked here.
+//! Closures, their passes, lost sets, ways in and quick answers on a well-formed setup (01, "Access"
+//! and "Loss"; 02, points 2 and 4; 003, definitions 2, 3 and 18). No question is asked here.
 
 use crate::setup::{holds, single, within, Place, Setup, COLOURS};
 
@@ -73,4 +73,13 @@ pub fn way_in(setup: &Setup, held: u64, target: usize) -> Option<Vec<(u8, u8)>> 
         way.push((item as u8, colour as u8));
     }
     Some(way)
+}
+
+/// Whether a set opens a target, and the items held at the stop (02, point 2): on a yes the given set
+/// and those of the way in, on a no the full closure.
+pub fn quick(setup: &Setup, held: u64, target: usize) -> (bool, u64) {
+    match way_in(setup, held, target) {
+        Some(way) => (true, way.iter().fold(held, |set, &(item, _)| set | single(item.into()))),
+        None => (false, closure(setup, held)),
+    }
 }

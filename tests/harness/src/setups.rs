@@ -12,7 +12,7 @@ use brute::setup::{Setup, PLACES};
 /// How much is asked of a setup.
 #[derive(Clone, Copy)]
 pub struct Depth {
-    /// Sets for closures and lost sets.
+    /// Sets for closures, lost sets and quick answers.
     pub sets: usize,
     /// The most items that are targets, and how many numbers that are no items.
     pub items: usize,
@@ -156,6 +156,9 @@ impl Compare<'_> {
             let set = *self.rng.pick(sets);
             self.way(target, set)?;
         }
+        for &set in sets {
+            self.opens(target, set)?;
+        }
         self.all_marks(target)
     }
 
@@ -286,6 +289,15 @@ impl Compare<'_> {
             self.subject.same(named, proved, brute)?;
         }
         Ok(())
+    }
+
+    /// The quick yes, and the set that is held at the stop.
+    fn opens(&self, target: u64, set: u64) -> Outcome {
+        let expected = self.calls.opens(set, target);
+        let expected = expected.map(|(yes, held)| vec![u64::from(yes), held]);
+        let proved = product::opens(&self.words, target, set);
+        let named = || format!("opens({target}, {set:#x})");
+        self.subject.same(named, proved.numbers(), told(2, expected))
     }
 
     /// Marks of some handed-in lists.

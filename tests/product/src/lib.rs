@@ -13,8 +13,8 @@
 mod results;
 
 pub use results::{
-    Closure, Finding, Forecast, Lists, Marks, Part, Reading, Refusal, Set, SetupRisk, SetupScore,
-    Way,
+    Closure, Finding, Forecast, Lists, Marks, Part, Quick, Reading, Refusal, Set, SetupRisk,
+    SetupScore, Way,
 };
 
 /// How many words a setup has.
@@ -24,7 +24,7 @@ pub const BLANK: u64 = u64::MAX;
 /// "Never": the score of an item that no set opens, the risk of one that no loss shuts.
 pub const NEVER: u64 = 1 << 62;
 /// The version of the header that this crate was written for.
-pub const VERSION: u64 = 20000;
+pub const VERSION: u64 = 20100;
 
 mod linked {
     use super::*;
@@ -48,6 +48,7 @@ mod linked {
             colours: *mut u8,
             colour_places: usize,
         ) -> Way;
+        pub fn portal_opens(setup: *const u64, words: usize, target: u64, set: u64) -> Quick;
         pub fn portal_forecast(setup: *const u64, words: usize, target: u64) -> Forecast;
         pub fn portal_lists(
             setup: *const u64,
@@ -140,6 +141,11 @@ pub fn way_in(setup: &[u64], target: u64, set: u64, items: &mut [u8], colours: &
             colours.len(),
         )
     }
+}
+
+/// Whether a set opens a target, and what is held at the stop. 12, 13, 14.
+pub fn opens(setup: &[u64], target: u64, set: u64) -> Quick {
+    unsafe { linked::portal_opens(setup.as_ptr(), setup.len(), target, set) }
 }
 
 /// How many sets a target's opening list has at most, told without listing it. 12, 13.

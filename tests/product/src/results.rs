@@ -71,6 +71,13 @@ results! {
         /// How many steps were written.
         steps,
     }
+    /// A quick answer.
+    Quick {
+        /// 1 where the set opens the target, and 0 where it does not.
+        opens,
+        /// What is held at the stop.
+        set,
+    }
     /// A forecast for a target's opening list.
     Forecast {
         /// How many sets it has at most.

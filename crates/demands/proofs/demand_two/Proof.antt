@@ -39,7 +39,7 @@ returns c =
     record {
       closure = sets .0;
       lost = sets .1 .0;
-      way = sets .1 .1;
+      way = sets .1 .1 .0;
       bases = lists .lists;
       score = lists .security;
       risk = lists .recoverability;
@@ -54,6 +54,7 @@ returns c =
       portalScore = sheet .1 .1 .0;
       portalRisk = sheet .1 .1 .1;
       forecast = c .forecast-base .ensures;
+      quick = sets .1 .1 .1;
     }
 
 pub demand-two-spec : {M : Type 1} → statement M

@@ -6,6 +6,7 @@ mod forecasts;
 mod generators;
 mod graphs;
 mod questions;
+mod quick;
 mod reading;
 mod reports;
 

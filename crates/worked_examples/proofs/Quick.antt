@@ -1,0 +1,127 @@
+-- All examples of quick answers hold; and wrong quick answers that the contract excludes, each at one of them.
+-- Assumes nothing.
+use mathlib.Core.Path.{_≡_, refl, subst}
+use mathlib.Core.Bool.{true, false}
+use mathlib.Core.List.{List, [], _∷_}
+use mathlib.Core.Logic.{_⊎_, inl, inr, ⊎-elim}
+use Prim.Native.Nat.{ℕ, _<_, _^_}
+use native.Mathlib.Omega.{arith}
+use Rattle.vertex_set.specs.Set.{Member, Iff}
+use Rattle.vertex_set.proofs.Sets.{member-below}
+use Rattle.setup.specs.declared.Graph.{Graph}
+use Rattle.setup.specs.declared.Setup.{Setup}
+use Rattle.setup.specs.Calls.{Inside}
+use Rattle.formed.specs.WellFormed.{WellFormed}
+use Rattle.derivations.specs.Derivation.{Adds}
+use Rattle.derivations.specs.Access.{Step, access, AccessFrom}
+use Rattle.quick_yes.specs.Answers.{HeldAtStop, QuickCall}
+use Rattle.quick_yes.proofs.Calls.{quick-yes, quick-no}
+use Rattle.quick_yes.proofs.Unique.{one-quick-answer}
+use Rattle.reference.specs.Tests.{lowest, some, every, isMember, isWithin, isMeeting, withVertex}
+use Rattle.reference.specs.Closures.{isComplete, isBroken, colourOf, isAdded, passOf, passesOf, closureOf, derivesOf, nextVertex, stepsOf, wayOf}
+use Rattle.reference.proofs.Graphs.{own-graph}
+use Rattle.reference.proofs.Meaning.{meaning}
+use Rattle.reference.proofs.Tests.{in-with}
+use Rattle.worked_examples.specs.Sheets.{Sheet, Reads, bench, ordpw, mailpw, token, mail, order, closed}
+use Rattle.worked_examples.specs.Table.{setOf}
+use Rattle.worked_examples.specs.Quick.{QuickExample, Tells, quickAnswers, AllTell}
+use Rattle.worked_examples.proofs.Reading.{_&_, all-read, reads-well}
+use Rattle.worked_examples.proofs.Table.{held}
+
+-- ---- the examples
+
+-- The set, and what the steps add.
+abbrev heldOf : ℕ → List Step → ℕ
+heldOf set [] = set
+heldOf set (e ∷ d) = heldOf (withVertex set (e .vertex)) d
+
+in-held : (g : Graph) (set : ℕ) (d : List Step) (v : ℕ) → Iff (Member (heldOf set d) v) (Member set v ⊎ Adds (access g) d v)
+in-held g set [] v = record { to = λ m. inl m; from = ⊎-elim (λ m. m) (λ a. absurd a) }
+in-held g set (e ∷ d) v =
+    let h = in-held g (withVertex set (e .vertex)) d v in
+    let w = in-with set (e .vertex) v in
+    record {
+      to = λ m. ⊎-elim (λ k. ⊎-elim (λ x. inl x) (λ q. inr (inl q)) (w .to k)) (λ a. inr (inr a)) (h .to m);
+      from = λ k. h .from (⊎-elim (λ x. inl (w .from (inl x))) (λ a. ⊎-elim (λ q. inl (w .from (inr q))) (λ b. inr b) a) k);
+    }
+
+module _ (x : Sheet) (r : Reads x) (target set : ℕ) (l : target < x .setup .count) (i : Inside (x .setup) set) where
+  yes-told : (q : ℕ) → derivesOf false (x .setup .count) (x .setup .graph) target set ≡ true → heldOf set (wayOf (x .setup .count) (x .setup .graph) target set) ≡ q
+      → QuickCall (x .setup) target set 0 (1 ∷ q ∷ [])
+  yes-told q d e =
+      let w = reads-well x r in
+      let steps : List Step = wayOf (x .setup .count) (x .setup .graph) target set in
+      quick-yes (x .setup) target set w l i q (subst (HeldAtStop (x .setup .graph) target set) e
+      (record {
+        steps = steps;
+        way = meaning (x .setup) (x .setup .graph) w (own-graph (x .setup) w) .way target set d;
+        each = in-held (x .setup .graph) set steps;
+      }))
+
+  no-told : (q : ℕ) → derivesOf false (x .setup .count) (x .setup .graph) target set ≡ false → closureOf false (x .setup .count) (x .setup .graph) set ≡ q
+      → QuickCall (x .setup) target set 0 (0 ∷ q ∷ [])
+  no-told q d e =
+      let w = reads-well x r in
+      let m = meaning (x .setup) (x .setup .graph) w (own-graph (x .setup) w) in
+      quick-no (x .setup) target set w l i q (m .shut target set d) (subst (AccessFrom (x .setup .graph) set) e (m .closure false set))
+
+read-bench : Reads bench
+read-bench = all-read .0
+
+read-closed : Reads closed
+read-closed = all-read .1 .1 .1 .0
+
+inside : (set : ℕ) → set < 32 → Inside (bench .setup) set
+inside set h = record { each = λ v m. member-below 5 set v h m }
+
+inside-closed : Inside (closed .setup) 0
+inside-closed = record { each = λ v m. let k = member-below 0 0 v (omega arith) m in omega arith }
+
+pub all-tell : AllTell
+unfolding lowest some every isMember isWithin isMeeting withVertex isComplete isBroken colourOf isAdded passOf passesOf closureOf derivesOf nextVertex stepsOf wayOf
+all-tell =
+    record { setup = bench .setup; reading = read-bench; holds = yes-told bench read-bench mail 7 (omega arith) (inside 7 (omega arith)) 15 refl refl }
+    & record { setup = bench .setup; reading = read-bench; holds = yes-told bench read-bench order 7 (omega arith) (inside 7 (omega arith)) 31 refl refl }
+    & record { setup = bench .setup; reading = read-bench; holds = yes-told bench read-bench order 2 (omega arith) (inside 2 (omega arith)) 26 refl refl }
+    & record { setup = bench .setup; reading = read-bench; holds = yes-told bench read-bench token 6 (omega arith) (inside 6 (omega arith)) 6 refl refl }
+    & record { setup = bench .setup; reading = read-bench; holds = no-told bench read-bench ordpw 2 (omega arith) (inside 2 (omega arith)) 26 refl refl }
+    & record { setup = bench .setup; reading = read-bench; holds = no-told bench read-bench order 0 (omega arith) (inside 0 (omega arith)) 0 refl refl }
+    & record { setup = closed .setup; reading = read-closed; holds = no-told closed read-closed 0 0 (omega arith) inside-closed 0 refl refl }
+    & tt
+
+-- ---- wrong answers
+
+-- what meets the contract has the example's values
+module _ (target set : ℕ) (y h : ℕ) (told : QuickCall (bench .setup) target set 0 (y ∷ h ∷ [])) where
+  no-other-set : (k : ℕ) → (k ≡ h → ⊥) → QuickCall (bench .setup) target set 0 (y ∷ k ∷ []) → ⊥
+  no-other-set k n c = let e = one-quick-answer (bench .setup) target set 0 0 (y ∷ k ∷ []) (y ∷ h ∷ []) c told .values in n cc
+
+  no-other-word : (z k : ℕ) → (z ≡ y → ⊥) → QuickCall (bench .setup) target set 0 (z ∷ k ∷ []) → ⊥
+  no-other-word z k n c = let e = one-quick-answer (bench .setup) target set 0 0 (z ∷ k ∷ []) (y ∷ h ∷ []) c told .values in n cc
+
+abbrev AtBench : ℕ → ℕ → ℕ → ℕ → Setup → Type 0
+AtBench target set y h s = QuickCall s target set 0 (y ∷ h ∷ [])
+
+-- Whole passes until the target is in, the closure handed back on a yes, or one step too many: {ordpw, mailpw, token} opens mail and order together.
+pub no-whole-pass : QuickCall (bench .setup) mail (setOf (ordpw ∷ mailpw ∷ token ∷ [])) 0 (1 ∷ setOf (ordpw ∷ mailpw ∷ token ∷ mail ∷ order ∷ []) ∷ []) → ⊥
+no-whole-pass = no-other-set mail 7 1 15 (held bench (AtBench mail 7 1 15) read-bench (all-tell .0)) 31 (omega arith)
+
+-- A pruned way: order needs no mail there, but mail is the lower item.
+pub no-pruned-way : QuickCall (bench .setup) order (setOf (ordpw ∷ mailpw ∷ token ∷ [])) 0 (1 ∷ setOf (ordpw ∷ mailpw ∷ token ∷ order ∷ []) ∷ []) → ⊥
+no-pruned-way = no-other-set order 7 1 31 (held bench (AtBench order 7 1 31) read-bench (all-tell .1 .0)) 23 (omega arith)
+
+-- The closure for a target that is held.
+pub no-closure-of-held : QuickCall (bench .setup) token (setOf (mailpw ∷ token ∷ [])) 0 (1 ∷ setOf (mailpw ∷ token ∷ mail ∷ order ∷ []) ∷ []) → ⊥
+no-closure-of-held = no-other-set token 6 1 6 (held bench (AtBench token 6 1 6) read-bench (all-tell .1 .1 .1 .0)) 30 (omega arith)
+
+-- No, with the given set.
+pub no-set-on-no : QuickCall (bench .setup) ordpw (setOf (mailpw ∷ [])) 0 (0 ∷ setOf (mailpw ∷ []) ∷ []) → ⊥
+no-set-on-no = no-other-set ordpw 2 0 26 (held bench (AtBench ordpw 2 0 26) read-bench (all-tell .1 .1 .1 .1 .0)) 2 (omega arith)
+
+-- Yes for a starting item that is not held.
+pub no-yes-for-starting : (h : ℕ) → QuickCall (bench .setup) ordpw (setOf (mailpw ∷ [])) 0 (1 ∷ h ∷ []) → ⊥
+no-yes-for-starting h = no-other-word ordpw 2 0 26 (held bench (AtBench ordpw 2 0 26) read-bench (all-tell .1 .1 .1 .1 .0)) 1 h (omega arith)
+
+-- 14 before 13: of no item, and from a set that is outside too.
+pub no-fourteen-first : (values : List ℕ) → QuickCall (bench .setup) 5 (2 ^ 5) 14 values → ⊥
+no-fourteen-first values c = let e = c .noTarget (reads-well bench read-bench) (omega arith) .numbered in omega arith

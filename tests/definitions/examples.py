@@ -483,6 +483,7 @@ def of_quick(D):
         ("not call: quick, the closure on a yes", lambda: call(MAIL, 7, 0, [1, 31]), False),
         ("call: quick, order by mail", lambda: call(ORDER, 2, 0, [1, 26]), True),
         ("not call: quick, no where open", lambda: call(ORDER, 2, 0, [0, 26]), False),
+        ("not call: quick, yes with a refusal's number", lambda: call(ORDER, 2, 14, [1, 26]), False),
         ("call: quick, no", lambda: call(0, 2, 0, [0, 26]), True),
         ("not call: quick, no with the set", lambda: call(0, 2, 0, [0, 2]), False),
         ("not call: quick, yes where shut", lambda: call(0, 2, 0, [1, 26]), False),

@@ -36,7 +36,7 @@ inside-iff s set b h bel =
     }
 
 -- an answer has values, and a refusal has none
-values-or-none : {x : ℕ} {l : List ℕ} → x ∷ l ≡ [] → ⊥
+pub values-or-none : {x : ℕ} {l : List ℕ} → x ∷ l ≡ [] → ⊥
 values-or-none {x = x} {l = l} e = let z : _≡_ {A = ℕ} 0 1 = cc in omega arith
 
 pub refuses : (q : ℕ) → Refuses q q []

@@ -4,7 +4,7 @@ use mathlib.Core.Path.{_≡_, sym, subst, _∙_}
 use mathlib.Core.List.{List, [], _∷_}
 use mathlib.Core.Logic.{⊎-elim}
 use mathlib.Core.HLevel.{Stable}
-use Prim.Native.Nat.{ℕ, _≤_, _<_}
+use Prim.Native.Nat.{ℕ, _<_}
 use native.Mathlib.Omega.{arith}
 use Rattle.vertex_set.specs.Set.{Member, Within, Iff}
 use Rattle.vertex_set.proofs.Cases.{less-or}
@@ -15,9 +15,10 @@ use Rattle.formed.specs.WellFormed.{WellFormed}
 use Rattle.derivations.specs.Access.{HasAccess, AccessFrom}
 use Rattle.derivations.proofs.Way.{way-run}
 use Rattle.access.specs.Answers.{ClosureCall}
+use Rattle.access.proofs.Calls.{values-or-none}
 use Rattle.quick_yes.specs.Answers.{HeldAtStop, QuickCall}
 use Rattle.quick_yes.specs.Agrees.{QuickAgrees}
-use Rattle.quick_yes.proofs.Cases.{by-cases, stable-number, stable-member, values-or-none, one-set}
+use Rattle.quick_yes.proofs.Cases.{by-cases, stable-number, stable-member, one-set}
 
 module _ (s : Setup) (target set y h r n : ℕ) (a : QuickCall s target set 0 (y ∷ h ∷ [])) (b : ClosureCall s set 0 (r ∷ n ∷ [])) where
   -- Both calls have answered, so no question was answered no; what is left is yes and no.

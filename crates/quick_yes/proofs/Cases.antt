@@ -1,12 +1,11 @@
 -- Cases on questions that are not decided, for statements that are: equations of numbers and of lists, and membership.
 -- Assumes nothing.
 use mathlib.Core.Path.{_≡_}
-use mathlib.Core.List.{List, [], _∷_, List-discrete}
+use mathlib.Core.List.{List, List-discrete}
 use mathlib.Core.Logic.{⊎-elim}
 use mathlib.Core.HLevel.{Stable, dec→stable}
 use Prim.Native.Nat.{ℕ}
 use native.Mathlib.Decide.{ℕ-discrete}
-use native.Mathlib.Omega.{arith}
 use Rattle.vertex_set.specs.Set.{Member, Iff}
 use Rattle.vertex_set.proofs.Sets.{member-or, same-set}
 
@@ -21,10 +20,6 @@ stable-list l k = dec→stable (List-discrete ℕ-discrete l k)
 
 pub stable-member : (s v : ℕ) → Stable (Member s v)
 stable-member s v k = ⊎-elim (λ m. m) (λ n. absurd (k n)) (member-or s v)
-
--- an answer has values, and a refusal has none
-pub values-or-none : {x : ℕ} {l : List ℕ} → x ∷ l ≡ [] → ⊥
-values-or-none {x = x} {l = l} e = let z : _≡_ {A = ℕ} 0 1 = cc in omega arith
 
 -- two sets with the same description are one
 pub one-set : (P : ℕ → Type 0) (r q : ℕ) → ((v : ℕ) → Iff (Member r v) (P v)) → ((v : ℕ) → Iff (Member q v) (P v)) → r ≡ q

@@ -3,7 +3,7 @@
 use mathlib.Core.Path.{_≡_, refl, sym, subst}
 use mathlib.Core.Bool.{false}
 use mathlib.Core.List.{List}
-use mathlib.Core.Logic.{_⊎_, inl, inr, ⊎-elim}
+use mathlib.Core.Logic.{inl, inr, ⊎-elim}
 use Prim.Native.Nat.{ℕ, _-_, _^_, _≤_, _<_}
 use native.Mathlib.Omega.{arith}
 use lib.Bits.{bitAnd, bitOr, or-lt}
@@ -15,9 +15,9 @@ use Rattle.setup.specs.declared.Rows.{Rows}
 use Rattle.setup.specs.declared.Graph.{Graph}
 use Rattle.setup.specs.Setup.{rowOf, rowsAt}
 use Rattle.derivations.specs.Access.{Step, Opens}
-use Rattle.derivations.specs.Inner.Admits.{Complete, SomeComplete}
+use Rattle.derivations.specs.Inner.Admits.{SomeComplete}
 use Rattle.derivations.proofs.Admits.{admits-local, admits-mono, admits-some, step-admits}
-use Rattle.successors.specs.Inner.{VertexOf, LowestOf, Without, Successors}
+use Rattle.successors.specs.Inner.{VertexOf, Without, Successors}
 use Rattle.closures.specs.Inner.{LowestColour, ToLookAt}
 use Rattle.closures.proofs.Passes.{look-all}
 use Rattle.ways.specs.Inner.{Ready, Searching, Begun, Looked, Added}

@@ -4,17 +4,17 @@ use mathlib.Core.Path.{_≡_, refl, sym, ap, subst, _∙_}
 use mathlib.Core.Bool.{Bool, true, false}
 use mathlib.Core.List.{List, [], _∷_, _++_, map, append-assoc, append-nil, map-append}
 use mathlib.Core.Logic.{_⊎_, inl, inr, ⊎-elim}
-use Prim.Native.Nat.{ℕ, zero, suc, _+_, _*_, _^_, _≤_, _<_}
-use native.Mathlib.Nat.{pow-suc}
+use Prim.Native.Nat.{ℕ, suc, _+_, _*_, _^_, _≤_, _<_}
 use native.Mathlib.Numerals.{add-one}
 use native.Mathlib.Omega.{arith}
 use lib.ListN.{length, getD, drop, set, length-append, length-drop, length-map}
 use lib.Seq.{drop-cons, set-append-seam, append-snoc}
-use Rattle.vertex_set.specs.Set.{Member, Within, Inserted, Iff, countOutside}
+use Rattle.vertex_set.specs.Set.{Member, Inserted, Iff, countOutside}
 use Rattle.vertex_set.proofs.Cases.{same-or, less-or, false-true, search-below, lowest}
+use Rattle.vertex_set.proofs.Digits.{below-own-power}
 use Rattle.vertex_set.proofs.Outside.{outside-most, outside-less}
 use Rattle.vertex_set.proofs.Places.{member-le}
-use Rattle.vertex_set.proofs.Sets.{member-or, none-in-zero, within-refl, within-trans}
+use Rattle.vertex_set.proofs.Sets.{member-or, none-in-zero}
 use Rattle.setup.specs.declared.Graph.{Graph}
 use Rattle.setup.specs.Setup.{row, rowsAt}
 use Rattle.setup.specs.Calls.{written}
@@ -34,15 +34,11 @@ use Rattle.ways.proofs.Searches.{none-ready}
 
 -- ---- the lowest step
 
-under-power : (i : ℕ) → i < 2 ^ i
-under-power zero = omega arith
-under-power (suc i) = let h = under-power i in let p = pow-suc 2 i in omega arith
-
 complete-or : (s row : ℕ) → Complete (Member s) row ⊎ (Complete (Member s) row → ⊥)
 complete-or s row =
     ⊎-elim (λ z. inr (λ h. h .coloured z))
     (λ n. ⊎-elim (λ k. inr (λ h. k .2 .1 (h .within (k .0) (k .2 .0))))
-    (λ k. inl (record { coloured = n; within = λ i m. ⊎-elim (λ x. x) (λ x. absurd (k i (let a = member-le i row m in let b = under-power i in omega arith) (m, x))) (member-or s i) }))
+    (λ k. inl (record { coloured = n; within = λ i m. ⊎-elim (λ x. x) (λ x. absurd (k i (let a = member-le i row m in let b = below-own-power i in omega arith) (m, x))) (member-or s i) }))
     (search-below (λ i. Member row i × (Member s i → ⊥)) misses row))
     (same-or row 0)
   where
@@ -94,7 +90,7 @@ module _ (g : Graph) (held ready left v : ℕ) (h : Searching g held ready left)
   next-new = h .sound v (low .vertex .member) .0
 
   -- once nothing is left to look at, the lowest ready vertex is next, by some colour
-  pub next-some : (c : ℕ) × LowestStep g (Member held) (record { vertex = v; colour = c })
+  next-some : (c : ℕ) × LowestStep g (Member held) (record { vertex = v; colour = c })
   next-some = some-step g held v (ready-over g held ready v nothing-left low) next-new (h .sound v (low .vertex .member) .1)
 
   -- and by the lowest complete one
@@ -113,7 +109,6 @@ module _ (g : Graph) (held ready left v : ℕ) (h : Searching g held ready left)
 pub record Taken (g : Graph) (target s now count : ℕ) : Type 0 where
   pub steps : List Step
   pub counted : count ≡ length steps
-  pub grows : Within s now
   pub rest : (d : List Step) → Way g target (Member now) d → Way g target (Member s) (steps ++ d)
   pub few : count + countOutside 64 now ≤ 64
   pub each : (v : ℕ) → Iff (Member now v) (Member s v ⊎ Adds (access g) steps v)
@@ -124,7 +119,6 @@ taken-none g target s =
     record {
       steps = [];
       counted = refl;
-      grows = within-refl s;
       rest = λ d w. w;
       few = let o = outside-most 64 s in omega arith;
       each = λ v. record { to = λ m. inl m; from = ⊎-elim (λ m. m) (λ a. absurd a) };
@@ -160,7 +154,6 @@ module _ (g : Graph) (target s now count : ℕ) (h : Taken g target s now count)
       record {
         steps = h .steps ++ (e ∷ []);
         counted = let c = h .counted in rw (length-append (h .steps) (e ∷ [])) (omega arith);
-        grows = within-trans (h .grows) (record { each = λ i m. t .taken l i .from (inl m) });
         rest = λ d w. subst (Way g target (Member s)) (sym (append-assoc (h .steps) (e ∷ []) d))
             (h .rest (e ∷ d) (out, low, way-behind g target now (e .vertex) now′ l t d .to w));
         few = let a = h .few in let b = inserted-fewer now (e .vertex) now′ l (low .new) t in omega arith;
@@ -192,7 +185,7 @@ module _ (g : Graph) (target s now count : ℕ) (h : Taken g target s now count)
       }
     where
       within : (v : ℕ) → HasAccess g (Member s) v → Member now v
-      within = least (access g) (access-lawful g) (Member s) (Member now) (h .grows .each) cl
+      within = least (access g) (access-lawful g) (Member s) (Member now) (λ v m. h .each v .from (inl m)) cl
 
 -- the set may be written in another way
 pub followed-from : (g : Graph) (target s t : ℕ) (found : Bool) (count now : ℕ) → s ≡ t → WayFollowed g target s found count now → WayFollowed g target t found count now

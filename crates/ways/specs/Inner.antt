@@ -22,7 +22,7 @@ use Rattle.successors.specs.Inner.{Successors}
 abbrev pub Ready : Graph → ℕ → ℕ → Type 0
 Ready g held v = (Member held v → ⊥) × SomeComplete (rowsAt g v) (Member held)
 
--- Of the vertices that can be added to what is held, ready has some, and left has the others.
+-- Of the vertices that can be added to what is held, ready has some, and left has at least the others, none of them held.
 pub record Searching (g : Graph) (held ready left : ℕ) : Type 0 where
   pub sound : (v : ℕ) → Member ready v → Ready g held v
   pub outside : (v : ℕ) → Member left v → Member held v → ⊥

@@ -29,7 +29,8 @@ fn begin(list: &[u64], set: VertexSet) -> Search
     }
 }
 
-// Looks at the vertex v, which has these rows.
+// Looks at the vertex v, which has these rows. The rows and not the graph are handed over, which
+// would be copied.
 fn look(rows: Rows, v: usize, search: Search) -> Search
     requires { ⌜ VertexOf (search .left) v ⌝ }
     ensures { λ r. ⌜ Looked rows v (search .held .0) (search .ready .0) (search .left) (r .held .0) (r .ready .0) (r .left) ⌝ }

@@ -35,13 +35,13 @@ use Rattle.worked_examples.proofs.Settled.{closure-settled, way-counted
 
 -- ---- what is known of the examples
 
-read-bench : Reads bench
+pub read-bench : Reads bench
 read-bench = all-read .0
 
 read-ring : Reads ring
 read-ring = all-read .1 .0
 
-read-closed : Reads closed
+pub read-closed : Reads closed
 read-closed = all-read .1 .1 .1 .0
 
 read-pair : Reads pair
@@ -56,7 +56,7 @@ well-ring = reads-well ring read-ring
 well-closed : WellFormed (closed .setup)
 well-closed = reads-well closed read-closed
 
-inside : (set : ℕ) → set < 32 → Inside (bench .setup) set
+pub inside : (set : ℕ) → set < 32 → Inside (bench .setup) set
 inside set h = record { each = λ v m. member-below 5 set v h m }
 
 by-mail : Passes (access (bench .setup .graph)) 3 (setOf (mailpw ∷ [])) (setOf (mailpw ∷ mail ∷ order ∷ []))

@@ -11,7 +11,6 @@ use Rattle.vertex_set.proofs.Sets.{member-below}
 use Rattle.setup.specs.declared.Graph.{Graph}
 use Rattle.setup.specs.declared.Setup.{Setup}
 use Rattle.setup.specs.Calls.{Inside}
-use Rattle.formed.specs.WellFormed.{WellFormed}
 use Rattle.derivations.specs.Derivation.{Adds}
 use Rattle.derivations.specs.Access.{Step, access, AccessFrom}
 use Rattle.quick_yes.specs.Answers.{HeldAtStop, QuickCall}
@@ -24,9 +23,10 @@ use Rattle.reference.proofs.Meaning.{meaning}
 use Rattle.reference.proofs.Tests.{in-with}
 use Rattle.worked_examples.specs.Sheets.{Sheet, Reads, bench, ordpw, mailpw, token, mail, order, closed}
 use Rattle.worked_examples.specs.Table.{setOf}
-use Rattle.worked_examples.specs.Quick.{QuickExample, Tells, quickAnswers, AllTell}
-use Rattle.worked_examples.proofs.Reading.{_&_, all-read, reads-well}
+use Rattle.worked_examples.specs.Quick.{AllTell}
+use Rattle.worked_examples.proofs.Reading.{_&_, reads-well}
 use Rattle.worked_examples.proofs.Table.{held}
+use Rattle.worked_examples.proofs.Excluded.{read-bench, read-closed, inside}
 
 -- ---- the examples
 
@@ -64,15 +64,6 @@ module _ (x : Sheet) (r : Reads x) (target set : ℕ) (l : target < x .setup .co
       let w = reads-well x r in
       let m = meaning (x .setup) (x .setup .graph) w (own-graph (x .setup) w) in
       quick-no (x .setup) target set w l i q (m .shut target set d) (subst (AccessFrom (x .setup .graph) set) e (m .closure false set))
-
-read-bench : Reads bench
-read-bench = all-read .0
-
-read-closed : Reads closed
-read-closed = all-read .1 .1 .1 .0
-
-inside : (set : ℕ) → set < 32 → Inside (bench .setup) set
-inside set h = record { each = λ v m. member-below 5 set v h m }
 
 inside-closed : Inside (closed .setup) 0
 inside-closed = record { each = λ v m. let k = member-below 0 0 v (omega arith) m in omega arith }

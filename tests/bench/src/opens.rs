@@ -1,11 +1,13 @@
-//! The quick yes: the proved call beside the closure with a test of one bit, and beside its twin.
+//! The quick yes: the proved call beside the closure with a test of one bit, and beside a twin that
+//! takes the same steps.
 
 use crate::closing::successors;
+use crate::formed::Whole;
 use crate::grid::{nanos, ratio, with_commas, Grid};
 use crate::kinds::Kind;
 use crate::targets::{at_most, Target};
 use crate::timing::in_turn;
-use crate::twin::{members, Graph};
+use crate::twin::{members, Graph, VERTICES};
 use crate::Rounds;
 use std::hint::black_box;
 
@@ -46,10 +48,24 @@ fn quick(graph: &Graph, set: u64, target: usize) -> (bool, u64) {
     }
 }
 
-/// The times of one call each, on average over the questions: the proved quick yes, the closure and a
-/// test of the target's bit, question 12 alone, and the twin.
-fn times(kind: &Kind, questions: &[Question], rounds: usize) -> [f64; 4] {
-    let (words, graph) = (&kind.words, &kind.setup.graph);
+/// The whole call in Rust: the setup from its words, questions 12, 13 and 14, and then the twin.
+fn call(words: &[u64], set: u64, target: usize) -> Result<(bool, u64), u64> {
+    let setup = Whole::asked(words).ok_or(12u64)?;
+    if target >= setup.count {
+        return Err(13);
+    }
+    let inside = setup.count == VERTICES || set >> setup.count == 0;
+    if inside {
+        Ok(quick(&setup.graph, set, target))
+    } else {
+        Err(14)
+    }
+}
+
+/// The times of one whole call each, on average over the questions: the proved quick yes, the proved
+/// closure and a test of the target's bit, and the twin.
+fn times(kind: &Kind, questions: &[Question], rounds: usize) -> [f64; 3] {
+    let words = &kind.words;
     let calls = CALLS.div_ceil(questions.len());
     let all = |work: &dyn Fn(u64, usize)| {
         for _ in 0..calls {
@@ -70,13 +86,8 @@ fn times(kind: &Kind, questions: &[Question], rounds: usize) -> [f64; 4] {
                 })
             },
             &mut || {
-                all(&|_, _| {
-                    black_box(product::check(black_box(words)));
-                })
-            },
-            &mut || {
                 all(&|set, target| {
-                    black_box(quick(black_box(graph), set, target));
+                    black_box(call(black_box(words), set, target)).ok();
                 })
             },
         ],
@@ -100,8 +111,8 @@ fn all_and_last(kind: &Kind) -> (Vec<Question>, Question) {
     (all, last)
 }
 
-/// A question to which the answer is no, with the largest closure: of all initial items but one where
-/// that leaves an item shut, else of the empty set.
+/// A question to which the answer is no: the largest closure that leaves an item shut, among those of
+/// all initial items, of all but one, and of none.
 fn shut(kind: &Kind) -> Option<Question> {
     let (initial, graph) = (kind.setup.chosen(false), &kind.setup.graph);
     let less = members(initial).map(|v| initial & !(1 << v));
@@ -115,10 +126,11 @@ fn shut(kind: &Kind) -> Option<Question> {
 fn same_answers(kind: &Kind, questions: &[Question]) {
     for &(set, target) in questions {
         let proved = product::opens(&kind.words, target as u64, set);
-        let (yes, held) = quick(&kind.setup.graph, set, target);
+        assert_eq!(proved.number, 0, "{}: {set:#x} {target}", kind.name);
+        let answer = Ok((proved.opens == 1, proved.set));
+        assert_eq!(call(&kind.words, set, target), answer, "{}: {set:#x} {target}", kind.name);
         let closure = product::closure(&kind.words, set).set;
-        let same = (proved.number, proved.opens, proved.set) == (0, u64::from(yes), held);
-        assert!(same && closure >> target & 1 == proved.opens, "{}: {set:#x} {target}", kind.name);
+        assert_eq!(closure >> target & 1, proved.opens, "{}: {set:#x} {target}", kind.name);
     }
 }
 
@@ -132,18 +144,16 @@ pub fn quick_answers(kinds: &[Kind], rounds: &Rounds, targets: &mut Vec<Target>)
         "quick / closure",
         "last target: quick / closure",
         "no: quick / closure",
-        "question 12, ns",
-        "the rest, ns",
         "twin, ns",
-        "rest / twin",
+        "proved / twin",
     ];
     let mut grid = Grid::new("A quick yes", &header);
     grid.note(&format!(
         "`portal_opens` of the initial items, on average over all items as targets; for the target to \
          which most steps lead; and for a no with the largest closure that was found. Beside it \
-         `portal_closure` and a test of the target's bit, on the same questions. Both take the setup \
-         from its words and ask question 12, as `portal_check` does; the twin has the setup ready. \
-         {CALLS} calls or more are timed together, in turn.",
+         `portal_closure` and a test of the target's bit, on the same questions. The twin is the whole \
+         call in Rust: all three take the setup from the same words and ask their questions, which is \
+         most of the time. {CALLS} calls or more are timed together, in turn.",
     ));
     let mut ratios = [const { Vec::new() }; 4];
     for kind in kinds {
@@ -151,24 +161,23 @@ pub fn quick_answers(kinds: &[Kind], rounds: &Rounds, targets: &mut Vec<Target>)
         let no = shut(kind);
         same_answers(kind, &all);
         same_answers(kind, no.as_slice());
-        let [whole, closure, asked, twin] = times(kind, &all, rounds.calls);
+        let [whole, closure, twin] = times(kind, &all, rounds.calls);
         let [far, far_closure, ..] = times(kind, &[last], rounds.calls);
         let shut = no.map(|no| times(kind, &[no], rounds.calls));
-        let rest = whole - asked;
         let mut row = vec![kind.name.clone(), nanos(whole), with_commas((1.0 / whole) as u64)];
         row.extend([nanos(closure), ratio(whole, closure), ratio(far, far_closure)]);
         row.push(shut.map_or("none".into(), |[time, closure, ..]| ratio(time, closure)));
-        row.extend([nanos(asked), nanos(rest), nanos(twin), ratio(rest, twin)]);
+        row.extend([nanos(twin), ratio(whole, twin)]);
         grid.row(row);
         ratios[0].push((kind.name.clone(), whole / closure));
         ratios[1].push((kind.name.clone(), far / far_closure));
         ratios[2].extend(shut.map(|[time, closure, ..]| (kind.name.clone(), time / closure)));
-        ratios[3].push((kind.name.clone(), rest / twin));
+        ratios[3].push((kind.name.clone(), whole / twin));
     }
     let all = "the quick yes / closure and a bit test, on average over the targets";
     targets.push(at_most(all, 1.0, &ratios[0]));
     targets.push(at_most("the same for the last target", 1.5, &ratios[1]));
     targets.push(at_most("the same for a no", 1.5, &ratios[2]));
-    targets.push(at_most("the quick yes less question 12, proved / twin", 1.3, &ratios[3]));
+    targets.push(at_most("the quick yes, proved / twin", 1.3, &ratios[3]));
     grid
 }

@@ -4,3 +4,5 @@ pub mod ForecastsExcluded
 pub mod Reading
 pub mod Settled
 pub mod Table
+pub mod CutSets
+pub mod CutSetsExcluded

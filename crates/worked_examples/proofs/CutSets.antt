@@ -20,13 +20,13 @@ Shown x = Reads (x .sheet) × (cutsOf (x .sheet .setup) (x .target) ≡ x .cuts)
 all-cut-of : (l : List CutExample) → Each Shown l → Each Cuts l
 all-cut-of [] s = tt
 all-cut-of (x ∷ l) s = (
-      record {
-        setup = x .sheet .setup;
-        reading = s .0 .0;
-        holds = subst (CutList (x .sheet .setup) (x .target)) (s .0 .1) (cuts-of (x .sheet .setup) (x .target) (reads-well (x .sheet) (s .0 .0)));
-      },
-      all-cut-of l (s .1),
-    )
+  record {
+    setup = x .sheet .setup;
+    reading = s .0 .0;
+    holds = subst (CutList (x .sheet .setup) (x .target)) (s .0 .1) (cuts-of (x .sheet .setup) (x .target) (reads-well (x .sheet) (s .0 .0)));
+  },
+  all-cut-of l (s .1),
+)
 
 all-shown : Each Shown cutExamples
 unfolding lowest some every filtered isListed isMember isWithin isMeeting withVertex isComplete isBroken colourOf isAdded passOf passesOf closureOf derivesOf isChosen setsOfSize setsUpTo setsOf targetSetsOf isMinimal baseOf meetsEach smallerOf isSmallest transversalsOf cutsOf

@@ -1,13 +1,15 @@
 //! Times the proved code beside the same algorithm in plain Rust, a brute force, and plain
 //! programs. `bench` prints tables and writes docs/PERFORMANCE.md with two charts; `bench quick`
 //! makes few rounds and writes the same files to build/bench/. `bench marking` prints the table of
-//! marks alone, `bench rows` that of the report with the most rows, `bench forecast` that of forecasts, and `bench closing` that of closures.
+//! marks alone, `bench rows` that of the report with the most rows, `bench forecast` that of forecasts,
+//! `bench closing` that of closures, and `bench cuts` that of cut sets.
 
 mod calls;
 mod chart;
 mod check;
 mod clingo;
 mod closing;
+mod cuts;
 mod document;
 mod forecast;
 mod gate;
@@ -71,8 +73,9 @@ fn main() -> ExitCode {
         ["rows"] => print_rows(),
         ["forecast"] => print_forecasts(),
         ["closing"] => print_closing(),
+        ["cuts"] => print_cuts(),
         _ => {
-            eprintln!("usage: bench [quick | marking | rows | forecast | closing]");
+            eprintln!("usage: bench [quick | marking | rows | forecast | closing | cuts]");
             return ExitCode::from(2);
         }
     }
@@ -100,6 +103,7 @@ fn run(rounds: &Rounds, folder: &str) {
     show(calls::reading(rounds, &mut targets));
     show(forecast::forecasts(&kinds, rounds, &mut targets));
     show(closing::closures(&kinds, rounds, &mut targets));
+    show(cuts::cut_sets(&kinds, rounds, &mut targets));
     show(marking::marking(antichain(&kinds), rounds, &mut targets));
     let clingo = clingo::opening_lists(&kinds, &programs, rounds, &mut targets);
     clingo.into_iter().for_each(&mut show);
@@ -152,6 +156,13 @@ fn print_marking() {
 fn print_closing() {
     let mut targets = Vec::new();
     let grid = closing::closures(&kinds::all(), &FULL, &mut targets);
+    let reasons = targets::reasons(&targets);
+    println!("{}\n{}\n{reasons}", grid.text(), targets::grid(&targets).text());
+}
+
+fn print_cuts() {
+    let mut targets = Vec::new();
+    let grid = cuts::cut_sets(&kinds::all(), &FULL, &mut targets);
     let reasons = targets::reasons(&targets);
     println!("{}\n{}\n{reasons}", grid.text(), targets::grid(&targets).text());
 }

@@ -44,7 +44,7 @@ loop-less : tie.Need-loop-less Inv-loop μ-loop
 loop-less c = search needs
 
 loop-again : tie.Need-loop-again Inv-loop μ-loop
-loop-again c = 
+loop-again c =
     let t = c .before in
     let b = t .before .before in
     (search needs, below-more _ (b .loop .out) (b .loop .b) _ (search needs) (b .loop .inv .1) (dual-word _ (b .loop .b) _ (search needs) (c .turn-round .ensures)))

@@ -20,8 +20,13 @@ forecast-base-requires c κs = search needs
 smallest-cuts-requires : tie.Need-smallest-cuts-requires
 smallest-cuts-requires c κs = search needs
 
+-- the first call lies too far back for `search`
 same-length : tie.Need-same-length
-same-length c = search needs
+same-length c =
+    let n = c .before .before .before .before in
+    let l = n .before .before .before .before .before in
+    let kept = l .before .before .before .before .before .before .ask-sets .kept .1 .1 .1 .0 in
+    search needs
 
 same-length-2 : tie.Need-same-length-2
 same-length-2 c = search needs

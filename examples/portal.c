@@ -1,5 +1,5 @@
 /* A worked example of include/portal.h. Reads a sheet, prints the opening sets of an account by name with the way in of each,
- * and marks a handed-in list:
+ * says what to harden so that no way in is left, and marks a handed-in list:
  *
  *     portal SHEET ACCOUNT [SET ...]     a set is names joined by '+', and '-' is the empty set
  *
@@ -107,6 +107,23 @@ static void read_sheet(const char *path)
     }
 }
 
+/* What to harden: all items of one of the smallest cut sets. They are not the lockout sets, though document.sheet has the same. */
+static void print_cuts(uint64_t account)
+{
+    struct portal_cut_sets cuts = portal_cut_sets(setup, PORTAL_SETUP_WORDS, account, sets, PORTAL_MAX_SETS);
+    if (cuts.number != 0)
+        stop("cut sets", cuts.number);
+    if (sets[0] == 0) {
+        printf("nothing opens it, so there is nothing to harden\n");
+        return;
+    }
+    for (uint64_t i = 0; i < cuts.count; i++) {
+        printf(i == 0 ? "to leave no way in, harden " : ", or ");
+        print_set(sets[i]);
+    }
+    printf("\n");
+}
+
 static void print_marks(uint64_t account, const uint64_t *handed, size_t count)
 {
     struct portal_marks m = portal_mark_openings(setup, PORTAL_SETUP_WORDS, account, handed, count);
@@ -135,6 +152,7 @@ int main(int argc, char **argv)
         print_set(sets[i]);
         print_way(account, sets[i]);
     }
+    print_cuts(account);
 
     size_t count = (size_t)argc - 3;
     uint64_t *handed = (uint64_t *)malloc((count + 1) * sizeof *handed);

@@ -11,6 +11,7 @@
  *              portal_opens                  does a set open an item? told as soon as it does
  *              portal_forecast               how many sets an opening list has at most, before it is listed
  *              portal_lists                  the smallest sets that open an item, and the smallest losses that shut it
+ *              portal_cut_sets               the smallest sets of starting items to harden so that no way in is left
  *              portal_setup_score, portal_setup_risk
  *              portal_mark_openings, portal_mark_lockouts
  *              portal_backdoor, portal_idle, portal_out_of_rank
@@ -48,9 +49,9 @@ extern "C" {
 
 /* ---- version ---- */
 
-/* 2.1.0 is 20100: the last two parts have two digits each. The first part changes where a call or a struct does, the second
+/* 2.2.0 is 20200: the last two parts have two digits each. The first part changes where a call or a struct does, the second
  * where one is new. */
-#define PORTAL_VERSION 20100
+#define PORTAL_VERSION 20200
 
 /* The version of the library. A program that was compiled with another one's header sees PORTAL_VERSION differ from it. */
 uint64_t portal_version(void);
@@ -128,7 +129,7 @@ static inline const char *portal_refusal_text(uint64_t number)
 #define PORTAL_MAX_VALUE UINT64_C(4000000000)
 
 /* Places that are always enough for one list of a target, and for both: of subsets of at most 14 items none of which lies within another
- * there are at most 3432. portal_forecast tells how many an opening list needs at most. */
+ * there are at most 3432. portal_forecast tells how many an opening list, or a list of cut sets, needs at most. */
 #define PORTAL_MAX_LIST 3432
 #define PORTAL_MAX_SETS (2 * PORTAL_MAX_LIST)
 
@@ -194,6 +195,12 @@ struct portal_quick {
 struct portal_forecast {
     uint64_t number;
     uint64_t sets;
+};
+
+/* How many smallest cut sets there are. */
+struct portal_cut_sets {
+    uint64_t number;
+    uint64_t count;
 };
 
 /* How many sets each list has. */
@@ -308,8 +315,9 @@ struct portal_quick portal_opens(const uint64_t *setup, size_t words, uint64_t t
 /*
  * The forecast for the target's opening list, told without listing anything: the number of ways to choose s / 2, rounded down, of s items,
  * where s counts the starting items that are the target or reach it along edges, whatever their colours, recovery edges too. It is 1 to
- * PORTAL_MAX_LIST. No opening list of the target is longer, and each item of each set in it is among those counted. It bounds that list
- * alone, and not the lockout list: portal_lists, which writes both, has room enough with the forecast plus PORTAL_MAX_LIST places.
+ * PORTAL_MAX_LIST. No opening list of the target is longer, and each item of each set in it is among those counted; no list of its
+ * cut sets is longer either. It does not bound the lockout list: portal_lists, which writes both, has room enough with the forecast plus
+ * PORTAL_MAX_LIST places.
  * Refused with 12, 13.
  */
 struct portal_forecast portal_forecast(const uint64_t *setup, size_t words, uint64_t target);
@@ -320,6 +328,16 @@ struct portal_forecast portal_forecast(const uint64_t *setup, size_t words, uint
  * then by the smaller number. Refused with 12, 13, and 15 exactly where both together have more sets than there are places.
  */
 struct portal_lists portal_lists(const uint64_t *setup, size_t words, uint64_t target, uint64_t *sets, size_t places);
+
+/*
+ * The smallest cut sets of the target. A cut set is a set of starting items without which the other starting items do not open the
+ * target: whoever begins with none of its items does not get in. Its items stay in the drawing, where the others may open them again; so they
+ * are in general other sets than the lockout sets. Smallest: no proper subset is a cut set. They are exactly the smallest sets of starting
+ * items that meet every set of the opening list. There is always one; where nothing opens the target, it is the empty set, and count is 1.
+ * Ordered as the other lists are. Refused with 12, 13, and 15 exactly where there are more sets than places; portal_forecast tells of room
+ * that is always enough.
+ */
+struct portal_cut_sets portal_cut_sets(const uint64_t *setup, size_t words, uint64_t target, uint64_t *sets, size_t places);
 
 /* The score of the target. Refused with 12, 13. */
 struct portal_setup_score portal_setup_score(const uint64_t *setup, size_t words, uint64_t target);

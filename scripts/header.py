@@ -11,7 +11,7 @@ import sys
 from pathlib import Path
 
 ROOT = Path(__file__).resolve().parent.parent
-FEWEST = {"calls": 19, "structs": 12, "refusals": 15}
+FEWEST = {"calls": 20, "structs": 13, "refusals": 15}
 SLICES = {"&[u8]": "const uint8_t *", "&mut [u8]": "uint8_t *", "&[u64]": "const uint64_t *", "&mut [u64]": "uint64_t *"}
 SCALARS = {"u64": "uint64_t", "u8": "uint8_t", "bool": "bool"}
 

@@ -29,6 +29,8 @@ static const char SHEET[] =
 
 static const char ALONE[] = "name kind start loss rank\nalone a - - 0\n\nfrom to colour rec\n";
 
+static const char RING[] = "name kind start loss rank\np a 1 1 0\nq a 1 1 0\n\nfrom to colour rec\np q 0 0\nq p 0 0\n";
+
 /* Fourteen items of the largest value. All of them together open item 14; any of them opens item 16, so that it is lost with all 14
  * alone: seven are its own, and seven those of item 15. */
 static const char LARGEST[] =
@@ -49,8 +51,8 @@ static const char LOSS_BEYOND[] = "name kind start loss rank\na c - 4000000001 0
 
 enum { ORDPW = 1, MAILPW = 2, TOKEN = 4, MAIL = 8, ORDER = 16, ORDER_ITEM = 4, MAIL_ITEM = 3 };
 
-/* The setups of SHEET and of LARGEST; the first with the largest value; and three that no sheet yields: one by its rank, the others by a start and a loss above the largest value. */
-static uint64_t setup[WORDS], fourteen[WORDS], highest[WORDS], malformed[WORDS], beyond[WORDS], loss_beyond[WORDS];
+/* The setups of SHEET, ALONE, RING and LARGEST; the first with the largest value; and three that no sheet yields: one by its rank, the others by a start and a loss above the largest value. */
+static uint64_t setup[WORDS], alone[WORDS], ring[WORDS], fourteen[WORDS], highest[WORDS], malformed[WORDS], beyond[WORDS], loss_beyond[WORDS];
 
 static int faults;
 
@@ -255,6 +257,31 @@ static void try_lists(void)
     expect("lists of no item", portal_lists(setup, WORDS, 5, sets, 5).number, PORTAL_NO_ITEM);
 }
 
+static void try_cut_sets(void)
+{
+    uint64_t sets[3] = { LENT, LENT, LENT };
+    struct portal_cut_sets r = portal_cut_sets(setup, WORDS, ORDER_ITEM, sets, 1);
+    expect("cut sets, too short", r.number, PORTAL_SHORT);
+    expect("cut sets, too short, no value", r.count, 0);
+    expect("cut sets, too short, untouched", sets[0], LENT);
+    r = portal_cut_sets(setup, WORDS, ORDER_ITEM, sets, 3);
+    expect("cut sets", r.number, 0);
+    expect("two cut sets", r.count, 2);
+    expect("first cut set", sets[0], ORDPW + MAILPW);
+    expect("second cut set", sets[1], MAILPW + TOKEN);
+    expect("the place behind the cut sets", sets[2], LENT);
+    r = portal_cut_sets(ring, WORDS, 0, sets, 1);
+    expect("one cut set of two that open each other", r.count, 1);
+    expect("which has both", sets[0], 3);
+    r = portal_cut_sets(alone, WORDS, 0, NULL, 0);
+    expect("the empty cut set has no room", r.number, PORTAL_SHORT);
+    r = portal_cut_sets(alone, WORDS, 0, sets, 1);
+    expect("nothing opens it: one cut set", r.count, 1);
+    expect("nothing opens it: the empty one", sets[0], 0);
+    expect("cut sets of no item", portal_cut_sets(setup, WORDS, 5, sets, 3).number, PORTAL_NO_ITEM);
+    expect("cut sets in no setup", portal_cut_sets(malformed, WORDS, 5, sets, 3).number, PORTAL_NO_SETUP);
+}
+
 static void try_setup_score(void)
 {
     expect("setup's score", portal_setup_score(setup, WORDS, ORDER_ITEM).score, 1);
@@ -340,6 +367,7 @@ static const struct call {
     { "portal_opens", PORTAL_STACK_SMALL, try_opens },
     { "portal_forecast", PORTAL_STACK_SMALL, try_forecast },
     { "portal_lists", PORTAL_STACK, try_lists },
+    { "portal_cut_sets", PORTAL_STACK, try_cut_sets },
     { "portal_setup_score", PORTAL_STACK, try_setup_score },
     { "portal_setup_risk", PORTAL_STACK, try_setup_risk },
     { "portal_mark_openings", PORTAL_STACK_MARKS, try_mark_openings },
@@ -412,6 +440,8 @@ int main(int argc, char **argv)
 {
     pthread_t id[THREADS];
     expect("document 01's sheet", portal_read(bytes(SHEET), strlen(SHEET), setup, WORDS).number, 0);
+    expect("a sheet of one item", portal_read(bytes(ALONE), strlen(ALONE), alone, WORDS).number, 0);
+    expect("a sheet of two that open each other", portal_read(bytes(RING), strlen(RING), ring, WORDS).number, 0);
     expect("a sheet of 14 starting items", portal_read(bytes(LARGEST), strlen(LARGEST), fourteen, WORDS).number, 0);
     memcpy(malformed, setup, sizeof setup);
     malformed[PORTAL_RANK(0)] = 10;

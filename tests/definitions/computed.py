@@ -23,6 +23,7 @@ FIRST = {
     "answers": ["bases-", "score-", "risk-", "marks-"],
     "antichains": ["choose-"],
     "forecasts": ["forecast-"],
+    "cut_sets": ["cuts-"],
     "sheet_format/Names": ["name-", "line-"],
     "sheet_format": ["reads-alone", "reads-loop", "reads-pair", "refuses-", "passes-", "renders", "decimal-", "no-fields"],
     "findings": ["finding-"],

@@ -208,6 +208,12 @@ def Same(n, n_, v, v_):
     return number and values
 
 
+def SameList(n, n_, v, v_, x, x_):
+    answer = Same(n, n_, v, v_)
+    list_ = x == x_
+    return answer and list_
+
+
 def Inside(s, set_):
     return all(implies(lambda: Member(set_, v), lambda: v < s.count) for v in world.vertices)
 
@@ -220,6 +226,12 @@ def Untouched(entry, exit, entry_, exit_):
     first = exit == entry
     second = exit_ == entry_
     return first and second
+
+
+def ListWritten(xs, answer, number, values, entry, exit):
+    room = implies(lambda: len(xs) <= len(entry), lambda: number == 0 and values == answer and exit == written(xs, entry))
+    short = implies(lambda: len(entry) < len(xs), lambda: Refuses(15, number, values) and exit == entry)
+    return room and short
 
 
 # ---- derivations/Derivation: what is held is a predicate, as there
@@ -635,12 +647,7 @@ def QuickAgrees(s, target, set_, quick, closures):
 
 
 def BasesWritten(opening, lock, number, values, entry, exit):
-    room = implies(
-        lambda: len(opening) + len(lock) <= len(entry),
-        lambda: number == 0 and values == [len(opening), len(lock)] and exit == opening + (lock + entry[len(opening) + len(lock):]),
-    )
-    short = implies(lambda: len(entry) < len(opening) + len(lock), lambda: Refuses(15, number, values) and exit == entry)
-    return room and short
+    return ListWritten(opening + lock, [len(opening), len(lock)], number, values, entry, exit)
 
 
 def BasesCall(s, target, number, values, entry, exit):
@@ -782,6 +789,74 @@ def OneForecastAnswer(s, target, answers):
         for n, v in answers
         for n_, v_ in answers
     )
+
+
+# ---- cut_sets/Cuts
+
+
+def CutSet(s, target, x):
+    key = ("cut", mark(s), target, x)
+    if key not in cache:
+        chosen = all(implies(lambda: Member(x, v), lambda: Chosen(False, s, v)) for v in world.vertices)
+        shut = chosen and not HasAccess(s.graph, lambda v: Chosen(False, s, v) and not Member(x, v), target)
+        cache[key] = chosen and shut
+    return cache[key]
+
+
+def CutList(s, target, cuts):
+    return ListsExactly(lambda x: Smallest(lambda y: CutSet(s, target, y), x), cuts)
+
+
+def MeetsEvery(P, x):
+    return all(implies(lambda: P(y), lambda: Meets(x, y)) for y in world.sets)
+
+
+def Transversal(s, l, x):
+    chosen = all(implies(lambda: Member(x, v), lambda: Chosen(False, s, v)) for v in world.vertices)
+    meets = MeetsEvery(lambda y: Listed(l, y), x)
+    return chosen and meets
+
+
+def Duality(s, target, cuts):
+    bases = [l for l in world.lists if Base(False, s, s.graph, target, l)]
+    transversals = all(ListsExactly(lambda x: Smallest(lambda y: Transversal(s, l, y), x), cuts) for l in bases)
+    again = all(ListsExactly(lambda x: Smallest(lambda y: MeetsEvery(lambda z: CutSet(s, target, z), y), x), l) for l in bases)
+    againListed = all(ListsExactly(lambda x: Smallest(lambda y: MeetsEvery(lambda z: Listed(cuts, z), y), x), l) for l in bases)
+    empty = implies(lambda: not HasAccess(s.graph, lambda v: Chosen(False, s, v), target), lambda: cuts == [0])
+    some = 0 < len(cuts)
+    forecast = all(implies(lambda: Forecast(s, target, counted, n), lambda: len(cuts) <= n) for counted in world.sets for n in range(1, 7))
+    return transversals and again and againListed and empty and some and forecast
+
+
+def DualityHolds(asked):
+    return all(implies(lambda: WellFormed(s) and CutList(s, target, cuts), lambda: Duality(s, target, cuts)) for s, target, cuts in asked)
+
+
+def CutsMeetBase(asked):
+    return all(
+        implies(lambda: WellFormed(s) and Base(False, s, s.graph, target, l), lambda: all(Iff(CutSet(s, target, x), Transversal(s, l, x)) for x in world.sets))
+        for s, target, l in asked
+    )
+
+
+def LongestCuts(asked):
+    return all(implies(lambda: WellFormed(s) and CutList(s, target, cuts), lambda: len(cuts) <= 3432) for s, target, cuts in asked)
+
+
+# ---- cut_sets/Answers
+
+
+def CutsCall(s, target, number, values, entry, exit):
+    malformed = implies(lambda: not WellFormed(s), lambda: Refuses(12, number, values) and exit == entry)
+    noTarget = implies(lambda: WellFormed(s) and s.count <= target, lambda: Refuses(13, number, values) and exit == entry)
+    answers = implies(
+        lambda: WellFormed(s) and target < s.count,
+        lambda: any(
+            ListWritten(cuts, [len(cuts)], number, values, entry, exit) and CutList(s, target, cuts) and Duality(s, target, cuts)
+            for cuts in world.lists
+        ),
+    )
+    return malformed and noTarget and answers
 
 
 # ---- answers/Demand3
@@ -1222,15 +1297,17 @@ def OneWayAnswer(s, target, set_, a, b, answers):
     )
 
 
-def SameBases(n, n_, v, v_, x, x_):
-    answer = Same(n, n_, v, v_)
-    list_ = x == x_
-    return answer and list_
-
-
 def OneBasesAnswer(s, target, a, answers):
     return all(
-        implies(lambda: BasesCall(s, target, n, v, a, x) and BasesCall(s, target, n_, v_, a, x_), lambda: SameBases(n, n_, v, v_, x, x_))
+        implies(lambda: BasesCall(s, target, n, v, a, x) and BasesCall(s, target, n_, v_, a, x_), lambda: SameList(n, n_, v, v_, x, x_))
+        for n, v, x in answers
+        for n_, v_, x_ in answers
+    )
+
+
+def OneCutsAnswer(s, target, a, answers):
+    return all(
+        implies(lambda: CutsCall(s, target, n, v, a, x) and CutsCall(s, target, n_, v_, a, x_), lambda: SameList(n, n_, v, v_, x, x_))
         for n, v, x in answers
         for n_, v_, x_ in answers
     )
@@ -1289,10 +1366,10 @@ def SettledWay(s, target, set_, number, values, entry, exit, entry_, exit_, answ
     return outcome and meets and only
 
 
-def SettledLists(s, target, number, values, entry, exit, answers):
+def SettledList(Call, number, values, entry, exit, answers):
     outcome = Outcome([12, 13, 15], number, values, [entry], [exit])
-    meets = BasesCall(s, target, number, values, entry, exit)
-    only = all(implies(lambda: BasesCall(s, target, n, v, entry, x), lambda: SameBases(n, number, v, values, x, exit)) for n, v, x in answers)
+    meets = Call(number, values, exit)
+    only = all(implies(lambda: Call(n, v, x), lambda: SameList(n, number, v, values, x, exit)) for n, v, x in answers)
     return outcome and meets and only
 
 
@@ -1363,12 +1440,12 @@ def SettledPortal(loss, text, item, r, numbers):
 # ---- demands/Demands: each call's answer in `r` is its number and its values; `among` has the other answers, texts and rows that are looked at
 
 
-def Demand1(text, item, s, set_, target, other, opened, locked, vertices, vertices_, colours, colours_, list_, exit, r, among):
+def Demand1(text, item, s, set_, target, other, opened, locked, vertices, vertices_, colours, colours_, list_, exit, harden, harden_, r, among):
     both = among.answers
     closure = Settled([12, 14], lambda n, v: ClosureCall(s, set_, n, v), *r.closure, both)
     lost = Settled([12, 14], lambda n, v: LostCall(s, set_, n, v), *r.lost, both)
     way = SettledWay(s, target, set_, *r.way, vertices, vertices_, colours, colours_, among.ways)
-    bases = SettledLists(s, target, *r.bases, list_, exit, among.lists)
+    bases = SettledList(lambda n, v, x: BasesCall(s, target, n, v, list_, x), *r.bases, list_, exit, among.lists)
     score = Settled([12, 13], lambda n, v: ScoreCall(False, s, target, n, v), *r.score, both)
     risk = Settled([12, 13], lambda n, v: ScoreCall(True, s, target, n, v), *r.risk, both)
     openings = Settled([12, 13], lambda n, v: MarksCall(False, s, target, opened, n, v), *r.openings, both)
@@ -1382,12 +1459,13 @@ def Demand1(text, item, s, set_, target, other, opened, locked, vertices, vertic
     portalRisk = SettledPortal(True, text, item, r.portalRisk, among.numbers)
     forecast = Settled([12, 13], lambda n, v: ForecastCall(s, target, n, v), *r.forecast, both)
     quick = Settled([12, 13, 14], lambda n, v: QuickCall(s, target, set_, n, v), *r.quick, both)
+    cuts = SettledList(lambda n, v, x: CutsCall(s, target, n, v, harden, x), *r.cuts, harden, harden_, among.cuts)
     sets = closure and lost and way and quick
     lists = bases and score and risk and openings and lockouts
-    return sets and lists and backdoor and idle and pair and formed and reading and portalScore and portalRisk and forecast
+    return sets and lists and backdoor and idle and pair and formed and reading and portalScore and portalRisk and forecast and cuts
 
 
-def Demand2(text, item, s, set_, target, other, opened, locked, vertices, vertices_, colours, colours_, list_, exit, r, among):
+def Demand2(text, item, s, set_, target, other, opened, locked, vertices, vertices_, colours, colours_, list_, exit, harden, harden_, r, among):
     closure = ClosureCall(s, set_, *r.closure)
     lost = LostCall(s, set_, *r.lost)
     way = WayCall(s, target, set_, *r.way, vertices, vertices_, colours, colours_)
@@ -1406,9 +1484,10 @@ def Demand2(text, item, s, set_, target, other, opened, locked, vertices, vertic
     portalRisk = PortalCall(True, text, item, r.portalRisk)
     forecast = ForecastCall(s, target, *r.forecast)
     quick = QuickCall(s, target, set_, *r.quick)
+    cuts = CutsCall(s, target, *r.cuts, harden, harden_)
     sets = closure and lost and way and quick
     lists = bases and score and risk and openings and lockouts
-    return sets and lists and backdoor and idle and pair and formed and reading and asked and portalScore and portalRisk and forecast
+    return sets and lists and backdoor and idle and pair and formed and reading and asked and portalScore and portalRisk and forecast and cuts
 
 
 # ---- reference/Meaning
@@ -1599,7 +1678,7 @@ def OneResult(Call, results, candidates):
     )
 
 
-def OneResultOnSetups(words, set_, target, other, sets, a, b, numbers, results, values, ways, lists):
+def OneResultOnSetups(words, set_, target, other, sets, a, b, numbers, results, values, ways, lists, cut_lists):
     s = setupIn(words)
     check = all(implies(lambda: CheckCall(s, r) and CheckCall(s, r_), lambda: r == r_) for r in numbers for r_ in numbers)
     closure = OneResult(lambda n, v: ClosureCall(s, set_, n, v), results, values)
@@ -1619,7 +1698,7 @@ def OneResultOnSetups(words, set_, target, other, sets, a, b, numbers, results, 
             lambda: len(f) == len(f_)
             and Told(lambda n, v: BasesCall(s, target, n, v, b, x), n, f, values)
             and Told(lambda n, v: BasesCall(s, target, n, v, b, x_), n_, f_, values),
-            lambda: SameBases(n, n_, f, f_, x, x_),
+            lambda: SameList(n, n_, f, f_, x, x_),
         )
         for n, f, x in lists
         for n_, f_, x_ in lists
@@ -1633,7 +1712,17 @@ def OneResultOnSetups(words, set_, target, other, sets, a, b, numbers, results, 
     outOfRank = OneResult(lambda n, v: InconsistentCall(s, target, other, n, v), results, values)
     forecast = OneResult(lambda n, v: ForecastCall(s, target, n, v), results, values)
     opens = OneResult(lambda n, v: QuickCall(s, target, set_, n, v), results, values)
-    return all((check, closure, lost, wayIn, lists_, score, risk, openings, lockouts, backdoor, idle, outOfRank, forecast, opens))
+    cuts = all(
+        implies(
+            lambda: len(f) == len(f_)
+            and Told(lambda n, v: CutsCall(s, target, n, v, a, x), n, f, values)
+            and Told(lambda n, v: CutsCall(s, target, n, v, a, x_), n_, f_, values),
+            lambda: SameList(n, n_, f, f_, x, x_),
+        )
+        for n, f, x in cut_lists
+        for n_, f_, x_ in cut_lists
+    )
+    return all((check, closure, lost, wayIn, lists_, score, risk, openings, lockouts, backdoor, idle, outOfRank, forecast, opens, cuts))
 
 
 def OneResultOnSheets(text, item, entry, readings, parts):

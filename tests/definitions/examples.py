@@ -25,6 +25,7 @@ alone = read([H1, "only a 5 - 0", "", H2])
 closed = read([H1, "only a - - 0", "", H2])
 loop = read([H1, "only a - 4 0", "", H2, "only only 0 0"])
 pair = read([H1, "p a - 1 0", "q a - 1 0", "", H2, "p q 0 0", "q p 0 0"])
+chain = read([H1, "p c 1 1 0", "q c 1 1 0", "t a - - 0", "", H2, "p q 0 0", "q t 0 0"])
 # two colours, of which the second is recovery, and an item that is ranked above; zero is a value
 SPARE = [H1, "pw c 0 0 0", "key c 2 1 0", "acc a - - 1", "", H2, "pw acc 0 0", "key acc 2 1"]
 spare = read(SPARE)
@@ -578,6 +579,62 @@ def of_forecasts(D):
     ]
 
 
+def of_cuts(D):
+    """Cut sets of order and mail; the lockout list of order has the same."""
+    call = lambda number, values, entry, exit, target=ORDER, s=bench: D.CutsCall(s, target, number, values, entry, exit)
+    lent = LENT[:3]
+    asked = [(bench, t, l) for t in (MAIL, ORDER) for l in ([2], [3, 6], [2, 5], [3])]
+    answers = [(0, [2], [3, 6]), (0, [2], [6, 3]), (0, [1], [3, 91]), (15, [], LENT[:2]), (13, [], LENT[:2])]
+    return [
+        ("cut set: ordpw with mailpw", lambda: D.CutSet(bench, ORDER, 3), True),
+        ("cut set: all three", lambda: D.CutSet(bench, ORDER, 7), True),
+        ("not cut set: mailpw alone", lambda: D.CutSet(bench, ORDER, 2), False),
+        ("not cut set: with mail, which is no starting item", lambda: D.CutSet(bench, ORDER, 11), False),
+        ("cut list: of order", lambda: D.CutList(bench, ORDER, [3, 6]), True),
+        ("cut list: of mail", lambda: D.CutList(bench, MAIL, [2]), True),
+        ("not cut list: one that is not smallest", lambda: D.CutList(bench, ORDER, [3, 6, 7]), False),
+        ("not cut list: one missing", lambda: D.CutList(bench, ORDER, [3]), False),
+        ("meets every: mailpw and ordpw", lambda: D.MeetsEvery(lambda y: y in (2, 5), 3), True),
+        ("not meets every: mailpw alone", lambda: D.MeetsEvery(lambda y: y in (2, 5), 2), False),
+        ("transversal: mailpw with token", lambda: D.Transversal(bench, [2, 5], 6), True),
+        ("not transversal: ordpw with token", lambda: D.Transversal(bench, [2, 5], 5), False),
+        ("not transversal: with mail", lambda: D.Transversal(bench, [2, 5], 14), False),
+        ("duality: order", lambda: D.Duality(bench, ORDER, [3, 6]), True),
+        ("duality: mail", lambda: D.Duality(bench, MAIL, [2]), True),
+        ("not duality: one missing", lambda: D.Duality(bench, ORDER, [3]), False),
+        ("not duality: no set", lambda: D.Duality(bench, ORDER, []), False),
+        ("duality holds", lambda: D.DualityHolds(asked), True),
+        ("cuts meet base", lambda: D.CutsMeetBase(asked), True),
+        ("longest cuts", lambda: D.LongestCuts(asked), True),
+        ("call: cut sets of order", lambda: call(0, [2], lent, [3, 6, 92]), True),
+        ("call: cut sets of order, with equal room", lambda: call(0, [2], LENT[:2], [3, 6]), True),
+        ("not call: cut sets in another order", lambda: call(0, [2], lent, [6, 3, 92]), False),
+        ("not call: cut sets, 15 with equal room", lambda: call(15, [], LENT[:2], LENT[:2]), False),
+        ("call: cut sets, 15", lambda: call(15, [], LENT[:1], LENT[:1]), True),
+        ("call: cut sets, 13", lambda: call(13, [], lent, lent, 5), True),
+        ("not call: cut sets, 13 inside", lambda: call(13, [], lent, lent), False),
+        ("call: cut sets, 12", lambda: call(12, [], lent, lent, 0, EMPTY), True),
+        ("not call: cut sets, 13 before 12", lambda: call(13, [], lent, lent, 0, EMPTY), False),
+        ("one answer: cut sets of order", lambda: D.OneCutsAnswer(bench, ORDER, LENT[:2], answers), True),
+    ]
+
+
+def of_few_cuts(D):
+    """Cut sets where one opens the next, where two open each other, and where nothing opens the target."""
+    return [
+        ("cut list: opened again", lambda: D.CutList(chain, 2, [3]), True),
+        ("not cut list: the second alone, as if it were taken out", lambda: D.CutList(chain, 2, [2]), False),
+        ("duality: opened again", lambda: D.Duality(chain, 2, [3]), True),
+        ("cut list: the target too", lambda: D.CutList(chain, 1, [3]), True),
+        ("cut list: alone", lambda: D.CutList(alone, 0, [1]), True),
+        ("cut list: nothing opens it", lambda: D.CutList(closed, 0, [0]), True),
+        ("not cut list: nothing opens it, and no set", lambda: D.CutList(closed, 0, []), False),
+        ("duality: nothing opens it", lambda: D.Duality(closed, 0, [0]), True),
+        ("call: cut sets where nothing opens it", lambda: D.CutsCall(closed, 0, 0, [1], [90], [0]), True),
+        ("call: cut sets where nothing opens it, 15", lambda: D.CutsCall(closed, 0, 15, [], [], []), True),
+    ]
+
+
 def of_findings(D):
     """Findings."""
     return [
@@ -637,8 +694,14 @@ def of_same(D):
         ("same way: not with other items", lambda: D.SameWay(0, 0, [], [], [1], [2], [], []), False),
         ("same way: not with other colours", lambda: D.SameWay(0, 0, [], [], [1], [1], [1], [2]), False),
         ("same way", lambda: D.SameWay(0, 0, [], [], [1], [1], [1], [1]), True),
-        ("same bases: not with another list", lambda: D.SameBases(0, 0, [], [], [1], [2]), False),
-        ("same bases", lambda: D.SameBases(0, 0, [], [], [1], [1]), True),
+        ("same list: not with another list", lambda: D.SameList(0, 0, [], [], [1], [2]), False),
+        ("same list", lambda: D.SameList(0, 0, [], [], [1], [1]), True),
+        ("list written: two of three places", lambda: D.ListWritten([7, 8], [2], 0, [2], LENT[:3], [7, 8, 92]), True),
+        ("list written: with equal room", lambda: D.ListWritten([7, 8], [2], 0, [2], LENT[:2], [7, 8]), True),
+        ("list written: 15", lambda: D.ListWritten([7, 8], [2], 15, [], LENT[:1], LENT[:1]), True),
+        ("not list written: 15 with equal room", lambda: D.ListWritten([7, 8], [2], 15, [], LENT[:2], LENT[:2]), False),
+        ("not list written: 15 with a place changed", lambda: D.ListWritten([7, 8], [2], 15, [], LENT[:1], [7]), False),
+        ("not list written: another answer", lambda: D.ListWritten([7, 8], [2], 0, [1], LENT[:2], [7, 8]), False),
     ]
 
 
@@ -714,12 +777,13 @@ def of_one_answer(D):
 
 def of_results(D):
     """That the contracts of the calls for C determine their results."""
-    values = [[], [0], [1], [3], [10], [26, 2], [26, 3], [1, 26], [0, 0], [1, 2], [2, 2], [1, 1, 1, 1, 1], [0, 1, 3, 0, 2]]
+    values = [[], [0], [1], [2], [3], [10], [26, 2], [26, 3], [1, 26], [0, 0], [1, 2], [2, 2], [1, 1, 1, 1, 1], [0, 1, 3, 0, 2]]
     results = [(0, f) for f in ([0], [1], [3], [10], [26, 2], [26, 3], [1, 26], [0, 26], [0, 0], [1, 1, 1, 1, 1])] + [(12, [0]), (13, [0]), (12, [0, 0]), (13, [0, 0])]
     lent, out = [9, 9], LENT[:4]
     ways = [(0, [1, 2], [3, 4], [0, 1]), (0, [1, 2], [3, 4], lent), (0, [0, 0], lent, lent), (15, [0, 0], lent, lent), (13, [0, 0], lent, lent)]
     lists = [(0, [2, 2], [2, 5, 3, 6]), (0, [2, 2], [5, 2, 3, 6]), (0, [0, 0], out), (15, [0, 0], out)]
-    handed = (wordsOf(bench), 2, ORDER, MAIL, [2, 2, 6, 4], lent, out, (0, 12), results, values, ways, lists)
+    cuts = [(0, [2], [3, 6]), (0, [2], [6, 3]), (0, [0], lent), (15, [0], lent)]
+    handed = (wordsOf(bench), 2, ORDER, MAIL, [2, 2, 6, 4], lent, out, (0, 12), results, values, ways, lists, cuts)
     readings = [(n, l, x) for n in (0, 15) for l in (0, 1) for x in ([9] * 1281, wordsOf(bench))]
     parts = [(n, p, k) for n in (0, 13) for p in (0, 69, 84) for k in (0, 4, 5)]
     return [
@@ -734,6 +798,8 @@ def of_demands(D):
     """What demands 1 and 2 ask of a call: right answers, and wrong ones."""
     closure = lambda s: lambda n, v: D.ClosureCall(s, 2, n, v)
     backdoor = lambda n, x: D.BackdoorCall(bench, ORDER, n, x)
+    of_lists = lambda n, v, x: D.BasesCall(bench, ORDER, n, v, LENT[:4], x)
+    of_cuts = lambda n, v, x: D.CutsCall(bench, ORDER, n, v, LENT[:2], x)
     answers = [(n, v) for n in (0, 12, 13, 14) for v in ([], [0], [1], [2], [26], [26, 2], [26, 3])]
     way = (bench, ORDER, 2, 0, [1, 2], [9, 9], [3, 4], [9, 9], [0, 1])
     ways = [(0, [1, 2], [3, 4], [0, 1]), (0, [1, 2], [3, 4], [9, 9]), (0, [0], [9, 9], [9, 9]), (15, [], [9, 9], [9, 9])]
@@ -760,7 +826,9 @@ def of_demands(D):
         ("not settled: a contract that nothing meets", lambda: D.Settled([12, 14], lambda n, v: False, 0, [26], answers), False),
         ("settled: backdoor of order", lambda: D.Settled([12, 13], backdoor, 0, [1], answers), True),
         ("settled: way from mailpw", lambda: D.SettledWay(*way, ways), True),
-        ("settled: lists of order", lambda: D.SettledLists(bench, ORDER, 0, [2, 2], LENT[:4], [2, 5, 3, 6], lists), True),
+        ("settled: lists of order", lambda: D.SettledList(of_lists, 0, [2, 2], LENT[:4], [2, 5, 3, 6], lists), True),
+        ("not settled: a list that the contract leaves open", lambda: D.SettledList(lambda n, v, x: n == 0, 0, [2], LENT[:4], [2], lists), False),
+        ("settled: cut sets of order", lambda: D.SettledList(of_cuts, 0, [2], LENT[:2], [3, 6], [(0, [2], [3, 6]), (0, [2], [6, 3]), (15, [], LENT[:2])]), True),
         ("settled: question 12 of bench", lambda: D.SettledQuestion12(bench, True, sheets), True),
         ("not settled: question 12 of no item is yes", lambda: D.SettledQuestion12(EMPTY, True, sheets), False),
         ("settled: reading of bench", lambda: D.SettledReading(text(BENCH), right, docs, readings), True),
@@ -779,9 +847,9 @@ def of_demands(D):
 
 
 Answers = namedtuple(
-    "Answers", "closure lost way bases score risk openings lockouts backdoor idle pair formed reading portalScore portalRisk forecast quick"
+    "Answers", "closure lost way bases score risk openings lockouts backdoor idle pair formed reading portalScore portalRisk forecast quick cuts"
 )
-Among = namedtuple("Among", "answers ways lists texts docs readings numbers")
+Among = namedtuple("Among", "answers ways lists cuts texts docs readings numbers")
 
 
 def of_both_demands(D):
@@ -789,18 +857,20 @@ def of_both_demands(D):
     sheet, five, lent, out = text(BENCH), REFUSED["refused 5"][0], [9, 9], LENT[:4]
     yes = Answers(
         *[(0, [26, 3]), (0, [10]), (0, [1, 2]), (0, [2, 2]), (0, [1]), (0, [3]), (0, [1, 0, 0, 0, 1]), (0, [2, 0, 0, 0, 0])],
-        *[(0, [1]), (0, [0]), (0, [1]), True, D.accepted(bench), 1, 3, (0, [3]), (0, [1, 26])],
+        *[(0, [1]), (0, [0]), (0, [1]), True, D.accepted(bench), 1, 3, (0, [3]), (0, [1, 26]), (0, [2])],
     )
-    outside = Answers((14, []), (14, []), *[(13, [])] * 9, True, D.refused(5, 2), never + 5, never + 5, (13, []), (13, []))
+    outside = Answers((14, []), (14, []), *[(13, [])] * 9, True, D.refused(5, 2), never + 5, never + 5, (13, []), (13, []), (13, []))
     set_outside = yes._replace(closure=(14, []), lost=(14, []), way=(14, []), quick=(14, []), portalRisk=1)
-    malformed = yes._replace(**{n: (12, []) for n in (*Answers._fields[:11], "forecast", "quick")}, formed=False)
+    malformed = yes._replace(**{n: (12, []) for n in (*Answers._fields[:11], "forecast", "quick", "cuts")}, formed=False)
     answers = [(0, v) for v in ([0], [1], [3], [10], [0, 1], [26, 2], [26, 3], [1, 26], [0, 26], [1, 0, 0, 0, 1], [2, 0, 0, 0, 0])] + [(n, []) for n in (0, 12, 13, 14)]
     ways = [(0, [1, 2], [3, 4], [0, 1]), (0, [1, 2], [3, 4], lent)] + [(n, v, lent, lent) for n, v in answers + [(15, [])]]
     lists = [(0, [2, 2], [2, 5, 3, 6]), (0, [2, 2], out)] + [(n, v, out) for n, v in answers + [(15, [])]]
     readings = [D.accepted(bench), D.accepted(EMPTY), D.refused(5, 2), D.refused(2, 5)]
-    among = Among(answers, ways, lists, [sheet, render(DOC)], [BENCH_DOC, DOC], readings, [0, 1, 3, 13, never, never + 5, never + 13])
+    cuts = [(0, [2], [3, 6]), (0, [2], [6, 3]), (0, [2], lent)] + [(n, v, lent) for n, v in answers + [(15, [])]]
+    among = Among(answers, ways, lists, cuts, [sheet, render(DOC)], [BENCH_DOC, DOC], readings, [0, 1, 3, 13, never, never + 5, never + 13])
     asked = lambda t, i, s, set_, v, w: [t, i, s, set_, v, w, [2], [3, 6], lent]
-    untouched, no_way, both = [lent, lent, lent, out, out], [lent, lent, lent, out, [2, 5, 3, 6]], [[3, 4], lent, [0, 1], out, [2, 5, 3, 6]]
+    listed = [out, [2, 5, 3, 6], lent, [3, 6]]
+    untouched, no_way, both = [lent, lent, lent, out, out, lent, lent], [lent, lent, lent, *listed], [[3, 4], lent, [0, 1], *listed]
     order = asked(sheet, ORDER, bench, 2, ORDER, MAIL) + both
     inputs = [
         ("order from mailpw", order, yes, True),
@@ -813,6 +883,7 @@ def of_both_demands(D):
         ("another line", order, yes._replace(reading=D.accepted(bench)._replace(line=1)), False),
         ("the list's length for the forecast", order, yes._replace(forecast=(0, [2])), False),
         ("no to what mailpw opens", order, yes._replace(quick=(0, [0, 26])), False),
+        ("one cut set too few", order, yes._replace(cuts=(0, [1])), False),
     ]
     return [
         (f"{'' if ok else 'not '}demand {n}: {name}", lambda f=f, a=a, r=r: f(*a, r, among), ok)
@@ -1021,10 +1092,10 @@ def of_refusals(D):
 
 GROUPS = {
     "far": [of_sets, of_setups, of_well_formed, of_parts, of_full_marks, of_written_rows, of_whole],
-    "one": [of_one],
+    "one": [of_one, of_few_cuts],
     "sums": [of_sums],
     "bench": [of_derivations, of_passes, of_ways, of_bases, of_scores, of_marks, of_set_calls, of_way_calls, of_base_calls, of_score_calls, of_demand3]
-    + [of_quick, of_forecasts, of_findings, of_portal, of_same, of_told, of_readings, of_one_answer, of_results, of_demands, of_both_demands],
+    + [of_quick, of_forecasts, of_cuts, of_findings, of_portal, of_same, of_told, of_readings, of_one_answer, of_results, of_demands, of_both_demands],
     "rows": [of_valid_rows, of_rows, of_stated, of_meaning, of_refusals],
     "spare": [of_spare],
     "ring": [of_ring],

@@ -12,7 +12,8 @@ use Rattle.vertex_set.proofs.Sets.{member-below, some-member}
 use Rattle.setup.specs.declared.Graph.{Graph}
 use Rattle.setup.specs.declared.Setup.{Setup}
 use Rattle.formed.specs.WellFormed.{WellFormed}
-use Rattle.setup.specs.Calls.{Refuses, Inside, Untouched}
+use Rattle.setup.specs.Calls.{Inside, Untouched}
+use Rattle.setup.proofs.Calls.{refuses}
 use Rattle.derivations.specs.Derivation.{Vertices, Rule}
 use Rattle.derivations.specs.Access.{Step, access, HasAccess}
 use Rattle.derivations.specs.Lockout.{lockout}
@@ -38,9 +39,6 @@ inside-iff s set b h bel =
 -- an answer has values, and a refusal has none
 pub values-or-none : {x : ℕ} {l : List ℕ} → x ∷ l ≡ [] → ⊥
 values-or-none {x = x} {l = l} e = let z : _≡_ {A = ℕ} 0 1 = cc in omega arith
-
-pub refuses : (q : ℕ) → Refuses q q []
-refuses q = record { numbered = refl; empty = refl }
 
 -- ---- closure and lost set
 

@@ -1,8 +1,8 @@
 -- The questions 12, 13 and 15 in their order.
 -- Assumes nothing.
-use mathlib.Core.Path.{_≡_, refl, ap, _∙_}
+use mathlib.Core.Path.{_≡_, refl, sym, ap, _∙_}
 use mathlib.Core.Bool.{Bool}
-use mathlib.Core.List.{List, [], _∷_, _++_, append-nil}
+use mathlib.Core.List.{List, [], _∷_, _++_, append-nil, append-assoc}
 use Prim.Native.Nat.{ℕ, _+_, _-_, _≤_, _<_}
 use native.Mathlib.Omega.{arith}
 use lib.ListN.{length, take, drop, length-append, length-take, length-drop, drop-of-length-le}
@@ -10,16 +10,13 @@ use lib.Seq.{take-append-seam, drop-append-seam, drop-drop, take-all}
 use borrow.Rule.Slice.PartMut.{putMid}
 use Rattle.setup.specs.declared.Setup.{Setup}
 use Rattle.formed.specs.WellFormed.{WellFormed}
-use Rattle.setup.specs.Calls.{Refuses}
+use Rattle.setup.proofs.Calls.{refuses, list-short, list-room}
 use Rattle.families.specs.Inner.Family.{size}
 use Rattle.bases.specs.Score.{ScoreBoth}
 use Rattle.answers.specs.Answers.{BasesWritten, BasesCall, ScoreCall, MarksCall}
 use Rattle.answers.specs.Inner.{BasesTaken, MarksTaken}
 use Rattle.answers.specs.declared.Marks.{Marks}
 use Rattle.bases.proofs.FullMarks.{full-marks}
-
-pub refuses : (q : ℕ) → Refuses q q []
-refuses q = record { numbered = refl; empty = refl }
 
 -- ---- scores
 
@@ -54,7 +51,8 @@ module _ (s : Setup) (target : ℕ) (entry : List ℕ) where
 
 -- no room: both lists are as long as their families have members
 pub written-short : (opening lockout entry : List ℕ) → length entry < length opening + length lockout → BasesWritten opening lockout 15 [] entry entry
-written-short opening lockout entry l = record { room = λ k. absurd (omega arith); short = λ k. (refuses 15, refl) }
+written-short opening lockout entry l =
+    list-short (opening ++ lockout) (length opening ∷ length lockout ∷ []) entry (let e = length-append opening lockout in omega arith)
 
 -- what is lent on behind the first n places
 pub rest-long : (mid : List ℕ) (n : ℕ) → n ≤ length mid → length (take (length mid - n) (drop n mid)) ≡ length mid - n
@@ -65,10 +63,10 @@ pub written-room : (opening lockout entry mid rest : List ℕ) (n m : ℕ) → n
     → mid ≡ opening ++ drop (length opening) entry → rest ≡ lockout ++ drop (length lockout) (take (length mid - n) (drop n mid))
     → BasesWritten opening lockout 0 (n ∷ m ∷ []) entry (putMid n (length mid - n) mid rest)
 written-room opening lockout entry mid rest n m en em l e f =
-    record {
-      room = λ k. (refl, ap (λ (x : ℕ). x ∷ m ∷ []) en ∙ ap (λ (x : ℕ). length opening ∷ x ∷ []) em, exit);
-      short = λ k. absurd (omega arith);
-    }
+    list-room (opening ++ lockout) (length opening ∷ length lockout ∷ []) (n ∷ m ∷ []) entry (putMid n (length mid - n) mid rest)
+    (let j = length-append opening lockout in omega arith) (ap (λ (x : ℕ). x ∷ m ∷ []) en ∙ ap (λ (x : ℕ). length opening ∷ x ∷ []) em)
+    (exit ∙ sym (append-assoc opening lockout (drop (length opening + length lockout) entry))
+    ∙ ap (λ (k : ℕ). (opening ++ lockout) ++ drop k entry) (sym (length-append opening lockout)))
   where
     front : take n mid ≡ opening
     front = ap (λ (x : ℕ). take x mid) en ∙ ap (take (length opening)) e ∙ take-append-seam opening (drop (length opening) entry)

@@ -2,12 +2,12 @@
 use mathlib.Core.Path.{_≡_}
 use mathlib.Core.Bool.{Bool, true, false}
 use mathlib.Core.List.{List, [], _∷_, _++_}
-use Prim.Native.Nat.{ℕ, _+_, _≤_, _<_}
-use lib.ListN.{length, drop}
+use Prim.Native.Nat.{ℕ, _≤_, _<_}
+use lib.ListN.{length}
 use Rattle.vertex_set.specs.Set.{Iff}
 use Rattle.setup.specs.declared.Setup.{Setup}
 use Rattle.formed.specs.WellFormed.{WellFormed}
-use Rattle.setup.specs.Calls.{Refuses}
+use Rattle.setup.specs.Calls.{Refuses, ListWritten}
 use Rattle.bases.specs.Base.{Base}
 use Rattle.bases.specs.Score.{Score, ScoreOver}
 use Rattle.bases.specs.Marks.{Counts, IsBaseOnce, Full}
@@ -59,10 +59,8 @@ marksValues (marks.Refused q) = []
 
 -- The opening list stands first in the lent list and the lockout list from the next place on, with both lengths as the answer, where both
 -- together have room; else 15, and no place is changed.
-pub record BasesWritten (opening lockout : List ℕ) (number : ℕ) (values entry exit : List ℕ) : Type 0 where
-  pub room : length opening + length lockout ≤ length entry
-      → (number ≡ 0) × (values ≡ length opening ∷ length lockout ∷ []) × (exit ≡ opening ++ (lockout ++ drop (length opening + length lockout) entry))
-  pub short : length entry < length opening + length lockout → Refuses 15 number values × (exit ≡ entry)
+abbrev pub BasesWritten : List ℕ → List ℕ → ℕ → List ℕ → List ℕ → List ℕ → Type 0
+BasesWritten opening lockout number values entry exit = ListWritten (opening ++ lockout) (length opening ∷ length lockout ∷ []) number values entry exit
 
 -- 12, 13, 15.
 pub record BasesCall (s : Setup) (target number : ℕ) (values entry exit : List ℕ) : Type 0 where

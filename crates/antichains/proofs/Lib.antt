@@ -1,3 +1,4 @@
+pub mod Minimal
 pub mod Pigeons
 pub mod Chains
 pub mod Layers

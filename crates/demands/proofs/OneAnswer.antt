@@ -3,24 +3,27 @@
 -- Assumes nothing.
 use mathlib.Core.Path.{_≡_, sym, ap, subst, _∙_}
 use mathlib.Core.Bool.{true, false}
-use mathlib.Core.List.{List, [], _∷_}
+use mathlib.Core.List.{List, [], _∷_, _++_}
 use mathlib.Core.Logic.{_⊎_, inl, inr, ⊎-elim}
 use mathlib.Core.HLevel.{Stable}
-use Prim.Native.Nat.{ℕ, _+_, _≤_, _<_}
+use Prim.Native.Nat.{ℕ, _≤_, _<_}
 use lib.ListN.{length}
 use Rattle.vertex_set.specs.Set.{Member}
+use Rattle.vertex_set.specs.Order.{Smallest}
 use Rattle.vertex_set.proofs.Cases.{less-or}
+use Rattle.vertex_set.proofs.Lists.{exactly-unique}
 use Rattle.setup.specs.declared.Setup.{Setup}
 use Rattle.formed.specs.WellFormed.{WellFormed}
-use Rattle.setup.specs.Calls.{Refuses, Same, Inside, Untouched}
+use Rattle.setup.specs.Calls.{Refuses, Same, SameList, Inside, Untouched, ListWritten}
 use Rattle.derivations.specs.Access.{Step, access, HasAccess}
 use Rattle.derivations.specs.Lockout.{lockout}
 use Rattle.derivations.proofs.Passes.{passes-unique}
 use Rattle.derivations.proofs.Way.{way-unique}
 use Rattle.access.specs.Answers.{WayWritten}
 use Rattle.answers.specs.Answers.{BasesWritten}
+use Rattle.cut_sets.specs.Cuts.{CutSet}
 use Rattle.reference.proofs.Unique.{closure-unique, base-unique, score-unique, counts-unique}
-use Rattle.demands.specs.OneAnswer.{OneClosureAnswer, OneLostAnswer, SameWay, OneWayAnswer, SameBases, OneBasesAnswer, OneScoreAnswer, OneMarksAnswer}
+use Rattle.demands.specs.OneAnswer.{OneClosureAnswer, OneLostAnswer, SameWay, OneWayAnswer, OneBasesAnswer, OneCutsAnswer, OneScoreAnswer, OneMarksAnswer}
 use Rattle.demands.proofs.Stable.{stable-number, stable-list, by-cases}
 
 -- Questions 12 and 13, which all calls with a target ask first.
@@ -94,34 +97,45 @@ one-marks-answer loss s target handed n n′ v v′ a b =
         let e = counts-unique loss s (s .graph) target handed (x .0) (x .1) (x .2) (x .3) (x .4) (y .0) (y .1) (y .2) (y .3) (y .4) (x .7) (y .7) in
         alike (x .5) (x .6) (y .5) (y .6 ∙ cc)
 
--- ---- both lists
+-- ---- both lists, and cut sets
 
 module _ {n n′ : ℕ} {v v′ x x′ : List ℕ} where
-  bases-stable : Stable (SameBases n n′ v v′ x x′)
-  bases-stable k = record { answer = same-stable (λ j. k (λ h. j (h .answer))); list = stable-list x x′ (λ j. k (λ h. j (h .list))) }
+  list-stable : Stable (SameList n n′ v v′ x x′)
+  list-stable k = record { answer = same-stable (λ j. k (λ h. j (h .answer))); list = stable-list x x′ (λ j. k (λ h. j (h .list))) }
 
-  bases-refused : {q : ℕ} {a : List ℕ} → Refuses q n v × (x ≡ a) → Refuses q n′ v′ × (x′ ≡ a) → SameBases n n′ v v′ x x′
-  bases-refused a b = record { answer = refused (a .0) (b .0); list = a .1 ∙ sym (b .1) }
+  list-refused : {q : ℕ} {a : List ℕ} → Refuses q n v × (x ≡ a) → Refuses q n′ v′ × (x′ ≡ a) → SameList n n′ v v′ x x′
+  list-refused a b = record { answer = refused (a .0) (b .0); list = a .1 ∙ sym (b .1) }
 
-  bases-written : (opening lockout a : List ℕ) → BasesWritten opening lockout n v a x → BasesWritten opening lockout n′ v′ a x′ → SameBases n n′ v v′ x x′
-  bases-written opening lockout a p q =
-      ⊎-elim (λ k. bases-refused (p .short k) (q .short k)) (λ k. fit (p .room k) (q .room k)) (less-or (length a) (length opening + length lockout))
+  list-written : (xs answer a : List ℕ) → ListWritten xs answer n v a x → ListWritten xs answer n′ v′ a x′ → SameList n n′ v v′ x x′
+  list-written xs answer a p q =
+      ⊎-elim (λ k. list-refused (p .short k) (q .short k)) (λ k. fit (p .room k) (q .room k)) (less-or (length a) (length xs))
     where
-      fit : {m : ℕ} {u z : List ℕ} → (n ≡ m) × (v ≡ u) × (x ≡ z) → (n′ ≡ m) × (v′ ≡ u) × (x′ ≡ z) → SameBases n n′ v v′ x x′
+      fit : {m : ℕ} {u z : List ℕ} → (n ≡ m) × (v ≡ u) × (x ≡ z) → (n′ ≡ m) × (v′ ≡ u) × (x′ ≡ z) → SameList n n′ v v′ x x′
       fit e f = record { answer = alike (e .0) (e .1) (f .0) (f .1); list = e .2 ∙ sym (f .2) }
 
 pub one-bases-answer : OneBasesAnswer
 one-bases-answer s target n n′ v v′ a x x′ c d =
-    by-target s target bases-stable (λ m. bases-refused (c .malformed m) (d .malformed m)) (λ w o. bases-refused (c .noTarget w o) (d .noTarget w o)) answered
+    by-target s target list-stable (λ m. list-refused (c .malformed m) (d .malformed m)) (λ w o. list-refused (c .noTarget w o) (d .noTarget w o)) answered
   where
-    answered : WellFormed s → target < s .count → SameBases n n′ v v′ x x′
+    answered : WellFormed s → target < s .count → SameList n n′ v v′ x x′
     answered w l =
         let p = c .answers w l in
         let q = d .answers w l in
         let e = base-unique false s (s .graph) target (q .0) (p .0) (q .2) (p .2) in
         let f = base-unique true s (s .graph) target (q .1) (p .1) (q .3) (p .3) in
-        bases-written (p .0) (p .1) a (p .4)
+        list-written (p .0 ++ p .1) (length (p .0) ∷ length (p .1) ∷ []) a (p .4)
         (subst (λ (k : List ℕ). BasesWritten (p .0) k n′ v′ a x′) f (subst (λ (k : List ℕ). BasesWritten k (q .1) n′ v′ a x′) e (q .4)))
+
+pub one-cuts-answer : OneCutsAnswer
+one-cuts-answer s target n n′ v v′ a x x′ c d =
+    by-target s target list-stable (λ m. list-refused (c .malformed m) (d .malformed m)) (λ w o. list-refused (c .noTarget w o) (d .noTarget w o)) answered
+  where
+    answered : WellFormed s → target < s .count → SameList n n′ v v′ x x′
+    answered w l =
+        let p = c .answers w l in
+        let q = d .answers w l in
+        let e = exactly-unique (Smallest (CutSet s target)) (q .0) (p .0) (q .1) (p .1) in
+        list-written (p .0) (length (p .0) ∷ []) a (p .2) (subst (λ (k : List ℕ). ListWritten k (length k ∷ []) n′ v′ a x′) e (q .2))
 
 -- ---- the way in
 

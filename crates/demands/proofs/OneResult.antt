@@ -13,7 +13,7 @@ use Rattle.findings.proofs.Unique.{one-backdoor-answer, one-ineffective-answer,
 use Rattle.forecasts.proofs.Unique.{one-forecast-answer}
 use Rattle.quick_yes.proofs.Unique.{one-quick-answer}
 use Rattle.setup.specs.Calls.{Same}
-use Rattle.demands.proofs.OneAnswer.{one-closure-answer, one-lost-answer, one-way-answer, one-bases-answer, one-score-answer, one-marks-answer}
+use Rattle.demands.proofs.OneAnswer.{one-closure-answer, one-lost-answer, one-way-answer, one-bases-answer, one-cuts-answer, one-score-answer, one-marks-answer}
 use Rattle.demands.proofs.Stable.{stable-number, by-cases}
 use Rattle.portal_setup.specs.Words.{setupIn}
 use Rattle.portal_results.specs.Told.{filled, Told}
@@ -58,6 +58,9 @@ one-result-on-setups words =
       outOfRank = λ above below. one-result _ (one-inconsistent-answer s above below);
       forecast = λ target. one-result _ (one-forecast-answer s target);
       opens = λ target set. one-result _ (one-quick-answer s target set);
+      cuts =
+          λ target n n′ f f′ a x x′ e t t′. let d = one-cuts-answer s target n n′ (t .values) (t′ .values) a x x′ (t .call) (t′ .call) in
+          record { answer = same-fields e t t′ (d .answer); list = d .list };
     }
 
 -- ---- the calls on a sheet

@@ -4,9 +4,9 @@
 use mathlib.Core.Path.{_≡_, refl, ap}
 use mathlib.Core.Bool.{Bool}
 use mathlib.Core.HLevel.{Stable, dec→stable}
-use mathlib.Core.List.{List, [], _∷_, List-discrete}
+use mathlib.Core.List.{List, [], _∷_, _++_, List-discrete}
 use mathlib.Core.Logic.{inl, inr, ⊎-elim}
-use Prim.Native.Nat.{ℕ, _+_}
+use Prim.Native.Nat.{ℕ}
 use native.Mathlib.Decide.{ℕ-discrete}
 use native.Mathlib.Omega.{arith}
 use lib.ListN.{length}
@@ -16,11 +16,12 @@ use Rattle.vertex_set.proofs.Cases.{less-or}
 use Rattle.vertex_set.proofs.Decisions.{decide-iff}
 use Rattle.setup.specs.declared.Setup.{Setup}
 use Rattle.formed.specs.WellFormed.{WellFormed}
-use Rattle.setup.specs.Calls.{Refuses, Inside, Untouched}
+use Rattle.setup.specs.Calls.{Refuses, Inside, Untouched, ListWritten}
 use Rattle.derivations.specs.Access.{Step, HasAccess}
 use Rattle.sheet_format.proofs.Question12.{question-12}
 use Rattle.access.specs.Answers.{ClosureCall, LostCall, WayWritten, WayCall}
-use Rattle.answers.specs.Answers.{BasesWritten, BasesCall, ScoreCall, MarksCall}
+use Rattle.answers.specs.Answers.{BasesCall, ScoreCall, MarksCall}
+use Rattle.cut_sets.specs.Answers.{CutsCall}
 use Rattle.findings.specs.Answers.{FindingCall}
 use Rattle.findings.proofs.Unique.{decided-once, all-below, one-finding-answer}
 use Rattle.forecasts.specs.Answers.{ForecastCall}
@@ -28,8 +29,8 @@ use Rattle.forecasts.proofs.Unique.{one-forecast-answer}
 use Rattle.quick_yes.specs.Answers.{QuickCall}
 use Rattle.quick_yes.proofs.Unique.{one-quick-answer}
 use Rattle.demands.proofs.Stable.{stable-number, by-cases}
-use Rattle.demands.proofs.OneAnswer.{by-target, one-closure-answer, one-lost-answer, one-way-answer, one-bases-answer, one-score-answer, one-marks-answer}
-use Rattle.demands.specs.Outcomes.{Outcome, Settled, SettledWay, SettledLists, Yielded, SettledQuestion12}
+use Rattle.demands.proofs.OneAnswer.{by-target, one-closure-answer, one-lost-answer, one-way-answer, one-bases-answer, one-cuts-answer, one-score-answer, one-marks-answer}
+use Rattle.demands.specs.Outcomes.{Outcome, Settled, SettledWay, SettledList, Yielded, SettledQuestion12}
 
 listed-dec : (l : List ℕ) (x : ℕ) → Dec (Listed l x)
 listed-dec [] x = no (λ h. h)
@@ -145,25 +146,34 @@ module _ (s : Setup) (n : ℕ) (v : List ℕ) where
         only = λ n′ v′ d. one-finding-answer Finds unique s vertices n′ n v′ v d c;
       }
 
--- ---- both lists, and the way in
+-- ---- calls that are lent one list, and the way in
+
+module _ {n : ℕ} {v a x : List ℕ} where
+  list-kept : {q : ℕ} → Listed (12 ∷ 13 ∷ 15 ∷ []) q → Refuses q n v × (x ≡ a) → Outcome (12 ∷ 13 ∷ 15 ∷ []) n v (a ∷ []) (x ∷ [])
+  list-kept h r = refused h (ap (λ (y : List ℕ). y ∷ []) (r .1)) (r .0)
+
+  list-written : (xs : List ℕ) {m : ℕ} {u : List ℕ} → ListWritten xs (m ∷ u) n v a x → Outcome (12 ∷ 13 ∷ 15 ∷ []) n v (a ∷ []) (x ∷ [])
+  list-written xs p =
+      ⊎-elim (λ k. list-kept (inr (inr (inl refl))) (p .short k)) (λ k. let e = p .room k in answered (e .0) (e .1)) (less-or (length a) (length xs))
 
 module _ (s : Setup) (target n : ℕ) (v : List ℕ) where
-  pub settled-lists : (a x : List ℕ) → BasesCall s target n v a x → SettledLists s target n v a x
+  pub settled-lists : (a x : List ℕ) → BasesCall s target n v a x → SettledList (λ n′ v′ x′. BasesCall s target n′ v′ a x′) n v a x
   settled-lists a x c =
       record {
-        outcome = by-target s target (outcome-stable v) (λ m. kept (inl refl) (c .malformed m)) (λ w o. kept (inr (inl refl)) (c .noTarget w o))
-            (λ w l. let p = c .answers w l in written (p .0) (p .1) (p .4));
+        outcome = by-target s target (outcome-stable v) (λ m. list-kept (inl refl) (c .malformed m)) (λ w o. list-kept (inr (inl refl)) (c .noTarget w o))
+            (λ w l. let p = c .answers w l in list-written (p .0 ++ p .1) (p .4));
         meets = c;
         only = λ n′ v′ x′ d. one-bases-answer s target n′ n v′ v a x′ x d c;
       }
-    where
-      kept : {q : ℕ} → Listed (12 ∷ 13 ∷ 15 ∷ []) q → Refuses q n v × (x ≡ a) → Outcome (12 ∷ 13 ∷ 15 ∷ []) n v (a ∷ []) (x ∷ [])
-      kept h r = refused h (ap (λ (y : List ℕ). y ∷ []) (r .1)) (r .0)
 
-      written : (opening lockout : List ℕ) → BasesWritten opening lockout n v a x → Outcome (12 ∷ 13 ∷ 15 ∷ []) n v (a ∷ []) (x ∷ [])
-      written opening lockout p =
-          ⊎-elim (λ k. kept (inr (inr (inl refl))) (p .short k)) (λ k. let e = p .room k in answered (e .0) (e .1))
-          (less-or (length a) (length opening + length lockout))
+  pub settled-cuts : (a x : List ℕ) → CutsCall s target n v a x → SettledList (λ n′ v′ x′. CutsCall s target n′ v′ a x′) n v a x
+  settled-cuts a x c =
+      record {
+        outcome = by-target s target (outcome-stable v) (λ m. list-kept (inl refl) (c .malformed m)) (λ w o. list-kept (inr (inl refl)) (c .noTarget w o))
+            (λ w l. let p = c .answers w l in list-written (p .0) (p .2));
+        meets = c;
+        only = λ n′ v′ x′ d. one-cuts-answer s target n′ n v′ v a x′ x d c;
+      }
 
   pub settled-way : (set : ℕ) (a x b y : List ℕ) → WayCall s target set n v a x b y → SettledWay s target set n v a x b y
   settled-way set a x b y c =

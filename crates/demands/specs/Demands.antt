@@ -11,22 +11,23 @@ use Rattle.answers.specs.Answers.{basesNumber, basesValues, BasesCall, scoreNum
 use Rattle.findings.specs.Answers.{findingNumber, findingValues, BackdoorCall, IneffectiveCall, InconsistentCall}
 use Rattle.forecasts.specs.Answers.{forecastNumber, forecastValues, ForecastCall}
 use Rattle.quick_yes.specs.Answers.{quickNumber, quickValues, QuickCall}
+use Rattle.cut_sets.specs.Answers.{cutsNumber, cutsValues, CutsCall}
 use Rattle.sheet_format.specs.Read.{readSheet}
 use Rattle.portal.specs.Portal.{PortalCall}
 use Rattle.demands.specs.declared.Answers.{Answers}
-use Rattle.demands.specs.Outcomes.{Settled, SettledWay, SettledLists, Yielded, SettledQuestion12}
+use Rattle.demands.specs.Outcomes.{Settled, SettledWay, SettledList, Yielded, SettledQuestion12}
 use Rattle.demands.specs.Sheets.{Reads, SettledReading, SettledPortal}
 
 -- Demand 1: to every input each call gives its answer or exactly one refusal, with every lent place as it was; and its contract leaves no second
 -- answer. Lent lists stand as they were and, with ′, as they are afterwards.
 pub record Demand1 (text : List ℕ) (item : ℕ) (s : Setup) (set target other : ℕ) (opened locked : List ℕ)
-    (vertices vertices′ colours colours′ list list′ : List ℕ) (r : Answers) : Type 0 where
+    (vertices vertices′ colours colours′ list list′ harden harden′ : List ℕ) (r : Answers) : Type 0 where
   -- closure and lost set: 12, 14
   pub closure : Settled (12 ∷ 14 ∷ []) (ClosureCall s set) (closureNumber (r .sets .closure)) (closureValues (r .sets .closure))
   pub lost : Settled (12 ∷ 14 ∷ []) (LostCall s set) (lostNumber (r .sets .lost)) (lostValues (r .sets .lost))
   -- the way in: 12, 13, 14, 15; both lists: 12, 13, 15
   pub way : SettledWay s target set (wayNumber (r .sets .way)) (wayValues (r .sets .way)) vertices vertices′ colours colours′
-  pub bases : SettledLists s target (basesNumber (r .lists .bases)) (basesValues (r .lists .bases)) list list′
+  pub bases : SettledList (λ n v x. BasesCall s target n v list x) (basesNumber (r .lists .bases)) (basesValues (r .lists .bases)) list list′
   -- scores, marks and findings: 12, 13
   pub score : Settled (12 ∷ 13 ∷ []) (ScoreCall false s target) (scoreNumber (r .lists .score)) (scoreValues (r .lists .score))
   pub risk : Settled (12 ∷ 13 ∷ []) (ScoreCall true s target) (riskNumber (r .lists .risk)) (riskValues (r .lists .risk))
@@ -41,15 +42,16 @@ pub record Demand1 (text : List ℕ) (item : ℕ) (s : Setup) (set target other 
   pub reading : SettledReading text (r .sheet .reading)
   pub portalScore : SettledPortal false text item (r .sheet .score)
   pub portalRisk : SettledPortal true text item (r .sheet .risk)
-  -- the forecast: 12, 13
+  -- the forecast: 12, 13; cut sets: 12, 13, 15
   pub forecast : Settled (12 ∷ 13 ∷ []) (ForecastCall s target) (forecastNumber (r .forecast)) (forecastValues (r .forecast))
   -- the quick yes: 12, 13, 14
   pub quick : Settled (12 ∷ 13 ∷ 14 ∷ []) (QuickCall s target set) (quickNumber (r .sets .quick)) (quickValues (r .sets .quick))
+  pub cuts : SettledList (λ n v x. CutsCall s target n v harden x) (cutsNumber (r .cuts)) (cutsValues (r .cuts)) harden harden′
 
 -- Demand 2: every answer is the one of the paper's definitions, by the calls' own contracts; a sheet is accepted exactly where it has the paper's
 -- form, and yields the setup that its rows state.
 pub record Demand2 (text : List ℕ) (item : ℕ) (s : Setup) (set target other : ℕ) (opened locked : List ℕ)
-    (vertices vertices′ colours colours′ list list′ : List ℕ) (r : Answers) : Type 0 where
+    (vertices vertices′ colours colours′ list list′ harden harden′ : List ℕ) (r : Answers) : Type 0 where
   -- all items with a derivation from the set, and the number of passes that lead there; all with a loss derivation
   pub closure : ClosureCall s set (closureNumber (r .sets .closure)) (closureValues (r .sets .closure))
   pub lost : LostCall s set (lostNumber (r .sets .lost)) (lostValues (r .sets .lost))
@@ -78,3 +80,5 @@ pub record Demand2 (text : List ℕ) (item : ℕ) (s : Setup) (set target other 
   pub forecast : ForecastCall s target (forecastNumber (r .forecast)) (forecastValues (r .forecast))
   -- whether the set opens the target, with what is held at the stop: the set and the items of the way in, or the closure
   pub quick : QuickCall s target set (quickNumber (r .sets .quick)) (quickValues (r .sets .quick))
+  -- the smallest sets of starting items without which the rest do not open the target
+  pub cuts : CutsCall s target (cutsNumber (r .cuts)) (cutsValues (r .cuts)) harden harden′

@@ -4,9 +4,10 @@ use mathlib.Core.Bool.{Bool}
 use mathlib.Core.List.{List}
 use Prim.Native.Nat.{ℕ}
 use Rattle.setup.specs.declared.Setup.{Setup}
-use Rattle.setup.specs.Calls.{Same}
+use Rattle.setup.specs.Calls.{Same, SameList}
 use Rattle.access.specs.Answers.{ClosureCall, LostCall, WayCall}
 use Rattle.answers.specs.Answers.{BasesCall, ScoreCall, MarksCall}
+use Rattle.cut_sets.specs.Answers.{CutsCall}
 
 -- Closure, with its number of passes.
 abbrev pub OneClosureAnswer : Type 0
@@ -27,12 +28,12 @@ OneWayAnswer = (s : Setup) (target set n n′ : ℕ) (v v′ a x x′ b y y′ :
     → WayCall s target set n v a x b y → WayCall s target set n′ v′ a x′ b y′ → SameWay n n′ v v′ x x′ y y′
 
 -- Both lists, with the lent list.
-pub record SameBases (n n′ : ℕ) (v v′ x x′ : List ℕ) : Type 0 where
-  pub answer : Same n n′ v v′
-  pub list : x ≡ x′
-
 abbrev pub OneBasesAnswer : Type 0
-OneBasesAnswer = (s : Setup) (target n n′ : ℕ) (v v′ a x x′ : List ℕ) → BasesCall s target n v a x → BasesCall s target n′ v′ a x′ → SameBases n n′ v v′ x x′
+OneBasesAnswer = (s : Setup) (target n n′ : ℕ) (v v′ a x x′ : List ℕ) → BasesCall s target n v a x → BasesCall s target n′ v′ a x′ → SameList n n′ v v′ x x′
+
+-- Cut sets, with the lent list.
+abbrev pub OneCutsAnswer : Type 0
+OneCutsAnswer = (s : Setup) (target n n′ : ℕ) (v v′ a x x′ : List ℕ) → CutsCall s target n v a x → CutsCall s target n′ v′ a x′ → SameList n n′ v v′ x x′
 
 -- Score and risk.
 abbrev pub OneScoreAnswer : Type 0

@@ -9,8 +9,9 @@ use Rattle.answers.specs.Answers.{BasesCall, ScoreCall, MarksCall}
 use Rattle.findings.specs.Answers.{BackdoorCall, IneffectiveCall, InconsistentCall}
 use Rattle.forecasts.specs.Answers.{ForecastCall}
 use Rattle.quick_yes.specs.Answers.{QuickCall}
-use Rattle.setup.specs.Calls.{Same}
-use Rattle.demands.specs.OneAnswer.{SameWay, SameBases}
+use Rattle.cut_sets.specs.Answers.{CutsCall}
+use Rattle.setup.specs.Calls.{Same, SameList}
+use Rattle.demands.specs.OneAnswer.{SameWay}
 use Rattle.portal_setup.specs.Words.{setupIn}
 use Rattle.portal_results.specs.Told.{Told}
 use Rattle.portal_closures.specs.Check.{CheckCall}
@@ -32,7 +33,7 @@ pub record OneResultOnSetups (words : List ℕ) : Type 0 where
   pub lists : (target n n′ : ℕ) (f f′ a x x′ : List ℕ) → length f ≡ length f′
       → Told (λ number values. BasesCall (setupIn words) target number values a x) n f
       → Told (λ number values. BasesCall (setupIn words) target number values a x′) n′ f′
-      → SameBases n n′ f f′ x x′
+      → SameList n n′ f f′ x x′
   pub score : (target : ℕ) → OneResult (ScoreCall false (setupIn words) target)
   pub risk : (target : ℕ) → OneResult (ScoreCall true (setupIn words) target)
   pub openings : (target : ℕ) (sets : List ℕ) → OneResult (MarksCall false (setupIn words) target sets)
@@ -42,6 +43,10 @@ pub record OneResultOnSetups (words : List ℕ) : Type 0 where
   pub outOfRank : (above below : ℕ) → OneResult (InconsistentCall (setupIn words) above below)
   pub forecast : (target : ℕ) → OneResult (ForecastCall (setupIn words) target)
   pub opens : (target set : ℕ) → OneResult (QuickCall (setupIn words) target set)
+  pub cuts : (target n n′ : ℕ) (f f′ a x x′ : List ℕ) → length f ≡ length f′
+      → Told (λ number values. CutsCall (setupIn words) target number values a x) n f
+      → Told (λ number values. CutsCall (setupIn words) target number values a x′) n′ f′
+      → SameList n n′ f f′ x x′
 
 -- The calls on a sheet, for every text.
 pub record OneResultOnSheets (text : List ℕ) : Type 0 where

@@ -7,11 +7,10 @@ use Prim.Native.Nat.{ℕ}
 use Rattle.vertex_set.specs.Set.{Decides}
 use Rattle.vertex_set.specs.Order.{Listed}
 use Rattle.setup.specs.declared.Setup.{Setup}
-use Rattle.setup.specs.Calls.{Same}
+use Rattle.setup.specs.Calls.{Same, SameList}
 use Rattle.sheet_format.specs.Read.{accepted, readSheet}
 use Rattle.access.specs.Answers.{WayCall}
-use Rattle.answers.specs.Answers.{BasesCall}
-use Rattle.demands.specs.OneAnswer.{SameWay, SameBases}
+use Rattle.demands.specs.OneAnswer.{SameWay}
 
 -- An answer: number 0, with its values.
 pub record Answered (number : ℕ) (values : List ℕ) : Type 0 where
@@ -40,11 +39,11 @@ pub record SettledWay (s : Setup) (target set number : ℕ) (values entry exit e
   pub meets : WayCall s target set number values entry exit entry′ exit′
   pub only : (n : ℕ) (v x y : List ℕ) → WayCall s target set n v entry x entry′ y → SameWay n number v values x exit y exit′
 
--- The call for both lists, with the lent list, has an outcome that meets its contract, and no second one: 12, 13, 15.
-pub record SettledLists (s : Setup) (target number : ℕ) (values entry exit : List ℕ) : Type 0 where
+-- A call that is lent one list, of which it says how it ends, has an outcome that meets its contract, and no second one: 12, 13, 15.
+pub record SettledList (Call : ℕ → List ℕ → List ℕ → Type 0) (number : ℕ) (values entry exit : List ℕ) : Type 0 where
   pub outcome : Outcome (12 ∷ 13 ∷ 15 ∷ []) number values (entry ∷ []) (exit ∷ [])
-  pub meets : BasesCall s target number values entry exit
-  pub only : (n : ℕ) (v x : List ℕ) → BasesCall s target n v entry x → SameBases n number v values x exit
+  pub meets : Call number values exit
+  pub only : (n : ℕ) (v x : List ℕ) → Call n v x → SameList n number v values x exit
 
 -- Question 12: some accepted sheet yields the setup.
 abbrev pub Yielded : Setup → Type 0

@@ -18,6 +18,7 @@ use access::ClosureAnswer;
 use access::LostAnswer;
 use access::WayAnswer;
 use answers::AllAnswers;
+use cut_sets::CutsAnswer;
 use findings::FindingAnswer;
 use forecasts::ForecastAnswer;
 use quick_yes::QuickAnswer;
@@ -54,6 +55,7 @@ pub struct Answers {
     pub findings: FindingAnswers,
     pub sheet: SheetAnswers,
     pub forecast: ForecastAnswer,
+    pub cuts: CutsAnswer,
 }
 
 // Asks for closure, lost set, way in and quick yes.
@@ -130,20 +132,23 @@ pub fn demand_two(
     vertices: &mut [u8],
     colours: &mut [u8],
     list: &mut [u64],
+    harden: &mut [u64],
 ) -> Answers
-    ensures { λ r. ⌜ Demand2 (now (sheet .entry)) item s (set .0) target other (now (opened .entry)) (now (locked .entry)) (now (vertices .entry)) (now (vertices .exit)) (now (colours .entry)) (now (colours .exit)) (now (list .entry)) (now (list .exit)) r ⌝ }
+    ensures { λ r. ⌜ Demand2 (now (sheet .entry)) item s (set .0) target other (now (opened .entry)) (now (locked .entry)) (now (vertices .entry)) (now (vertices .exit)) (now (colours .entry)) (now (colours .exit)) (now (list .entry)) (now (list .exit)) (now (harden .entry)) (now (harden .exit)) r ⌝ }
 {
     let sets = ask_sets(s, set, target, vertices, colours);
     let lists = answers::demand_three(s, target, list, opened, locked);
     let findings = ask_findings(s, target, other);
     let sheet = ask_sheet(sheet, item);
     let forecast = forecasts::forecast_base(s, target);
+    let cuts = cut_sets::smallest_cuts(s, target, harden);
     Answers {
         sets,
         lists,
         findings,
         sheet,
         forecast,
+        cuts,
     }
 }
 
@@ -161,8 +166,9 @@ pub fn demand_one(
     vertices: &mut [u8],
     colours: &mut [u8],
     list: &mut [u64],
+    harden: &mut [u64],
 ) -> Answers
-    ensures { λ r. ⌜ Demand1 (now (sheet .entry)) item s (set .0) target other (now (opened .entry)) (now (locked .entry)) (now (vertices .entry)) (now (vertices .exit)) (now (colours .entry)) (now (colours .exit)) (now (list .entry)) (now (list .exit)) r ⌝ }
+    ensures { λ r. ⌜ Demand1 (now (sheet .entry)) item s (set .0) target other (now (opened .entry)) (now (locked .entry)) (now (vertices .entry)) (now (vertices .exit)) (now (colours .entry)) (now (colours .exit)) (now (list .entry)) (now (list .exit)) (now (harden .entry)) (now (harden .exit)) r ⌝ }
 {
     demand_two(
         sheet,
@@ -176,6 +182,7 @@ pub fn demand_one(
         vertices,
         colours,
         list,
+        harden,
     )
 }
 

@@ -38,7 +38,7 @@ above-minimal f g q m h i =
 
 -- ---- a mask's bits beyond the chosen vertices
 
-rank-lt : (c v : ℕ) → Member c v → rank c v < ones c
+pub rank-lt : (c v : ℕ) → Member c v → rank c v < ones c
 unfolding rank Member
 rank-lt c v m =
     let a : ones c ≡ ones (c / 2 ^ v) + ones (c % 2 ^ v) = ap ones (sym (split c v)) ∙ ones-cat v (c / 2 ^ v) (c % 2 ^ v) (mod-lt c (pow-pos v)) in

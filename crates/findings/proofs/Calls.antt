@@ -14,7 +14,7 @@ use Rattle.setup.specs.declared.Setup.{Setup}
 use Rattle.setup.specs.Setup.{vertexAt, WithoutRecovery}
 use Rattle.formed.specs.WellFormed.{WellFormed}
 use Rattle.bases.specs.Score.{Score}
-use Rattle.answers.proofs.Calls.{refuses}
+use Rattle.setup.proofs.Calls.{refuses}
 use Rattle.reference.proofs.Graphs.{own-graph}
 use Rattle.reference.proofs.Meaning.{meaning}
 use Rattle.reference.specs.Bases.{scoreOf}

@@ -13,12 +13,11 @@ use lib.ListN.{length}
 use Rattle.vertex_set.specs.Set.{Member, Within}
 use Rattle.vertex_set.specs.Order.{Listed}
 use Rattle.vertex_set.proofs.Cases.{same-or}
-use Rattle.vertex_set.proofs.Lists.{ordered-once}
 use Rattle.vertex_set.proofs.Sets.{in-and, same-set, inserted-new}
 use Rattle.vertex_set.proofs.Places.{ones-within}
 use Rattle.setup.specs.declared.Graph.{Graph}
 use Rattle.setup.specs.declared.Setup.{Setup}
-use Rattle.setup.specs.Setup.{vertexAt, given, valueOf, ChosenSet}
+use Rattle.setup.specs.Setup.{vertexAt, given, valueOf, Chosen, ChosenSet}
 use Rattle.setup.proofs.Counts.{ChosenBelow, chosen-none, chosen-more, chosen-same, given-or, chosen-all}
 use Rattle.setup.specs.Bounds.{mostChosen}
 use Rattle.formed.specs.WellFormed.{WellFormed}
@@ -26,9 +25,10 @@ use Rattle.derivations.specs.Derivation.{Vertices}
 use Rattle.derivations.specs.Access.{access, HasAccess}
 use Rattle.derivations.proofs.Rules.{held, closed, least}
 use Rattle.derivations.proofs.Graphs.{access-lawful}
-use Rattle.bases.specs.Base.{MinimalSet, Base}
+use Rattle.bases.specs.Base.{Derives, MinimalSet, Base}
 use Rattle.bases.proofs.Formed.{few}
 use Rattle.antichains.specs.Antichains.{choose, Antichain}
+use Rattle.antichains.proofs.Minimal.{minimal-antichain}
 use Rattle.antichains.proofs.Sperner.{sperner}
 use Rattle.antichains.proofs.Ways.{ways-most}
 use Rattle.forecasts.specs.Forecast.{Reaches, here, along, CountedSet, ForecastHolds, LongestBase, CountedOnce}
@@ -37,7 +37,7 @@ use Rattle.forecasts.specs.Inner.{ReachingSet, Foretold}
 -- ---- every vertex of an access base's sets is counted
 
 -- what does not reach the target is not needed to open it
-reaching-alone : (g : Graph) (target : ℕ) (P Q : Vertices) → ((i : ℕ) → Reaches g target i → P i → Q i) → (v : ℕ) → HasAccess g P v → Reaches g target v
+pub reaching-alone : (g : Graph) (target : ℕ) (P Q : Vertices) → ((i : ℕ) → Reaches g target i → P i → Q i) → (v : ℕ) → HasAccess g P v → Reaches g target v
     → HasAccess g Q v
 reaching-alone g target P Q sub v d =
     least (access g) (access-lawful g) P (λ i. Reaches g target i → HasAccess g Q i)
@@ -66,10 +66,7 @@ module _ (s : Setup) (target counted : ℕ) (c : CountedSet s target counted) wh
 
 base-antichain : (loss : Bool) (s : Setup) (g : Graph) (target : ℕ) (l : List ℕ) → Base loss s g target l → Antichain l
 base-antichain loss s g target l b =
-    record {
-      once = ordered-once l (b .ordered);
-      apart = λ x y p q w. ⊎-elim (λ e. e) (λ n. absurd (b .sound y q .minimal x (record { within = w; other = n }) (b .sound x p .is .derives))) (same-or x y);
-    }
+    minimal-antichain (Derives loss g target) l (b .ordered) (λ x h. b .sound x h .is .derives) (λ x y h p d. b .sound y h .minimal x p d)
 
 pub forecast-holds : ForecastHolds
 forecast-holds s target counted n c e =
@@ -96,15 +93,25 @@ chosen-set-below loss s long (suc v) l = let b = chosen-set-below loss s long v 
         (λ n. (r, subst (λ (m : ℕ). ChosenBelow loss s m r) (add-one v) (chosen-same loss s v r k long b n (given-or (valueOf loss (vertexAt s v)) n))))
         (same-or (given (valueOf loss (vertexAt s v))) 1)
 
-pub longest-base : LongestBase
-longest-base loss s g target l w b =
+-- and so of all chosen vertices
+pub chosen-set : (loss : Bool) (s : Setup) → WellFormed s → (r : ℕ) × ChosenSet loss s r
+chosen-set loss s w =
     let long = w .shaped .places in
     let r = chosen-set-below loss s long 64 (omega arith) in
-    let c = chosen-all loss s (r .0) long (r .1) in
-    let h = sperner (r .0) l (λ x m. record { each = λ v k. c .each v .from (b .sound x m .is .chosen v k) }) (base-antichain loss s g target l b) in
-    let k = few loss s (r .0) w c in
-    let n = ways-most (ones (r .0)) (omega arith) in
+    (r .0, chosen-all loss s (r .0) long (r .1))
+
+-- an antichain of sets of chosen vertices is no longer than 3,432
+pub longest-chosen : (loss : Bool) (s : Setup) (l : List ℕ) → WellFormed s → ((x : ℕ) → Listed l x → (v : ℕ) → Member x v → Chosen loss s v) → Antichain l
+    → length l ≤ 3432
+longest-chosen loss s l w all a =
+    let c = chosen-set loss s w in
+    let h = sperner (c .0) l (λ x m. record { each = λ v k. c .1 .each v .from (all x m v k) }) a in
+    let k = few loss s (c .0) w (c .1) in
+    let n = ways-most (ones (c .0)) (omega arith) in
     omega arith
+
+pub longest-base : LongestBase
+longest-base loss s g target l w b = longest-chosen loss s l w (λ x m. b .sound x m .is .chosen) (base-antichain loss s g target l b)
 
 -- ---- the counted set
 

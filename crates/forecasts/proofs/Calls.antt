@@ -5,13 +5,10 @@ use mathlib.Core.List.{[], _∷_}
 use Prim.Native.Nat.{ℕ, _≤_, _<_}
 use native.Mathlib.Omega.{arith}
 use Rattle.setup.specs.declared.Setup.{Setup}
-use Rattle.setup.specs.Calls.{Refuses}
+use Rattle.setup.proofs.Calls.{refuses}
 use Rattle.formed.specs.WellFormed.{WellFormed}
 use Rattle.forecasts.specs.Answers.{ForecastCall}
 use Rattle.forecasts.specs.Inner.{Foretold}
-
-refuses : (q : ℕ) → Refuses q q []
-refuses q = record { numbered = refl; empty = refl }
 
 module _ (s : Setup) (target : ℕ) where
   pub forecast-malformed : (WellFormed s → ⊥) → ForecastCall s target 12 []

@@ -10,7 +10,7 @@ use Rattle.setup.specs.Calls.{Inside}
 use Rattle.formed.specs.WellFormed.{WellFormed}
 use Rattle.derivations.specs.Access.{HasAccess, AccessFrom}
 use Rattle.derivations.proofs.Way.{way-derives}
-use Rattle.access.proofs.Calls.{refuses}
+use Rattle.setup.proofs.Calls.{refuses}
 use Rattle.quick_yes.specs.Answers.{HeldAtStop, QuickCall}
 
 module _ (s : Setup) (target set : ℕ) where

@@ -1,3 +1,4 @@
+pub mod Calls
 pub mod Counts
 pub mod Graphs
 pub mod Recovery

@@ -5,3 +5,5 @@ pub mod Quick
 pub mod Reading
 pub mod Settled
 pub mod Table
+pub mod CutSets
+pub mod CutSetsExcluded

@@ -3,7 +3,7 @@
 -- Assumes nothing.
 use mathlib.Core.Path.{_≡_, ap, subst, _∙_}
 use mathlib.Core.Bool.{Bool, true, false}
-use mathlib.Core.List.{List, [], _∷_}
+use mathlib.Core.List.{List, [], _∷_, _++_}
 use mathlib.Core.Logic.{_⊎_, inl, inr, ⊎-elim}
 use Prim.Native.Nat.{ℕ, _+_, _<_}
 use native.Mathlib.Omega.{arith}
@@ -60,7 +60,7 @@ module _ (s : Setup) (wf : WellFormed s) where
         → BasesCall s target 0 values entry exit → values ≡ length opening ∷ length lockout ∷ []
     bases-counted opening lockout values entry exit a b c =
         let w = bases-settled opening lockout 0 values entry exit a b c in
-        ⊎-elim (λ k. absurd (let z = w .short k .0 .numbered in omega arith)) (λ k. w .room k .1) (less-or (length entry) (length opening + length lockout))
+        ⊎-elim (λ k. absurd (let z = w .short k .0 .numbered in omega arith)) (λ k. w .room k .1) (less-or (length entry) (length (opening ++ lockout)))
 
     pub score-settled : (loss : Bool) (r number : ℕ) (values : List ℕ) → Score loss s (s .graph) target r → ScoreCall loss s target number values → values ≡ r ∷ []
     score-settled loss r number values h c =

@@ -2,3 +2,4 @@ pub mod Forecasts
 pub mod Quick
 pub mod Sheets
 pub mod Table
+pub mod CutSets

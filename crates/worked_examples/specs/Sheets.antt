@@ -326,10 +326,52 @@ level = 3
 abbrev pub sum : ℕ
 sum = 4
 
+-- ---- the note opens the vault, which together with the card opens the shop; all but the shop are starting items (document 02, point 13)
+
+abbrev pub relay : Sheet
+relay =
+    record {
+      lines =
+          "name kind start loss rank"
+          ∷ "note c 1 1 0"
+          ∷ "vault c 1 1 0"
+          ∷ "card c 1 1 0"
+          ∷ "shop a - - 0"
+          ∷ ""
+          ∷ "from to colour rec"
+          ∷ "note vault 0 0"
+          ∷ "vault shop 0 0"
+          ∷ "card shop 0 0"
+          ∷ [];
+      setup = record {
+        count = 4;
+        vertices = places
+            (record { kind = Credential; start = Of 1; loss = Of 1; rank = 0 }
+            ∷ record { kind = Credential; start = Of 1; loss = Of 1; rank = 0 }
+            ∷ record { kind = Credential; start = Of 1; loss = Of 1; rank = 0 }
+            ∷ record { kind = Account; start = Blank; loss = Blank; rank = 0 }
+            ∷ []);
+        graph = graph ([] ∷ (1 ∷ []) ∷ [] ∷ (6 ∷ []) ∷ []);
+        recovery = graph [];
+      };
+    }
+
+abbrev pub note : ℕ
+note = 0
+
+abbrev pub vault : ℕ
+vault = 1
+
+abbrev pub card : ℕ
+card = 2
+
+abbrev pub shop : ℕ
+shop = 3
+
 -- ---- all of them
 
 abbrev pub sheets : List Sheet
-sheets = bench ∷ ring ∷ alone ∷ closed ∷ loop ∷ pair ∷ spare ∷ full ∷ halves ∷ []
+sheets = bench ∷ ring ∷ alone ∷ closed ∷ loop ∷ pair ∷ spare ∷ full ∷ halves ∷ relay ∷ []
 
 -- Each text is accepted, and yields the setup that stands beside it.
 abbrev pub AllRead : Type 0

@@ -1,14 +1,16 @@
 //! Times the proved code beside the same algorithm in plain Rust, a brute force, and plain
 //! programs. `bench` prints tables and writes docs/PERFORMANCE.md with two charts; `bench quick`
 //! makes few rounds and writes the same files to build/bench/. `bench marking` prints the table of
-//! marks alone, `bench rows` that of the report with the most rows, `bench forecast` that of forecasts, `bench closing` that
-//! of closures, and `bench opens` that of quick answers.
+//! marks alone, `bench rows` that of the report with the most rows, `bench forecast` that of forecasts,
+//! `bench closing` that of closures, `bench opens` that of quick answers, and `bench cuts` that of cut
+//! sets.
 
 mod calls;
 mod chart;
 mod check;
 mod clingo;
 mod closing;
+mod cuts;
 mod document;
 mod forecast;
 mod formed;
@@ -75,8 +77,9 @@ fn main() -> ExitCode {
         ["forecast"] => print_forecasts(),
         ["closing"] => print_closing(),
         ["opens"] => print_opens(),
+        ["cuts"] => print_cuts(),
         _ => {
-            eprintln!("usage: bench [quick | marking | rows | forecast | closing | opens]");
+            eprintln!("usage: bench [quick | marking | rows | forecast | closing | opens | cuts]");
             return ExitCode::from(2);
         }
     }
@@ -105,6 +108,7 @@ fn run(rounds: &Rounds, folder: &str) {
     show(forecast::forecasts(&kinds, rounds, &mut targets));
     show(closing::closures(&kinds, rounds, &mut targets));
     show(opens::quick_answers(&kinds, rounds, &mut targets));
+    show(cuts::cut_sets(&kinds, rounds, &mut targets));
     show(marking::marking(antichain(&kinds), rounds, &mut targets));
     let clingo = clingo::opening_lists(&kinds, &programs, rounds, &mut targets);
     clingo.into_iter().for_each(&mut show);
@@ -164,6 +168,13 @@ fn print_closing() {
 fn print_opens() {
     let mut targets = Vec::new();
     let grid = opens::quick_answers(&kinds::all(), &FULL, &mut targets);
+    let reasons = targets::reasons(&targets);
+    println!("{}\n{}\n{reasons}", grid.text(), targets::grid(&targets).text());
+}
+
+fn print_cuts() {
+    let mut targets = Vec::new();
+    let grid = cuts::cut_sets(&kinds::all(), &FULL, &mut targets);
     let reasons = targets::reasons(&targets);
     println!("{}\n{}\n{reasons}", grid.text(), targets::grid(&targets).text());
 }

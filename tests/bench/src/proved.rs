@@ -7,6 +7,13 @@ pub fn both_bases(words: &[u64], target: usize, out: &mut [u64]) -> (usize, usiz
     (lists.openings as usize, lists.lockouts as usize)
 }
 
+/// The smallest cut sets to a lent list, and their number.
+pub fn cut_sets(words: &[u64], target: usize, out: &mut [u64]) -> usize {
+    let cuts = product::cut_sets(words, target as u64, out);
+    answered(cuts.number);
+    cuts.count as usize
+}
+
 /// A vertex's score or, with loss, its risk.
 pub fn score(words: &[u64], target: usize, loss: bool) -> u64 {
     let (number, value) = if loss {

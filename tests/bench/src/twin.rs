@@ -317,6 +317,17 @@ pub fn both_bases<const LEAN: bool>(
     (first, second)
 }
 
+/// The smallest cut sets of a target. All masks are complemented and turned round: what is not in
+/// the family of the sets that open the target, with all other bits.
+pub fn cuts(setup: &Setup, target: usize, out: &mut [u64]) -> usize {
+    let mut table = [[0; WORDS]; VERTICES];
+    fill::<false>(&setup.graph, setup.chosen(false), false, &mut table);
+    let opening = &table[target];
+    let mut family = std::array::from_fn(|b| !opening[WORDS - 1 - b].reverse_bits());
+    keep_minimal(&mut family);
+    write_sets(&family, setup.chosen(false), out)
+}
+
 /// The opening and the lockout table of one graph.
 pub type Tables = [Table; 2];
 

@@ -136,6 +136,21 @@ impl Calls {
         Ok(forecast::forecast(&self.setup, target))
     }
 
+    /// The smallest cut sets (02, point 13), and their number. 12, 13, 15.
+    pub fn cut_sets(&self, target: u64, lent: &mut [u64]) -> Result<usize, u8> {
+        let cuts = self.cut_list(target)?;
+        ask_15(cuts.len(), lent.len())?;
+        lent[..cuts.len()].copy_from_slice(cuts);
+        Ok(cuts.len())
+    }
+
+    /// The list of the smallest cut sets. 12, 13.
+    pub fn cut_list(&self, target: u64) -> Result<&[u64], u8> {
+        self.ask_12()?;
+        let target = self.ask_13(target)?;
+        Ok(self.openings().cuts(target))
+    }
+
     /// The least sum of start values over the opening list. 12, 13.
     pub fn score(&self, target: u64) -> Result<Least, u8> {
         self.ask_12()?;

@@ -7,7 +7,8 @@
 //!
 //! * [`sheet`] reads a sheet: the setup and the names, or the refusal's number and line.
 //! * [`setup`] is the setup as plain data, with question 12.
-//! * [`graph`] has closures, lost sets and ways in; [`lists`] the lists, least sums and marks.
+//! * [`graph`] has closures, lost sets and ways in; [`lists`] the lists, cut sets, least sums and
+//!   marks.
 //! * [`forecast`] tells how long an opening list can be (02, point 10).
 //! * [`calls`] answers as the product's calls do: questions 12 to 15 in order, lent lists.
 //! * [`report`] prints the report's bytes and the portal's numbers.

@@ -1,5 +1,5 @@
-//! Opening and lockout lists, least sums and marks, by going through all subsets (01, "Lists",
-//! "Scores" and "Marks"; 003, definitions 4 to 6, 8, 19 to 21). Both ways share everything but
+//! Opening and lockout lists, cut sets, least sums and marks, by going through all subsets (01,
+//! "Lists", "Scores" and "Marks"; 02, point 13; 003, definitions 4 to 6, 8, 19 to 21). Both ways share everything but
 //! the items whose subsets are taken and the rule that spreads them.
 
 use crate::setup::{holds, single, within, PLACES};
@@ -45,6 +45,7 @@ pub struct Table {
     reached: Vec<u64>,
     /// One for each target, made when first asked for.
     lists: Vec<OnceCell<Vec<u64>>>,
+    cuts: Vec<OnceCell<Vec<u64>>>,
 }
 
 impl Table {
@@ -52,7 +53,7 @@ impl Table {
     /// what a set opens (or locks out).
     pub fn new(members: Vec<(usize, u64)>, spread: impl Fn(u64) -> u64) -> Table {
         let lists = vec![OnceCell::new(); PLACES];
-        let mut table = Table { members, reached: Vec::new(), lists };
+        let mut table = Table { members, reached: Vec::new(), cuts: lists.clone(), lists };
         let subsets = 1usize << table.members.len();
         table.reached = (0..subsets).map(|number| spread(table.set(number))).collect();
         table
@@ -77,14 +78,7 @@ impl Table {
 
     /// Whether some proper subset of a subset reaches the target.
     fn proper_subset_reaches(&self, number: usize, target: usize) -> bool {
-        let mut subset = number;
-        while subset != 0 {
-            subset = (subset - 1) & number;
-            if self.reaches(subset, target) {
-                return true;
-            }
-        }
-        false
+        some_proper_subset(number, |subset| self.reaches(subset, target))
     }
 
     /// The list: the sets that reach the target, no proper subset doing so; fewer items first,
@@ -94,13 +88,29 @@ impl Table {
     }
 
     fn make_list(&self, target: usize) -> Vec<u64> {
-        let least = |&number: &usize| {
-            self.reaches(number, target) && !self.proper_subset_reaches(number, target)
-        };
+        self.smallest(|number| self.reaches(number, target))
+    }
+
+    /// The sets that do something which no proper subset of them does, in the lists' order.
+    fn smallest(&self, does: impl Fn(usize) -> bool) -> Vec<u64> {
+        let least = |&number: &usize| does(number) && !some_proper_subset(number, &does);
         let minimal = (0..self.reached.len()).filter(least);
         let mut list: Vec<u64> = minimal.map(|number| self.set(number)).collect();
         list.sort_by_key(|set| (set.count_ones(), *set));
         list
+    }
+
+    /// The smallest cut sets (02, point 13): sets of members without which the rest of the members
+    /// don't reach the target. The items of the set stay where they are, and the rest may reach them.
+    pub fn cuts(&self, target: usize) -> &[u64] {
+        let all = self.reached.len() - 1;
+        let make = || self.smallest(|number| !self.reaches(all - number, target));
+        self.cuts[target].get_or_init(make)
+    }
+
+    /// The smallest sets of members that have an item in common with each of the sets.
+    pub fn meeting(&self, sets: &[u64]) -> Vec<u64> {
+        self.smallest(|number| sets.iter().all(|set| set & self.set(number) != 0))
     }
 
     /// The sum of the values of a set's items.
@@ -143,4 +153,16 @@ impl Table {
         marks.missing = self.list(target).len() - marks.right;
         marks
     }
+}
+
+/// Whether some proper subset of a subset does something.
+fn some_proper_subset(number: usize, does: impl Fn(usize) -> bool) -> bool {
+    let mut subset = number;
+    while subset != 0 {
+        subset = (subset - 1) & number;
+        if does(subset) {
+            return true;
+        }
+    }
+    false
 }

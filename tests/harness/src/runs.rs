@@ -8,8 +8,8 @@ use crate::setups::{compare_setup, Depth, FEW, FULL, MANY, MOST};
 use crate::sheets::{compare_report, compare_sheet};
 use brute::cases::draft::sheet_of_setup;
 use brute::cases::{
-    bounds, buffers, damaged, forecasts, noise, random, readings, setups, tiny, Rng, SetupCase,
-    SheetCase,
+    bounds, buffers, cuts, damaged, forecasts, noise, random, readings, setups, tiny, Rng,
+    SetupCase, SheetCase,
 };
 use std::fmt;
 use std::time::{Duration, Instant};
@@ -93,9 +93,10 @@ impl Run {
             self.counts.texts += 1;
             self.sheet(&case, FULL, true)?;
         }
-        for case in forecasts::forecasts() {
+        let forecasts = forecasts::forecasts().into_iter().map(|case| case.case);
+        for case in forecasts.chain(cuts::cuts().into_iter().map(|case| case.case)) {
             self.counts.texts += 1;
-            self.sheet(&case.case, FULL, false)?;
+            self.sheet(&case, FULL, false)?;
         }
         for case in tiny::all_unmarked().chain(tiny::all_marked(401)) {
             self.tiny(case, MANY)?;

@@ -142,6 +142,7 @@ impl Compare<'_> {
 
     fn target(&mut self, target: u64, sets: &[u64], count: u64) -> Outcome {
         self.lists(target)?;
+        self.cut_sets(target)?;
         self.forecast(target)?;
         self.scores(target)?;
         for _ in 0..self.depth.pairs {
@@ -256,6 +257,33 @@ impl Compare<'_> {
             let numbers = product::lists(&self.words, target, &mut proved).numbers();
             let named = || format!("lists({target}), with {length} places");
             self.subject.same(named, (numbers, proved), (told(2, expected), brute))?;
+        }
+        Ok(())
+    }
+
+    /// The smallest cut sets, to lent lists around the length that they need. Where they are the brute
+    /// force's, they are held to its opening list too: each is what meets the other.
+    fn cut_sets(&mut self, target: u64) -> Outcome {
+        let calls = self.calls;
+        let many = calls.cut_list(target).map_or(0, <[u64]>::len);
+        // One place more shows whether those behind the list are left alone.
+        let room = many + self.rng.below(2);
+        let other = self.rng.below(many + 8);
+        for length in [room, many.saturating_sub(1), other].into_iter().take(self.depth.lent + 1) {
+            let before = probes::lent_sets(self.rng, length);
+            let (mut proved, mut brute) = (before.clone(), before);
+            let expected = calls.cut_sets(target, &mut brute).map(|count| vec![count as u64]);
+            let numbers = product::cut_sets(&self.words, target, &mut proved).numbers();
+            let named = || format!("cut_sets({target}), with {length} places");
+            self.subject.same(named, (numbers, proved), (told(1, expected), brute))?;
+        }
+        if let (Ok(cuts), Ok(list)) = (calls.cut_list(target), calls.opening_list(target)) {
+            if self.more() && cuts.len().max(list.len()) < 64 {
+                let table = calls.openings();
+                let named = || format!("cut_sets({target}) and the opening list");
+                let meeting = (table.meeting(list), table.meeting(cuts));
+                self.subject.same(named, meeting, (cuts.to_vec(), list.to_vec()))?;
+            }
         }
         Ok(())
     }

@@ -13,8 +13,8 @@
 mod results;
 
 pub use results::{
-    Closure, Finding, Forecast, Lists, Marks, Part, Quick, Reading, Refusal, Set, SetupRisk,
-    SetupScore, Way,
+    Closure, CutSets, Finding, Forecast, Lists, Marks, Part, Quick, Reading, Refusal, Set,
+    SetupRisk, SetupScore, Way,
 };
 
 /// How many words a setup has.
@@ -24,7 +24,7 @@ pub const BLANK: u64 = u64::MAX;
 /// "Never": the score of an item that no set opens, the risk of one that no loss shuts.
 pub const NEVER: u64 = 1 << 62;
 /// The version of the header that this crate was written for.
-pub const VERSION: u64 = 20100;
+pub const VERSION: u64 = 20200;
 
 mod linked {
     use super::*;
@@ -57,6 +57,13 @@ mod linked {
             sets: *mut u64,
             places: usize,
         ) -> Lists;
+        pub fn portal_cut_sets(
+            setup: *const u64,
+            words: usize,
+            target: u64,
+            sets: *mut u64,
+            places: usize,
+        ) -> CutSets;
         pub fn portal_setup_score(setup: *const u64, words: usize, target: u64) -> SetupScore;
         pub fn portal_setup_risk(setup: *const u64, words: usize, target: u64) -> SetupRisk;
         pub fn portal_mark_openings(
@@ -157,6 +164,12 @@ pub fn forecast(setup: &[u64], target: u64) -> Forecast {
 pub fn lists(setup: &[u64], target: u64, sets: &mut [u64]) -> Lists {
     let (words, length) = (setup.as_ptr(), setup.len());
     unsafe { linked::portal_lists(words, length, target, sets.as_mut_ptr(), sets.len()) }
+}
+
+/// The smallest cut sets of a target: starting items to harden so that no way in is left. 12, 13, 15.
+pub fn cut_sets(setup: &[u64], target: u64, sets: &mut [u64]) -> CutSets {
+    let (words, length) = (setup.as_ptr(), setup.len());
+    unsafe { linked::portal_cut_sets(words, length, target, sets.as_mut_ptr(), sets.len()) }
 }
 
 /// A target's score. 12, 13.

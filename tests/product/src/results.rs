@@ -90,6 +90,11 @@ results! {
         /// How many lockout sets.
         lockouts,
     }
+    /// The smallest cut sets of a target.
+    CutSets {
+        /// How many there are.
+        count,
+    }
     /// A target's score.
     SetupScore {
         /// The score, or [`NEVER`](crate::NEVER).

@@ -15,11 +15,14 @@ same-length-2 c = search needs
 same-length-3 : tie.Need-same-length-3
 same-length-3 c = search needs
 
+same-length-4 : tie.Need-same-length-4
+same-length-4 c = search needs
+
 returns : tie.Need-returns
 returns c =
-    let t = c .before .before .before .before .before .before in
+    let t = c .before .before .before .before .before .before .before .before in
     one-of-two (t .demand-two .ensures)
 
 pub demand-one-spec : {M : Type 1} → statement M
 demand-one-spec =
-    tie.close (tie.spec demand-two-requires same-length same-length-2 same-length-3 returns)
+    tie.close (tie.spec demand-two-requires same-length same-length-2 same-length-3 same-length-4 returns)

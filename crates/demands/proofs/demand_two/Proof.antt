@@ -17,8 +17,16 @@ ask-sheet-requires c κs = search needs
 forecast-base-requires : tie.Need-forecast-base-requires
 forecast-base-requires c κs = search needs
 
+smallest-cuts-requires : tie.Need-smallest-cuts-requires
+smallest-cuts-requires c κs = search needs
+
+-- the first call lies too far back for `search`
 same-length : tie.Need-same-length
-same-length c = search needs
+same-length c =
+    let n = c .before .before .before .before in
+    let l = n .before .before .before .before .before in
+    let kept = l .before .before .before .before .before .before .ask-sets .kept .1 .1 .1 .0 in
+    search needs
 
 same-length-2 : tie.Need-same-length-2
 same-length-2 c = search needs
@@ -26,9 +34,14 @@ same-length-2 c = search needs
 same-length-3 : tie.Need-same-length-3
 same-length-3 c = search needs
 
+same-length-4 : tie.Need-same-length-4
+same-length-4 c = search needs
+
 returns : tie.Need-returns
 returns c =
-    let t = c .before in
+    let k = c .before .before in
+    let n = k .before .before in
+    let t = n .before in
     let f = t .before in
     let l = f .before .before .before in
     let s = l .before .before .before .before .before .before in
@@ -53,8 +66,9 @@ returns c =
       asked = sheet .1 .0;
       portalScore = sheet .1 .1 .0;
       portalRisk = sheet .1 .1 .1;
-      forecast = c .forecast-base .ensures;
+      forecast = n .forecast-base .ensures;
       quick = sets .1 .1 .1;
+      cuts = k .smallest-cuts .ensures;
     }
 
 pub demand-two-spec : {M : Type 1} → statement M
@@ -66,7 +80,9 @@ demand-two-spec =
     ask-findings-requires
     ask-sheet-requires
     forecast-base-requires
+    smallest-cuts-requires
     same-length
     same-length-2
     same-length-3
+    same-length-4
     returns)

@@ -14,7 +14,7 @@ pub struct ForecastCase {
 }
 
 /// Items by name, start (or `-`), and edges.
-fn sheet(items: &[(&str, &str)], edges: &[&str]) -> Vec<u8> {
+pub(super) fn sheet(items: &[(&str, &str)], edges: &[&str]) -> Vec<u8> {
     let items = items.iter().map(|(name, start)| format!("{name} a {start} - 0\n"));
     let edges = edges.iter().map(|edge| format!("{edge}\n"));
     let (items, edges): (String, String) = (items.collect(), edges.collect());

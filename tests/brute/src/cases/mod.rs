@@ -4,6 +4,7 @@
 pub mod bounds;
 pub mod buffers;
 pub mod chains;
+pub mod cuts;
 pub mod damaged;
 pub mod draft;
 pub mod forecasts;

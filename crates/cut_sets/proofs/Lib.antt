@@ -1,0 +1,7 @@
+pub mod Sets
+pub mod Duality
+pub mod Bounds
+pub mod Theorems
+pub mod Families
+pub mod Calls
+pub mod Computed

@@ -1,0 +1,44 @@
+-- The lists of cut sets hold: each is computed by a function that is proved to give the list.
+-- Assumes nothing.
+use mathlib.Core.Path.{_≡_, refl, subst}
+use mathlib.Core.List.{List, [], _∷_}
+use Rattle.sheet_format.specs.Rows.{Each}
+use Rattle.reference.specs.Tests.{lowest, some, every, filtered, isListed, isMember, isWithin, isMeeting, withVertex}
+use Rattle.reference.specs.Closures.{isComplete, isBroken, colourOf, isAdded, passOf, passesOf, closureOf, derivesOf}
+use Rattle.reference.specs.Bases.{isChosen, setsOfSize, setsUpTo, setsOf, targetSetsOf, isMinimal, baseOf}
+use Rattle.cut_sets.specs.Cuts.{CutList}
+use Rattle.cut_sets.proofs.Computed.{meetsEach, smallerOf, isSmallest, transversalsOf, cutsOf, cuts-of}
+use Rattle.worked_examples.specs.Sheets.{Reads}
+use Rattle.worked_examples.specs.CutSets.{CutExample, Cuts, cutExamples, AllCut}
+use Rattle.worked_examples.proofs.Reading.{_&_, all-read, reads-well}
+
+-- The sheet is read, and the list computed.
+abbrev Shown : CutExample → Type 0
+Shown x = Reads (x .sheet) × (cutsOf (x .sheet .setup) (x .target) ≡ x .cuts)
+
+all-cut-of : (l : List CutExample) → Each Shown l → Each Cuts l
+all-cut-of [] s = tt
+all-cut-of (x ∷ l) s = (
+  record {
+    setup = x .sheet .setup;
+    reading = s .0 .0;
+    holds = subst (CutList (x .sheet .setup) (x .target)) (s .0 .1) (cuts-of (x .sheet .setup) (x .target) (reads-well (x .sheet) (s .0 .0)));
+  },
+  all-cut-of l (s .1),
+)
+
+all-shown : Each Shown cutExamples
+unfolding lowest some every filtered isListed isMember isWithin isMeeting withVertex isComplete isBroken colourOf isAdded passOf passesOf closureOf derivesOf isChosen setsOfSize setsUpTo setsOf targetSetsOf isMinimal baseOf meetsEach smallerOf isSmallest transversalsOf cutsOf
+all-shown =
+    let bench = all-read .0 in
+    let ring = all-read .1 .0 in
+    let alone = all-read .1 .1 .0 in
+    let closed = all-read .1 .1 .1 .0 in
+    let loop = all-read .1 .1 .1 .1 .0 in
+    let spare = all-read .1 .1 .1 .1 .1 .1 .0 in
+    let relay = all-read .1 .1 .1 .1 .1 .1 .1 .1 .1 .0 in
+    (bench, refl) & (bench, refl) & (bench, refl) & (ring, refl) & (ring, refl) & (relay, refl) & (relay, refl) & (alone, refl) & (closed, refl) & (loop, refl)
+    & (spare, refl) & tt
+
+pub all-cut : AllCut
+all-cut = all-cut-of cutExamples all-shown

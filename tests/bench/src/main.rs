@@ -1,7 +1,8 @@
 //! Times the proved code beside the same algorithm in plain Rust, a brute force, and plain
 //! programs. `bench` prints tables and writes docs/PERFORMANCE.md with two charts; `bench quick`
 //! makes few rounds and writes the same files to build/bench/. `bench marking` prints the table of
-//! marks alone, `bench rows` that of the report with the most rows, `bench forecast` that of forecasts,
+//! marks alone, `bench rows` that of the report with the most rows, `bench reports` those of reading
+//! and of reports, `bench forecast` that of forecasts,
 //! `bench closing` that of closures, `bench opens` that of quick answers, and `bench cuts` that of cut
 //! sets.
 
@@ -74,12 +75,13 @@ fn main() -> ExitCode {
         ["quick"] => run(&QUICK, "build/bench"),
         ["marking"] => print_marking(),
         ["rows"] => print_rows(),
+        ["reports"] => print_reports(),
         ["forecast"] => print_forecasts(),
         ["closing"] => print_closing(),
         ["opens"] => print_opens(),
         ["cuts"] => print_cuts(),
         _ => {
-            eprintln!("usage: bench [quick | marking | rows | forecast | closing | opens | cuts]");
+            eprintln!("usage: bench [quick | marking | rows | reports | forecast | closing | opens | cuts]");
             return ExitCode::from(2);
         }
     }
@@ -142,6 +144,15 @@ fn print_rows() {
     let most = named(&kinds, "antichain of 3,432, 28 times");
     let grid = programs::most_rows(most, &Programs::at(&root), &FULL, &mut targets);
     println!("{}\n{}", grid.text(), targets::grid(&targets).text());
+}
+
+fn print_reports() {
+    let root = Path::new(env!("CARGO_MANIFEST_DIR")).join("../..");
+    let mut targets = Vec::new();
+    let timed = programs::time_all(&kinds::all(), &Programs::at(&root), &FULL);
+    println!("{}", calls::reading(&FULL, &mut targets).text());
+    println!("{}", programs::reports(&timed, &mut targets).text());
+    println!("{}\n{}", targets::grid(&targets).text(), targets::reasons(&targets));
 }
 
 fn print_forecasts() {

@@ -1,0 +1,7 @@
+pub mod Table
+pub mod Scans
+pub mod Sets
+pub mod Loops
+pub mod Scores
+pub mod Calls
+pub mod Unique

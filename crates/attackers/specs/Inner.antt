@@ -45,6 +45,11 @@ pub record SomeWeaker (able k : ℕ) : Type 0 where
   pub member : Member able attacker
   pub weaker : BothWeaker attacker k
 
+-- k is a kind of the set, and has no other of them below.
+pub record LowestIn (able k : ℕ) : Type 0 where
+  pub member : Member able k
+  pub none : SomeWeaker able k → ⊥
+
 -- r has those of the six kinds in the set that have no other of them below.
 pub record LowestOf (able r : ℕ) : Type 0 where
-  pub each : (k : ℕ) → Iff (Member r k) ((k < 6) × Member able k × (SomeWeaker able k → ⊥))
+  pub each : (k : ℕ) → Iff (Member r k) ((k < 6) × LowestIn able k)

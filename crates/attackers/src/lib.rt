@@ -4,7 +4,7 @@ ghost use mathlib.Core.Path.{_≡_};
 ghost use lib.ListN.{getD};
 ghost use Rattle.vertex_set.specs.Set.{Decides};
 ghost use Rattle.attackers.specs.Answers.{attackerNumber, attackerValues, AttackerCall};
-ghost use Rattle.attackers.specs.Inner.{BothAtMost, BothWeaker, FitOver, HeldBy, Opens, Able, SomeWeaker, LowestOf};
+ghost use Rattle.attackers.specs.Inner.{BothAtMost, BothWeaker, FitOver, Holds, HeldBy, Opens, Able, SomeWeaker, LowestIn, LowestOf};
 use setup::Graph;
 use setup::Setup;
 use vertex_set::VertexSet;
@@ -64,17 +64,25 @@ fn entries_fit(kinds: &[u8], initial: VertexSet) -> bool
     true
 }
 
+// Is v one of the initial vertices, and its kind at most t?
+fn is_held(kinds: &[u8], initial: VertexSet, t: usize, v: usize) -> bool
+    ensures { λ r. ⌜ Decides (Holds (now (kinds .entry)) (initial .0) t v) r ⌝ }
+{
+    if initial.has(v) {
+        let kind = entry_of(kinds, v);
+        return at_most(kind, t);
+    }
+    false
+}
+
 // The initial vertices of at most the kind t.
 fn held_by(kinds: &[u8], initial: VertexSet, t: usize) -> VertexSet
     ensures { λ r. ⌜ HeldBy (now (kinds .entry)) (initial .0) t (r .0) ⌝ }
 {
     let mut held = VertexSet(0);
     for v in 0..64usize {
-        if initial.has(v) {
-            let kind = entry_of(kinds, v);
-            if at_most(kind, t) {
-                held = held.insert(v);
-            }
+        if is_held(kinds, initial, t, v) {
+            held = held.insert(v);
         }
     }
     held
@@ -127,16 +135,26 @@ fn has_weaker(able: VertexSet, k: usize) -> bool
     false
 }
 
+// Is k a kind of the set that has no other of them below?
+fn is_lowest(able: VertexSet, k: usize) -> bool
+    ensures { λ r. ⌜ Decides (LowestIn (able .0) k) r ⌝ }
+{
+    if able.has(k) {
+        if has_weaker(able, k) {
+            return false;
+        }
+        return true;
+    }
+    false
+}
+
 // The lowest kinds of the set: those that have no other of them below.
 fn lowest_of(able: VertexSet) -> VertexSet
     ensures { λ r. ⌜ LowestOf (able .0) (r .0) ⌝ }
 {
     let mut r = VertexSet(0);
     for k in 0..6usize {
-        if able.has(k) {
-            if has_weaker(able, k) {
-                continue;
-            }
+        if is_lowest(able, k) {
             r = r.insert(k);
         }
     }

@@ -10,6 +10,7 @@ use Rattle.vertex_set.proofs.Cases.{less-or}
 use Rattle.formed.specs.WellFormed.{WellFormed}
 use Rattle.sheet_format.specs.Read.{readSheet}
 use Rattle.findings.proofs.Unique.{one-backdoor-answer, one-ineffective-answer, one-inconsistent-answer}
+use Rattle.attackers.proofs.Unique.{one-attacker-answer}
 use Rattle.forecasts.proofs.Unique.{one-forecast-answer}
 use Rattle.setup.specs.Calls.{Same}
 use Rattle.demands.proofs.OneAnswer.{one-closure-answer, one-lost-answer, one-way-answer, one-bases-answer, one-score-answer, one-marks-answer}
@@ -56,6 +57,7 @@ one-result-on-setups words =
       idle = λ item. one-result _ (one-ineffective-answer s item);
       outOfRank = λ above below. one-result _ (one-inconsistent-answer s above below);
       forecast = λ target. one-result _ (one-forecast-answer s target);
+      attackers = λ target kinds. one-result _ (one-attacker-answer s target kinds);
     }
 
 -- ---- the calls on a sheet

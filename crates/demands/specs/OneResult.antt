@@ -7,6 +7,7 @@ use lib.ListN.{length}
 use Rattle.access.specs.Answers.{ClosureCall, LostCall, WayCall}
 use Rattle.answers.specs.Answers.{BasesCall, ScoreCall, MarksCall}
 use Rattle.findings.specs.Answers.{BackdoorCall, IneffectiveCall, InconsistentCall}
+use Rattle.attackers.specs.Answers.{AttackerCall}
 use Rattle.forecasts.specs.Answers.{ForecastCall}
 use Rattle.setup.specs.Calls.{Same}
 use Rattle.demands.specs.OneAnswer.{SameWay, SameBases}
@@ -40,6 +41,7 @@ pub record OneResultOnSetups (words : List ℕ) : Type 0 where
   pub idle : (item : ℕ) → OneResult (IneffectiveCall (setupIn words) item)
   pub outOfRank : (above below : ℕ) → OneResult (InconsistentCall (setupIn words) above below)
   pub forecast : (target : ℕ) → OneResult (ForecastCall (setupIn words) target)
+  pub attackers : (target : ℕ) (kinds : List ℕ) → OneResult (AttackerCall (setupIn words) target kinds)
 
 -- The calls on a sheet, for every text.
 pub record OneResultOnSheets (text : List ℕ) : Type 0 where

@@ -1,5 +1,5 @@
 // Demands 1 and 2, as the contracts of functions that make the offered calls on any sheet, item,
-// setup, set, vertices, handed-in lists and lent lists. Demand 3 is the contract of
+// setup, set, vertices, handed-in lists, list of kinds and lent lists. Demand 3 is the contract of
 // `answers::demand_three`. That two answers which meet a call's contract are equal, lent places
 // included, is stated in specs/OneAnswer.antt and, for the calls for C, in
 // specs/OneResult.antt, and proved in the files of these names in proofs/.
@@ -17,6 +17,7 @@ use access::ClosureAnswer;
 use access::LostAnswer;
 use access::WayAnswer;
 use answers::AllAnswers;
+use attackers::AttackerAnswer;
 use findings::FindingAnswer;
 use forecasts::ForecastAnswer;
 use setup::Setup;
@@ -51,6 +52,7 @@ pub struct Answers {
     pub findings: FindingAnswers,
     pub sheet: SheetAnswers,
     pub forecast: ForecastAnswer,
+    pub attackers: AttackerAnswer,
 }
 
 // Asks for closure, lost set and way in.
@@ -117,23 +119,26 @@ pub fn demand_two(
     other: usize,
     opened: &[u64],
     locked: &[u64],
+    kinds: &[u8],
     vertices: &mut [u8],
     colours: &mut [u8],
     list: &mut [u64],
 ) -> Answers
-    ensures { λ r. ⌜ Demand2 (now (sheet .entry)) item s (set .0) target other (now (opened .entry)) (now (locked .entry)) (now (vertices .entry)) (now (vertices .exit)) (now (colours .entry)) (now (colours .exit)) (now (list .entry)) (now (list .exit)) r ⌝ }
+    ensures { λ r. ⌜ Demand2 (now (sheet .entry)) item s (set .0) target other (now (opened .entry)) (now (locked .entry)) (now (kinds .entry)) (now (vertices .entry)) (now (vertices .exit)) (now (colours .entry)) (now (colours .exit)) (now (list .entry)) (now (list .exit)) r ⌝ }
 {
     let sets = ask_sets(s, set, target, vertices, colours);
     let lists = answers::demand_three(s, target, list, opened, locked);
     let findings = ask_findings(s, target, other);
     let sheet = ask_sheet(sheet, item);
     let forecast = forecasts::forecast_base(s, target);
+    let attackers = attackers::attacker_score(s, target, kinds);
     Answers {
         sets,
         lists,
         findings,
         sheet,
         forecast,
+        attackers,
     }
 }
 
@@ -148,11 +153,12 @@ pub fn demand_one(
     other: usize,
     opened: &[u64],
     locked: &[u64],
+    kinds: &[u8],
     vertices: &mut [u8],
     colours: &mut [u8],
     list: &mut [u64],
 ) -> Answers
-    ensures { λ r. ⌜ Demand1 (now (sheet .entry)) item s (set .0) target other (now (opened .entry)) (now (locked .entry)) (now (vertices .entry)) (now (vertices .exit)) (now (colours .entry)) (now (colours .exit)) (now (list .entry)) (now (list .exit)) r ⌝ }
+    ensures { λ r. ⌜ Demand1 (now (sheet .entry)) item s (set .0) target other (now (opened .entry)) (now (locked .entry)) (now (kinds .entry)) (now (vertices .entry)) (now (vertices .exit)) (now (colours .entry)) (now (colours .exit)) (now (list .entry)) (now (list .exit)) r ⌝ }
 {
     demand_two(
         sheet,
@@ -163,6 +169,7 @@ pub fn demand_one(
         other,
         opened,
         locked,
+        kinds,
         vertices,
         colours,
         list,

@@ -17,8 +17,12 @@ ask-sheet-requires c κs = search needs
 forecast-base-requires : tie.Need-forecast-base-requires
 forecast-base-requires c κs = search needs
 
+attacker-score-requires : tie.Need-attacker-score-requires
+attacker-score-requires c κs = search needs
+
 same-length : tie.Need-same-length
-same-length c = search needs
+-- what lies far back is bound: a search enters so many records and no more
+same-length c = let w = c .before .before .before .before .before .before .before .before .before .before .before .vertices in search needs
 
 same-length-2 : tie.Need-same-length-2
 same-length-2 c = search needs
@@ -28,7 +32,8 @@ same-length-3 c = search needs
 
 returns : tie.Need-returns
 returns c =
-    let t = c .before in
+    let o = c .before in
+    let t = o .before in
     let f = t .before in
     let l = f .before .before .before in
     let s = l .before .before .before .before .before .before in
@@ -53,7 +58,8 @@ returns c =
       asked = sheet .1 .0;
       portalScore = sheet .1 .1 .0;
       portalRisk = sheet .1 .1 .1;
-      forecast = c .forecast-base .ensures;
+      forecast = o .forecast-base .ensures;
+      attackers = c .attacker-score .ensures;
     }
 
 pub demand-two-spec : {M : Type 1} → statement M
@@ -65,6 +71,7 @@ demand-two-spec =
     ask-findings-requires
     ask-sheet-requires
     forecast-base-requires
+    attacker-score-requires
     same-length
     same-length-2
     same-length-3

@@ -1,7 +1,7 @@
 #!/bin/bash
-# Times the proved code beside the same algorithm in Rust, and writes docs/PERFORMANCE.md and its charts: bench.sh [quick | marking | rows | forecast | closing].
+# Times the proved code beside the same algorithm in Rust, and writes docs/PERFORMANCE.md and its charts: bench.sh [quick | marking | rows | forecast | closing | intruders].
 # With quick it makes few rounds and writes to build/bench/ instead; with marking it only prints the table of marks, with rows that of the
-# report with the most rows, with forecast that of forecasts, with closing that of closures.
+# report with the most rows, with forecast that of forecasts, with closing that of closures, with intruders that of kinds of intruder.
 set -euo pipefail
 cd "$(dirname "$0")/.."
 

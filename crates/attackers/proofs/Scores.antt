@@ -62,7 +62,7 @@ module _ (s : Setup) (kinds : List ℕ) (target : ℕ) (w : WellFormed s) (fit :
 
   -- ---- kinds of the base, and who gets in
 
-  base-small : (k : ℕ) → OfBase s kinds target k → k < 6
+  pub base-small : (k : ℕ) → OfBase s kinds target k → k < 6
   base-small k q =
       subst (λ (j : ℕ). j < 6) (sym (q .attacker)) (attacker-small kinds (q .set) (λ v m. fit .each v (q .is .is .chosen v m)))
 

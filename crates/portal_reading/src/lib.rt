@@ -5,8 +5,8 @@ ghost use Rattle.portal_reading.specs.Reading.{version, ReadingCall, Nam
 use portal_results::PortalPart;
 use portal_results::PortalReading;
 
-// Version 2.0.0.
-const VERSION: u64 = 20000;
+// Version 2.1.0.
+const VERSION: u64 = 20100;
 
 const SETUP_WORDS: usize = 1281;
 

@@ -11,21 +11,21 @@ use product::BLANK;
 use std::hint::black_box;
 
 /// What question 12 looks at, as the proved code has it.
-struct Whole {
-    count: usize,
+pub struct Whole {
+    pub count: usize,
     /// Kind, start, loss and rank.
     vertices: [[u64; 4]; VERTICES],
-    graph: Graph,
+    pub graph: Graph,
     recovery: Graph,
 }
 
 const EDGES: u32 = brute::setup::MAX_EDGES as u32;
-const START: usize = 1;
+pub const START: usize = 1;
 const LOSS: usize = 2;
 const RANK: usize = 3;
 
 impl Whole {
-    fn from_words(words: &[u64]) -> Whole {
+    pub fn from_words(words: &[u64]) -> Whole {
         let graph = |from: usize| -> Graph {
             std::array::from_fn(|v| std::array::from_fn(|c| words[from + 8 * v + c]))
         };
@@ -38,13 +38,13 @@ impl Whole {
     }
 
     /// The vertices that have a value there.
-    fn chosen(&self, place: usize) -> u64 {
+    pub fn chosen(&self, place: usize) -> u64 {
         let values = self.vertices.iter().enumerate();
         values.filter(|(_, x)| x[place] != BLANK).fold(0, |set, (v, _)| set | 1 << v)
     }
 
     /// Question 12, in the proved code's order.
-    fn well_formed(&self) -> bool {
+    pub fn well_formed(&self) -> bool {
         if self.count == 0 || self.count > VERTICES {
             return false;
         }

@@ -1,7 +1,8 @@
 //! Times the proved code beside the same algorithm in plain Rust, a brute force, and plain
 //! programs. `bench` prints tables and writes docs/PERFORMANCE.md with two charts; `bench quick`
 //! makes few rounds and writes the same files to build/bench/. `bench marking` prints the table of
-//! marks alone, `bench rows` that of the report with the most rows, `bench forecast` that of forecasts, and `bench closing` that of closures.
+//! marks alone, `bench rows` that of the report with the most rows, `bench forecast` that of forecasts, `bench closing`
+//! that of closures, and `bench intruders` that of kinds of intruder.
 
 mod calls;
 mod chart;
@@ -12,6 +13,7 @@ mod document;
 mod forecast;
 mod gate;
 mod grid;
+mod intruders;
 mod kinds;
 mod marking;
 mod plain;
@@ -71,8 +73,9 @@ fn main() -> ExitCode {
         ["rows"] => print_rows(),
         ["forecast"] => print_forecasts(),
         ["closing"] => print_closing(),
+        ["intruders"] => print_intruders(),
         _ => {
-            eprintln!("usage: bench [quick | marking | rows | forecast | closing]");
+            eprintln!("usage: bench [quick | marking | rows | forecast | closing | intruders]");
             return ExitCode::from(2);
         }
     }
@@ -100,6 +103,7 @@ fn run(rounds: &Rounds, folder: &str) {
     show(calls::reading(rounds, &mut targets));
     show(forecast::forecasts(&kinds, rounds, &mut targets));
     show(closing::closures(&kinds, rounds, &mut targets));
+    show(intruders::scores(&kinds, rounds, &mut targets));
     show(marking::marking(antichain(&kinds), rounds, &mut targets));
     let clingo = clingo::opening_lists(&kinds, &programs, rounds, &mut targets);
     clingo.into_iter().for_each(&mut show);
@@ -146,6 +150,12 @@ fn print_marking() {
     let kinds = kinds::all();
     let mut targets = Vec::new();
     let grid = marking::marking(antichain(&kinds), &FULL, &mut targets);
+    println!("{}\n{}", grid.text(), targets::grid(&targets).text());
+}
+
+fn print_intruders() {
+    let mut targets = Vec::new();
+    let grid = intruders::scores(&kinds::all(), &FULL, &mut targets);
     println!("{}\n{}", grid.text(), targets::grid(&targets).text());
 }
 

@@ -5,6 +5,7 @@
 
 mod compare;
 mod long_lists;
+mod intruders;
 mod passes;
 mod program;
 mod runs;

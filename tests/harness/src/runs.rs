@@ -2,14 +2,15 @@
 
 use crate::compare::Difference;
 use crate::long_lists::compare_long_lists;
+use crate::intruders::compare_known_kinds;
 use crate::passes::compare_known_passes;
 use crate::program::Program;
 use crate::setups::{compare_setup, Depth, FEW, FULL, MANY, MOST};
 use crate::sheets::{compare_report, compare_sheet};
 use brute::cases::draft::sheet_of_setup;
 use brute::cases::{
-    bounds, buffers, damaged, forecasts, noise, random, readings, setups, tiny, Rng, SetupCase,
-    SheetCase,
+    bounds, buffers, damaged, forecasts, intruders, noise, random, readings, setups, tiny, Rng,
+    SetupCase, SheetCase,
 };
 use std::fmt;
 use std::time::{Duration, Instant};
@@ -78,6 +79,7 @@ impl Run {
     pub fn gate(&mut self, seed: u64) -> Outcome {
         compare_long_lists(seed)?;
         compare_known_passes()?;
+        compare_known_kinds()?;
         for case in bounds::bounds() {
             self.counts.bounds += 1;
             self.sheet(&case, FEW, true)?;
@@ -94,6 +96,10 @@ impl Run {
             self.sheet(&case, FULL, true)?;
         }
         for case in forecasts::forecasts() {
+            self.counts.texts += 1;
+            self.sheet(&case.case, FULL, false)?;
+        }
+        for case in intruders::intruders() {
             self.counts.texts += 1;
             self.sheet(&case.case, FULL, false)?;
         }

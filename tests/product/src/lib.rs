@@ -13,7 +13,7 @@
 mod results;
 
 pub use results::{
-    Closure, Finding, Forecast, Lists, Marks, Part, Reading, Refusal, Set, SetupRisk, SetupScore,
+    Closure, Finding, Forecast, Kinds, Lists, Marks, Part, Reading, Refusal, Set, SetupRisk, SetupScore,
     Way,
 };
 
@@ -24,7 +24,7 @@ pub const BLANK: u64 = u64::MAX;
 /// "Never": the score of an item that no set opens, the risk of one that no loss shuts.
 pub const NEVER: u64 = 1 << 62;
 /// The version of the header that this crate was written for.
-pub const VERSION: u64 = 20000;
+pub const VERSION: u64 = 20100;
 
 mod linked {
     use super::*;
@@ -49,6 +49,13 @@ mod linked {
             colour_places: usize,
         ) -> Way;
         pub fn portal_forecast(setup: *const u64, words: usize, target: u64) -> Forecast;
+        pub fn portal_kinds(
+            setup: *const u64,
+            words: usize,
+            target: u64,
+            kinds: *const u8,
+            places: usize,
+        ) -> Kinds;
         pub fn portal_lists(
             setup: *const u64,
             words: usize,
@@ -145,6 +152,13 @@ pub fn way_in(setup: &[u64], target: u64, set: u64, items: &mut [u8], colours: &
 /// How many sets a target's opening list has at most, told without listing it. 12, 13.
 pub fn forecast(setup: &[u64], target: u64) -> Forecast {
     unsafe { linked::portal_forecast(setup.as_ptr(), setup.len(), target) }
+}
+
+/// The lowest kinds of intruder that get into a target, where the list has one for each item.
+/// 12, 13, 16, 17.
+pub fn kinds(setup: &[u64], target: u64, list: &[u8]) -> Kinds {
+    let (words, length) = (setup.as_ptr(), setup.len());
+    unsafe { linked::portal_kinds(words, length, target, list.as_ptr(), list.len()) }
 }
 
 /// The opening list and, from the next place on, the lockout list of a target. 12, 13, 15.

@@ -76,6 +76,11 @@ results! {
         /// How many sets it has at most.
         sets,
     }
+    /// The kinds of intruder that get into a target.
+    Kinds {
+        /// The sum of 2^k over the lowest of them.
+        kinds,
+    }
     /// Both lists of a target.
     Lists {
         /// How many opening sets.

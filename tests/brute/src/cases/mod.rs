@@ -7,6 +7,7 @@ pub mod chains;
 pub mod damaged;
 pub mod draft;
 pub mod forecasts;
+pub mod intruders;
 pub mod noise;
 pub mod probes;
 pub mod random;

@@ -5,6 +5,7 @@ mod examples;
 mod forecasts;
 mod generators;
 mod graphs;
+mod intruders;
 mod questions;
 mod reading;
 mod reports;

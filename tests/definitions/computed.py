@@ -22,6 +22,7 @@ FIRST = {
     "answers": ["bases-", "score-", "risk-", "marks-"],
     "antichains": ["choose-"],
     "forecasts": ["forecast-"],
+    "attackers": ["attacker-"],
     "sheet_format/Names": ["name-", "line-"],
     "sheet_format": ["reads-alone", "reads-loop", "reads-pair", "refuses-", "passes-", "renders", "decimal-", "no-fields"],
     "findings": ["finding-"],

@@ -54,8 +54,10 @@ over-same value other s h = largest-same value other s 64 h
 pub attacker-same : (kinds other : List ℕ) (x : ℕ) → ((v : ℕ) → Member x v → getD kinds v 0 ≡ getD other v 0) → attackerOf kinds x ≡ attackerOf other x
 unfolding attackerOf
 attacker-same kinds other x h =
-    rw (over-same (λ v. location (getD kinds v 0)) (λ v. location (getD other v 0)) x (λ v m. ap location (h v m)),
-    over-same (λ v. skill (getD kinds v 0)) (λ v. skill (getD other v 0)) x (λ v m. ap skill (h v m))) refl
+    rw (
+      over-same (λ v. location (getD kinds v 0)) (λ v. location (getD other v 0)) x (λ v m. ap location (h v m)),
+      over-same (λ v. skill (getD kinds v 0)) (λ v. skill (getD other v 0)) x (λ v m. ap skill (h v m)),
+    ) refl
 
 module _ (kinds : List ℕ) (x : ℕ) where
   parts : (location (attackerOf kinds x) ≡ largestOver (λ v. location (getD kinds v 0)) x) × (skill (attackerOf kinds x) ≡ largestOver (λ v. skill (getD kinds v 0)) x)

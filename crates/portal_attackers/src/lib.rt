@@ -17,7 +17,10 @@ fn tell_kinds(answer: AttackerAnswer) -> PortalKinds
 {
     match answer {
         AttackerAnswer::Attackers(kinds) => PortalKinds { number: 0, kinds },
-        AttackerAnswer::Refused(q) => PortalKinds { number: q, kinds: 0 },
+        AttackerAnswer::Refused(q) => PortalKinds {
+            number: q,
+            kinds: 0,
+        },
     }
 }
 

@@ -105,8 +105,15 @@ fn times(kind: &Kind, list: &[u8], rounds: usize) -> [f64; 3] {
 
 /// The score by kinds on each kind of sheet.
 pub fn scores(kinds: &[Kind], rounds: &Rounds, targets: &mut Vec<Target>) -> Grid {
-    let heads =
-        ["sheet", "score", "proved, µs", "twin, µs", "proved / twin", "from the list, µs", "list / proved"];
+    let heads = [
+        "sheet",
+        "score",
+        "proved, µs",
+        "twin, µs",
+        "proved / twin",
+        "from the list, µs",
+        "list / proved",
+    ];
     let mut grid = Grid::new("The score by kinds of intruder", &heads);
     grid.note(
         "`portal_kinds` for the target with the longest lists. All three take the setup from the same words \

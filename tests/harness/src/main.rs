@@ -4,8 +4,8 @@
 //! told. The first difference is printed with its input, and the exit status is 1.
 
 mod compare;
-mod long_lists;
 mod intruders;
+mod long_lists;
 mod passes;
 mod program;
 mod runs;

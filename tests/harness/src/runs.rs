@@ -1,8 +1,8 @@
 //! What is compared: the gate's fixed part, and rounds of a seed for as long as one likes.
 
 use crate::compare::Difference;
-use crate::long_lists::compare_long_lists;
 use crate::intruders::compare_known_kinds;
+use crate::long_lists::compare_long_lists;
 use crate::passes::compare_known_passes;
 use crate::program::Program;
 use crate::setups::{compare_setup, Depth, FEW, FULL, MANY, MOST};

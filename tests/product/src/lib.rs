@@ -13,8 +13,8 @@
 mod results;
 
 pub use results::{
-    Closure, Finding, Forecast, Kinds, Lists, Marks, Part, Reading, Refusal, Set, SetupRisk, SetupScore,
-    Way,
+    Closure, Finding, Forecast, Kinds, Lists, Marks, Part, Reading, Refusal, Set, SetupRisk,
+    SetupScore, Way,
 };
 
 /// How many words a setup has.

@@ -9,6 +9,7 @@ use Rattle.attackers.proofs.Scans.{TakenBelow, taken-none, taken-more, 
 use Rattle.attackers.proofs.able.Statement.{statement}
 use Rattle.attackers.proofs.able.Tie as tie
 
+-- r has the kinds below t whose initial vertices open the target.
 abbrev Inv-loop : tie.InvT-loop
 Inv-loop graph kinds initial target r₀ t₀ r t = (t ≤ 6) × TakenBelow (Opens graph kinds (initial .0) target) t (r .0)
 

@@ -11,6 +11,7 @@ use borrow.Author.Needs.{needs}
 use Rattle.attackers.proofs.entries_fit.Statement.{statement}
 use Rattle.attackers.proofs.entries_fit.Tie as tie
 
+-- No initial vertex below v has an entry that is no kind.
 abbrev Inv-loop : tie.InvT-loop
 Inv-loop kinds initial v₀ v = (v ≤ 64) × ((i : ℕ) → i < v → Member (initial .0) i × (6 ≤ getD kinds i 0) → ⊥)
 

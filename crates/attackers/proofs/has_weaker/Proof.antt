@@ -9,6 +9,7 @@ use borrow.Author.Needs.{needs}
 use Rattle.attackers.proofs.has_weaker.Statement.{statement}
 use Rattle.attackers.proofs.has_weaker.Tie as tie
 
+-- No kind below j is in the set and below k.
 abbrev Inv-loop : tie.InvT-loop
 Inv-loop able k j₀ j = (j ≤ 6) × ((i : ℕ) → i < j → Member (able .0) i × BothWeaker i k → ⊥)
 

@@ -10,6 +10,7 @@ use Rattle.attackers.proofs.Scans.{TakenBelow, taken-none, taken-more, 
 use Rattle.attackers.proofs.held_by.Statement.{statement}
 use Rattle.attackers.proofs.held_by.Tie as tie
 
+-- held has the initial vertices below v whose kind is at most t.
 abbrev Inv-loop : tie.InvT-loop
 Inv-loop kinds initial t held₀ v₀ held v = (v ≤ 64) × TakenBelow (Holds kinds (initial .0) t) v (held .0)
 

@@ -9,6 +9,7 @@ use Rattle.attackers.proofs.Scans.{TakenBelow, taken-none, taken-more, 
 use Rattle.attackers.proofs.lowest_of.Statement.{statement}
 use Rattle.attackers.proofs.lowest_of.Tie as tie
 
+-- r has the lowest kinds of the set among those below k.
 abbrev Inv-loop : tie.InvT-loop
 Inv-loop able r₀ k₀ r k = (k ≤ 6) × TakenBelow (LowestIn (able .0)) k (r .0)
 

@@ -20,8 +20,10 @@ fn answers_worked_out_by_hand() {
 #[test]
 fn the_order_of_the_six_kinds() {
     let at_most = |a: u8, b: u8| Intruder::numbered(a).at_most(Intruder::numbered(b));
-    let below: Vec<Vec<u8>> = (0..KINDS).map(|b| (0..KINDS).filter(|&a| at_most(a, b)).collect()).collect();
-    let by_hand: [&[u8]; 6] = [&[0], &[0, 1], &[0, 1, 2], &[0, 3], &[0, 1, 3, 4], &[0, 1, 2, 3, 4, 5]];
+    let below: Vec<Vec<u8>> =
+        (0..KINDS).map(|b| (0..KINDS).filter(|&a| at_most(a, b)).collect()).collect();
+    let by_hand: [&[u8]; 6] =
+        [&[0], &[0, 1], &[0, 1, 2], &[0, 3], &[0, 1, 3, 4], &[0, 1, 2, 3, 4, 5]];
     assert_eq!(below, by_hand);
 }
 
@@ -38,12 +40,17 @@ fn who_is_at_or_above_the_score_gets_in() {
     let random = random_sheets(21, 200).map(|case| (case.label, accepted(&case.sheet).setup));
     for (number, (label, setup)) in tiny.chain(random).enumerate() {
         let calls = Calls::new(&setup);
-        let kinds: Vec<u8> = (0..setup.count as usize).map(|item| ((7 * number + 5 * item) % 6) as u8).collect();
+        let kinds: Vec<u8> =
+            (0..setup.count as usize).map(|item| ((7 * number + 5 * item) % 6) as u8).collect();
         for target in 0..setup.count as usize {
             let score = calls.kinds(target as u64, &kinds).unwrap();
             for intruder in (0..KINDS).map(Intruder::numbered) {
                 let expected = gets_in(&setup, &kinds, target, intruder);
-                assert_eq!(at_or_above(score, intruder), expected, "{label}: {target}, {intruder:?}");
+                assert_eq!(
+                    at_or_above(score, intruder),
+                    expected,
+                    "{label}: {target}, {intruder:?}"
+                );
             }
         }
     }

@@ -22,7 +22,7 @@ use Rattle.reference.proofs.Graphs.{own-graph, chosen-below}
 use Rattle.reference.proofs.Closures.{decide-derives}
 use Rattle.reference.proofs.Bases.{minimal-within}
 use Rattle.attackers.specs.Attackers.{AtMost, Weaker, attackerOf, OfBase, InScore, GetsIn, AtOrAbove, AttackerScore, EntriesFit, SixKinds, NobodyIn, Sound}
-use Rattle.attackers.specs.Inner.{Holds, Opens, Able, SomeWeaker, LowestOf}
+use Rattle.attackers.specs.Inner.{Holds, Opens, LowestOpen}
 use Rattle.attackers.proofs.Table.{at-most-refl, at-most-trans, at-most-same, at-most-le, at-most-or}
 use Rattle.attackers.proofs.Scans.{TakenBelow, taken-below}
 use Rattle.attackers.proofs.Sets.{attacker-small, each-at-most, least-attacker}
@@ -149,7 +149,7 @@ module _ (s : Setup) (kinds : List ℕ) (target : ℕ) (w : WellFormed s) (fit :
 
   -- ---- what the code works out
 
-  module _ (initial able r : ℕ) (c : ChosenSet false s initial) (a : Able (s .graph) kinds initial target able) (h : LowestOf able r) where
+  module _ (initial r : ℕ) (c : ChosenSet false s initial) (h : LowestOpen (s .graph) kinds initial target r) where
     opens-iff : (t : ℕ) → t < 6 → Iff (Opens (s .graph) kinds initial target t) (GetsIn s kinds target t)
     opens-iff t l =
         record {
@@ -158,39 +158,26 @@ module _ (s : Setup) (kinds : List ℕ) (target : ℕ) (w : WellFormed s) (fit :
               (λ v p. (c .each v .from (p .0), record { first = let f = fit .each v (p .0) in omega arith; second = l; is = p .1 }));
         }
 
-    able-gets-in : (t : ℕ) → Member able t → GetsIn s kinds target t
-    able-gets-in t m = let p = a .each t .to m in opens-iff t (p .0) .to (p .1)
-
-    in-able : (t : ℕ) → t < 6 → GetsIn s kinds target t → Member able t
-    in-able t l g = a .each t .from (l, opens-iff t l .from g)
-
     pub score-of : AttackerScore s kinds target r
     score-of = score-whole r (λ k. record { to = to k; from = from k })
       where
         to : (k : ℕ) → Member r k → InScore s kinds target k
         to k m =
-            let p = h .each k .to m in
+            let p = h .opens k m in
             score-lowest k .from (record {
-              able = able-gets-in k (p .1 .member);
-              none = λ j b g l. p .1 .none (record {
-                attacker = j;
-                member = in-able j b g;
-                weaker = record { atMost = record { first = b; second = p .0; is = l .atMost }; other = l .other };
-              });
+              able = opens-iff k (p .0) .to (p .1);
+              none = λ j b g l.
+                  h .lowest k j m (opens-iff j b .from g) (record { atMost = record { first = b; second = p .0; is = l .atMost }; other = l .other });
             })
 
         from : (k : ℕ) → InScore s kinds target k → Member r k
         from k i =
             let l = score-lowest k .to i in
             let b = score-small k i in
-            h .each k .from (
-              b,
-              record {
-                member = in-able k b (l .able);
-                none = λ x. l .none (x .attacker) (x .weaker .atMost .first) (able-gets-in (x .attacker) (x .member))
-                    (record { atMost = x .weaker .atMost .is; other = x .weaker .other });
-              },
-            )
+            let q = h .cover k b (opens-iff k b .from (l .able)) in
+            let o = h .opens (q .0) (q .1) in
+            ⊎-elim (λ e. subst (Member r) e (q .1))
+            (λ d. absurd (l .none (q .0) (o .0) (opens-iff (q .0) (o .0) .to (o .1)) (record { atMost = q .2 .is; other = d }))) (same-or (q .0) k)
 
 -- ---- theorems
 

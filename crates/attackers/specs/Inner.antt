@@ -35,21 +35,14 @@ pub record HeldBy (kinds : List ℕ) (initial t r : ℕ) : Type 0 where
 abbrev pub Opens : Graph → List ℕ → ℕ → ℕ → ℕ → Type 0
 Opens g kinds initial target t = HasAccess g (Holds kinds initial t) target
 
--- r has all of the six kinds that open the target.
-pub record Able (g : Graph) (kinds : List ℕ) (initial target r : ℕ) : Type 0 where
-  pub each : (t : ℕ) → Iff (Member r t) ((t < 6) × Opens g kinds initial target t)
-
 -- Of the six kinds in the set, some is below k.
-pub record SomeWeaker (able k : ℕ) : Type 0 where
+pub record SomeWeaker (set k : ℕ) : Type 0 where
   pub attacker : ℕ
-  pub member : Member able attacker
+  pub member : Member set attacker
   pub weaker : BothWeaker attacker k
 
--- k is a kind of the set, and has no other of them below.
-pub record LowestIn (able k : ℕ) : Type 0 where
-  pub member : Member able k
-  pub none : SomeWeaker able k → ⊥
-
--- r has those of the six kinds in the set that have no other of them below.
-pub record LowestOf (able r : ℕ) : Type 0 where
-  pub each : (k : ℕ) → Iff (Member r k) ((k < 6) × LowestIn able k)
+-- r has kinds whose vertices open the target, none of which has another such kind below; and below each of the six that does so there is one of r, or it is one.
+pub record LowestOpen (g : Graph) (kinds : List ℕ) (initial target r : ℕ) : Type 0 where
+  pub opens : (k : ℕ) → Member r k → (k < 6) × Opens g kinds initial target k
+  pub lowest : (k j : ℕ) → Member r k → Opens g kinds initial target j → BothWeaker j k → ⊥
+  pub cover : (j : ℕ) → j < 6 → Opens g kinds initial target j → (i : ℕ) × Member r i × BothAtMost i j

@@ -1,10 +1,10 @@
 // Who could get in (document 02, point 1; document 003: attackers). Of six kinds of attacker, the
-// lowest whose initial vertices open a target. No base is listed for it: six closures tell.
+// lowest whose initial vertices open a target. No base is listed for it: at most six closures tell.
 ghost use mathlib.Core.Path.{_≡_};
 ghost use lib.ListN.{getD};
 ghost use Rattle.vertex_set.specs.Set.{Decides};
 ghost use Rattle.attackers.specs.Answers.{attackerNumber, attackerValues, AttackerCall};
-ghost use Rattle.attackers.specs.Inner.{BothAtMost, BothWeaker, FitOver, Holds, HeldBy, Opens, Able, SomeWeaker, LowestIn, LowestOf};
+ghost use Rattle.attackers.specs.Inner.{BothAtMost, BothWeaker, FitOver, Holds, HeldBy, Opens, SomeWeaker, LowestOpen};
 use setup::Graph;
 use setup::Setup;
 use vertex_set::VertexSet;
@@ -98,19 +98,6 @@ fn gets_in(graph: Graph, kinds: &[u8], initial: VertexSet, target: usize, t: usi
     opened.has(target)
 }
 
-// Who gets in: all of the six kinds whose initial vertices open the target.
-fn able(graph: Graph, kinds: &[u8], initial: VertexSet, target: usize) -> VertexSet
-    ensures { λ r. ⌜ Able graph (now (kinds .entry)) (initial .0) target (r .0) ⌝ }
-{
-    let mut r = VertexSet(0);
-    for t in 0..6usize {
-        if gets_in(graph, kinds, initial, target, t) {
-            r = r.insert(t);
-        }
-    }
-    r
-}
-
 // Is one of the six kinds below another of them?
 fn is_weaker(a: usize, b: usize) -> bool
     ensures { λ r. ⌜ Decides (BothWeaker a b) r ⌝ }
@@ -122,11 +109,11 @@ fn is_weaker(a: usize, b: usize) -> bool
 }
 
 // Is a kind of the set below the kind k?
-fn has_weaker(able: VertexSet, k: usize) -> bool
-    ensures { λ r. ⌜ Decides (SomeWeaker (able .0) k) r ⌝ }
+fn has_weaker(set: VertexSet, k: usize) -> bool
+    ensures { λ r. ⌜ Decides (SomeWeaker (set .0) k) r ⌝ }
 {
     for j in 0..6usize {
-        if able.has(j) {
+        if set.has(j) {
             if is_weaker(j, k) {
                 return true;
             }
@@ -135,30 +122,21 @@ fn has_weaker(able: VertexSet, k: usize) -> bool
     false
 }
 
-// Is k a kind of the set that has no other of them below?
-fn is_lowest(able: VertexSet, k: usize) -> bool
-    ensures { λ r. ⌜ Decides (LowestIn (able .0) k) r ⌝ }
+// The lowest of the six kinds whose initial vertices open the target. A kind comes behind all that are
+// below it, and one that is above a kind that gets in is not tried: it gets in, and is not the lowest.
+fn lowest_kinds(graph: Graph, kinds: &[u8], initial: VertexSet, target: usize) -> VertexSet
+    ensures { λ r. ⌜ LowestOpen graph (now (kinds .entry)) (initial .0) target (r .0) ⌝ }
 {
-    if able.has(k) {
-        if has_weaker(able, k) {
-            return false;
+    let mut found = VertexSet(0);
+    for t in 0..6usize {
+        if has_weaker(found, t) {
+            continue;
         }
-        return true;
-    }
-    false
-}
-
-// The lowest kinds of the set: those that have no other of them below.
-fn lowest_of(able: VertexSet) -> VertexSet
-    ensures { λ r. ⌜ LowestOf (able .0) (r .0) ⌝ }
-{
-    let mut r = VertexSet(0);
-    for k in 0..6usize {
-        if is_lowest(able, k) {
-            r = r.insert(k);
+        if gets_in(graph, kinds, initial, target, t) {
+            found = found.insert(t);
         }
     }
-    r
+    found
 }
 
 // The target's score by kinds of attacker. `kinds` has one for each vertex; those of initial vertices
@@ -176,8 +154,7 @@ pub fn attacker_score(s: Setup, target: usize, kinds: &[u8]) -> AttackerAnswer
         let initial = setup::chosen(s, false);
         if entries_fit(kinds, initial) {
             let graph = s.graph;
-            let opening = able(graph, kinds, initial, target);
-            let score = lowest_of(opening);
+            let score = lowest_kinds(graph, kinds, initial, target);
             return AttackerAnswer::Attackers(score.0);
         }
         return AttackerAnswer::Refused(17);

@@ -31,16 +31,12 @@ chosen-requires c κs = search needs
 entries-fit-requires : tie.Need-entries-fit-requires
 entries-fit-requires c κs = search needs
 
-able-requires : tie.Need-able-requires
-able-requires c κs = search needs
-
-lowest-of-requires : tie.Need-lowest-of-requires
-lowest-of-requires c κs = search needs
+lowest-kinds-requires : tie.Need-lowest-kinds-requires
+lowest-kinds-requires c κs = search needs
 
 returns-3 : tie.Need-returns-3
 returns-3 c =
-    let b = c .before in
-    let i = b .before .before in
+    let i = c .before .before in
     let n = i .before in
     let h = n .before in
     let k = h .before in
@@ -50,8 +46,8 @@ returns-3 c =
     let a = f .before .before .args in
     let w = f .well-formed .ensures .yes (t .if1 .taken) in
     let fit = fit-iff (a .s) (a .kinds .now) (h .chosen .result .0) (h .chosen .ensures) .to (n .entries-fit .ensures .yes (i .if4 .taken)) in
-    attackers-answers (a .s) (a .target) (a .kinds .now) w (e .if2 .left) (k .if3 .left) fit (c .lowest-of .result .0)
-    (score-of (a .s) (a .kinds .now) (a .target) w fit (h .chosen .result .0) (b .able .result .0) (c .lowest-of .result .0) (h .chosen .ensures) (b .able .ensures) (c .lowest-of .ensures))
+    attackers-answers (a .s) (a .target) (a .kinds .now) w (e .if2 .left) (k .if3 .left) fit (c .lowest-kinds .result .0)
+    (score-of (a .s) (a .kinds .now) (a .target) w fit (h .chosen .result .0) (c .lowest-kinds .result .0) (h .chosen .ensures) (c .lowest-kinds .ensures))
 
 returns-4 : tie.Need-returns-4
 returns-4 c =
@@ -80,8 +76,7 @@ attacker-score-spec =
     returns-2
     chosen-requires
     entries-fit-requires
-    able-requires
-    lowest-of-requires
+    lowest-kinds-requires
     returns-3
     returns-4
     returns-5)

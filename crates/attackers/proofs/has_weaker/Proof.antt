@@ -11,10 +11,10 @@ use Rattle.attackers.proofs.has_weaker.Tie as tie
 
 -- No kind below j is in the set and below k.
 abbrev Inv-loop : tie.InvT-loop
-Inv-loop able k j₀ j = (j ≤ 6) × ((i : ℕ) → i < j → Member (able .0) i × BothWeaker i k → ⊥)
+Inv-loop set k j₀ j = (j ≤ 6) × ((i : ℕ) → i < j → Member (set .0) i × BothWeaker i k → ⊥)
 
 abbrev μ-loop : tie.MeasureT-loop
-μ-loop able k j₀ j = 6 - j
+μ-loop set k j₀ j = 6 - j
 
 loop-holds : tie.Need-loop-holds Inv-loop μ-loop
 loop-holds c = search needs
@@ -43,9 +43,9 @@ loop-again c =
     let h = c .before in
     let l = h .before .before in
     let a = l .before .args in
-    let q : Member (a .able .0) (l .loop .j) × BothWeaker (l .loop .j) (a .k) → ⊥ =
+    let q : Member (a .set .0) (l .loop .j) × BothWeaker (l .loop .j) (a .k) → ⊥ =
     λ p. ⊎-elim (λ w. w .1 .ensures .no (w .2 .left) (p .1)) (λ w. h .has .ensures .no (w .left) (p .0)) (c .if1 .came) in
-    (omega arith, none-more (λ (i : ℕ). Member (a .able .0) i × BothWeaker i (a .k)) (l .loop .j) (l .loop .inv .1) q)
+    (omega arith, none-more (λ (i : ℕ). Member (a .set .0) i × BothWeaker i (a .k)) (l .loop .j) (l .loop .inv .1) q)
 
 returns-2 : tie.Need-returns-2 Inv-loop μ-loop
 returns-2 c =

@@ -1,4 +1,4 @@
-//! The score by kinds of intruder: the proved call beside a twin that makes six closures too, and
+//! The score by kinds of intruder: the proved call beside a twin that makes the same closures, and
 //! beside a twin that makes the opening list and takes kinds from it.
 
 use crate::closing::closure;
@@ -45,7 +45,7 @@ fn asked(words: &[u64], target: usize, kinds: &[u8]) -> Result<Whole, u64> {
     Ok(setup)
 }
 
-/// The twin of the proved call: six closures.
+/// The twin of the proved call: a kind above one that gets in is not tried.
 fn by_closures(words: &[u64], target: usize, kinds: &[u8]) -> Result<u64, u64> {
     let setup = asked(words, target, kinds)?;
     let initial = setup.chosen(START);
@@ -53,7 +53,13 @@ fn by_closures(words: &[u64], target: usize, kinds: &[u8]) -> Result<u64, u64> {
         let held = members(initial).filter(|&v| AT_MOST[usize::from(kinds[v])][t]);
         closure(&setup.graph, held.fold(0, |set, v| set | 1 << v)).0 >> target & 1 == 1
     };
-    Ok(lowest((0..6).filter(|&t| opens(t)).fold(0, |set, t| set | 1 << t)))
+    let mut found = 0;
+    for t in 0..6 {
+        if !members(found).any(|j| AT_MOST[j][t]) && opens(t) {
+            found |= 1 << t;
+        }
+    }
+    Ok(found)
 }
 
 /// The same from the opening list: a set's kind is the larger of each part.
@@ -117,7 +123,7 @@ pub fn scores(kinds: &[Kind], rounds: &Rounds, targets: &mut Vec<Target>) -> Gri
     let mut grid = Grid::new("The score by kinds of intruder", &heads);
     grid.note(
         "`portal_kinds` for the target with the longest lists. All three take the setup from the same words \
-         and ask 12, 13, 16 and 17. Proved and twin make six closures and are called in turn; the third makes \
+         and ask 12, 13, 16 and 17. Proved and twin make the same closures and are called in turn; the third makes \
          the opening list by a table and takes kinds from its sets.",
     );
     let (mut twins, mut lists) = (Vec::new(), Vec::new());

@@ -68,7 +68,7 @@ rightAt : List ℕ → ℕ → ℕ → Bool
 rightAt ks r k = eqb (digit r k) (flag (isLowest ks k))
 
 -- The entry of an initial vertex is at most 5.
-pub fitsAt : Setup → List ℕ → ℕ → Bool
+unfoldable pub fitsAt : Setup → List ℕ → ℕ → Bool
 fitsAt s kinds v = leb (given (valueOf false (vertexAt s v)) * getD kinds v 0) 5
 
 decide-weaker : (j k : ℕ) → Decides (Weaker j k) (isWeaker j k)

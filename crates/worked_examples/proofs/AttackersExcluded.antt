@@ -85,11 +85,11 @@ no-other-entry-read c =
 
 -- ---- a lower and a higher kind
 
-two : List ℕ
+abbrev two : List ℕ
 two = locSome ∷ remSome ∷ 0 ∷ []
 
 two-is : (q : ℕ) → AttackerCall (spare .setup) acc two 0 (q ∷ []) → q ≡ 2
-unfolding two fitsAt
+unfolding fitsAt
 two-is q =
     settled (spare .setup) acc two 2 q (reads-well spare read-spare) (omega arith) refl (fits-of spare (locSome ∷ remSome ∷ 0 ∷ []) read-spare refl)
     (held spare (λ (s : Setup). AttackerScore s (locSome ∷ remSome ∷ 0 ∷ []) acc 2) read-spare (all-score .1 .1 .1 .1 .1 .0))
@@ -103,11 +103,11 @@ no-all c = let e = two-is 18 c in omega arith
 
 -- ---- a set of a local one without skill and a remote expert
 
-joined : List ℕ
+abbrev joined : List ℕ
 joined = locNone ∷ locExp ∷ remExp ∷ 255 ∷ 255 ∷ []
 
 joined-is : (q : ℕ) → AttackerCall (bench .setup) order joined 0 (q ∷ []) → q ≡ 32
-unfolding joined fitsAt
+unfolding fitsAt
 joined-is q =
     settled (bench .setup) order joined 32 q (reads-well bench (all-read .0)) (omega arith) refl bench-fits
     (held bench (λ (s : Setup). AttackerScore s (locNone ∷ locExp ∷ remExp ∷ 255 ∷ 255 ∷ []) order 32) (all-read .0) (all-score .1 .1 .1 .0))

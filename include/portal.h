@@ -10,6 +10,7 @@
  *              portal_way_in                 how a set opens an item, step by step
  *              portal_opens                  does a set open an item? told as soon as it does
  *              portal_forecast               how many sets an opening list has at most, before it is listed
+ *              portal_kinds                  which kinds of intruder are the lowest that get into an item
  *              portal_lists                  the smallest sets that open an item, and the smallest losses that shut it
  *              portal_cut_sets               the smallest sets of starting items to harden so that no way in is left
  *              portal_setup_score, portal_setup_risk
@@ -49,9 +50,9 @@ extern "C" {
 
 /* ---- version ---- */
 
-/* 2.2.0 is 20200: the last two parts have two digits each. The first part changes where a call or a struct does, the second
+/* 2.3.0 is 20300: the last two parts have two digits each. The first part changes where a call or a struct does, the second
  * where one is new. */
-#define PORTAL_VERSION 20200
+#define PORTAL_VERSION 20300
 
 /* The version of the library. A program that was compiled with another one's header sees PORTAL_VERSION differ from it. */
 uint64_t portal_version(void);
@@ -63,12 +64,12 @@ uint64_t portal_version(void);
 
 /* Bytes of stack: for a call that asks all subsets of the starting or losable items, which scores, lists and findings do; for
  * one that marks a handed-in list; and for the others (portal_version, _read, _name, _check, _closure, _lost, _way_in, _opens,
- * _forecast). */
+ * _forecast, _kinds). */
 #define PORTAL_STACK ((size_t)256 * 1024)
 #define PORTAL_STACK_MARKS ((size_t)512 * 1024)
 #define PORTAL_STACK_SMALL ((size_t)128 * 1024)
 
-/* The numbers for no: document 01's questions. portal_refusal_text has a sentence for each. Later versions have more. */
+/* The numbers for no: the papers' questions. portal_refusal_text has a sentence for each. Later versions have more. */
 enum portal_number {
     PORTAL_ANSWERED = 0,
     /* of a sheet */
@@ -87,7 +88,9 @@ enum portal_number {
     PORTAL_NO_SETUP = 12,
     PORTAL_NO_ITEM = 13,
     PORTAL_OUTSIDE = 14,
-    PORTAL_SHORT = 15
+    PORTAL_SHORT = 15,
+    PORTAL_KINDS_LENGTH = 16,
+    PORTAL_NO_KIND = 17
 };
 
 /* What a refusal says, in a sentence that lives as long as the program; "answered" for 0. */
@@ -110,6 +113,8 @@ static inline const char *portal_refusal_text(uint64_t number)
     case PORTAL_NO_ITEM: return "an item number is not below the item count";
     case PORTAL_OUTSIDE: return "the set has items that are not in the setup";
     case PORTAL_SHORT: return "a lent list is too short for what must be written";
+    case PORTAL_KINDS_LENGTH: return "the list of kinds has not one entry for each item";
+    case PORTAL_NO_KIND: return "the entry of a starting item is none of the six kinds";
     default: return "a number that this version does not have";
     }
 }
@@ -132,6 +137,10 @@ static inline const char *portal_refusal_text(uint64_t number)
  * there are at most 3432. portal_forecast tells how many an opening list, or a list of cut sets, needs at most. */
 #define PORTAL_MAX_LIST 3432
 #define PORTAL_MAX_SETS (2 * PORTAL_MAX_LIST)
+
+/* The six kinds of intruder, 0 to 5: location 0 for remote and 1 for local, skill 0 for none, 1 for some and 2 for expert. */
+#define PORTAL_KINDS 6
+#define PORTAL_INTRUDER(location, skill) (3 * (location) + (skill))
 
 /* Where the words stand. First, how many items there are: 1 to 64. */
 #define PORTAL_COUNT 0
@@ -201,6 +210,12 @@ struct portal_forecast {
 struct portal_cut_sets {
     uint64_t number;
     uint64_t count;
+};
+
+/* The lowest kinds of intruder that get in: the sum of 2^k over them. */
+struct portal_kinds {
+    uint64_t number;
+    uint64_t kinds;
 };
 
 /* How many sets each list has. */
@@ -321,6 +336,16 @@ struct portal_quick portal_opens(const uint64_t *setup, size_t words, uint64_t t
  * Refused with 12, 13.
  */
 struct portal_forecast portal_forecast(const uint64_t *setup, size_t words, uint64_t target);
+
+/*
+ * Who could get in. There are six kinds of intruder, PORTAL_INTRUDER(location, skill): one is at most another if both parts are. `kinds` has
+ * one kind for each item, and those of starting items alone are read: who is of at least that kind can get the item. A set's kind is the
+ * larger of each part over its items. The answer has the kinds over the target's opening list that have no other of them below, as the sum of
+ * 2^k over them: bit k says that the kind k gets in, and none below it does; 0 says that nobody gets in. An intruder gets in exactly if some
+ * kind of the answer is at most the intruder's. Refused with 12, 13, 16 where the list has not one entry for each item, 17 where a starting
+ * item's entry is above 5; nothing that was lent is changed.
+ */
+struct portal_kinds portal_kinds(const uint64_t *setup, size_t words, uint64_t target, const uint8_t *kinds, size_t places);
 
 /*
  * Both lists of the target: the opening list (sets of starting items that open it, no proper subset doing so), then from the

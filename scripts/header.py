@@ -3,7 +3,7 @@
 
 Every exported function of the portal's crates has its prototype, with the same names and the types that C has for them, in
 order; every struct that is handed back has its fields, here and in tests/product; the version, the places of a setup's words, the blank,
-the largest sheet and name and the longest list are the sources'; the refusals' names and sentences are those of docs/TERMS.md; README.md and man/portal.3 name every call, and above
+the largest sheet and name, the longest list and the number of kinds are the sources'; the refusals' names and sentences are those of docs/TERMS.md and of man/portal.3; README.md and man/portal.3 name every call, and above
 each prototype stands a comment. Else the exit status is 1.
 """
 import re
@@ -11,7 +11,7 @@ import sys
 from pathlib import Path
 
 ROOT = Path(__file__).resolve().parent.parent
-FEWEST = {"calls": 20, "structs": 13, "refusals": 15}
+FEWEST = {"calls": 21, "structs": 14, "refusals": 17}
 SLICES = {"&[u8]": "const uint8_t *", "&mut [u8]": "uint8_t *", "&[u64]": "const uint64_t *", "&mut [u64]": "uint64_t *"}
 SCALARS = {"u64": "uint64_t", "u8": "uint8_t", "bool": "bool"}
 
@@ -127,6 +127,7 @@ faults += ["PORTAL_MAX_VALUE is another number"] * (macro(header, "PORTAL_MAX_VA
 faults += ["man/report.1 has another largest value"] * (f"0 to {largest:,}" not in read("man/report.1"))
 ways = re.search(r"^const WAYS: \[u64; 15\] = \[(.*?)\];", read("crates/antichains/src/lib.rt"), re.M | re.S).group(1)
 faults += ["PORTAL_MAX_LIST is not the last number of WAYS"] * (macro(header, "PORTAL_MAX_LIST") != parts(ways)[-1])
+faults += ["PORTAL_KINDS is another number"] * (macro(header, "PORTAL_KINDS") != str(constant(read("crates/attackers/src/lib.rt"), "KINDS")))
 faults += ["PORTAL_SETUP_WORDS is another number"] * (macro(header, "PORTAL_SETUP_WORDS") != str(constant(reading, "SETUP_WORDS")))
 faults += ["PORTAL_VERSION is another number"] * (macro(header, "PORTAL_VERSION") != str(constant(reading, "VERSION")))
 faults += ["tests/product is for another version"] * (f"pub const VERSION: u64 = {constant(reading, 'VERSION')};" not in read("tests/product/src/lib.rs"))
@@ -137,8 +138,10 @@ numbers = re.findall(r"^    (PORTAL_\w+) = (\d+)", re.search(r"^enum portal_numb
 sentences = dict(re.findall(r'^    case (PORTAL_\w+): return "(.*)";$', header, re.M))
 named = [(int(number), name, sentences.pop(name, None)) for name, number in numbers if number != "0"]
 listed = [(int(number), name, sentence) for number, name, sentence in re.findall(r"^\| (\d+) \| `(PORTAL_\w+)` \| (.*?) \|$", read("docs/TERMS.md"), re.M)]
-faults += [f"refusals: the header has {one}, docs/TERMS.md {other}" for one, other in zip(named, listed) if one != other]
-faults += ["the header and docs/TERMS.md have not as many refusals"] * (len(named) != len(listed))
+paged = [(int(number), name, sentence) for number, name, sentence in re.findall(r"^\.B (\d+) (PORTAL_\w+)\n(.*)$", manual, re.M)]
+for where, page in (("docs/TERMS.md", listed), ("man/portal.3", paged)):
+    faults += [f"refusals: the header has {one}, {where} {other}" for one, other in zip(named, page) if one != other]
+    faults += [f"the header and {where} have not as many refusals"] * (len(named) != len(page))
 faults += [f"{name} is no refusal" for name in sentences if name != "PORTAL_ANSWERED"]
 faults += ["refusals are not numbered from 1 on"] * ([number for number, _, _ in named] != list(range(1, len(named) + 1)))
 

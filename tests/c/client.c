@@ -239,6 +239,27 @@ static void try_forecast(void)
     expect("forecast in no setup", portal_forecast(malformed, WORDS, 5).number, PORTAL_NO_SETUP);
 }
 
+/* Kinds for SHEET: the order's password takes some skill, the mail's an expert, both remote; the token a local one without skill. */
+static void try_kinds(void)
+{
+    uint8_t list[5] = { PORTAL_INTRUDER(0, 1), PORTAL_INTRUDER(0, 2), PORTAL_INTRUDER(1, 0), 255, 255 }, lent[5];
+    const uint8_t strange[6] = { 0, 6, 0, 0, 0, 0 };
+    struct portal_kinds r;
+    memcpy(lent, list, sizeof list);
+    r = portal_kinds(setup, WORDS, ORDER_ITEM, list, 5);
+    expect("kinds", r.number, 0);
+    expect("remote experts, and local ones with some skill", r.kinds, 1 << 2 | 1 << 4);
+    expect("by the mail password alone", portal_kinds(setup, WORDS, MAIL_ITEM, list, 5).kinds, 1 << 2);
+    expect("nothing lent is written", (uint64_t)memcmp(list, lent, sizeof list), 0);
+    r = portal_kinds(setup, WORDS, ORDER_ITEM, strange, 5);
+    expect("no such kind", r.number, PORTAL_NO_KIND);
+    expect("no such kind, no value", r.kinds, 0);
+    expect("a list too long", portal_kinds(setup, WORDS, ORDER_ITEM, strange, 6).number, PORTAL_KINDS_LENGTH);
+    expect("no list", portal_kinds(setup, WORDS, ORDER_ITEM, NULL, 0).number, PORTAL_KINDS_LENGTH);
+    expect("kinds of no item", portal_kinds(setup, WORDS, 5, NULL, 0).number, PORTAL_NO_ITEM);
+    expect("kinds in no setup", portal_kinds(malformed, WORDS, 5, NULL, 0).number, PORTAL_NO_SETUP);
+}
+
 static void try_lists(void)
 {
     uint64_t sets[5] = { LENT, LENT, LENT, LENT, LENT };
@@ -366,6 +387,7 @@ static const struct call {
     { "portal_way_in", PORTAL_STACK_SMALL, try_way_in },
     { "portal_opens", PORTAL_STACK_SMALL, try_opens },
     { "portal_forecast", PORTAL_STACK_SMALL, try_forecast },
+    { "portal_kinds", PORTAL_STACK_SMALL, try_kinds },
     { "portal_lists", PORTAL_STACK, try_lists },
     { "portal_cut_sets", PORTAL_STACK, try_cut_sets },
     { "portal_setup_score", PORTAL_STACK, try_setup_score },
@@ -462,8 +484,8 @@ int main(int argc, char **argv)
         id[i] = begin(PORTAL_STACK_MARKS, run_all, NULL);
     for (int i = 0; i < THREADS; i++)
         pthread_join(id[i], NULL);
-    for (uint64_t number = 0; number <= PORTAL_SHORT; number++)
-        expect("a sentence", strcmp(portal_refusal_text(number), portal_refusal_text(PORTAL_SHORT + 1)) != 0, 1);
+    for (uint64_t number = 0; number <= PORTAL_NO_KIND; number++)
+        expect("a sentence", strcmp(portal_refusal_text(number), portal_refusal_text(PORTAL_NO_KIND + 1)) != 0, 1);
     if (faults)
         return 1;
     printf("c client: %d calls, all well\n", COUNT);

@@ -24,6 +24,7 @@ FIRST = {
     "antichains": ["choose-"],
     "forecasts": ["forecast-"],
     "cut_sets": ["cuts-"],
+    "attackers": ["attacker-"],
     "sheet_format/Names": ["name-", "line-"],
     "sheet_format": ["reads-alone", "reads-loop", "reads-pair", "refuses-", "passes-", "renders", "decimal-", "no-fields"],
     "findings": ["finding-"],

@@ -770,6 +770,134 @@ def CountedOnce(s, target):
     return all(implies(lambda: CountedSet(s, target, r) and CountedSet(s, target, q), lambda: r == q) for r in world.sets for q in world.sets)
 
 
+# ---- attackers/Attackers
+
+
+# The numbers that may be kinds: the six, and two more.
+KINDS = range(8)
+
+
+def AtMost(a, b):
+    locations = location(a) <= location(b)
+    skills = skill(a) <= skill(b)
+    return locations and skills
+
+
+def Weaker(a, b):
+    atMost = AtMost(a, b)
+    other = a != b
+    return atMost and other
+
+
+def OfBase(s, kinds, target, k):
+    key = ("of base", mark(s), tuple(kinds), target, k)
+    if key not in cache:
+        cache[key] = any(k == attackerOf(kinds, x) and MinimalSet(False, s, s.graph, target, x) for x in world.sets)
+    return cache[key]
+
+
+def InScore(s, kinds, target, k):
+    is_ = OfBase(s, kinds, target, k)
+    none = is_ and all(implies(lambda: OfBase(s, kinds, target, j), lambda: not Weaker(j, k)) for j in KINDS)
+    return is_ and none
+
+
+def GetsIn(s, kinds, target, t):
+    key = ("gets in", mark(s), tuple(kinds), target, t)
+    if key not in cache:
+        cache[key] = HasAccess(s.graph, lambda v: Chosen(False, s, v) and AtMost(entry(kinds, v), t), target)
+    return cache[key]
+
+
+def AtOrAbove(r, t):
+    return any(Member(r, attacker) and AtMost(attacker, t) for attacker in KINDS)
+
+
+def AttackerScore(s, kinds, target, r):
+    each = all(Iff(Member(r, k), InScore(s, kinds, target, k)) for k in KINDS)
+    none = implies(lambda: not any(InScore(s, kinds, target, k) for k in KINDS), lambda: r == 0)
+    intruders = each and all(Iff(AtOrAbove(r, t), GetsIn(s, kinds, target, t)) for t in range(6))
+    return each and none and intruders
+
+
+def EntriesFit(s, kinds):
+    return all(implies(lambda: Chosen(False, s, v), lambda: entry(kinds, v) <= 5) for v in world.vertices)
+
+
+def SixKinds(asked):
+    return all(
+        implies(lambda: WellFormed(s) and EntriesFit(s, kinds) and AttackerScore(s, kinds, target, r), lambda: r < 64) for s, kinds, target, r in asked
+    )
+
+
+def NobodyIn(asked):
+    return all(
+        implies(
+            lambda: WellFormed(s) and EntriesFit(s, kinds) and AttackerScore(s, kinds, target, r),
+            lambda: Iff(r == 0, not HasAccess(s.graph, lambda v: Chosen(False, s, v), target)),
+        )
+        for s, kinds, target, r in asked
+    )
+
+
+def ScoreAtMost(p, q):
+    return all(implies(lambda: Member(q, u), lambda: AtOrAbove(p, u)) for u in KINDS)
+
+
+def Sound(s, kinds, a, b, p, q):
+    return implies(
+        lambda: WellFormed(s)
+        and EntriesFit(s, kinds)
+        and AttackerScore(s, kinds, a, p)
+        and AttackerScore(s, kinds, b, q)
+        and all(implies(lambda: TargetSet(False, s, s.graph, b, x), lambda: TargetSet(False, s, s.graph, a, x)) for x in world.sets),
+        lambda: ScoreAtMost(p, q),
+    )
+
+
+# ---- attackers/Answers
+
+
+def AttackerCall(s, target, kinds, number, values):
+    malformed = implies(lambda: not WellFormed(s), lambda: Refuses(12, number, values))
+    noTarget = implies(lambda: WellFormed(s) and s.count <= target, lambda: Refuses(13, number, values))
+    there = lambda: WellFormed(s) and target < s.count
+    otherLength = implies(lambda: there() and len(kinds) != s.count, lambda: Refuses(16, number, values))
+    noKind = implies(lambda: there() and len(kinds) == s.count and not EntriesFit(s, kinds), lambda: Refuses(17, number, values))
+    answers = implies(
+        lambda: there() and len(kinds) == s.count and EntriesFit(s, kinds),
+        lambda: number == 0 and len(values) == 1 and AttackerScore(s, kinds, target, values[0]),
+    )
+    return malformed and noTarget and otherLength and noKind and answers
+
+
+def OneAttackerAnswer(s, target, kinds, answers):
+    return all(
+        implies(lambda: AttackerCall(s, target, kinds, n, v) and AttackerCall(s, target, kinds, n_, v_), lambda: Same(n, n_, v, v_))
+        for n, v in answers
+        for n_, v_ in answers
+    )
+
+
+def AgreeAtInitial(s, kinds, kinds_):
+    long = len(kinds) == len(kinds_)
+    each = all(implies(lambda: Chosen(False, s, v), lambda: entry(kinds, v) == entry(kinds_, v)) for v in world.vertices)
+    return long and each
+
+
+def OthersUnread(s, target, lists, answers):
+    return all(
+        implies(
+            lambda: AgreeAtInitial(s, kinds, kinds_) and AttackerCall(s, target, kinds, n, v) and AttackerCall(s, target, kinds_, n_, v_),
+            lambda: Same(n, n_, v, v_),
+        )
+        for kinds in lists
+        for kinds_ in lists
+        for n, v in answers
+        for n_, v_ in answers
+    )
+
+
 # ---- forecasts/Answers
 
 
@@ -1440,7 +1568,7 @@ def SettledPortal(loss, text, item, r, numbers):
 # ---- demands/Demands: each call's answer in `r` is its number and its values; `among` has the other answers, texts and rows that are looked at
 
 
-def Demand1(text, item, s, set_, target, other, opened, locked, vertices, vertices_, colours, colours_, list_, exit, harden, harden_, r, among):
+def Demand1(text, item, s, set_, target, other, opened, locked, kinds, vertices, vertices_, colours, colours_, list_, exit, harden, harden_, r, among):
     both = among.answers
     closure = Settled([12, 14], lambda n, v: ClosureCall(s, set_, n, v), *r.closure, both)
     lost = Settled([12, 14], lambda n, v: LostCall(s, set_, n, v), *r.lost, both)
@@ -1457,15 +1585,16 @@ def Demand1(text, item, s, set_, target, other, opened, locked, vertices, vertic
     reading = SettledReading(text, r.reading, among.docs, among.readings)
     portalScore = SettledPortal(False, text, item, r.portalScore, among.numbers)
     portalRisk = SettledPortal(True, text, item, r.portalRisk, among.numbers)
+    attackers = Settled([12, 13, 16, 17], lambda n, v: AttackerCall(s, target, kinds, n, v), *r.attackers, both)
     forecast = Settled([12, 13], lambda n, v: ForecastCall(s, target, n, v), *r.forecast, both)
     quick = Settled([12, 13, 14], lambda n, v: QuickCall(s, target, set_, n, v), *r.quick, both)
     cuts = SettledList(lambda n, v, x: CutsCall(s, target, n, v, harden, x), *r.cuts, harden, harden_, among.cuts)
     sets = closure and lost and way and quick
     lists = bases and score and risk and openings and lockouts
-    return sets and lists and backdoor and idle and pair and formed and reading and portalScore and portalRisk and forecast and cuts
+    return sets and lists and backdoor and idle and pair and formed and reading and portalScore and portalRisk and forecast and cuts and attackers
 
 
-def Demand2(text, item, s, set_, target, other, opened, locked, vertices, vertices_, colours, colours_, list_, exit, harden, harden_, r, among):
+def Demand2(text, item, s, set_, target, other, opened, locked, kinds, vertices, vertices_, colours, colours_, list_, exit, harden, harden_, r, among):
     closure = ClosureCall(s, set_, *r.closure)
     lost = LostCall(s, set_, *r.lost)
     way = WayCall(s, target, set_, *r.way, vertices, vertices_, colours, colours_)
@@ -1482,12 +1611,13 @@ def Demand2(text, item, s, set_, target, other, opened, locked, vertices, vertic
     asked = r.reading == readSheet(text)
     portalScore = PortalCall(False, text, item, r.portalScore)
     portalRisk = PortalCall(True, text, item, r.portalRisk)
+    attackers = AttackerCall(s, target, kinds, *r.attackers)
     forecast = ForecastCall(s, target, *r.forecast)
     quick = QuickCall(s, target, set_, *r.quick)
     cuts = CutsCall(s, target, *r.cuts, harden, harden_)
     sets = closure and lost and way and quick
     lists = bases and score and risk and openings and lockouts
-    return sets and lists and backdoor and idle and pair and formed and reading and asked and portalScore and portalRisk and forecast and cuts
+    return sets and lists and backdoor and idle and pair and formed and reading and asked and portalScore and portalRisk and forecast and cuts and attackers
 
 
 # ---- reference/Meaning
@@ -1678,7 +1808,7 @@ def OneResult(Call, results, candidates):
     )
 
 
-def OneResultOnSetups(words, set_, target, other, sets, a, b, numbers, results, values, ways, lists, cut_lists):
+def OneResultOnSetups(words, set_, target, other, sets, kinds, a, b, numbers, results, values, ways, lists, cut_lists):
     s = setupIn(words)
     check = all(implies(lambda: CheckCall(s, r) and CheckCall(s, r_), lambda: r == r_) for r in numbers for r_ in numbers)
     closure = OneResult(lambda n, v: ClosureCall(s, set_, n, v), results, values)
@@ -1722,7 +1852,8 @@ def OneResultOnSetups(words, set_, target, other, sets, a, b, numbers, results, 
         for n, f, x in cut_lists
         for n_, f_, x_ in cut_lists
     )
-    return all((check, closure, lost, wayIn, lists_, score, risk, openings, lockouts, backdoor, idle, outOfRank, forecast, opens, cuts))
+    attackers = OneResult(lambda n, v: AttackerCall(s, target, kinds, n, v), results, values)
+    return all((check, closure, lost, wayIn, lists_, score, risk, openings, lockouts, backdoor, idle, outOfRank, forecast, opens, cuts, attackers))
 
 
 def OneResultOnSheets(text, item, entry, readings, parts):

@@ -543,6 +543,61 @@ def of_score_calls(D):
     ]
 
 
+# Kinds of attacker for the items of the bench: order's sets have two kinds that are not to be compared; a lower and a higher one; with
+# entries that are not read.
+APART, UNLIKE, UNREAD = [1, 2, 3, 255, 255], [4, 1, 0, 255, 255], [5, 5, 5, 0, 0]
+
+
+def of_attackers(D):
+    """Scores by kinds of attacker for order and mail."""
+    asked = [(bench, k, t, r) for k in (APART, UNLIKE) for t in (MAIL, ORDER) for r in (0, 1, 2, 4, 16, 18, 20, 64)]
+    answers = [(0, [2]), (0, [20]), (0, [4]), (12, []), (13, []), (16, []), (17, []), (0, [])]
+    lists = [APART, [1, 2, 3, 0, 5], [1, 2, 3], [1, 2, 6, 0, 0], UNLIKE]
+    six = [6, 0, 0, 0, 0]
+    call = lambda *a: lambda: D.AttackerCall(*a)
+    return [
+        ("at most: remote none and local none", lambda: D.AtMost(0, 3), True),
+        ("at most: itself", lambda: D.AtMost(4, 4), True),
+        ("not at most: local none and remote expert", lambda: D.AtMost(3, 2), False),
+        ("not at most: expert and some", lambda: D.AtMost(2, 4), False),
+        ("weaker: remote none than local none", lambda: D.Weaker(0, 3), True),
+        ("not weaker: itself", lambda: D.Weaker(3, 3), False),
+        ("of base: ordpw and token", lambda: D.OfBase(bench, APART, ORDER, 4), True),
+        ("not of base: all three", lambda: D.OfBase(bench, APART, ORDER, 5), False),
+        ("in score: the lower", lambda: D.InScore(bench, UNLIKE, ORDER, 1), True),
+        ("not in score: the higher", lambda: D.InScore(bench, UNLIKE, ORDER, 4), False),
+        ("gets in: remote expert", lambda: D.GetsIn(bench, APART, ORDER, 2), True),
+        ("not gets in: remote with some skill", lambda: D.GetsIn(bench, APART, ORDER, 1), False),
+        ("not gets in: by items that do not start", lambda: D.GetsIn(bench, UNREAD, ORDER, 0), False),
+        ("at or above: a local expert", lambda: D.AtOrAbove(20, 5), True),
+        ("not at or above: a local one without skill", lambda: D.AtOrAbove(20, 3), False),
+        ("score by kinds: for order", lambda: D.AttackerScore(bench, APART, ORDER, 20), True),
+        ("score by kinds: for mail", lambda: D.AttackerScore(bench, APART, MAIL, 4), True),
+        ("score by kinds: the lower", lambda: D.AttackerScore(bench, UNLIKE, ORDER, 2), True),
+        ("not score by kinds: both", lambda: D.AttackerScore(bench, UNLIKE, ORDER, 18), False),
+        ("not score by kinds: none", lambda: D.AttackerScore(bench, UNLIKE, ORDER, 0), False),
+        ("fit: 255 where nothing starts", lambda: D.EntriesFit(bench, APART), True),
+        ("not fit: 6", lambda: D.EntriesFit(bench, six), False),
+        ("six kinds", lambda: D.SixKinds(asked), True),
+        ("nobody in", lambda: D.NobodyIn(asked), True),
+        ("score at most: remote some, and those above", lambda: D.ScoreAtMost(2, 20), True),
+        ("not score at most: the other way round", lambda: D.ScoreAtMost(20, 2), False),
+        ("sound: order and mail", lambda: D.Sound(bench, APART, ORDER, MAIL, 20, 4), True),
+        ("call: kinds for order", call(bench, ORDER, APART, 0, [20]), True),
+        ("not call: kinds, all who get in", call(bench, ORDER, APART, 0, [52]), False),
+        ("call: kinds, 12", call(EMPTY, 0, [], 12, []), True),
+        ("call: kinds, 13", call(bench, 5, [], 13, []), True),
+        ("call: kinds, 16", call(bench, ORDER, [6, 6], 16, []), True),
+        ("not call: kinds, 17 before 16", call(bench, ORDER, [6, 6], 17, []), False),
+        ("call: kinds, 17", call(bench, ORDER, six, 17, []), True),
+        ("one answer: kinds for order", lambda: D.OneAttackerAnswer(bench, ORDER, APART, answers), True),
+        ("agree: where nothing starts", lambda: D.AgreeAtInitial(bench, APART, [1, 2, 3, 0, 5]), True),
+        ("not agree: at token", lambda: D.AgreeAtInitial(bench, APART, [1, 2, 4, 255, 255]), False),
+        ("not agree: another length", lambda: D.AgreeAtInitial(bench, APART, [1, 2, 3]), False),
+        ("others unread", lambda: D.OthersUnread(bench, ORDER, lists, answers), True),
+    ]
+
+
 def of_forecasts(D):
     """Forecasts for order, which mailpw reaches through mail and along a recovery edge, and for mail."""
     asked = [(bench, t, c, n) for t in (MAIL, ORDER) for c in range(32) for n in (0, 1, 2, 3)]
@@ -777,13 +832,13 @@ def of_one_answer(D):
 
 def of_results(D):
     """That the contracts of the calls for C determine their results."""
-    values = [[], [0], [1], [2], [3], [10], [26, 2], [26, 3], [1, 26], [0, 0], [1, 2], [2, 2], [1, 1, 1, 1, 1], [0, 1, 3, 0, 2]]
-    results = [(0, f) for f in ([0], [1], [3], [10], [26, 2], [26, 3], [1, 26], [0, 26], [0, 0], [1, 1, 1, 1, 1])] + [(12, [0]), (13, [0]), (12, [0, 0]), (13, [0, 0])]
+    values = [[], [0], [1], [2], [3], [10], [20], [26, 2], [26, 3], [1, 26], [0, 0], [1, 2], [2, 2], [1, 1, 1, 1, 1], [0, 1, 3, 0, 2]]
+    results = [(0, f) for f in ([0], [1], [3], [10], [20], [26, 2], [26, 3], [1, 26], [0, 26], [0, 0], [1, 1, 1, 1, 1])] + [(12, [0]), (13, [0]), (12, [0, 0]), (13, [0, 0])]
     lent, out = [9, 9], LENT[:4]
     ways = [(0, [1, 2], [3, 4], [0, 1]), (0, [1, 2], [3, 4], lent), (0, [0, 0], lent, lent), (15, [0, 0], lent, lent), (13, [0, 0], lent, lent)]
     lists = [(0, [2, 2], [2, 5, 3, 6]), (0, [2, 2], [5, 2, 3, 6]), (0, [0, 0], out), (15, [0, 0], out)]
     cuts = [(0, [2], [3, 6]), (0, [2], [6, 3]), (0, [0], lent), (15, [0], lent)]
-    handed = (wordsOf(bench), 2, ORDER, MAIL, [2, 2, 6, 4], lent, out, (0, 12), results, values, ways, lists, cuts)
+    handed = (wordsOf(bench), 2, ORDER, MAIL, [2, 2, 6, 4], APART, lent, out, (0, 12), results, values, ways, lists, cuts)
     readings = [(n, l, x) for n in (0, 15) for l in (0, 1) for x in ([9] * 1281, wordsOf(bench))]
     parts = [(n, p, k) for n in (0, 13) for p in (0, 69, 84) for k in (0, 4, 5)]
     return [
@@ -847,7 +902,7 @@ def of_demands(D):
 
 
 Answers = namedtuple(
-    "Answers", "closure lost way bases score risk openings lockouts backdoor idle pair formed reading portalScore portalRisk forecast quick cuts"
+    "Answers", "closure lost way bases score risk openings lockouts backdoor idle pair formed reading portalScore portalRisk forecast quick cuts attackers"
 )
 Among = namedtuple("Among", "answers ways lists cuts texts docs readings numbers")
 
@@ -857,18 +912,18 @@ def of_both_demands(D):
     sheet, five, lent, out = text(BENCH), REFUSED["refused 5"][0], [9, 9], LENT[:4]
     yes = Answers(
         *[(0, [26, 3]), (0, [10]), (0, [1, 2]), (0, [2, 2]), (0, [1]), (0, [3]), (0, [1, 0, 0, 0, 1]), (0, [2, 0, 0, 0, 0])],
-        *[(0, [1]), (0, [0]), (0, [1]), True, D.accepted(bench), 1, 3, (0, [3]), (0, [1, 26]), (0, [2])],
+        *[(0, [1]), (0, [0]), (0, [1]), True, D.accepted(bench), 1, 3, (0, [3]), (0, [1, 26]), (0, [2]), (0, [20])],
     )
-    outside = Answers((14, []), (14, []), *[(13, [])] * 9, True, D.refused(5, 2), never + 5, never + 5, (13, []), (13, []), (13, []))
+    outside = Answers((14, []), (14, []), *[(13, [])] * 9, True, D.refused(5, 2), never + 5, never + 5, (13, []), (13, []), (13, []), (13, []))
     set_outside = yes._replace(closure=(14, []), lost=(14, []), way=(14, []), quick=(14, []), portalRisk=1)
-    malformed = yes._replace(**{n: (12, []) for n in (*Answers._fields[:11], "forecast", "quick", "cuts")}, formed=False)
-    answers = [(0, v) for v in ([0], [1], [3], [10], [0, 1], [26, 2], [26, 3], [1, 26], [0, 26], [1, 0, 0, 0, 1], [2, 0, 0, 0, 0])] + [(n, []) for n in (0, 12, 13, 14)]
+    malformed = yes._replace(**{n: (12, []) for n in (*Answers._fields[:11], "forecast", "quick", "cuts", "attackers")}, formed=False)
+    answers = [(0, v) for v in ([0], [1], [3], [10], [0, 1], [26, 2], [26, 3], [1, 26], [0, 26], [1, 0, 0, 0, 1], [2, 0, 0, 0, 0], [20])] + [(n, []) for n in (0, 12, 13, 14)]
     ways = [(0, [1, 2], [3, 4], [0, 1]), (0, [1, 2], [3, 4], lent)] + [(n, v, lent, lent) for n, v in answers + [(15, [])]]
     lists = [(0, [2, 2], [2, 5, 3, 6]), (0, [2, 2], out)] + [(n, v, out) for n, v in answers + [(15, [])]]
     readings = [D.accepted(bench), D.accepted(EMPTY), D.refused(5, 2), D.refused(2, 5)]
     cuts = [(0, [2], [3, 6]), (0, [2], [6, 3]), (0, [2], lent)] + [(n, v, lent) for n, v in answers + [(15, [])]]
     among = Among(answers, ways, lists, cuts, [sheet, render(DOC)], [BENCH_DOC, DOC], readings, [0, 1, 3, 13, never, never + 5, never + 13])
-    asked = lambda t, i, s, set_, v, w: [t, i, s, set_, v, w, [2], [3, 6], lent]
+    asked = lambda t, i, s, set_, v, w: [t, i, s, set_, v, w, [2], [3, 6], APART, lent]
     listed = [out, [2, 5, 3, 6], lent, [3, 6]]
     untouched, no_way, both = [lent, lent, lent, out, out, lent, lent], [lent, lent, lent, *listed], [[3, 4], lent, [0, 1], *listed]
     order = asked(sheet, ORDER, bench, 2, ORDER, MAIL) + both
@@ -881,6 +936,7 @@ def of_both_demands(D):
         ("the risk for the portal's score", order, yes._replace(portalScore=3), False),
         ("no to question 12", order, yes._replace(formed=False), False),
         ("another line", order, yes._replace(reading=D.accepted(bench)._replace(line=1)), False),
+        ("both kinds and all above them", order, yes._replace(attackers=(0, [52])), False),
         ("the list's length for the forecast", order, yes._replace(forecast=(0, [2])), False),
         ("no to what mailpw opens", order, yes._replace(quick=(0, [0, 26])), False),
         ("one cut set too few", order, yes._replace(cuts=(0, [1])), False),
@@ -904,6 +960,9 @@ def of_ring(D):
 def of_one(D):
     """One or two items."""
     return [
+        ("score by kinds: nobody", lambda: D.AttackerScore(closed, [255], 0, 0), True),
+        ("nobody in: where nothing opens it", lambda: D.NobodyIn([(closed, [255], 0, r) for r in (0, 1)]), True),
+        ("score by kinds: the target itself", lambda: D.AttackerScore(alone, [5], 0, 32), True),
         ("B9", lambda: D.Score(False, alone, alone.graph, 0, 5), True),
         ("B10", lambda: D.Score(False, closed, closed.graph, 0, 2**62), True),
         ("not B10: 2^62 + 1", lambda: D.Score(False, closed, closed.graph, 0, 2**62 + 1), False),
@@ -1095,7 +1154,7 @@ GROUPS = {
     "one": [of_one, of_few_cuts],
     "sums": [of_sums],
     "bench": [of_derivations, of_passes, of_ways, of_bases, of_scores, of_marks, of_set_calls, of_way_calls, of_base_calls, of_score_calls, of_demand3]
-    + [of_quick, of_forecasts, of_cuts, of_findings, of_portal, of_same, of_told, of_readings, of_one_answer, of_results, of_demands, of_both_demands],
+    + [of_quick, of_forecasts, of_cuts, of_attackers, of_findings, of_portal, of_same, of_told, of_readings, of_one_answer, of_results, of_demands, of_both_demands],
     "rows": [of_valid_rows, of_rows, of_stated, of_meaning, of_refusals],
     "spare": [of_spare],
     "ring": [of_ring],

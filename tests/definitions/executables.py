@@ -55,6 +55,27 @@ def ones(n):
     return bin(n).count("1")
 
 
+def location(k):
+    return k // 3
+
+
+def skill(k):
+    return k % 3
+
+
+def entry(kinds, v):
+    """getD kinds v 0"""
+    return kinds[v] if v < len(kinds) else 0
+
+
+def largestOver(value, s):
+    return max((value(v) for v in range(64) if s >> v & 1), default=0)
+
+
+def attackerOf(kinds, x):
+    return 3 * largestOver(lambda v: location(entry(kinds, v)), x) + largestOver(lambda v: skill(entry(kinds, v)), x)
+
+
 def choose(n, k):
     if n == 0:
         return 1 if k == 0 else 0

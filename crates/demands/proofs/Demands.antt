@@ -8,13 +8,13 @@ use Rattle.findings.specs.Findings.{FindsBackdoor, FindsIneffective, FindsIncon
 use Rattle.findings.proofs.Unique.{backdoor-unique, ineffective-unique, inconsistent-unique}
 use Rattle.demands.specs.declared.Answers.{Answers}
 use Rattle.demands.specs.Demands.{Demand1, Demand2}
-use Rattle.demands.proofs.Outcomes.{settled-closure, settled-lost, settled-score, settled-marks, settled-finding, settled-forecast, settled-quick, settled-lists, settled-cuts, settled-way, settled-question-12}
+use Rattle.demands.proofs.Outcomes.{settled-closure, settled-lost, settled-score, settled-marks, settled-finding, settled-forecast, settled-quick, settled-attackers, settled-lists, settled-cuts, settled-way, settled-question-12}
 use Rattle.demands.proofs.Sheets.{settled-reading, settled-portal}
 
-pub one-of-two : {text : List ℕ} {item : ℕ} {s : Setup} {set target other : ℕ} {opened locked vertices vertices′ colours colours′ list list′ harden harden′ : List ℕ} {r : Answers}
-    → Demand2 text item s set target other opened locked vertices vertices′ colours colours′ list list′ harden harden′ r
-    → Demand1 text item s set target other opened locked vertices vertices′ colours colours′ list list′ harden harden′ r
-one-of-two {text = text} {item = item} {s = s} {set = set} {target = target} {other = other} {opened = opened} {locked = locked} {r = r} d =
+pub one-of-two : {text : List ℕ} {item : ℕ} {s : Setup} {set target other : ℕ} {opened locked kinds vertices vertices′ colours colours′ list list′ harden harden′ : List ℕ} {r : Answers}
+    → Demand2 text item s set target other opened locked kinds vertices vertices′ colours colours′ list list′ harden harden′ r
+    → Demand1 text item s set target other opened locked kinds vertices vertices′ colours colours′ list list′ harden harden′ r
+one-of-two {text = text} {item = item} {s = s} {set = set} {target = target} {other = other} {opened = opened} {locked = locked} {kinds = kinds} {r = r} d =
     record {
       closure = settled-closure s _ _ set (d .closure);
       lost = settled-lost s _ _ set (d .lost);
@@ -34,4 +34,5 @@ one-of-two {text = text} {item = item} {s = s} {set = set} {target = target} {ot
       forecast = settled-forecast s _ _ target (d .forecast);
       quick = settled-quick s _ _ target set (d .quick);
       cuts = settled-cuts s target _ _ _ _ (d .cuts);
+      attackers = settled-attackers s _ _ target kinds (d .attackers);
     }

@@ -10,6 +10,7 @@ use Rattle.vertex_set.proofs.Cases.{less-or}
 use Rattle.formed.specs.WellFormed.{WellFormed}
 use Rattle.sheet_format.specs.Read.{readSheet}
 use Rattle.findings.proofs.Unique.{one-backdoor-answer, one-ineffective-answer, one-inconsistent-answer}
+use Rattle.attackers.proofs.Unique.{one-attacker-answer}
 use Rattle.forecasts.proofs.Unique.{one-forecast-answer}
 use Rattle.quick_yes.proofs.Unique.{one-quick-answer}
 use Rattle.setup.specs.Calls.{Same}
@@ -61,6 +62,7 @@ one-result-on-setups words =
       cuts =
           λ target n n′ f f′ a x x′ e t t′. let d = one-cuts-answer s target n n′ (t .values) (t′ .values) a x x′ (t .call) (t′ .call) in
           record { answer = same-fields e t t′ (d .answer); list = d .list };
+      attackers = λ target kinds. one-result _ (one-attacker-answer s target kinds);
     }
 
 -- ---- the calls on a sheet

@@ -24,6 +24,9 @@ use Rattle.answers.specs.Answers.{BasesCall, ScoreCall, MarksCall}
 use Rattle.cut_sets.specs.Answers.{CutsCall}
 use Rattle.findings.specs.Answers.{FindingCall}
 use Rattle.findings.proofs.Unique.{decided-once, all-below, one-finding-answer}
+use Rattle.attackers.specs.Attackers.{EntriesFit}
+use Rattle.attackers.specs.Answers.{AttackerCall}
+use Rattle.attackers.proofs.Unique.{one-attacker-answer}
 use Rattle.forecasts.specs.Answers.{ForecastCall}
 use Rattle.forecasts.proofs.Unique.{one-forecast-answer}
 use Rattle.quick_yes.specs.Answers.{QuickCall}
@@ -132,6 +135,18 @@ module _ (s : Setup) (n : ℕ) (v : List ℕ) where
             (λ o. refused (inr (inr (inl refl))) refl (c .outside w l o)));
         meets = c;
         only = λ n′ v′ d. one-quick-answer s target set n′ n v′ v d c;
+      }
+
+  pub settled-attackers : (target : ℕ) (kinds : List ℕ) → AttackerCall s target kinds n v → Settled (12 ∷ 13 ∷ 16 ∷ 17 ∷ []) (AttackerCall s target kinds) n v
+  settled-attackers target kinds c =
+      record {
+        outcome = by-target s target (outcome-stable v) (λ m. refused (inl refl) refl (c .malformed m)) (λ w o. refused (inr (inl refl)) refl (c .noTarget w o))
+            (λ w l. by-cases (length kinds ≡ s .count) (outcome-stable v)
+            (λ e. by-cases (EntriesFit s kinds) (outcome-stable v) (λ f. let a = c .answers w l e f in answered (a .1) (a .2))
+            (λ d. refused (inr (inr (inr (inl refl)))) refl (c .noKind w l e d)))
+            (λ d. refused (inr (inr (inl refl))) refl (c .otherLength w l d)));
+        meets = c;
+        only = λ n′ v′ d. one-attacker-answer s target kinds n′ n v′ v d c;
       }
 
   pub settled-finding : (Finds : Bool → Type 0) → ((b b′ : Bool) → Finds b → Finds b′ → b ≡ b′) → (vertices : List ℕ)

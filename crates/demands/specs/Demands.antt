@@ -8,6 +8,7 @@ use Rattle.vertex_set.specs.Set.{Decides}
 use Rattle.setup.specs.declared.Setup.{Setup}
 use Rattle.access.specs.Answers.{closureNumber, closureValues, ClosureCall, lostNumber, lostValues, LostCall, wayNumber, wayValues, WayCall}
 use Rattle.answers.specs.Answers.{basesNumber, basesValues, BasesCall, scoreNumber, scoreValues, riskNumber, riskValues, ScoreCall, marksNumber, marksValues, MarksCall}
+use Rattle.attackers.specs.Answers.{attackerNumber, attackerValues, AttackerCall}
 use Rattle.findings.specs.Answers.{findingNumber, findingValues, BackdoorCall, IneffectiveCall, InconsistentCall}
 use Rattle.forecasts.specs.Answers.{forecastNumber, forecastValues, ForecastCall}
 use Rattle.quick_yes.specs.Answers.{quickNumber, quickValues, QuickCall}
@@ -20,7 +21,7 @@ use Rattle.demands.specs.Sheets.{Reads, SettledReading, SettledPortal}
 
 -- Demand 1: to every input each call gives its answer or exactly one refusal, with every lent place as it was; and its contract leaves no second
 -- answer. Lent lists stand as they were and, with ′, as they are afterwards.
-pub record Demand1 (text : List ℕ) (item : ℕ) (s : Setup) (set target other : ℕ) (opened locked : List ℕ)
+pub record Demand1 (text : List ℕ) (item : ℕ) (s : Setup) (set target other : ℕ) (opened locked kinds : List ℕ)
     (vertices vertices′ colours colours′ list list′ harden harden′ : List ℕ) (r : Answers) : Type 0 where
   -- closure and lost set: 12, 14
   pub closure : Settled (12 ∷ 14 ∷ []) (ClosureCall s set) (closureNumber (r .sets .closure)) (closureValues (r .sets .closure))
@@ -42,6 +43,8 @@ pub record Demand1 (text : List ℕ) (item : ℕ) (s : Setup) (set target other 
   pub reading : SettledReading text (r .sheet .reading)
   pub portalScore : SettledPortal false text item (r .sheet .score)
   pub portalRisk : SettledPortal true text item (r .sheet .risk)
+  -- the kinds of intruder that get in: 12, 13, 16, 17
+  pub attackers : Settled (12 ∷ 13 ∷ 16 ∷ 17 ∷ []) (AttackerCall s target kinds) (attackerNumber (r .attackers)) (attackerValues (r .attackers))
   -- the forecast: 12, 13; cut sets: 12, 13, 15
   pub forecast : Settled (12 ∷ 13 ∷ []) (ForecastCall s target) (forecastNumber (r .forecast)) (forecastValues (r .forecast))
   -- the quick yes: 12, 13, 14
@@ -50,7 +53,7 @@ pub record Demand1 (text : List ℕ) (item : ℕ) (s : Setup) (set target other 
 
 -- Demand 2: every answer is the one of the paper's definitions, by the calls' own contracts; a sheet is accepted exactly where it has the paper's
 -- form, and yields the setup that its rows state.
-pub record Demand2 (text : List ℕ) (item : ℕ) (s : Setup) (set target other : ℕ) (opened locked : List ℕ)
+pub record Demand2 (text : List ℕ) (item : ℕ) (s : Setup) (set target other : ℕ) (opened locked kinds : List ℕ)
     (vertices vertices′ colours colours′ list list′ harden harden′ : List ℕ) (r : Answers) : Type 0 where
   -- all items with a derivation from the set, and the number of passes that lead there; all with a loss derivation
   pub closure : ClosureCall s set (closureNumber (r .sets .closure)) (closureValues (r .sets .closure))
@@ -76,6 +79,8 @@ pub record Demand2 (text : List ℕ) (item : ℕ) (s : Setup) (set target other 
   pub asked : r .sheet .reading ≡ readSheet text
   pub portalScore : PortalCall false text item (r .sheet .score)
   pub portalRisk : PortalCall true text item (r .sheet .risk)
+  -- the lowest kinds of intruder over the opening list
+  pub attackers : AttackerCall s target kinds (attackerNumber (r .attackers)) (attackerValues (r .attackers))
   -- how many sets the opening list has at most, by the starting items that are the target or reach it
   pub forecast : ForecastCall s target (forecastNumber (r .forecast)) (forecastValues (r .forecast))
   -- whether the set opens the target, with what is held at the stop: the set and the items of the way in, or the closure

@@ -7,6 +7,7 @@ use lib.ListN.{length}
 use Rattle.access.specs.Answers.{ClosureCall, LostCall, WayCall}
 use Rattle.answers.specs.Answers.{BasesCall, ScoreCall, MarksCall}
 use Rattle.findings.specs.Answers.{BackdoorCall, IneffectiveCall, InconsistentCall}
+use Rattle.attackers.specs.Answers.{AttackerCall}
 use Rattle.forecasts.specs.Answers.{ForecastCall}
 use Rattle.quick_yes.specs.Answers.{QuickCall}
 use Rattle.cut_sets.specs.Answers.{CutsCall}
@@ -47,6 +48,7 @@ pub record OneResultOnSetups (words : List ℕ) : Type 0 where
       → Told (λ number values. CutsCall (setupIn words) target number values a x) n f
       → Told (λ number values. CutsCall (setupIn words) target number values a x′) n′ f′
       → SameList n n′ f f′ x x′
+  pub attackers : (target : ℕ) (kinds : List ℕ) → OneResult (AttackerCall (setupIn words) target kinds)
 
 -- The calls on a sheet, for every text.
 pub record OneResultOnSheets (text : List ℕ) : Type 0 where

@@ -1,5 +1,5 @@
 // Demands 1 and 2, as the contracts of functions that make the offered calls on any sheet, item,
-// setup, set, vertices, handed-in lists and lent lists. Demand 3 is the contract of
+// setup, set, vertices, handed-in lists, list of kinds and lent lists. Demand 3 is the contract of
 // `answers::demand_three`. That two answers which meet a call's contract are equal, lent places
 // included, is stated in specs/OneAnswer.antt and, for the calls for C, in
 // specs/OneResult.antt, and proved in the files of these names in proofs/.
@@ -18,6 +18,7 @@ use access::ClosureAnswer;
 use access::LostAnswer;
 use access::WayAnswer;
 use answers::AllAnswers;
+use attackers::AttackerAnswer;
 use cut_sets::CutsAnswer;
 use findings::FindingAnswer;
 use forecasts::ForecastAnswer;
@@ -56,6 +57,7 @@ pub struct Answers {
     pub sheet: SheetAnswers,
     pub forecast: ForecastAnswer,
     pub cuts: CutsAnswer,
+    pub attackers: AttackerAnswer,
 }
 
 // Asks for closure, lost set, way in and quick yes.
@@ -129,12 +131,13 @@ pub fn demand_two(
     other: usize,
     opened: &[u64],
     locked: &[u64],
+    kinds: &[u8],
     vertices: &mut [u8],
     colours: &mut [u8],
     list: &mut [u64],
     harden: &mut [u64],
 ) -> Answers
-    ensures { λ r. ⌜ Demand2 (now (sheet .entry)) item s (set .0) target other (now (opened .entry)) (now (locked .entry)) (now (vertices .entry)) (now (vertices .exit)) (now (colours .entry)) (now (colours .exit)) (now (list .entry)) (now (list .exit)) (now (harden .entry)) (now (harden .exit)) r ⌝ }
+    ensures { λ r. ⌜ Demand2 (now (sheet .entry)) item s (set .0) target other (now (opened .entry)) (now (locked .entry)) (now (kinds .entry)) (now (vertices .entry)) (now (vertices .exit)) (now (colours .entry)) (now (colours .exit)) (now (list .entry)) (now (list .exit)) (now (harden .entry)) (now (harden .exit)) r ⌝ }
 {
     let sets = ask_sets(s, set, target, vertices, colours);
     let lists = answers::demand_three(s, target, list, opened, locked);
@@ -142,6 +145,7 @@ pub fn demand_two(
     let sheet = ask_sheet(sheet, item);
     let forecast = forecasts::forecast_base(s, target);
     let cuts = cut_sets::smallest_cuts(s, target, harden);
+    let attackers = attackers::attacker_score(s, target, kinds);
     Answers {
         sets,
         lists,
@@ -149,6 +153,7 @@ pub fn demand_two(
         sheet,
         forecast,
         cuts,
+        attackers,
     }
 }
 
@@ -163,12 +168,13 @@ pub fn demand_one(
     other: usize,
     opened: &[u64],
     locked: &[u64],
+    kinds: &[u8],
     vertices: &mut [u8],
     colours: &mut [u8],
     list: &mut [u64],
     harden: &mut [u64],
 ) -> Answers
-    ensures { λ r. ⌜ Demand1 (now (sheet .entry)) item s (set .0) target other (now (opened .entry)) (now (locked .entry)) (now (vertices .entry)) (now (vertices .exit)) (now (colours .entry)) (now (colours .exit)) (now (list .entry)) (now (list .exit)) (now (harden .entry)) (now (harden .exit)) r ⌝ }
+    ensures { λ r. ⌜ Demand1 (now (sheet .entry)) item s (set .0) target other (now (opened .entry)) (now (locked .entry)) (now (kinds .entry)) (now (vertices .entry)) (now (vertices .exit)) (now (colours .entry)) (now (colours .exit)) (now (list .entry)) (now (list .exit)) (now (harden .entry)) (now (harden .exit)) r ⌝ }
 {
     demand_two(
         sheet,
@@ -179,6 +185,7 @@ pub fn demand_one(
         other,
         opened,
         locked,
+        kinds,
         vertices,
         colours,
         list,

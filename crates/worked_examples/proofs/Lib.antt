@@ -1,3 +1,5 @@
+pub mod Attackers
+pub mod AttackersExcluded
 pub mod Excluded
 pub mod Forecasts
 pub mod ForecastsExcluded

@@ -1,3 +1,4 @@
+pub mod Attackers
 pub mod Forecasts
 pub mod Quick
 pub mod Sheets

@@ -368,10 +368,59 @@ card = 2
 abbrev pub shop : ℕ
 shop = 3
 
+-- ---- document 003's figure 1, whose leaves figure 7 gives attackers; the values, of which the text says nothing, are 1
+
+abbrev pub figure1 : Sheet
+figure1 =
+    record {
+      lines =
+          "name kind start loss rank"
+          ∷ "pwd_shop c 1 1 0"
+          ∷ "pwd_mail c 1 1 0"
+          ∷ "device c 1 1 0"
+          ∷ "finger c 1 1 0"
+          ∷ "pin c 1 1 0"
+          ∷ "code c - - 0"
+          ∷ "acc_mail a - - 2"
+          ∷ "acc_shop a - - 1"
+          ∷ ""
+          ∷ "from to colour rec"
+          ∷ "device code 0 0"
+          ∷ "finger code 0 0"
+          ∷ "device code 1 0"
+          ∷ "pin code 1 0"
+          ∷ "pwd_mail acc_mail 0 0"
+          ∷ "code acc_mail 0 0"
+          ∷ "pwd_shop acc_shop 0 0"
+          ∷ "acc_mail acc_shop 1 1"
+          ∷ [];
+      setup = record {
+        count = 8;
+        vertices = places
+            (record { kind = Credential; start = Of 1; loss = Of 1; rank = 0 }
+            ∷ record { kind = Credential; start = Of 1; loss = Of 1; rank = 0 }
+            ∷ record { kind = Credential; start = Of 1; loss = Of 1; rank = 0 }
+            ∷ record { kind = Credential; start = Of 1; loss = Of 1; rank = 0 }
+            ∷ record { kind = Credential; start = Of 1; loss = Of 1; rank = 0 }
+            ∷ record { kind = Credential; start = Blank; loss = Blank; rank = 0 }
+            ∷ record { kind = Account; start = Blank; loss = Blank; rank = 2 }
+            ∷ record { kind = Account; start = Blank; loss = Blank; rank = 1 }
+            ∷ []);
+        graph = graph ([] ∷ [] ∷ [] ∷ [] ∷ [] ∷ (12 ∷ 20 ∷ []) ∷ (34 ∷ []) ∷ (1 ∷ 64 ∷ []) ∷ []);
+        recovery = graph ([] ∷ [] ∷ [] ∷ [] ∷ [] ∷ [] ∷ [] ∷ (0 ∷ 64 ∷ []) ∷ []);
+      };
+    }
+
+abbrev pub accMail : ℕ
+accMail = 6
+
+abbrev pub accShop : ℕ
+accShop = 7
+
 -- ---- all of them
 
 abbrev pub sheets : List Sheet
-sheets = bench ∷ ring ∷ alone ∷ closed ∷ loop ∷ pair ∷ spare ∷ full ∷ halves ∷ relay ∷ []
+sheets = bench ∷ ring ∷ alone ∷ closed ∷ loop ∷ pair ∷ spare ∷ full ∷ halves ∷ relay ∷ figure1 ∷ []
 
 -- Each text is accepted, and yields the setup that stands beside it.
 abbrev pub AllRead : Type 0

@@ -3,8 +3,8 @@
 //! makes few rounds and writes the same files to build/bench/. `bench marking` prints the table of
 //! marks alone, `bench rows` that of the report with the most rows, `bench reports` those of reading
 //! and of reports, `bench forecast` that of forecasts,
-//! `bench closing` that of closures, `bench opens` that of quick answers, and `bench cuts` that of cut
-//! sets.
+//! `bench closing` that of closures, `bench opens` that of quick answers, `bench cuts` that of cut
+//! sets, and `bench intruders` that of kinds of intruder.
 
 mod calls;
 mod chart;
@@ -17,6 +17,7 @@ mod forecast;
 mod formed;
 mod gate;
 mod grid;
+mod intruders;
 mod kinds;
 mod marking;
 mod opens;
@@ -80,8 +81,9 @@ fn main() -> ExitCode {
         ["closing"] => print_closing(),
         ["opens"] => print_opens(),
         ["cuts"] => print_cuts(),
+        ["intruders"] => print_intruders(),
         _ => {
-            eprintln!("usage: bench [quick | marking | rows | reports | forecast | closing | opens | cuts]");
+            eprintln!("usage: bench [quick | marking | rows | reports | forecast | closing | opens | cuts | intruders]");
             return ExitCode::from(2);
         }
     }
@@ -111,6 +113,7 @@ fn run(rounds: &Rounds, folder: &str) {
     show(closing::closures(&kinds, rounds, &mut targets));
     show(opens::quick_answers(&kinds, rounds, &mut targets));
     show(cuts::cut_sets(&kinds, rounds, &mut targets));
+    show(intruders::scores(&kinds, rounds, &mut targets));
     show(marking::marking(antichain(&kinds), rounds, &mut targets));
     let clingo = clingo::opening_lists(&kinds, &programs, rounds, &mut targets);
     clingo.into_iter().for_each(&mut show);
@@ -166,6 +169,12 @@ fn print_marking() {
     let kinds = kinds::all();
     let mut targets = Vec::new();
     let grid = marking::marking(antichain(&kinds), &FULL, &mut targets);
+    println!("{}\n{}", grid.text(), targets::grid(&targets).text());
+}
+
+fn print_intruders() {
+    let mut targets = Vec::new();
+    let grid = intruders::scores(&kinds::all(), &FULL, &mut targets);
     println!("{}\n{}", grid.text(), targets::grid(&targets).text());
 }
 

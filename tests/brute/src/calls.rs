@@ -1,8 +1,9 @@
-//! The calls on a setup, as the product answers them: questions 12 to 15 in their order, and
+//! The calls on a setup, as the product answers them: questions 12 to 17 in their order, and
 //! lent lists that a refusal leaves as they were.
 
 use crate::forecast;
 use crate::graph;
+use crate::kinds;
 use crate::lists::{Least, Marks, Table};
 use crate::setup::{within, Setup};
 use std::cell::OnceCell;
@@ -127,6 +128,19 @@ impl Calls {
         self.ask_12()?;
         let target = self.ask_13(target)?;
         Ok(self.lockouts().list(target))
+    }
+
+    /// The score by kinds of intruder (02, point 1). 12, 13, 16, 17.
+    pub fn kinds(&self, target: u64, list: &[u8]) -> Result<u64, u8> {
+        self.ask_12()?;
+        let target = self.ask_13(target)?;
+        if list.len() as u64 != self.setup.count {
+            return Err(16);
+        }
+        if self.setup.starting().iter().any(|&(item, _)| list[item] >= kinds::KINDS) {
+            return Err(17);
+        }
+        Ok(kinds::score(self.openings().list(target), list))
     }
 
     /// How many sets the opening list has at most (02, point 10). 12, 13.

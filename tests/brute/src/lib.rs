@@ -9,8 +9,9 @@
 //! * [`setup`] is the setup as plain data, with question 12.
 //! * [`graph`] has closures, lost sets and ways in; [`lists`] the lists, cut sets, least sums and
 //!   marks.
-//! * [`forecast`] tells how long an opening list can be (02, point 10).
-//! * [`calls`] answers as the product's calls do: questions 12 to 15 in order, lent lists.
+//! * [`forecast`] tells how long an opening list can be (02, point 10), [`kinds`] which kinds of
+//!   intruder could get in (02, point 1).
+//! * [`calls`] answers as the product's calls do: questions 12 to 17 in order, lent lists.
 //! * [`report`] prints the report's bytes and the portal's numbers.
 //! * [`cases`] makes the inputs on which the two programs are compared.
 
@@ -18,6 +19,7 @@ pub mod calls;
 pub mod cases;
 pub mod forecast;
 pub mod graph;
+pub mod kinds;
 pub mod lists;
 pub mod report;
 pub mod setup;

@@ -4,6 +4,7 @@
 //! told. The first difference is printed with its input, and the exit status is 1.
 
 mod compare;
+mod intruders;
 mod long_lists;
 mod passes;
 mod program;

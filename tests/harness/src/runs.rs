@@ -1,6 +1,7 @@
 //! What is compared: the gate's fixed part, and rounds of a seed for as long as one likes.
 
 use crate::compare::Difference;
+use crate::intruders::compare_known_kinds;
 use crate::long_lists::compare_long_lists;
 use crate::passes::compare_known_passes;
 use crate::program::Program;
@@ -8,8 +9,8 @@ use crate::setups::{compare_setup, Depth, FEW, FULL, MANY, MOST};
 use crate::sheets::{compare_report, compare_sheet};
 use brute::cases::draft::sheet_of_setup;
 use brute::cases::{
-    bounds, buffers, cuts, damaged, forecasts, noise, random, readings, setups, tiny, Rng,
-    SetupCase, SheetCase,
+    bounds, buffers, cuts, damaged, forecasts, intruders, noise, random, readings, setups, tiny,
+    Rng, SetupCase, SheetCase,
 };
 use std::fmt;
 use std::time::{Duration, Instant};
@@ -78,6 +79,7 @@ impl Run {
     pub fn gate(&mut self, seed: u64) -> Outcome {
         compare_long_lists(seed)?;
         compare_known_passes()?;
+        compare_known_kinds()?;
         for case in bounds::bounds() {
             self.counts.bounds += 1;
             self.sheet(&case, FEW, true)?;
@@ -94,7 +96,8 @@ impl Run {
             self.sheet(&case, FULL, true)?;
         }
         let forecasts = forecasts::forecasts().into_iter().map(|case| case.case);
-        for case in forecasts.chain(cuts::cuts().into_iter().map(|case| case.case)) {
+        let cuts = cuts::cuts().into_iter().map(|case| case.case);
+        for case in forecasts.chain(cuts).chain(intruders::sheets()) {
             self.counts.texts += 1;
             self.sheet(&case, FULL, false)?;
         }

@@ -5,9 +5,11 @@ use crate::words::words_of;
 use brute::calls::{Calls, Way};
 use brute::cases::{probes, Rng};
 use brute::forecast;
+use brute::graph;
+use brute::kinds::{self, Intruder, KINDS};
 use brute::lists::{Least, Marks};
 use brute::report::PORTAL_NEVER;
-use brute::setup::{Setup, PLACES};
+use brute::setup::{holds, single, Setup, PLACES};
 
 /// How much is asked of a setup.
 #[derive(Clone, Copy)]
@@ -144,6 +146,7 @@ impl Compare<'_> {
         self.lists(target)?;
         self.cut_sets(target)?;
         self.forecast(target)?;
+        self.kinds(target)?;
         self.scores(target)?;
         for _ in 0..self.depth.pairs {
             let others = [self.rng.below(count.max(1) as usize) as u64, target, count, u64::MAX];
@@ -175,6 +178,45 @@ impl Compare<'_> {
             let uncounted = list.iter().fold(0, |items, set| items | set) & !counted;
             let long = proved.sets < list.len() as u64;
             self.subject.same(named, (long, uncounted), (false, 0))?;
+        }
+        Ok(())
+    }
+
+    /// A list of kinds that is seldom of another length and has seldom an entry above 5, but for items
+    /// that don't start.
+    fn list_of_kinds(&mut self) -> Vec<u8> {
+        let count = self.calls.setup().count.min(PLACES as u64) as usize;
+        let length = if self.rng.chance(1, 8) { self.rng.below(PLACES + 2) } else { count };
+        let most = *self.rng.pick(&[KINDS.into(), KINDS.into(), KINDS.into(), 8, 256]);
+        let mut list: Vec<u8> = (0..length).map(|_| self.rng.below(most) as u8).collect();
+        let starting = self.calls.setup().starting();
+        for (item, kind) in list.iter_mut().enumerate() {
+            if !starting.iter().any(|&(other, _)| other == item) && self.rng.chance(1, 3) {
+                *kind = self.rng.number() as u8;
+            }
+        }
+        list
+    }
+
+    /// The score by kinds of intruder; and of the six, those that are at or above it get in.
+    fn kinds(&mut self, target: u64) -> Outcome {
+        let list = self.list_of_kinds();
+        let (calls, setup) = (self.calls, self.calls.setup());
+        let proved = product::kinds(&self.words, target, &list);
+        let expected = calls.kinds(target, &list).map(|score| vec![score]);
+        let named = || format!("kinds({target}, {list:?})");
+        self.subject.same(named, proved.numbers(), told(1, expected))?;
+        if proved.number != 0 {
+            return Ok(());
+        }
+        for number in 0..KINDS {
+            let intruder = Intruder::numbered(number);
+            let starting = setup.starting().into_iter().map(|(item, _)| item);
+            let held = starting.filter(|&item| Intruder::numbered(list[item]).at_most(intruder));
+            let opened = graph::closure(setup, held.fold(0, |set, item| set | single(item)));
+            let named = || format!("kinds({target}, {list:?}), an intruder of kind {number}");
+            let gets_in = holds(opened, target as usize);
+            self.subject.same(named, kinds::at_or_above(proved.kinds, intruder), gets_in)?;
         }
         Ok(())
     }

@@ -13,7 +13,7 @@
 mod results;
 
 pub use results::{
-    Closure, CutSets, Finding, Forecast, Lists, Marks, Part, Quick, Reading, Refusal, Set,
+    Closure, CutSets, Finding, Forecast, Kinds, Lists, Marks, Part, Quick, Reading, Refusal, Set,
     SetupRisk, SetupScore, Way,
 };
 
@@ -24,7 +24,7 @@ pub const BLANK: u64 = u64::MAX;
 /// "Never": the score of an item that no set opens, the risk of one that no loss shuts.
 pub const NEVER: u64 = 1 << 62;
 /// The version of the header that this crate was written for.
-pub const VERSION: u64 = 20200;
+pub const VERSION: u64 = 20300;
 
 mod linked {
     use super::*;
@@ -50,6 +50,13 @@ mod linked {
         ) -> Way;
         pub fn portal_opens(setup: *const u64, words: usize, target: u64, set: u64) -> Quick;
         pub fn portal_forecast(setup: *const u64, words: usize, target: u64) -> Forecast;
+        pub fn portal_kinds(
+            setup: *const u64,
+            words: usize,
+            target: u64,
+            kinds: *const u8,
+            places: usize,
+        ) -> Kinds;
         pub fn portal_lists(
             setup: *const u64,
             words: usize,
@@ -158,6 +165,13 @@ pub fn opens(setup: &[u64], target: u64, set: u64) -> Quick {
 /// How many sets a target's opening list has at most, told without listing it. 12, 13.
 pub fn forecast(setup: &[u64], target: u64) -> Forecast {
     unsafe { linked::portal_forecast(setup.as_ptr(), setup.len(), target) }
+}
+
+/// The lowest kinds of intruder that get into a target, where the list has one for each item.
+/// 12, 13, 16, 17.
+pub fn kinds(setup: &[u64], target: u64, list: &[u8]) -> Kinds {
+    let (words, length) = (setup.as_ptr(), setup.len());
+    unsafe { linked::portal_kinds(words, length, target, list.as_ptr(), list.len()) }
 }
 
 /// The opening list and, from the next place on, the lockout list of a target. 12, 13, 15.

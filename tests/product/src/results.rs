@@ -2,7 +2,7 @@
 
 use std::fmt;
 
-/// A call's no: document 01's number for it. `docs/TERMS.md` has a sentence for each.
+/// A call's no: the papers' number for it. `docs/TERMS.md` has a sentence for each.
 #[derive(Clone, Copy, Debug, PartialEq, Eq)]
 pub struct Refusal(pub u64);
 
@@ -82,6 +82,11 @@ results! {
     Forecast {
         /// How many sets it has at most.
         sets,
+    }
+    /// The kinds of intruder that get into a target.
+    Kinds {
+        /// The sum of 2^k over the lowest of them.
+        kinds,
     }
     /// Both lists of a target.
     Lists {

@@ -20,16 +20,23 @@ forecast-base-requires c κs = search needs
 smallest-cuts-requires : tie.Need-smallest-cuts-requires
 smallest-cuts-requires c κs = search needs
 
+attacker-score-requires : tie.Need-attacker-score-requires
+attacker-score-requires c κs = search needs
+
 -- the first call lies too far back for `search`
 same-length : tie.Need-same-length
 same-length c =
-    let n = c .before .before .before .before in
+    let n = c .before .before .before .before .before in
     let l = n .before .before .before .before .before in
     let kept = l .before .before .before .before .before .before .ask-sets .kept .1 .1 .1 .0 in
     search needs
 
 same-length-2 : tie.Need-same-length-2
-same-length-2 c = search needs
+same-length-2 c =
+    let n = c .before .before .before .before .before in
+    let l = n .before .before .before .before .before in
+    let kept = l .before .before .before .before .before .before .ask-sets .kept .1 .1 .1 .1 .0 in
+    search needs
 
 same-length-3 : tie.Need-same-length-3
 same-length-3 c = search needs
@@ -39,7 +46,7 @@ same-length-4 c = search needs
 
 returns : tie.Need-returns
 returns c =
-    let k = c .before .before in
+    let k = c .before .before .before in
     let n = k .before .before in
     let t = n .before in
     let f = t .before in
@@ -69,6 +76,7 @@ returns c =
       forecast = n .forecast-base .ensures;
       quick = sets .1 .1 .1;
       cuts = k .smallest-cuts .ensures;
+      attackers = c .attacker-score .ensures;
     }
 
 pub demand-two-spec : {M : Type 1} → statement M
@@ -81,6 +89,7 @@ demand-two-spec =
     ask-sheet-requires
     forecast-base-requires
     smallest-cuts-requires
+    attacker-score-requires
     same-length
     same-length-2
     same-length-3

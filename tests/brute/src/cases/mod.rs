@@ -8,6 +8,7 @@ pub mod cuts;
 pub mod damaged;
 pub mod draft;
 pub mod forecasts;
+pub mod intruders;
 pub mod noise;
 pub mod probes;
 pub mod random;

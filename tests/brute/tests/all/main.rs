@@ -6,6 +6,7 @@ mod examples;
 mod forecasts;
 mod generators;
 mod graphs;
+mod intruders;
 mod questions;
 mod quick;
 mod reading;

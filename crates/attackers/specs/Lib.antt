@@ -1,0 +1,3 @@
+pub mod Attackers
+pub mod Answers
+pub mod Inner

@@ -1,0 +1,136 @@
+-- Who gets in at document 003's example 15, and wrong scores that the contract excludes, each at an example.
+-- Assumes nothing.
+use mathlib.Core.Path.{_≡_, refl, subst, _∙_}
+use mathlib.Core.List.{List, [], _∷_}
+use Prim.Native.Nat.{ℕ, _/_, _%_, _^_, _<_}
+use native.Mathlib.Omega.{arith}
+use lib.ListN.{length}
+use Rattle.vertex_set.specs.Set.{Member}
+use Rattle.setup.specs.declared.Setup.{Setup}
+use Rattle.formed.specs.WellFormed.{WellFormed}
+use Rattle.attackers.specs.Attackers.{AtMost, EntriesFit, AttackerScore}
+use Rattle.attackers.specs.Answers.{AttackerCall}
+use Rattle.attackers.proofs.Unique.{score-unique}
+use Rattle.worked_examples.specs.Sheets.{Reads, bench, order, closed, only, spare, acc}
+use Rattle.worked_examples.specs.Attackers.{remNone, remSome, remExp, locNone, locSome, locExp, WhoGetsIn}
+use Rattle.worked_examples.proofs.Reading.{all-read, reads-well}
+use Rattle.worked_examples.proofs.Table.{held}
+use Rattle.worked_examples.proofs.Attackers.{fitsAt, fits-of, all-score}
+
+-- an answer that meets the contract is the score
+settled : (s : Setup) (target : ℕ) (kinds : List ℕ) (r q : ℕ) → WellFormed s → target < s .count → length kinds ≡ s .count → EntriesFit s kinds
+    → AttackerScore s kinds target r → AttackerCall s target kinds 0 (q ∷ []) → q ≡ r
+settled s target kinds r q w l e f h c =
+    let a = c .answers w l e f in
+    first (a .2) ∙ score-unique s kinds kinds (record { long = refl; each = λ v k. refl }) target (a .0) r (a .3) h
+  where
+    first : {x y : ℕ} → x ∷ [] ≡ y ∷ [] → x ≡ y
+    first e = cc
+
+-- ---- example 15: either of a remote one with some skill and a local one without
+
+abbrev either : List ℕ
+either = remSome ∷ locNone ∷ 255 ∷ []
+
+read-spare : Reads spare
+read-spare = all-read .1 .1 .1 .1 .1 .1 .0
+
+either-score : AttackerScore (spare .setup) either acc 10
+either-score = held spare (λ (s : Setup). AttackerScore s either acc 10) read-spare (all-score .1 .1 .0)
+
+either-fits : EntriesFit (spare .setup) either
+unfolding fitsAt
+either-fits = fits-of spare either read-spare refl
+
+either-is : (q : ℕ) → AttackerCall (spare .setup) acc either 0 (q ∷ []) → q ≡ 10
+either-is q = settled (spare .setup) acc either 10 q (reads-well spare read-spare) (omega arith) refl either-fits either-score
+
+-- a remote expert and a local attacker with some skill get in too, a remote one without skill does not
+pub who-gets-in : WhoGetsIn
+unfolding Member
+who-gets-in =
+    record {
+      setup = spare .setup;
+      reading = read-spare;
+      holds = (
+        either-score .intruders remExp (omega arith) .to (record { attacker = remSome; member = refl; atMost = record { locations = omega arith; skills = omega arith } }),
+        either-score .intruders locSome (omega arith) .to (record { attacker = locNone; member = refl; atMost = record { locations = omega arith; skills = omega arith } }),
+        λ g. let a = either-score .intruders remNone (omega arith) .from g in none-above (a .attacker) (a .member) (a .atMost),
+      );
+    }
+  where
+    -- at most 0 as a kind is 0, which the score has not
+    none-above : (k : ℕ) → Member 10 k → AtMost k remNone → ⊥
+    none-above k m h =
+        let p = h .locations in
+        let q = h .skills in
+        let z : k ≡ 0 = omega arith in
+        let e : 10 / 2 ^ 0 % 2 ≡ 1 = subst (λ (j : ℕ). 10 / 2 ^ j % 2 ≡ 1) z m in
+        omega arith
+
+-- the six kinds as a chain: 1 would be below 3, and the score 2
+pub no-chain : AttackerCall (spare .setup) acc either 0 (2 ∷ []) → ⊥
+no-chain c = let e = either-is 2 c in omega arith
+
+-- all who get in: 1 to 5
+pub no-upward-closure : AttackerCall (spare .setup) acc either 0 (62 ∷ []) → ⊥
+no-upward-closure c = let e = either-is 62 c in omega arith
+
+-- 17 for an entry above 5 where nothing starts
+pub no-other-entry-read : AttackerCall (spare .setup) acc either 17 [] → ⊥
+no-other-entry-read c =
+    let a = c .answers (reads-well spare read-spare) (omega arith) refl either-fits in
+    let z = a .1 in
+    omega arith
+
+-- ---- a lower and a higher kind
+
+abbrev two : List ℕ
+two = locSome ∷ remSome ∷ 0 ∷ []
+
+two-is : (q : ℕ) → AttackerCall (spare .setup) acc two 0 (q ∷ []) → q ≡ 2
+unfolding fitsAt
+two-is q =
+    settled (spare .setup) acc two 2 q (reads-well spare read-spare) (omega arith) refl (fits-of spare (locSome ∷ remSome ∷ 0 ∷ []) read-spare refl)
+    (held spare (λ (s : Setup). AttackerScore s (locSome ∷ remSome ∷ 0 ∷ []) acc 2) read-spare (all-score .1 .1 .1 .1 .1 .0))
+
+-- the highest kinds kept; all kinds kept
+pub no-highest : AttackerCall (spare .setup) acc two 0 (16 ∷ []) → ⊥
+no-highest c = let e = two-is 16 c in omega arith
+
+pub no-all : AttackerCall (spare .setup) acc two 0 (18 ∷ []) → ⊥
+no-all c = let e = two-is 18 c in omega arith
+
+-- ---- a set of a local one without skill and a remote expert
+
+abbrev joined : List ℕ
+joined = locNone ∷ locExp ∷ remExp ∷ 255 ∷ 255 ∷ []
+
+joined-is : (q : ℕ) → AttackerCall (bench .setup) order joined 0 (q ∷ []) → q ≡ 32
+unfolding fitsAt
+joined-is q =
+    settled (bench .setup) order joined 32 q (reads-well bench (all-read .0)) (omega arith) refl bench-fits
+    (held bench (λ (s : Setup). AttackerScore s (locNone ∷ locExp ∷ remExp ∷ 255 ∷ 255 ∷ []) order 32) (all-read .0) (all-score .1 .1 .1 .0))
+  where
+    bench-fits : EntriesFit (bench .setup) (locNone ∷ locExp ∷ remExp ∷ 255 ∷ 255 ∷ [])
+    bench-fits = fits-of bench (locNone ∷ locExp ∷ remExp ∷ 255 ∷ 255 ∷ []) (all-read .0) refl
+
+-- the larger number as a set's kind: 3, which would be below 5
+pub no-larger-number : AttackerCall (bench .setup) order joined 0 (8 ∷ []) → ⊥
+no-larger-number c = let e = joined-is 8 c in omega arith
+
+-- ---- an empty score, and questions 16 and 17
+
+-- 1, which is kind 0, where nobody gets in
+pub no-one-for-none : AttackerCall (closed .setup) only (255 ∷ []) 0 (1 ∷ []) → ⊥
+unfolding fitsAt
+no-one-for-none c =
+    let e = settled (closed .setup) only (255 ∷ []) 0 1 (reads-well closed (all-read .1 .1 .1 .0)) (omega arith) refl (fits-of closed (255 ∷ []) (all-read .1 .1 .1 .0) refl)
+    (held closed (λ (s : Setup). AttackerScore s (255 ∷ []) only 0) (all-read .1 .1 .1 .0) (all-score .1 .1 .1 .1 .1 .1 .0)) c in
+    omega arith
+
+-- 17 before 16: a list that is too long, with a starting item's entry above 5
+pub no-seventeen-first : AttackerCall (spare .setup) acc (6 ∷ 6 ∷ 6 ∷ 6 ∷ []) 17 [] → ⊥
+no-seventeen-first c =
+    let a = c .otherLength (reads-well spare read-spare) (omega arith) (λ e. let z : _≡_ {A = ℕ} 4 3 = e in omega arith) .numbered in
+    omega arith

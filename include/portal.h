@@ -91,7 +91,7 @@ enum portal_number {
     PORTAL_OUTSIDE = 14,
     PORTAL_SHORT = 15,
     PORTAL_KINDS_LENGTH = 16,
-    PORTAL_NO_KIND = 17
+    PORTAL_NO_KIND = 17,
     PORTAL_STRANGER = 21
 };
 

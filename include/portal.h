@@ -13,6 +13,7 @@
  *              portal_kinds                  which kinds of intruder are the lowest that get into an item
  *              portal_lists                  the smallest sets that open an item, and the smallest losses that shut it
  *              portal_cut_sets               the smallest sets of starting items to harden so that no way in is left
+ *              portal_next_opening           the next of the smallest sets that open an item, while the setup may change
  *              portal_setup_score, portal_setup_risk
  *              portal_mark_openings, portal_mark_lockouts
  *              portal_backdoor, portal_idle, portal_out_of_rank
@@ -50,9 +51,9 @@ extern "C" {
 
 /* ---- version ---- */
 
-/* 2.3.0 is 20300: the last two parts have two digits each. The first part changes where a call or a struct does, the second
+/* 2.4.0 is 20400: the last two parts have two digits each. The first part changes where a call or a struct does, the second
  * where one is new. */
-#define PORTAL_VERSION 20300
+#define PORTAL_VERSION 20400
 
 /* The version of the library. A program that was compiled with another one's header sees PORTAL_VERSION differ from it. */
 uint64_t portal_version(void);
@@ -62,9 +63,9 @@ uint64_t portal_version(void);
 /* The score of an item that no set opens, and the risk of an item that no loss shuts: "never", above every number. */
 #define PORTAL_NEVER (UINT64_C(1) << 62)
 
-/* Bytes of stack: for a call that asks all subsets of the starting or losable items, which scores, lists and findings do; for
- * one that marks a handed-in list; and for the others (portal_version, _read, _name, _check, _closure, _lost, _way_in, _opens,
- * _forecast, _kinds). */
+/* Bytes of stack: for a call that asks all subsets of the starting or losable items, which scores, lists, the next opening set
+ *, next sets and findings do; for one that marks a handed-in list; and for the others (portal_version, _read, _name, _check, _closure,
+ * _lost, _way_in, _opens, _forecast, _kinds). */
 #define PORTAL_STACK ((size_t)256 * 1024)
 #define PORTAL_STACK_MARKS ((size_t)512 * 1024)
 #define PORTAL_STACK_SMALL ((size_t)128 * 1024)
@@ -90,7 +91,8 @@ enum portal_number {
     PORTAL_OUTSIDE = 14,
     PORTAL_SHORT = 15,
     PORTAL_KINDS_LENGTH = 16,
-    PORTAL_NO_KIND = 17
+    PORTAL_NO_KIND = 17,
+    PORTAL_STRANGER = 21
 };
 
 /* What a refusal says, in a sentence that lives as long as the program; "answered" for 0. */
@@ -115,6 +117,7 @@ static inline const char *portal_refusal_text(uint64_t number)
     case PORTAL_SHORT: return "a lent list is too short for what must be written";
     case PORTAL_KINDS_LENGTH: return "the list of kinds has not one entry for each item";
     case PORTAL_NO_KIND: return "the entry of a starting item is none of the six kinds";
+    case PORTAL_STRANGER: return "the last set shown has an item that is not a starting one";
     default: return "a number that this version does not have";
     }
 }
@@ -223,6 +226,13 @@ struct portal_lists {
     uint64_t number;
     uint64_t openings;
     uint64_t lockouts;
+};
+
+/* more is 1 where a set is shown, and 0 for "no more"; then set is 0 too. */
+struct portal_next_opening {
+    uint64_t number;
+    uint64_t more;
+    uint64_t set;
 };
 
 /* Score and risk have a struct each: the papers never add or compare one with the other. PORTAL_NEVER is "never". */
@@ -363,6 +373,15 @@ struct portal_lists portal_lists(const uint64_t *setup, size_t words, uint64_t t
  * that is always enough.
  */
 struct portal_cut_sets portal_cut_sets(const uint64_t *setup, size_t words, uint64_t target, uint64_t *sets, size_t places);
+
+/*
+ * The opening list shown one set at a time: the first set, in the list's order, after the set `last` that is in the target's opening list as
+ * the setup now is; "no more" (more is 0) where there is none. At the beginning `last` is 0, the empty set, which opens nothing; then it is
+ * the set that was shown. It need not be in the list, nor ever have been. Edges may be added to the setup and removed from it between two calls:
+ * a set that has come into the list before `last` is not shown, and nothing is shown twice. With no change in between, the sets shown up to
+ * "no more" are the whole list. Refused with 12, 13, and 21 where `last` has an item that is not a starting one.
+ */
+struct portal_next_opening portal_next_opening(const uint64_t *setup, size_t words, uint64_t target, uint64_t last);
 
 /* The score of the target. Refused with 12, 13. */
 struct portal_setup_score portal_setup_score(const uint64_t *setup, size_t words, uint64_t target);

@@ -303,6 +303,31 @@ static void try_cut_sets(void)
     expect("cut sets in no setup", portal_cut_sets(malformed, WORDS, 5, sets, 3).number, PORTAL_NO_SETUP);
 }
 
+/* While the drawing changes: the edge by which mail opens order goes, and comes back. */
+static void try_next_opening(void)
+{
+    uint64_t drawn[WORDS];
+    memcpy(drawn, setup, sizeof setup);
+    struct portal_next_opening r = portal_next_opening(drawn, WORDS, ORDER_ITEM, 0);
+    expect("next opening", r.number, 0);
+    expect("there is more", r.more, 1);
+    expect("the first opening", r.set, MAILPW);
+    expect("the second opening", portal_next_opening(drawn, WORDS, ORDER_ITEM, r.set).set, ORDPW + TOKEN);
+    r = portal_next_opening(drawn, WORDS, ORDER_ITEM, ORDPW + TOKEN);
+    expect("no more", r.number + r.more + r.set, 0);
+    drawn[PORTAL_ROW(ORDER_ITEM, 1)] = drawn[PORTAL_RECOVERY(ORDER_ITEM, 1)] = 0;
+    expect("the first opening, redrawn", portal_next_opening(drawn, WORDS, ORDER_ITEM, 0).set, ORDPW + TOKEN);
+    expect("after one that has left the list", portal_next_opening(drawn, WORDS, ORDER_ITEM, MAILPW).set, ORDPW + TOKEN);
+    expect("after one that never was in it", portal_next_opening(setup, WORDS, ORDER_ITEM, TOKEN).set, ORDPW + TOKEN);
+    expect("after all starting items", portal_next_opening(setup, WORDS, ORDER_ITEM, ORDPW + MAILPW + TOKEN).more, 0);
+    r = portal_next_opening(setup, WORDS, ORDER_ITEM, MAIL);
+    expect("after a set with another item", r.number, PORTAL_STRANGER);
+    expect("after a set with another item, no values", r.more + r.set, 0);
+    expect("after an item beyond the count", portal_next_opening(setup, WORDS, ORDER_ITEM, UINT64_MAX).number, PORTAL_STRANGER);
+    expect("next opening of no item", portal_next_opening(setup, WORDS, 5, MAIL).number, PORTAL_NO_ITEM);
+    expect("next opening in no setup", portal_next_opening(malformed, WORDS, 5, MAIL).number, PORTAL_NO_SETUP);
+}
+
 static void try_setup_score(void)
 {
     expect("setup's score", portal_setup_score(setup, WORDS, ORDER_ITEM).score, 1);
@@ -390,6 +415,7 @@ static const struct call {
     { "portal_kinds", PORTAL_STACK_SMALL, try_kinds },
     { "portal_lists", PORTAL_STACK, try_lists },
     { "portal_cut_sets", PORTAL_STACK, try_cut_sets },
+    { "portal_next_opening", PORTAL_STACK, try_next_opening },
     { "portal_setup_score", PORTAL_STACK, try_setup_score },
     { "portal_setup_risk", PORTAL_STACK, try_setup_risk },
     { "portal_mark_openings", PORTAL_STACK_MARKS, try_mark_openings },

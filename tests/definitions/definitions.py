@@ -987,6 +987,103 @@ def CutsCall(s, target, number, values, entry, exit):
     return malformed and noTarget and answers
 
 
+# ---- next_sets/Next
+
+
+def OfInitial(s, x):
+    return all(implies(lambda: Member(x, v), lambda: Chosen(False, s, v)) for v in world.vertices)
+
+
+def NextSet(s, target, last, x):
+    is_ = MinimalSet(False, s, s.graph, target, x)
+    after = Before(last, x)
+    first = all(
+        implies(lambda: MinimalSet(False, s, s.graph, target, y) and Before(last, y), lambda: x == y or Before(x, y)) for y in world.sets
+    )
+    return is_ and after and first
+
+
+def NoMore(s, target, last):
+    return all(implies(lambda: MinimalSet(False, s, s.graph, target, y), lambda: not Before(last, y)) for y in world.sets)
+
+
+# ---- next_sets/Answers
+
+
+def Shows(s, target, last, number, values):
+    return any(number == 0 and values == [1, x] and NextSet(s, target, last, x) for x in world.sets)
+
+
+def Ends(s, target, last, number, values):
+    return number == 0 and values == [0] and NoMore(s, target, last)
+
+
+def NextCall(s, target, last, number, values):
+    malformed = implies(lambda: not WellFormed(s), lambda: Refuses(12, number, values))
+    noTarget = implies(lambda: WellFormed(s) and s.count <= target, lambda: Refuses(13, number, values))
+    stranger = implies(lambda: WellFormed(s) and target < s.count and not OfInitial(s, last), lambda: Refuses(21, number, values))
+    answers = implies(
+        lambda: WellFormed(s) and target < s.count and OfInitial(s, last),
+        lambda: Shows(s, target, last, number, values) or Ends(s, target, last, number, values),
+    )
+    return malformed and noTarget and stranger and answers
+
+
+def OneNextAnswer(s, target, last, answers):
+    return all(
+        implies(lambda: NextCall(s, target, last, n, v) and NextCall(s, target, last, n_, v_), lambda: Same(n, n_, v, v_))
+        for n, v in answers
+        for n_, v_ in answers
+    )
+
+
+# ---- next_sets/Walks
+
+
+def Walk(s, target, last, l):
+    if not l:
+        return NextCall(s, target, last, 0, [0])
+    return NextCall(s, target, last, 0, [1, l[0]]) and Walk(s, target, l[0], l[1:])
+
+
+def Shown(target, last, moments, l):
+    if not moments or not l:
+        return not moments and not l
+    return NextCall(moments[0], target, last, 0, [1, l[0]]) and Shown(target, l[0], moments[1:], l[1:])
+
+
+def KeepInitial(initial, moments):
+    return all(ChosenSet(False, s, initial) for s in moments)
+
+
+def WholeWalk(setups):
+    return all(
+        implies(lambda: WellFormed(s) and target < s.count, lambda: Iff(Walk(s, target, 0, l), Base(False, s, s.graph, target, l)))
+        for s in setups
+        for target in range(s.count + 1)
+        for l in world.lists
+    )
+
+
+def ShownRise(asked):
+    return all(implies(lambda: Shown(target, last, moments, l), lambda: Ordered([last] + l)) for target, last, moments, l in asked)
+
+
+def ShownEnd(initial, asked):
+    return all(
+        implies(lambda: KeepInitial(initial, moments) and Shown(target, last, moments, l), lambda: len(l) <= 2 ** ones(initial))
+        for target, last, moments, l in asked
+    )
+
+
+def DrawingAlone(s, t, asked):
+    formed = WellFormed(s) and WellFormed(t)
+    drawn = s.count == t.count and s.vertices == t.vertices and s.graph == t.graph
+    return all(
+        implies(lambda: formed and drawn and NextCall(s, target, last, n, v), lambda: NextCall(t, target, last, n, v)) for target, last, n, v in asked
+    )
+
+
 # ---- answers/Demand3
 
 
@@ -1589,9 +1686,11 @@ def Demand1(text, item, s, set_, target, other, opened, locked, kinds, vertices,
     forecast = Settled([12, 13], lambda n, v: ForecastCall(s, target, n, v), *r.forecast, both)
     quick = Settled([12, 13, 14], lambda n, v: QuickCall(s, target, set_, n, v), *r.quick, both)
     cuts = SettledList(lambda n, v, x: CutsCall(s, target, n, v, harden, x), *r.cuts, harden, harden_, among.cuts)
+    next_ = Settled([12, 13, 21], lambda n, v: NextCall(s, target, set_, n, v), *r.next, both)
     sets = closure and lost and way and quick
     lists = bases and score and risk and openings and lockouts
-    return sets and lists and backdoor and idle and pair and formed and reading and portalScore and portalRisk and forecast and cuts and attackers
+    ahead = forecast and next_
+    return sets and lists and backdoor and idle and pair and formed and reading and portalScore and portalRisk and ahead and cuts and attackers
 
 
 def Demand2(text, item, s, set_, target, other, opened, locked, kinds, vertices, vertices_, colours, colours_, list_, exit, harden, harden_, r, among):
@@ -1615,9 +1714,11 @@ def Demand2(text, item, s, set_, target, other, opened, locked, kinds, vertices,
     forecast = ForecastCall(s, target, *r.forecast)
     quick = QuickCall(s, target, set_, *r.quick)
     cuts = CutsCall(s, target, *r.cuts, harden, harden_)
+    next_ = NextCall(s, target, set_, *r.next)
     sets = closure and lost and way and quick
     lists = bases and score and risk and openings and lockouts
-    return sets and lists and backdoor and idle and pair and formed and reading and asked and portalScore and portalRisk and forecast and cuts and attackers
+    ahead = forecast and next_
+    return sets and lists and backdoor and idle and pair and formed and reading and asked and portalScore and portalRisk and ahead and cuts and attackers
 
 
 # ---- reference/Meaning
@@ -1853,7 +1954,8 @@ def OneResultOnSetups(words, set_, target, other, sets, kinds, a, b, numbers, re
         for n_, f_, x_ in cut_lists
     )
     attackers = OneResult(lambda n, v: AttackerCall(s, target, kinds, n, v), results, values)
-    return all((check, closure, lost, wayIn, lists_, score, risk, openings, lockouts, backdoor, idle, outOfRank, forecast, opens, cuts, attackers))
+    next_ = OneResult(lambda n, v: NextCall(s, target, set_, n, v), results, values)
+    return all((check, closure, lost, wayIn, lists_, score, risk, openings, lockouts, backdoor, idle, outOfRank, forecast, opens, cuts, attackers, next_))
 
 
 def OneResultOnSheets(text, item, entry, readings, parts):

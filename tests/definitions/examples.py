@@ -690,6 +690,51 @@ def of_few_cuts(D):
     ]
 
 
+def of_next_sets(D):
+    """Order's opening list, {mailpw} and {ordpw, token}, shown set by set; `drawn` has lost the edge from mail, and with it the first set."""
+    drawn = bench._replace(graph=with_row(bench.graph, ORDER, 1, 0), recovery=with_row(bench.recovery, ORDER, 1, 0))
+    unmarked = bench._replace(recovery=with_row(bench.recovery, ORDER, 1, 0))
+    answers = [(0, [1, x]) for x in (2, 3, 5)] + [(0, [0]), (21, []), (13, []), (12, []), (0, [])]
+    walks = [(ORDER, last, [s, t], l) for last in (0, 2) for s in (bench, drawn) for t in (bench, drawn) for l in ([2, 5], [5, 2], [5, 5])]
+    walks += [(ORDER, last, [s], [x]) for last in (0, 2, 5) for s in (bench, drawn) for x in (2, 5)]
+    after = [(ORDER, last, n, v) for last in (0, 2, 5) for n, v in answers]
+    return [
+        ("of initial: ordpw and token", lambda: D.OfInitial(bench, 5), True),
+        ("not of initial: mail", lambda: D.OfInitial(bench, 8), False),
+        ("not of initial: beyond the count", lambda: D.OfInitial(bench, 33), False),
+        ("next: mailpw first", lambda: D.NextSet(bench, ORDER, 0, 2), True),
+        ("next: ordpw and token after mailpw", lambda: D.NextSet(bench, ORDER, 2, 5), True),
+        ("next: after token, which is not in the list", lambda: D.NextSet(bench, ORDER, 4, 5), True),
+        ("not next: the same again", lambda: D.NextSet(bench, ORDER, 2, 2), False),
+        ("not next: the second first", lambda: D.NextSet(bench, ORDER, 0, 5), False),
+        ("not next: ordpw and mailpw, which are loose", lambda: D.NextSet(bench, ORDER, 2, 3), False),
+        ("no more: after ordpw and token", lambda: D.NoMore(bench, ORDER, 5), True),
+        ("not no more: after mailpw", lambda: D.NoMore(bench, ORDER, 2), False),
+        ("call: next for order", lambda: D.NextCall(bench, ORDER, 0, 0, [1, 2]), True),
+        ("call: no more for order", lambda: D.NextCall(bench, ORDER, 5, 0, [0]), True),
+        ("not call: no more too early", lambda: D.NextCall(bench, ORDER, 2, 0, [0]), False),
+        ("call: next, 21", lambda: D.NextCall(bench, ORDER, 8, 21, []), True),
+        ("call: next, 21 beyond the count", lambda: D.NextCall(bench, ORDER, 32, 21, []), True),
+        ("not call: next, 14 for 21", lambda: D.NextCall(bench, ORDER, 32, 14, []), False),
+        ("call: next, 13 before 21", lambda: D.NextCall(bench, 5, 8, 13, []), True),
+        ("call: next, 12", lambda: D.NextCall(EMPTY, 0, 8, 12, []), True),
+        ("one answer: next for order", lambda: D.OneNextAnswer(bench, ORDER, 2, answers), True),
+        ("walk: order's list", lambda: D.Walk(bench, ORDER, 0, [2, 5]), True),
+        ("not walk: the first set alone", lambda: D.Walk(bench, ORDER, 0, [2]), False),
+        ("whole walk", lambda: D.WholeWalk([bench, drawn]), True),
+        ("shown: two sets of one drawing", lambda: D.Shown(ORDER, 0, [bench, bench], [2, 5]), True),
+        ("shown: the second set of another drawing", lambda: D.Shown(ORDER, 0, [bench, drawn], [2, 5]), True),
+        ("not shown: a set that is not in the list any more", lambda: D.Shown(ORDER, 0, [drawn], [2]), False),
+        ("not shown: a set that has come in before the last", lambda: D.Shown(ORDER, 0, [drawn, bench], [5, 2]), False),
+        ("shown rise", lambda: D.ShownRise(walks), True),
+        ("shown end", lambda: D.ShownEnd(7, walks), True),
+        ("keep initial: bench and drawn", lambda: D.KeepInitial(7, [bench, drawn]), True),
+        ("not keep initial: all items", lambda: D.KeepInitial(31, [bench]), False),
+        ("drawing alone: with a mark less", lambda: D.DrawingAlone(bench, unmarked, after), True),
+        ("drawing alone: another drawing", lambda: D.DrawingAlone(bench, drawn, after), True),
+    ]
+
+
 def of_findings(D):
     """Findings."""
     return [
@@ -902,7 +947,7 @@ def of_demands(D):
 
 
 Answers = namedtuple(
-    "Answers", "closure lost way bases score risk openings lockouts backdoor idle pair formed reading portalScore portalRisk forecast quick cuts attackers"
+    "Answers", "closure lost way bases score risk openings lockouts backdoor idle pair formed reading portalScore portalRisk forecast quick cuts attackers next"
 )
 Among = namedtuple("Among", "answers ways lists cuts texts docs readings numbers")
 
@@ -912,12 +957,12 @@ def of_both_demands(D):
     sheet, five, lent, out = text(BENCH), REFUSED["refused 5"][0], [9, 9], LENT[:4]
     yes = Answers(
         *[(0, [26, 3]), (0, [10]), (0, [1, 2]), (0, [2, 2]), (0, [1]), (0, [3]), (0, [1, 0, 0, 0, 1]), (0, [2, 0, 0, 0, 0])],
-        *[(0, [1]), (0, [0]), (0, [1]), True, D.accepted(bench), 1, 3, (0, [3]), (0, [1, 26]), (0, [2]), (0, [20])],
+        *[(0, [1]), (0, [0]), (0, [1]), True, D.accepted(bench), 1, 3, (0, [3]), (0, [1, 26]), (0, [2]), (0, [20]), (0, [1, 5])],
     )
-    outside = Answers((14, []), (14, []), *[(13, [])] * 9, True, D.refused(5, 2), never + 5, never + 5, (13, []), (13, []), (13, []), (13, []))
-    set_outside = yes._replace(closure=(14, []), lost=(14, []), way=(14, []), quick=(14, []), portalRisk=1)
-    malformed = yes._replace(**{n: (12, []) for n in (*Answers._fields[:11], "forecast", "quick", "cuts", "attackers")}, formed=False)
-    answers = [(0, v) for v in ([0], [1], [3], [10], [0, 1], [26, 2], [26, 3], [1, 26], [0, 26], [1, 0, 0, 0, 1], [2, 0, 0, 0, 0], [20])] + [(n, []) for n in (0, 12, 13, 14)]
+    outside = Answers((14, []), (14, []), *[(13, [])] * 9, True, D.refused(5, 2), never + 5, never + 5, (13, []), (13, []), (13, []), (13, []), (13, []))
+    set_outside = yes._replace(closure=(14, []), lost=(14, []), way=(14, []), quick=(14, []), portalRisk=1, next=(21, []))
+    malformed = yes._replace(**{n: (12, []) for n in (*Answers._fields[:11], "forecast", "quick", "cuts", "attackers", "next")}, formed=False)
+    answers = [(0, v) for v in ([0], [1], [3], [10], [0, 1], [26, 2], [26, 3], [1, 26], [0, 26], [1, 0, 0, 0, 1], [2, 0, 0, 0, 0], [20], [1, 2], [1, 5])] + [(n, []) for n in (0, 12, 13, 14, 21)]
     ways = [(0, [1, 2], [3, 4], [0, 1]), (0, [1, 2], [3, 4], lent)] + [(n, v, lent, lent) for n, v in answers + [(15, [])]]
     lists = [(0, [2, 2], [2, 5, 3, 6]), (0, [2, 2], out)] + [(n, v, out) for n, v in answers + [(15, [])]]
     readings = [D.accepted(bench), D.accepted(EMPTY), D.refused(5, 2), D.refused(2, 5)]
@@ -940,6 +985,7 @@ def of_both_demands(D):
         ("the list's length for the forecast", order, yes._replace(forecast=(0, [2])), False),
         ("no to what mailpw opens", order, yes._replace(quick=(0, [0, 26])), False),
         ("one cut set too few", order, yes._replace(cuts=(0, [1])), False),
+        ("the first set for the next", order, yes._replace(next=(0, [1, 2])), False),
     ]
     return [
         (f"{'' if ok else 'not '}demand {n}: {name}", lambda f=f, a=a, r=r: f(*a, r, among), ok)
@@ -954,6 +1000,7 @@ def of_ring(D):
         ("B8", lambda: D.Base(False, ring, ring.graph, 5, [5, 6, 9, 10]), True),
         ("not B8: one set", lambda: D.Base(False, ring, ring.graph, 5, [5]), False),
         ("B8: closure from device, pwd_manager", lambda: D.AccessFrom(ring.graph, 6, 63), True),
+        ("keep initial: the ring's four", lambda: D.KeepInitial(15, [ring]), True),
     ]
 
 
@@ -1154,7 +1201,7 @@ GROUPS = {
     "one": [of_one, of_few_cuts],
     "sums": [of_sums],
     "bench": [of_derivations, of_passes, of_ways, of_bases, of_scores, of_marks, of_set_calls, of_way_calls, of_base_calls, of_score_calls, of_demand3]
-    + [of_quick, of_forecasts, of_cuts, of_attackers, of_findings, of_portal, of_same, of_told, of_readings, of_one_answer, of_results, of_demands, of_both_demands],
+    + [of_quick, of_forecasts, of_cuts, of_attackers, of_next_sets, of_findings, of_portal, of_same, of_told, of_readings, of_one_answer, of_results, of_demands, of_both_demands],
     "rows": [of_valid_rows, of_rows, of_stated, of_meaning, of_refusals],
     "spare": [of_spare],
     "ring": [of_ring],

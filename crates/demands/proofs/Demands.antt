@@ -8,7 +8,7 @@ use Rattle.findings.specs.Findings.{FindsBackdoor, FindsIneffective, FindsIncon
 use Rattle.findings.proofs.Unique.{backdoor-unique, ineffective-unique, inconsistent-unique}
 use Rattle.demands.specs.declared.Answers.{Answers}
 use Rattle.demands.specs.Demands.{Demand1, Demand2}
-use Rattle.demands.proofs.Outcomes.{settled-closure, settled-lost, settled-score, settled-marks, settled-finding, settled-forecast, settled-quick, settled-attackers, settled-lists, settled-cuts, settled-way, settled-question-12}
+use Rattle.demands.proofs.Outcomes.{settled-closure, settled-lost, settled-score, settled-marks, settled-finding, settled-forecast, settled-quick, settled-attackers, settled-next, settled-lists, settled-cuts, settled-way, settled-question-12}
 use Rattle.demands.proofs.Sheets.{settled-reading, settled-portal}
 
 pub one-of-two : {text : List ℕ} {item : ℕ} {s : Setup} {set target other : ℕ} {opened locked kinds vertices vertices′ colours colours′ list list′ harden harden′ : List ℕ} {r : Answers}
@@ -35,4 +35,5 @@ one-of-two {text = text} {item = item} {s = s} {set = set} {target = target} {ot
       quick = settled-quick s _ _ target set (d .quick);
       cuts = settled-cuts s target _ _ _ _ (d .cuts);
       attackers = settled-attackers s _ _ target kinds (d .attackers);
+      next = settled-next s _ _ target set (d .next);
     }

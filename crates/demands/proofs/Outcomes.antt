@@ -31,6 +31,9 @@ use Rattle.forecasts.specs.Answers.{ForecastCall}
 use Rattle.forecasts.proofs.Unique.{one-forecast-answer}
 use Rattle.quick_yes.specs.Answers.{QuickCall}
 use Rattle.quick_yes.proofs.Unique.{one-quick-answer}
+use Rattle.next_sets.specs.Next.{OfInitial}
+use Rattle.next_sets.specs.Answers.{NextCall}
+use Rattle.next_sets.proofs.Unique.{one-next-answer}
 use Rattle.demands.proofs.Stable.{stable-number, by-cases}
 use Rattle.demands.proofs.OneAnswer.{by-target, one-closure-answer, one-lost-answer, one-way-answer, one-bases-answer, one-cuts-answer, one-score-answer, one-marks-answer}
 use Rattle.demands.specs.Outcomes.{Outcome, Settled, SettledWay, SettledList, Yielded, SettledQuestion12}
@@ -147,6 +150,17 @@ module _ (s : Setup) (n : ℕ) (v : List ℕ) where
             (λ d. refused (inr (inr (inl refl))) refl (c .otherLength w l d)));
         meets = c;
         only = λ n′ v′ d. one-attacker-answer s target kinds n′ n v′ v d c;
+      }
+
+  pub settled-next : (target last : ℕ) → NextCall s target last n v → Settled (12 ∷ 13 ∷ 21 ∷ []) (NextCall s target last) n v
+  settled-next target last c =
+      record {
+        outcome = by-target s target (outcome-stable v) (λ m. refused (inl refl) refl (c .malformed m)) (λ w o. refused (inr (inl refl)) refl (c .noTarget w o))
+            (λ w l. by-cases (OfInitial s last) (outcome-stable v)
+            (λ i. ⊎-elim (λ p. answered (p .numbered) (p .told)) (λ p. answered (p .numbered) (p .told)) (c .answers w l i))
+            (λ o. refused (inr (inr (inl refl))) refl (c .stranger w l o)));
+        meets = c;
+        only = λ n′ v′ d. one-next-answer s target last n′ n v′ v d c;
       }
 
   pub settled-finding : (Finds : Bool → Type 0) → ((b b′ : Bool) → Finds b → Finds b′ → b ≡ b′) → (vertices : List ℕ)

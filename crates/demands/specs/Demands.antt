@@ -13,6 +13,7 @@ use Rattle.findings.specs.Answers.{findingNumber, findingValues, BackdoorCall, 
 use Rattle.forecasts.specs.Answers.{forecastNumber, forecastValues, ForecastCall}
 use Rattle.quick_yes.specs.Answers.{quickNumber, quickValues, QuickCall}
 use Rattle.cut_sets.specs.Answers.{cutsNumber, cutsValues, CutsCall}
+use Rattle.next_sets.specs.Answers.{nextNumber, nextValues, NextCall}
 use Rattle.sheet_format.specs.Read.{readSheet}
 use Rattle.portal.specs.Portal.{PortalCall}
 use Rattle.demands.specs.declared.Answers.{Answers}
@@ -50,6 +51,8 @@ pub record Demand1 (text : List ℕ) (item : ℕ) (s : Setup) (set target other 
   -- the quick yes: 12, 13, 14
   pub quick : Settled (12 ∷ 13 ∷ 14 ∷ []) (QuickCall s target set) (quickNumber (r .sets .quick)) (quickValues (r .sets .quick))
   pub cuts : SettledList (λ n v x. CutsCall s target n v harden x) (cutsNumber (r .cuts)) (cutsValues (r .cuts)) harden harden′
+  -- the next set after the given one: 12, 13, 21
+  pub next : Settled (12 ∷ 13 ∷ 21 ∷ []) (NextCall s target set) (nextNumber (r .next)) (nextValues (r .next))
 
 -- Demand 2: every answer is the one of the paper's definitions, by the calls' own contracts; a sheet is accepted exactly where it has the paper's
 -- form, and yields the setup that its rows state.
@@ -87,3 +90,5 @@ pub record Demand2 (text : List ℕ) (item : ℕ) (s : Setup) (set target other 
   pub quick : QuickCall s target set (quickNumber (r .sets .quick)) (quickValues (r .sets .quick))
   -- the smallest sets of starting items without which the rest do not open the target
   pub cuts : CutsCall s target (cutsNumber (r .cuts)) (cutsValues (r .cuts)) harden harden′
+  -- the first set of the opening list after the given one, or "no more" exactly where there is none
+  pub next : NextCall s target set (nextNumber (r .next)) (nextValues (r .next))

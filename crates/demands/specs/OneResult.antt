@@ -11,6 +11,7 @@ use Rattle.attackers.specs.Answers.{AttackerCall}
 use Rattle.forecasts.specs.Answers.{ForecastCall}
 use Rattle.quick_yes.specs.Answers.{QuickCall}
 use Rattle.cut_sets.specs.Answers.{CutsCall}
+use Rattle.next_sets.specs.Answers.{NextCall}
 use Rattle.setup.specs.Calls.{Same, SameList}
 use Rattle.demands.specs.OneAnswer.{SameWay}
 use Rattle.portal_setup.specs.Words.{setupIn}
@@ -49,6 +50,7 @@ pub record OneResultOnSetups (words : List ℕ) : Type 0 where
       → Told (λ number values. CutsCall (setupIn words) target number values a x′) n′ f′
       → SameList n n′ f f′ x x′
   pub attackers : (target : ℕ) (kinds : List ℕ) → OneResult (AttackerCall (setupIn words) target kinds)
+  pub next : (target last : ℕ) → OneResult (NextCall (setupIn words) target last)
 
 -- The calls on a sheet, for every text.
 pub record OneResultOnSheets (text : List ℕ) : Type 0 where

@@ -22,6 +22,7 @@ use attackers::AttackerAnswer;
 use cut_sets::CutsAnswer;
 use findings::FindingAnswer;
 use forecasts::ForecastAnswer;
+use next_sets::NextAnswer;
 use quick_yes::QuickAnswer;
 use setup::Setup;
 use sheet_format::Reading;
@@ -58,6 +59,7 @@ pub struct Answers {
     pub forecast: ForecastAnswer,
     pub cuts: CutsAnswer,
     pub attackers: AttackerAnswer,
+    pub next: NextAnswer,
 }
 
 // Asks for closure, lost set, way in and quick yes.
@@ -146,6 +148,7 @@ pub fn demand_two(
     let forecast = forecasts::forecast_base(s, target);
     let cuts = cut_sets::smallest_cuts(s, target, harden);
     let attackers = attackers::attacker_score(s, target, kinds);
+    let next = next_sets::next_access_set(s, target, set);
     Answers {
         sets,
         lists,
@@ -154,6 +157,7 @@ pub fn demand_two(
         forecast,
         cuts,
         attackers,
+        next,
     }
 }
 

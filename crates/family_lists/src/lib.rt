@@ -35,7 +35,7 @@ fn layer(k: usize, s: usize) -> u64
 }
 
 // The lanes of word b whose masks have s bits.
-fn lanes_of_size(b: usize, s: usize) -> u64
+pub fn lanes_of_size(b: usize, s: usize) -> u64
     ensures { λ r. ⌜ LanesOfSize b s r ⌝ }
 {
     let k = usize::count_ones(b) as usize;

@@ -4,6 +4,8 @@ pub mod Excluded
 pub mod Forecasts
 pub mod ForecastsExcluded
 pub mod Quick
+pub mod NextSets
+pub mod NextSetsExcluded
 pub mod Reading
 pub mod Settled
 pub mod Table

@@ -3,8 +3,8 @@
 //! makes few rounds and writes the same files to build/bench/. `bench marking` prints the table of
 //! marks alone, `bench rows` that of the report with the most rows, `bench reports` those of reading
 //! and of reports, `bench forecast` that of forecasts,
-//! `bench closing` that of closures, `bench opens` that of quick answers, `bench cuts` that of cut
-//! sets, and `bench intruders` that of kinds of intruder.
+//! `bench next` that of next sets, `bench closing` that of closures, `bench opens` that of quick
+//! answers, `bench cuts` that of cut sets, and `bench intruders` that of kinds of intruder.
 
 mod calls;
 mod chart;
@@ -20,6 +20,7 @@ mod grid;
 mod intruders;
 mod kinds;
 mod marking;
+mod next;
 mod opens;
 mod plain;
 mod programs;
@@ -78,12 +79,13 @@ fn main() -> ExitCode {
         ["rows"] => print_rows(),
         ["reports"] => print_reports(),
         ["forecast"] => print_forecasts(),
+        ["next"] => print_next_sets(),
         ["closing"] => print_closing(),
         ["opens"] => print_opens(),
         ["cuts"] => print_cuts(),
         ["intruders"] => print_intruders(),
         _ => {
-            eprintln!("usage: bench [quick | marking | rows | reports | forecast | closing | opens | cuts | intruders]");
+            eprintln!("usage: bench [quick | marking | rows | reports | forecast | next | closing | opens | cuts | intruders]");
             return ExitCode::from(2);
         }
     }
@@ -110,6 +112,7 @@ fn run(rounds: &Rounds, folder: &str) {
     show(programs::reports(&timed, &mut targets));
     show(calls::reading(rounds, &mut targets));
     show(forecast::forecasts(&kinds, rounds, &mut targets));
+    show(next::next_sets(&kinds, rounds, &mut targets));
     show(closing::closures(&kinds, rounds, &mut targets));
     show(opens::quick_answers(&kinds, rounds, &mut targets));
     show(cuts::cut_sets(&kinds, rounds, &mut targets));
@@ -162,6 +165,12 @@ fn print_forecasts() {
     let kinds = kinds::all();
     let mut targets = Vec::new();
     let grid = forecast::forecasts(&kinds, &FULL, &mut targets);
+    println!("{}\n{}", grid.text(), targets::grid(&targets).text());
+}
+
+fn print_next_sets() {
+    let mut targets = Vec::new();
+    let grid = next::next_sets(&kinds::all(), &FULL, &mut targets);
     println!("{}\n{}", grid.text(), targets::grid(&targets).text());
 }
 

@@ -267,7 +267,7 @@ const LAYERS: [u64; 7] = [
 ];
 
 /// The places of a word whose number has `k` bits fewer than `size`.
-fn layer(k: usize, size: usize) -> u64 {
+pub fn layer(k: usize, size: usize) -> u64 {
     size.checked_sub(k).and_then(|d| LAYERS.get(d)).copied().unwrap_or(0)
 }
 

@@ -1,11 +1,12 @@
-//! The calls on a setup, as the product answers them: questions 12 to 17 in their order, and
-//! lent lists that a refusal leaves as they were.
+//! The calls on a setup, as the product answers them: questions 12 to 17 (and 21) in their order,
+//! and lent lists that a refusal leaves as they were.
 
 use crate::forecast;
 use crate::graph;
 use crate::kinds;
 use crate::lists::{Least, Marks, Table};
-use crate::setup::{within, Setup};
+use crate::next;
+use crate::setup::{single, within, Setup};
 use std::cell::OnceCell;
 
 /// The answer of a way in.
@@ -163,6 +164,18 @@ impl Calls {
         self.ask_12()?;
         let target = self.ask_13(target)?;
         Ok(self.openings().cuts(target))
+    }
+
+    /// The first set of the opening list after the last one shown; `None` is "no more" (02, point
+    /// 9). 12, 13, 21.
+    pub fn next_opening(&self, target: u64, last: u64) -> Result<Option<u64>, u8> {
+        self.ask_12()?;
+        let target = self.ask_13(target)?;
+        let starting = self.setup.starting().iter().fold(0, |set, &(item, _)| set | single(item));
+        if !within(last, starting) {
+            return Err(21);
+        }
+        Ok(next::next(self.openings().list(target), last))
     }
 
     /// The least sum of start values over the opening list. 12, 13.

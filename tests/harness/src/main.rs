@@ -11,6 +11,7 @@ mod program;
 mod runs;
 mod setups;
 mod sheets;
+mod walks;
 mod words;
 
 use program::Program;

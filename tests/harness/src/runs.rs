@@ -7,6 +7,7 @@ use crate::passes::compare_known_passes;
 use crate::program::Program;
 use crate::setups::{compare_setup, Depth, FEW, FULL, MANY, MOST};
 use crate::sheets::{compare_report, compare_sheet};
+use crate::walks::{compare_next_cases, compare_walks};
 use brute::cases::draft::sheet_of_setup;
 use brute::cases::{
     bounds, buffers, cuts, damaged, forecasts, intruders, noise, random, readings, setups, tiny,
@@ -16,6 +17,11 @@ use std::fmt;
 use std::time::{Duration, Instant};
 
 type Outcome = Result<(), Box<Difference>>;
+
+/// The fewest sets that the gate's walks show, and the fewest calls in them whose last set had left
+/// the list.
+const SHOWN: usize = 800;
+const LEFT: usize = 80;
 
 /// How many inputs were compared, and how many reports among them.
 #[derive(Default)]
@@ -80,6 +86,9 @@ impl Run {
         compare_long_lists(seed)?;
         compare_known_passes()?;
         compare_known_kinds()?;
+        compare_next_cases()?;
+        let walked = compare_walks(&mut self.rng, 600)?;
+        assert!(walked.shown >= SHOWN && walked.left >= LEFT, "too little was walked: {walked:?}");
         for case in bounds::bounds() {
             self.counts.bounds += 1;
             self.sheet(&case, FEW, true)?;
@@ -155,6 +164,7 @@ impl Run {
                 self.sheet(&case, FEW, true)?;
             }
         }
+        compare_walks(&mut self.rng, 6)?;
         for case in damaged::damaged_sheets(self.rng.number(), 11) {
             self.counts.damaged += 1;
             self.sheet(&case, MANY, false)?;

@@ -1,6 +1,7 @@
 //! All calls on a setup that is given as plain numbers.
 
 use crate::compare::{told, Difference, Subject};
+use crate::walks::values;
 use crate::words::words_of;
 use brute::calls::{Calls, Way};
 use brute::cases::{probes, Rng};
@@ -147,6 +148,7 @@ impl Compare<'_> {
         self.cut_sets(target)?;
         self.forecast(target)?;
         self.kinds(target)?;
+        self.next_openings(target, sets)?;
         self.scores(target)?;
         for _ in 0..self.depth.pairs {
             let others = [self.rng.below(count.max(1) as usize) as u64, target, count, u64::MAX];
@@ -219,6 +221,42 @@ impl Compare<'_> {
             self.subject.same(named, kinds::at_or_above(proved.kinds, intruder), gets_in)?;
         }
         Ok(())
+    }
+
+    /// The next set of the opening list: after every set of starting items where there are few of
+    /// them, otherwise after some; after any sets; and from the empty set on to "no more".
+    fn next_openings(&mut self, target: u64, sets: &[u64]) -> Outcome {
+        let starting = self.calls.setup().starting();
+        let all = starting.iter().fold(0, |set, &(item, _)| set | single(item));
+        if starting.len() <= 3 {
+            let subsets = (0..1u64 << starting.len()).map(|number| {
+                let taken = starting.iter().enumerate().filter(|(bit, _)| number >> bit & 1 == 1);
+                taken.fold(0, |set, (_, &(item, _))| set | single(item))
+            });
+            for last in subsets {
+                self.next_opening(target, last)?;
+            }
+        }
+        let lasts = [self.rng.number() & all, self.rng.number() & self.rng.number() & all];
+        for last in [*self.rng.pick(&lasts), *self.rng.pick(sets)] {
+            self.next_opening(target, last)?;
+        }
+        if self.more() {
+            let mut last = Some(0);
+            while let Some(set) = last {
+                last = self.next_opening(target, set)?;
+            }
+        }
+        Ok(())
+    }
+
+    /// What is shown after one set, as the proved code has it.
+    fn next_opening(&self, target: u64, last: u64) -> Result<Option<u64>, Box<Difference>> {
+        let proved = product::next_opening(&self.words, target, last);
+        let expected = self.calls.next_opening(target, last).map(values);
+        let named = || format!("next_opening({target}, {last:#x})");
+        self.subject.same(named, proved.numbers(), told(2, expected))?;
+        Ok((proved.more == 1).then_some(proved.set))
     }
 
     fn scores(&mut self, target: u64) -> Outcome {

@@ -13,8 +13,8 @@
 mod results;
 
 pub use results::{
-    Closure, CutSets, Finding, Forecast, Kinds, Lists, Marks, Part, Quick, Reading, Refusal, Set,
-    SetupRisk, SetupScore, Way,
+    Closure, CutSets, Finding, Forecast, Kinds, Lists, Marks, NextOpening, Part, Quick, Reading,
+    Refusal, Set, SetupRisk, SetupScore, Way,
 };
 
 /// How many words a setup has.
@@ -24,7 +24,7 @@ pub const BLANK: u64 = u64::MAX;
 /// "Never": the score of an item that no set opens, the risk of one that no loss shuts.
 pub const NEVER: u64 = 1 << 62;
 /// The version of the header that this crate was written for.
-pub const VERSION: u64 = 20300;
+pub const VERSION: u64 = 20400;
 
 mod linked {
     use super::*;
@@ -71,6 +71,12 @@ mod linked {
             sets: *mut u64,
             places: usize,
         ) -> CutSets;
+        pub fn portal_next_opening(
+            setup: *const u64,
+            words: usize,
+            target: u64,
+            last: u64,
+        ) -> NextOpening;
         pub fn portal_setup_score(setup: *const u64, words: usize, target: u64) -> SetupScore;
         pub fn portal_setup_risk(setup: *const u64, words: usize, target: u64) -> SetupRisk;
         pub fn portal_mark_openings(
@@ -184,6 +190,11 @@ pub fn lists(setup: &[u64], target: u64, sets: &mut [u64]) -> Lists {
 pub fn cut_sets(setup: &[u64], target: u64, sets: &mut [u64]) -> CutSets {
     let (words, length) = (setup.as_ptr(), setup.len());
     unsafe { linked::portal_cut_sets(words, length, target, sets.as_mut_ptr(), sets.len()) }
+}
+
+/// The first set of a target's opening list after the last one shown, 0 at the beginning. 12, 13, 21.
+pub fn next_opening(setup: &[u64], target: u64, last: u64) -> NextOpening {
+    unsafe { linked::portal_next_opening(setup.as_ptr(), setup.len(), target, last) }
 }
 
 /// A target's score. 12, 13.

@@ -100,6 +100,13 @@ results! {
         /// How many there are.
         count,
     }
+    /// The next set of a target's opening list.
+    NextOpening {
+        /// 1 where a set is shown, and 0 for "no more".
+        more,
+        /// The set.
+        set,
+    }
     /// A target's score.
     SetupScore {
         /// The score, or [`NEVER`](crate::NEVER).

@@ -23,17 +23,20 @@ smallest-cuts-requires c κs = search needs
 attacker-score-requires : tie.Need-attacker-score-requires
 attacker-score-requires c κs = search needs
 
+next-access-set-requires : tie.Need-next-access-set-requires
+next-access-set-requires c κs = search needs
+
 -- the first call lies too far back for `search`
 same-length : tie.Need-same-length
 same-length c =
-    let n = c .before .before .before .before .before in
+    let n = c .before .before .before .before .before .before in
     let l = n .before .before .before .before .before in
     let kept = l .before .before .before .before .before .before .ask-sets .kept .1 .1 .1 .0 in
     search needs
 
 same-length-2 : tie.Need-same-length-2
 same-length-2 c =
-    let n = c .before .before .before .before .before in
+    let n = c .before .before .before .before .before .before in
     let l = n .before .before .before .before .before in
     let kept = l .before .before .before .before .before .before .ask-sets .kept .1 .1 .1 .1 .0 in
     search needs
@@ -46,7 +49,8 @@ same-length-4 c = search needs
 
 returns : tie.Need-returns
 returns c =
-    let k = c .before .before .before in
+    let a = c .before in
+    let k = a .before .before .before in
     let n = k .before .before in
     let t = n .before in
     let f = t .before in
@@ -76,7 +80,8 @@ returns c =
       forecast = n .forecast-base .ensures;
       quick = sets .1 .1 .1;
       cuts = k .smallest-cuts .ensures;
-      attackers = c .attacker-score .ensures;
+      attackers = a .attacker-score .ensures;
+      next = c .next-access-set .ensures;
     }
 
 pub demand-two-spec : {M : Type 1} → statement M
@@ -90,6 +95,7 @@ demand-two-spec =
     forecast-base-requires
     smallest-cuts-requires
     attacker-score-requires
+    next-access-set-requires
     same-length
     same-length-2
     same-length-3

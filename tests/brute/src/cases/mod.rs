@@ -16,6 +16,7 @@ pub mod readings;
 pub mod rng;
 pub mod setups;
 pub mod tiny;
+pub mod walks;
 
 use crate::setup::Setup;
 use crate::sheet::Refusal;

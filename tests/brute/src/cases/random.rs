@@ -71,6 +71,11 @@ pub fn random_draft(rng: &mut Rng, number: usize) -> Draft {
     finished(rng, SHAPES[number % SHAPES.len()].1, SMALL)
 }
 
+/// The rows of a sheet at the bounds; the number chooses the shape.
+pub fn large_draft(rng: &mut Rng, number: usize) -> Draft {
+    finished(rng, SHAPES[number % SHAPES.len()].1, LARGE)
+}
+
 /// Sheets at the bounds: 64 items (at most 63 in an antichain), 14 starting ones (or 13 where one
 /// must not be reached), 14 losable ones, and many with 256 edges. A brute force report of one
 /// takes about a tenth of a second.

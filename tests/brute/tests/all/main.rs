@@ -11,6 +11,7 @@ mod questions;
 mod quick;
 mod reading;
 mod reports;
+mod walks;
 
 use brute::sheet::read;
 use brute::{Calls, Sheet};

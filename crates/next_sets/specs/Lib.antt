@@ -1,0 +1,4 @@
+pub mod Next
+pub mod Answers
+pub mod Walks
+pub mod Inner

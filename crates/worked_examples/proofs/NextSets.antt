@@ -1,0 +1,28 @@
+-- The walks hold: they go through the opening lists of the examples, which are computed.
+-- Assumes nothing.
+use mathlib.Core.Bool.{false}
+use Prim.Native.Nat.{_<_}
+use native.Mathlib.Omega.{arith}
+use Rattle.bases.specs.Base.{Base}
+use Rattle.next_sets.proofs.Walks.{whole-walk}
+use Rattle.worked_examples.specs.Sheets.{Reads}
+use Rattle.worked_examples.specs.NextSets.{WalkExample, Walks, AllWalk}
+use Rattle.worked_examples.proofs.Reading.{_&_, all-read, reads-well}
+use Rattle.worked_examples.proofs.Table.{held, table-holds, further-holds}
+
+walked : (x : WalkExample) → Reads (x .sheet) → x .target < x .sheet .setup .count → Base false (x .sheet .setup) (x .sheet .setup .graph) (x .target) (x .sets) → Walks x
+walked x r l b =
+    record { setup = x .sheet .setup; reading = r; holds = whole-walk (x .sheet .setup) (x .target) (reads-well (x .sheet) r) l (x .sets) .from b }
+
+pub all-walk : AllWalk
+all-walk =
+    let bench = all-read .0 in
+    let ring = all-read .1 .0 in
+    let loop = all-read .1 .1 .1 .1 .0 in
+    let spare = all-read .1 .1 .1 .1 .1 .1 .0 in
+    walked _ bench (omega arith) (held _ _ bench (table-holds .1 .1 .0))
+    & walked _ ring (omega arith) (held _ _ ring (further-holds .1 .1 .1 .1 .1 .1 .1 .1 .1 .0))
+    & walked _ ring (omega arith) (held _ _ ring (table-holds .1 .1 .1 .1 .1 .1 .1 .1 .0))
+    & walked _ loop (omega arith) (held _ _ loop (table-holds .1 .1 .1 .1 .1 .1 .1 .1 .1 .1 .1 .0))
+    & walked _ spare (omega arith) (held _ _ spare (further-holds .1 .1 .1 .1 .1 .1 .1 .1 .1 .1 .1 .1 .1 .1 .1 .0))
+    & tt

@@ -1,0 +1,123 @@
+-- Wrong next sets that the contract excludes, each at an example: seed, whose opening list is {seed}, {pwdBackup, device}, {pwdManager, device}, by number 8, 5, 6.
+-- Assumes nothing.
+use mathlib.Core.Path.{_≡_, refl, sym, ap, subst}
+use mathlib.Core.Bool.{false}
+use mathlib.Core.List.{List, [], _∷_}
+use mathlib.Core.Logic.{inl, inr, ⊎-elim}
+use Prim.Native.Nat.{ℕ, _<_}
+use native.Mathlib.Omega.{arith}
+use lib.Count.{ones, onesIn}
+use lib.ListN.{getD}
+use Rattle.vertex_set.specs.Order.{Before}
+use Rattle.vertex_set.proofs.Cases.{same-or}
+use Rattle.vertex_set.proofs.Sets.{in-one, member-below}
+use Rattle.setup.specs.declared.Setup.{Setup}
+use Rattle.setup.specs.Setup.{Chosen}
+use Rattle.formed.specs.WellFormed.{WellFormed}
+use Rattle.bases.specs.Base.{Base}
+use Rattle.next_sets.specs.Next.{OfInitial, NextSet}
+use Rattle.next_sets.specs.Answers.{NextCall}
+use Rattle.next_sets.specs.Walks.{Walk}
+use Rattle.next_sets.proofs.Calls.{next-answers}
+use Rattle.next_sets.proofs.Unique.{one-next-answer}
+use Rattle.worked_examples.specs.Sheets.{ring, seed}
+use Rattle.worked_examples.proofs.Reading.{all-read, reads-well}
+use Rattle.worked_examples.proofs.Table.{held, further-holds}
+use Rattle.worked_examples.proofs.NextSets.{all-walk}
+
+abbrev s : Setup
+s = ring .setup
+
+well : WellFormed s
+well = reads-well ring (all-read .1 .0)
+
+shown : Walk s seed 0 (8 ∷ 5 ∷ 6 ∷ [])
+shown = held ring (λ (t : Setup). Walk t seed 0 (8 ∷ 5 ∷ 6 ∷ [])) (all-read .1 .0) (all-walk .1 .0)
+
+base : Base false s (s .graph) seed (8 ∷ 5 ∷ 6 ∷ [])
+base = held ring (λ (t : Setup). Base false t (t .graph) seed (8 ∷ 5 ∷ 6 ∷ [])) (all-read .1 .0) (further-holds .1 .1 .1 .1 .1 .1 .1 .1 .1 .0)
+
+-- two answers after one set have the same values
+same : (last : ℕ) (v v′ : List ℕ) → NextCall s seed last 0 v → NextCall s seed last 0 v′ → v ≡ v′
+same last v v′ a b = one-next-answer s seed last 0 0 v v′ a b .values
+
+other-set : {x y : ℕ} → 1 ∷ x ∷ [] ≡ 1 ∷ y ∷ [] → x ≡ y
+other-set e = ap (λ (l : List ℕ). getD l 1 0) e
+
+not-both : {x : ℕ} → 1 ∷ x ∷ [] ≡ 0 ∷ [] → ⊥
+not-both e = let z : _≡_ {A = ℕ} 1 0 = ap (λ (l : List ℕ). getD l 0 0) e in omega arith
+
+-- The order of set numbers alone: {pwdBackup, device}, 5, before {seed}, 8.
+pub no-number-order : NextCall s seed 0 0 (1 ∷ 5 ∷ []) → ⊥
+no-number-order c = let e = other-set (same 0 (1 ∷ 8 ∷ []) (1 ∷ 5 ∷ []) (shown .0) c) in omega arith
+
+-- .. and "no more" behind {seed}, since no set of the list has a larger number.
+pub no-end-by-number : NextCall s seed 8 0 (0 ∷ []) → ⊥
+no-end-by-number c = not-both (same 8 (1 ∷ 5 ∷ []) (0 ∷ []) (shown .1 .0) c)
+
+-- At or after: the same set again.
+pub no-same-again : NextCall s seed 8 0 (1 ∷ 8 ∷ []) → ⊥
+no-same-again c = let e = other-set (same 8 (1 ∷ 5 ∷ []) (1 ∷ 8 ∷ []) (shown .1 .0) c) in omega arith
+
+-- Larger sizes alone: the second set of two items is lost.
+pub no-larger-sizes-alone : NextCall s seed 5 0 (0 ∷ []) → ⊥
+no-larger-sizes-alone c = not-both (same 5 (1 ∷ 6 ∷ []) (0 ∷ []) (shown .1 .1 .0) c)
+
+-- Any set that opens seed: {pwdBackup, seed}, 9, of which {seed} is a part.
+pub no-loose-set : NextCall s seed 6 0 (1 ∷ 9 ∷ []) → ⊥
+no-loose-set c = not-both (same 6 (1 ∷ 9 ∷ []) (0 ∷ []) c (shown .1 .1 .1))
+
+-- ---- a last set that is not in the list
+
+four-before-eight : Before 4 8
+unfolding Before ones onesIn
+four-before-eight = inr (refl, omega arith)
+
+device-initial : OfInitial s 4
+device-initial = record { each = λ v m. subst (Chosen false s) (sym (in-one 2 v .to m)) refl }
+
+after-device : NextCall s seed 4 0 (1 ∷ 8 ∷ [])
+after-device =
+    next-answers s seed 4 well (omega arith) device-initial 0 (1 ∷ 8 ∷ [])
+    (record { either = inl (record { set = 8; isNext = next; numbered = refl; told = refl }) })
+  where
+    next : NextSet s seed 4 8
+    next =
+        record {
+          is = base .sound 8 (inl refl);
+          after = four-before-eight;
+          first = λ y m b. ⊎-elim (λ e. inl (sym e)) (λ i. inr (base .ordered .0 y i)) (base .whole y m);
+        }
+
+-- "No more" where the last set is not in the list, or has left it: {device} is in no list of seed, and {seed} comes after it.
+pub no-end-outside-the-list : NextCall s seed 4 0 (0 ∷ []) → ⊥
+no-end-outside-the-list c = not-both (same 4 (1 ∷ 8 ∷ []) (0 ∷ []) after-device c)
+
+passwords-initial : OfInitial s 3
+passwords-initial = record { each = λ v m. initial v (member-below 2 3 v (omega arith) m) }
+  where
+    initial : (v : ℕ) → v < 2 → Chosen false s v
+    initial v l = ⊎-elim (λ e. rw e refl) (λ n. let e : v ≡ 1 = omega (arith, n) in rw e refl) (same-or v 0)
+
+not-three-before-eight : Before 3 8 → ⊥
+unfolding Before ones onesIn
+not-three-before-eight b =
+    let three : ones 3 ≡ 2 = refl in
+    let eight : ones 8 ≡ 1 = refl in
+    ⊎-elim (λ l. omega (arith, l)) (λ p. let e = p .0 in omega (arith, e)) b
+
+-- The next by its place in the list: {pwdBackup, pwdManager}, 3, has none there, and is not followed by the list's first set but by 5.
+pub no-first-place : NextCall s seed 3 0 (1 ∷ 8 ∷ []) → ⊥
+no-first-place c =
+    ⊎-elim (λ h. not-three-before-eight (subst (λ (x : ℕ). Before 3 x) (sym (other-set (h .told))) (h .isNext .after)))
+    (λ e. not-both (e .told))
+    (c .answers well (omega arith) passwords-initial)
+
+-- ---- a last set with an item that is not a starting one
+
+beyond-stranger : OfInitial s 64 → ⊥
+beyond-stranger i = let e : _≡_ {A = ℕ} 0 1 = i .each 6 (in-one 6 6 .from refl) in omega arith
+
+-- 14 for 21: the last set is that of item 6, and the setup has six items. What is not in it is no starting item either.
+pub no-fourteen : NextCall s seed 64 14 [] → ⊥
+no-fourteen c = let e = c .stranger well (omega arith) beyond-stranger .numbered in omega arith

@@ -29,8 +29,8 @@ use Rattle.report_sections.specs.Inner.Lists.{CanLoad, Loaded}
 use Rattle.report_writer.specs.declared.steps.Cursor.{Cursor}
 use Rattle.report_writer.specs.declared.steps.Cursor.the-variants as cursor
 use Rattle.report_writer.specs.declared.steps.Step.{Step}
-use Rattle.report_writer.specs.Rest.{rowsFrom, listsFrom, scoresFrom, pairsFrom}
-use Rattle.report_writer.specs.Inner.Steps.{ListAt, ListPut, KnownAt, CanStep, stepsLeft, StepTaken, CanPutSection, ScoresPut, PairsPut}
+use Rattle.report_writer.specs.Rest.{rowsFrom, listsFrom, scoresFrom, pairsFrom, restOf}
+use Rattle.report_writer.specs.Inner.Steps.{ListAt, ListPut, KnownAt, CanStep, stepsLeft, StepTaken, CanPutSection, SectionPut, ScoresPut, PairsPut}
 use Rattle.report_writer.proofs.Rest.{start-next, list-next, lists-end, rows-end, score-next, scores-end, pairs-next, pairs-end}
 
 -- ---- at which place a step is taken
@@ -138,17 +138,27 @@ module _ (sheet : List ℕ) (f : Facts) (v : ℕ) (entry : List ℕ) (at : ℕ) 
   pub section-ready : CanPutSection sheet f v entry at → v < f .count → PartReady sheet f v entry at
   section-ready g l = let e = g .facts .isCount in record { setup = g .setup; facts = g .facts; vertex = omega arith; room = g .room }
 
-  pub score-step : (exit : List ℕ) (r : ℕ) → v < f .count → WrotePart scoreAt sheet f v entry at exit r
-      → ScoresPut sheet f v entry at exit (record { cursor = cursor.Scores (v + 1); at = r })
-  score-step exit r l w =
+  -- A section's step at a vertex: its part is written, and the report goes on at the next vertex.
+  section-step : (row : (ℕ → List ℕ) → Setup → ℕ → List ℕ) (here next behind : Cursor) → ((s : Setup) → v < s .count → restOf (nameOf sheet) s here ≡ row (nameOf sheet) s v ++ restOf (nameOf sheet) s next)
+      → (exit : List ℕ) (r : ℕ) → v < f .count → WrotePart row sheet f v entry at exit r
+      → SectionPut here next behind sheet f v entry at exit (record { cursor = next; at = r })
+  section-step row here next behind first exit r l w =
       record {
         part = λ s h m.
             let e = h .isCount in
             let below : v < s .count = omega arith in
-            rw (add-one v) (part-one entry at _ (scoreAt (nameOf sheet) s v) _ exit r (score-next (nameOf sheet) s v below) (row-wrote entry at _ exit r (w .each s h below)) (w .inside));
+            part-one entry at _ (row (nameOf sheet) s v) _ exit r (first s below) (row-wrote entry at _ exit r (w .each s h below)) (w .inside);
         more = λ b. refl;
         last = λ b. absurd (omega arith);
       }
+
+  pub score-step : (exit : List ℕ) (r : ℕ) → v < f .count → WrotePart scoreAt sheet f v entry at exit r
+      → ScoresPut sheet f v entry at exit (record { cursor = cursor.Scores (v + 1); at = r })
+  score-step = section-step scoreAt (cursor.Scores v) (cursor.Scores (v + 1)) (cursor.Pairs 0) (λ s b. rw (add-one v) (score-next (nameOf sheet) s v b))
+
+  pub pairs-step : (exit : List ℕ) (r : ℕ) → v < f .count → WrotePart pairsAt sheet f v entry at exit r
+      → PairsPut sheet f v entry at exit (record { cursor = cursor.Pairs (v + 1); at = r })
+  pairs-step = section-step pairsAt (cursor.Pairs v) (cursor.Pairs (v + 1)) cursor.End (λ s b. rw (add-one v) (pairs-next (nameOf sheet) s v b))
 
   pub scores-last : (text exit : List ℕ) (r : ℕ) → text ≡ 10 ∷ pairHeader → f .count ≤ v → at + length text ≤ length entry → Wrote entry at text exit r
       → ScoresPut sheet f v entry at exit (record { cursor = cursor.Pairs 0; at = r })
@@ -163,18 +173,6 @@ module _ (sheet : List ℕ) (f : Facts) (v : ℕ) (entry : List ℕ) (at : ℕ) 
         last = λ b. refl;
       }
 
-  pub pairs-step : (exit : List ℕ) (r : ℕ) → v < f .count → WrotePart pairsAt sheet f v entry at exit r
-      → PairsPut sheet f v entry at exit (record { cursor = cursor.Pairs (v + 1); at = r })
-  pairs-step exit r l w =
-      record {
-        part = λ s h m.
-            let e = h .isCount in
-            let below : v < s .count = omega arith in
-            rw (add-one v) (part-one entry at _ (pairsAt (nameOf sheet) s v) _ exit r (pairs-next (nameOf sheet) s v below) (row-wrote entry at _ exit r (w .each s h below)) (w .inside));
-        more = λ b. refl;
-        last = λ b. absurd (omega arith);
-      }
-
   pub pairs-last : f .count ≤ v → at + 4096 ≤ length entry → PairsPut sheet f v entry at entry (record { cursor = cursor.End; at = at })
   pairs-last l room =
       record {
@@ -187,35 +185,37 @@ module _ (sheet : List ℕ) (f : Facts) (v : ℕ) (entry : List ℕ) (at : ℕ) 
       }
 
 module _ (sheet : List ℕ) (f : Facts) (opening lockout list : List ℕ) (v : ℕ) (entry : List ℕ) (at : ℕ) (exit : List ℕ) (r : Step) where
-  pub scores-went : CanStep sheet f opening lockout list (cursor.Scores v) → ScoresPut sheet f v entry at exit r
-      → StepTaken sheet f opening lockout list (cursor.Scores v) entry at list exit r
-  scores-went g w =
+  -- What is known at `here`, and what must be at the two places where the report may go on.
+  section-went : (here next behind : Cursor)
+      → ((s : Setup) → KnownAt sheet s f opening lockout list here → FactsOf sheet s f × (v ≤ s .count))
+      → ((s : Setup) → FactsOf sheet s f → v < s .count → KnownAt sheet s f opening lockout list next)
+      → ((s : Setup) → FactsOf sheet s f → KnownAt sheet s f opening lockout list behind)
+      → (v < f .count → stepsLeft (f .count) next < stepsLeft (f .count) here) → (f .count ≤ v → stepsLeft (f .count) behind < stepsLeft (f .count) here)
+      → SectionPut here next behind sheet f v entry at exit r → StepTaken sheet f opening lockout list here entry at list exit r
+  section-went here next behind known goes ends down away w =
       record {
-        part = λ s a. w .part s (a .0) (a .1);
+        part = λ s a. let k = known s a in w .part s (k .0) (k .1);
         here = λ s a.
-            let e = a .0 .isCount in
+            let k = known s a in
+            let e = k .0 .isCount in
             ⊎-elim
-            (λ b. subst (KnownAt sheet s f opening lockout list) (sym (w .more b)) (a .0, omega arith))
-            (λ b. subst (KnownAt sheet s f opening lockout list) (sym (w .last b)) (a .0, omega arith))
+            (λ b. subst (KnownAt sheet s f opening lockout list) (sym (w .more b)) (goes s (k .0) (omega arith)))
+            (λ b. subst (KnownAt sheet s f opening lockout list) (sym (w .last b)) (ends s (k .0)))
             (less-or v (f .count));
-        less = λ z.
-            let e = g .here .0 .isCount in
-            let m = g .here .0 .formed .most in
-            ⊎-elim (λ b. rw (w .more b) (omega arith)) (λ b. rw (w .last b) (omega arith)) (less-or v (f .count));
+        less = λ z. ⊎-elim (λ b. rw (w .more b) (down b)) (λ b. rw (w .last b) (away b)) (less-or v (f .count));
       }
 
+  pub scores-went : CanStep sheet f opening lockout list (cursor.Scores v) → ScoresPut sheet f v entry at exit r
+      → StepTaken sheet f opening lockout list (cursor.Scores v) entry at list exit r
+  scores-went g =
+      let e = g .here .0 .isCount in
+      let m = g .here .0 .formed .most in
+      section-went (cursor.Scores v) (cursor.Scores (v + 1)) (cursor.Pairs 0) (λ s a. a) (λ s h b. (h, omega arith)) (λ s h. (h, omega arith))
+      (λ b. omega arith) (λ b. omega arith)
+
   pub pairs-went : PairsPut sheet f v entry at exit r → StepTaken sheet f opening lockout list (cursor.Pairs v) entry at list exit r
-  pairs-went w =
-      record {
-        part = λ s a. w .part s (a .0) (a .1);
-        here = λ s a.
-            let e = a .0 .isCount in
-            ⊎-elim
-            (λ b. subst (KnownAt sheet s f opening lockout list) (sym (w .more b)) (a .0, omega arith))
-            (λ b. subst (KnownAt sheet s f opening lockout list) (sym (w .last b)) tt)
-            (less-or v (f .count));
-        less = λ z. ⊎-elim (λ b. rw (w .more b) (omega arith)) (λ b. rw (w .last b) (omega arith)) (less-or v (f .count));
-      }
+  pairs-went =
+      section-went (cursor.Pairs v) (cursor.Pairs (v + 1)) cursor.End (λ s a. a) (λ s h b. (h, omega arith)) (λ s h. tt) (λ b. omega arith) (λ b. omega arith)
 
 pub section-scores : (sheet : List ℕ) (f : Facts) (opening lockout list : List ℕ) (v : ℕ) (out : List ℕ) (at : ℕ)
     → CanStep sheet f opening lockout list (cursor.Scores v) → at + 4096 ≤ length out → CanPutSection sheet f v out at

@@ -75,12 +75,15 @@ pub record CanPutSection (sheet : List ℕ) (f : Facts) (v : ℕ) (out : List �
   pub most : v ≤ setup .count
   pub room : at + 4096 ≤ length out
 
-pub record ScoresPut (sheet : List ℕ) (f : Facts) (v : ℕ) (entry : List ℕ) (at : ℕ) (exit : List ℕ) (r : Step) : Type 0 where
-  pub part : (s : Setup) → FactsOf sheet s f → v ≤ s .count → Part entry at (scoresFrom (nameOf sheet) s v) (restOf (nameOf sheet) s (r .cursor)) exit (r .at)
-  pub more : v < f .count → r .cursor ≡ cursor.Scores (v + 1)
-  pub last : f .count ≤ v → r .cursor ≡ cursor.Pairs 0
+-- A step of such a section was taken: a part of what was left at `here` stands from `at` on. With a vertex v the report goes on at `next`, and
+-- behind the last vertex at `behind`.
+pub record SectionPut (here next behind : Cursor) (sheet : List ℕ) (f : Facts) (v : ℕ) (entry : List ℕ) (at : ℕ) (exit : List ℕ) (r : Step) : Type 0 where
+  pub part : (s : Setup) → FactsOf sheet s f → v ≤ s .count → Part entry at (restOf (nameOf sheet) s here) (restOf (nameOf sheet) s (r .cursor)) exit (r .at)
+  pub more : v < f .count → r .cursor ≡ next
+  pub last : f .count ≤ v → r .cursor ≡ behind
 
-pub record PairsPut (sheet : List ℕ) (f : Facts) (v : ℕ) (entry : List ℕ) (at : ℕ) (exit : List ℕ) (r : Step) : Type 0 where
-  pub part : (s : Setup) → FactsOf sheet s f → v ≤ s .count → Part entry at (pairsFrom (nameOf sheet) s v) (restOf (nameOf sheet) s (r .cursor)) exit (r .at)
-  pub more : v < f .count → r .cursor ≡ cursor.Pairs (v + 1)
-  pub last : f .count ≤ v → r .cursor ≡ cursor.End
+abbrev pub ScoresPut : List ℕ → Facts → ℕ → List ℕ → ℕ → List ℕ → Step → Type 0
+ScoresPut sheet f v = SectionPut (cursor.Scores v) (cursor.Scores (v + 1)) (cursor.Pairs 0) sheet f v
+
+abbrev pub PairsPut : List ℕ → Facts → ℕ → List ℕ → ℕ → List ℕ → Step → Type 0
+PairsPut sheet f v = SectionPut (cursor.Pairs v) (cursor.Pairs (v + 1)) cursor.End sheet f v

@@ -17,9 +17,9 @@ use Rattle.setup.specs.Setup.{Chosen, ChosenSet}
 use Rattle.formed.specs.WellFormed.{WellFormed}
 use Rattle.derivations.specs.Access.{HasAccess}
 use Rattle.families.specs.Inner.Family.{familyWords, masks, MinimalMembers, size}
-use Rattle.families.specs.Inner.Masks.{rank, Picked}
+use Rattle.families.specs.Inner.Masks.{placeAmong, Picked}
 use Rattle.families.specs.Inner.Exact.{FamilyOf}
-use Rattle.families.proofs.Exact.{Rising, rank-lt, minimal-on-chosen}
+use Rattle.families.proofs.Exact.{Rising, place-lt, minimal-on-chosen}
 use Rattle.family_lists.specs.Inner.Lists.{ListOf}
 use Rattle.family_lists.proofs.Order.{Words}
 use Rattle.family_lists.proofs.SetLists.{setsOf, list-of, length-sets-of}
@@ -44,15 +44,15 @@ module _ (s : Setup) (target initial : ℕ) (w : WellFormed s) (ch : ChosenSet f
   unfolding Picked Member
   picks-others m v l =
       record {
-        to = λ p. let e = digit-not 14 m (rank initial v) l (below (p .0)) in (p .0, λ q. absurd (let a = p .1 in let b = q .1 in omega arith));
+        to = λ p. let e = digit-not 14 m (placeAmong initial v) l (below (p .0)) in (p .0, λ q. absurd (let a = p .1 in let b = q .1 in omega arith));
         from = λ p.
-            let e = digit-not 14 m (rank initial v) l (below (p .0)) in
-            let z = not-member m (rank initial v) (λ k. p .1 (p .0, k)) in
+            let e = digit-not 14 m (placeAmong initial v) l (below (p .0)) in
+            let z = not-member m (placeAmong initial v) (λ k. p .1 (p .0, k)) in
             (p .0, omega arith);
       }
     where
-      below : Member initial v → rank initial v < 14
-      below k = lt-of-lt-of-le (rank-lt initial v k) (few false s initial w ch)
+      below : Member initial v → placeAmong initial v < 14
+      below k = lt-of-lt-of-le (place-lt initial v k) (few false s initial w ch)
 
   module _ (f g : List ℕ) (fam : FamilyOf initial (λ held. HasAccess (s .graph) held target) f) (d : Dual f g) where
     dual-family : FamilyOf initial Cuts g

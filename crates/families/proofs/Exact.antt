@@ -14,7 +14,7 @@ use Rattle.vertex_set.proofs.Sets.{member-below, within-le}
 use Rattle.vertex_set.proofs.Shifts.{in-low}
 use Rattle.vertex_set.proofs.Subsets.{minimal-below}
 use Rattle.families.specs.Inner.Family.{In, Monotone, Minimal, MinimalMembers}
-use Rattle.families.specs.Inner.Masks.{rank, Picked}
+use Rattle.families.specs.Inner.Masks.{placeAmong, Picked}
 use Rattle.families.specs.Inner.Exact.{OnChosen, FamilyOf}
 use Rattle.families.proofs.Families.{in-or, minimal-least}
 
@@ -38,9 +38,9 @@ above-minimal f g q m h i =
 
 -- ---- a mask's bits beyond the chosen vertices
 
-pub rank-lt : (c v : ℕ) → Member c v → rank c v < ones c
-unfolding rank Member
-rank-lt c v m =
+pub place-lt : (c v : ℕ) → Member c v → placeAmong c v < ones c
+unfolding placeAmong Member
+place-lt c v m =
     let a : ones c ≡ ones (c / 2 ^ v) + ones (c % 2 ^ v) = ap ones (sym (split c v)) ∙ ones-cat v (c / 2 ^ v) (c % 2 ^ v) (mod-lt c (pow-pos v)) in
     let b = ones-step (c / 2 ^ v) in
     omega arith
@@ -51,7 +51,7 @@ low-within m n = record { each = λ i k. in-low n i m (member-below n (m % 2 ^ n
 
 low-picked : (c m v : ℕ) → Picked c m v → Picked c (m % 2 ^ ones c) v
 unfolding Picked
-low-picked c m v p = (p .0, in-low (ones c) (rank c v) m (rank-lt c v (p .0)) .from (p .1))
+low-picked c m v p = (p .0, in-low (ones c) (placeAmong c v) m (place-lt c v (p .0)) .from (p .1))
 
 -- ---- families of a predicate
 
@@ -60,7 +60,7 @@ module _ (c : ℕ) (P : (ℕ → Type 0) → Type 0) (up : Rising P) (f : List �
   unfolding Picked
   family-monotone =
       record {
-        up = λ k m hk hm w i. e .each m hm .from (up (Picked c k) (Picked c m) (λ v p. (p .0, w .each (rank c v) (p .1))) (e .each k hk .to i));
+        up = λ k m hk hm w i. e .each m hm .from (up (Picked c k) (Picked c m) (λ v p. (p .0, w .each (placeAmong c v) (p .1))) (e .each k hk .to i));
       }
 
   module _ (g : List ℕ) (q : MinimalMembers f g) where

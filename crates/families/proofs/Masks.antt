@@ -16,23 +16,23 @@ use Rattle.vertex_set.proofs.Digits.{digit, digit-lt, digit-first, digit-suc}
 use Rattle.vertex_set.proofs.Sets.{member-below, none-in-zero, same-set}
 use Rattle.vertex_set.proofs.Places.{in-first, in-later, places, places-odd, places-even, places-none, lowest}
 use Rattle.vertex_set.proofs.Shifts.{low-first, low-half}
-use Rattle.families.specs.Inner.Masks.{rank, Picked, SetOfMask, MaskOf}
+use Rattle.families.specs.Inner.Masks.{placeAmong, Picked, SetOfMask, MaskOf}
 
 -- ---- ranks, by halves
 
-pub rank-zero : (c : ℕ) → rank c 0 ≡ 0
-unfolding rank ones
-rank-zero c = let e : c % 1 ≡ 0 = omega arith in rw e
+pub place-zero : (c : ℕ) → placeAmong c 0 ≡ 0
+unfolding placeAmong ones
+place-zero c = let e : c % 1 ≡ 0 = omega arith in rw e
 
-pub rank-suc : (c v : ℕ) → rank c (suc v) ≡ c % 2 + rank (c / 2) v
-unfolding rank
-rank-suc c v = ones-step (c % 2 ^ suc v) ∙ rw (low-first c v, low-half c v)
+pub place-suc : (c v : ℕ) → placeAmong c (suc v) ≡ c % 2 + placeAmong (c / 2) v
+unfolding placeAmong
+place-suc c v = ones-step (c % 2 ^ suc v) ∙ rw (low-first c v, low-half c v)
 
-rank-even : (c v : ℕ) → c % 2 ≡ 0 → rank c (suc v) ≡ rank (c / 2) v
-rank-even c v e = let r = rank-suc c v in omega arith
+place-even : (c v : ℕ) → c % 2 ≡ 0 → placeAmong c (suc v) ≡ placeAmong (c / 2) v
+place-even c v e = let r = place-suc c v in omega arith
 
-rank-odd : (c v : ℕ) → c % 2 ≡ 1 → rank c (suc v) ≡ suc (rank (c / 2) v)
-rank-odd c v e = let r = rank-suc c v in omega arith
+place-odd : (c v : ℕ) → c % 2 ≡ 1 → placeAmong c (suc v) ≡ suc (placeAmong (c / 2) v)
+place-odd c v e = let r = place-suc c v in omega arith
 
 ones-zero : ones 0 ≡ 0
 unfolding ones
@@ -64,20 +64,20 @@ by-parity c even odd = ⊎-elim odd (λ n. even (omega arith)) (same-or (c % 2) 
 picked-zero : (c m : ℕ) → Iff (Picked c m 0) ((c % 2 ≡ 1) × (m % 2 ≡ 1))
 unfolding Picked
 picked-zero c m =
-    rw (rank-zero c)
+    rw (place-zero c)
     (record { to = λ p. (in-first c .to (p .0), in-first m .to (p .1)); from = λ p. (in-first c .from (p .0), in-first m .from (p .1)) })
 
 picked-even : (c m v : ℕ) → c % 2 ≡ 0 → Iff (Picked c m (suc v)) (Picked (c / 2) m v)
 unfolding Picked
 picked-even c m v e =
-    rw (rank-even c v e)
+    rw (place-even c v e)
     (record { to = λ p. (in-later c v .to (p .0), p .1); from = λ p. (in-later c v .from (p .0), p .1) })
 
 picked-odd : (c m v : ℕ) → c % 2 ≡ 1 → Iff (Picked c m (suc v)) (Picked (c / 2) (m / 2) v)
 unfolding Picked
 picked-odd c m v e =
-    let l = in-later m (rank (c / 2) v) in
-    rw (rank-odd c v e)
+    let l = in-later m (placeAmong (c / 2) v) in
+    rw (place-odd c v e)
     (record { to = λ p. (in-later c v .to (p .0), l .to (p .1)); from = λ p. (in-later c v .from (p .0), l .from (p .1)) })
 
 pub in-spread : (k c m v : ℕ) → c < 2 ^ k → Iff (Member (spread k c m) v) (Picked c m v)
@@ -133,27 +133,27 @@ set-within c m x p = record { each = λ v i. p .each v .to i .0 }
 pub submask-subset : (c k m x y : ℕ) → SetOfMask c k x → SetOfMask c m y → Within k m → Within x y
 unfolding Picked
 submask-subset c k m x y p q w =
-    record { each = λ v i. let r = p .each v .to i in q .each v .from (r .0, w .each (rank c v) (r .1)) }
+    record { each = λ v i. let r = p .each v .to i in q .each v .from (r .0, w .each (placeAmong c v) (r .1)) }
 
 -- Every number below the number of chosen vertices is that of a chosen vertex.
-pub ranked : (k c j : ℕ) → c < 2 ^ k → j < ones c → (v : ℕ) × Member c v × (rank c v ≡ j)
-ranked zero c j h l = let e : c ≡ 0 = omega arith in absurd (omega (arith, ap ones e, ones-zero))
-ranked (suc k) c zero h l =
+pub placed : (k c j : ℕ) → c < 2 ^ k → j < ones c → (v : ℕ) × Member c v × (placeAmong c v ≡ j)
+placed zero c j h l = let e : c ≡ 0 = omega arith in absurd (omega (arith, ap ones e, ones-zero))
+placed (suc k) c zero h l =
     by-parity c
     (λ even.
     let pw = pow-suc 2 k in
-    let r = ranked k (c / 2) 0 (omega arith) (omega (arith, ones-step c)) in
-    (suc (r .0), in-later c (r .0) .from (r .1), rank-even c (r .0) even ∙ r .2))
-    (λ odd. (0, in-first c .from odd, rank-zero c))
-ranked (suc k) c (suc j) h l =
+    let r = placed k (c / 2) 0 (omega arith) (omega (arith, ones-step c)) in
+    (suc (r .0), in-later c (r .0) .from (r .1), place-even c (r .0) even ∙ r .2))
+    (λ odd. (0, in-first c .from odd, place-zero c))
+placed (suc k) c (suc j) h l =
     let pw = pow-suc 2 k in
     by-parity c
     (λ even.
-    let r = ranked k (c / 2) (suc j) (omega arith) (omega (arith, ones-step c)) in
-    (suc (r .0), in-later c (r .0) .from (r .1), rank-even c (r .0) even ∙ r .2))
+    let r = placed k (c / 2) (suc j) (omega arith) (omega (arith, ones-step c)) in
+    (suc (r .0), in-later c (r .0) .from (r .1), place-even c (r .0) even ∙ r .2))
     (λ odd.
-    let r = ranked k (c / 2) j (omega arith) (omega (arith, ones-step c)) in
-    (suc (r .0), in-later c (r .0) .from (r .1), rank-odd c (r .0) odd ∙ ap suc (r .2)))
+    let r = placed k (c / 2) j (omega arith) (omega (arith, ones-step c)) in
+    (suc (r .0), in-later c (r .0) .from (r .1), place-odd c (r .0) odd ∙ ap suc (r .2)))
 
 -- A subset's mask is a submask, if it has no bit beyond the chosen vertices.
 pub subset-submask : (c k m x y : ℕ) → c < 2 ^ 64 → k < 2 ^ ones c → SetOfMask c k x → SetOfMask c m y → Within x y → Within k m
@@ -161,7 +161,7 @@ unfolding Picked
 subset-submask c k m x y h l p q w =
     record {
       each = λ j i.
-          let r = ranked 64 c j h (member-below (ones c) k j l i) in
+          let r = placed 64 c j h (member-below (ones c) k j l i) in
           let a : Member x (r .0) = p .each (r .0) .from (r .1, subst (λ (n : ℕ). Member k n) (sym (r .2)) i) in
           subst (λ (n : ℕ). Member m n) (r .2) (q .each (r .0) .to (w .each (r .0) a) .1);
     }

@@ -14,23 +14,23 @@ use Rattle.vertex_set.specs.Set.{Member, Iff}
 use Rattle.vertex_set.proofs.Cases.{same-or, less-or}
 use Rattle.vertex_set.proofs.Decisions.{iff-trans}
 use Rattle.vertex_set.proofs.Sets.{shifted-one, none-in-zero, member-below}
-use Rattle.families.specs.Inner.Masks.{rank, Picked}
+use Rattle.families.specs.Inner.Masks.{placeAmong, Picked}
 use Rattle.family_words.specs.Inner.Words.{FamilyWhere}
 use Rattle.family_words.proofs.Families.{family-as}
 use Rattle.lanes.specs.Inner.Lanes.{Lane}
 use Rattle.tables.specs.Inner.Steps.{Started}
 use Rattle.tables.proofs.Parts.{put-length, lane-put, lane-kept}
 
-pub rank-le : (chosen v : ℕ) → rank chosen v ≤ v
-unfolding rank
-rank-le chosen v = ones-le v (chosen % 2 ^ v) (mod-lt chosen (pow-pos v))
+pub place-le : (chosen v : ℕ) → placeAmong chosen v ≤ v
+unfolding placeAmong
+place-le chosen v = ones-le v (chosen % 2 ^ v) (mod-lt chosen (pow-pos v))
 
--- a rank, as the machine counts it
-pub rank-counted : (chosen v : ℕ) → v < 64 → ones (chosen % ((1 * 2 ^ v) % 2 ^ 64)) ≡ rank chosen v
-unfolding rank
-rank-counted chosen v h = rw (shifted-one v h)
+-- a place, as the machine counts it
+pub place-counted : (chosen v : ℕ) → v < 64 → ones (chosen % ((1 * 2 ^ v) % 2 ^ 64)) ≡ placeAmong chosen v
+unfolding placeAmong
+place-counted chosen v h = rw (shifted-one v h)
 
-pub picked-family : (chosen v k : ℕ) (d : List ℕ) → Member chosen v → k ≡ rank chosen v → FamilyWhere (λ b i. Member (b * 64 + i) k) d
+pub picked-family : (chosen v k : ℕ) (d : List ℕ) → Member chosen v → k ≡ placeAmong chosen v → FamilyWhere (λ b i. Member (b * 64 + i) k) d
     → FamilyWhere (λ b i. Picked chosen (b * 64 + i) v) d
 unfolding Picked
 picked-family chosen v k d m e l =

@@ -4,7 +4,7 @@ ghost use mathlib.Core.Path.{_≡_};
 ghost use Prim.Native.Nat.{_+_, _*_, _<_};
 ghost use lib.ListN.{length};
 ghost use Rattle.derivations.specs.Both.{ruleOf};
-ghost use Rattle.families.specs.Inner.Masks.{rank, Picked};
+ghost use Rattle.families.specs.Inner.Masks.{placeAmong, Picked};
 ghost use Rattle.successors.specs.Inner.{VertexOf};
 ghost use Rattle.family_words.specs.Inner.Words.{FamilyWhere};
 ghost use Rattle.families.specs.Inner.Family.{familyWords};
@@ -73,7 +73,7 @@ fn users(needs: &[u64], v: usize) -> u64
 // The number of chosen vertices below v: for a chosen v, its bit in every mask.
 fn place_among(chosen: u64, v: usize) -> usize
     requires { ⌜ v < 64 ⌝ }
-    ensures { λ r. ⌜ r ≡ rank chosen v ⌝ }
+    ensures { λ r. ⌜ r ≡ placeAmong chosen v ⌝ }
 {
     let one: u64 = 1;
     u64::count_ones(chosen % (one << v)) as usize

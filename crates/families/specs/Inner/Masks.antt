@@ -5,12 +5,12 @@ use Rattle.vertex_set.specs.Set.{Member, Within, Iff}
 use Rattle.families.specs.Inner.Family.{masks}
 
 -- How many chosen vertices are below v: the number of v among them, if it is chosen.
-unfoldable pub rank : ℕ → ℕ → ℕ
-rank chosen v = ones (chosen % 2 ^ v)
+unfoldable pub placeAmong : ℕ → ℕ → ℕ
+placeAmong chosen v = ones (chosen % 2 ^ v)
 
 -- v is in the set that the mask m stands for.
 unfoldable pub Picked : ℕ → ℕ → ℕ → Type 0
-Picked chosen m v = Member chosen v × Member m (rank chosen v)
+Picked chosen m v = Member chosen v × Member m (placeAmong chosen v)
 
 -- The mask m stands for the set x.
 pub record SetOfMask (chosen m x : ℕ) : Type 0 where

@@ -79,9 +79,11 @@ loop-again c =
     let w = o .before .before in
     let v = w .before in
     let l = v .before .before .before .before in
-    let fits : i .insert .result .0 < 2 ^ 64 = search needs in
-    (l .loop .inv .0, reaching-take _ _ (l .loop .inv .0) _ _ _ (l .loop .inv .1) _ _ _ (v .lowest .ensures .vertex) (w .without .ensures) (o .lowest-colour .ensures) _ (i .insert .ensures)
-    (i .before .if3 .taken) (w .without .ok) (k .shared-slice-known2 .given (v .lowest .result) .fits) fits)
+    let fits : i .insert .result .0 < 2 ^ 64 = search needs in (
+      l .loop .inv .0,
+      reaching-take _ _ (l .loop .inv .0) _ _ _ (l .loop .inv .1) _ _ _ (v .lowest .ensures .vertex) (w .without .ensures) (o .lowest-colour .ensures) _ (i .insert .ensures)
+          (i .before .if3 .taken) (w .without .ok) (k .shared-slice-known2 .given (v .lowest .result) .fits) fits,
+    )
 
 loop-less-2 : tie.Need-loop-less-2 Inv-loop μ-loop
 loop-less-2 c = falls-left _ _ _ (c .before .before .before .without .ensures .less)

@@ -1,7 +1,6 @@
 -- Kinds tried in an order in which each tells of as many others as it can: those that get in, and those that do not, tell of all six.
 -- Assumes nothing.
 use mathlib.Core.Path.{_≡_, refl, sym, subst}
-use mathlib.Core.Bool.{Bool, true}
 use mathlib.Core.List.{List, [], _∷_}
 use mathlib.Core.Logic.{_⊎_, inl, inr, ⊎-elim}
 use Prim.Native.Nat.{ℕ, _+_, _<_}
@@ -12,12 +11,12 @@ use lib.Dec.{eqb, ltb}
 use lib.ListN.{getD}
 use Rattle.vertex_set.specs.Set.{Member, Within, Inserted, Iff}
 use Rattle.vertex_set.proofs.Sets.{none-in-zero, within-refl}
-use Rattle.vertex_set.proofs.Shifts.{all, all-at}
+use Rattle.vertex_set.proofs.Shifts.{all-at}
 use Rattle.setup.specs.declared.Graph.{Graph}
 use Rattle.derivations.specs.Access.{access}
 use Rattle.derivations.proofs.Rules.{monotone}
 use Rattle.derivations.proofs.Graphs.{access-lawful}
-use Rattle.attackers.specs.Inner.{BothAtMost, BothWeaker, Holds, Opens, Tells, Known, Lowest, LowestOpen}
+use Rattle.attackers.specs.Inner.{BothAtMost, Holds, Opens, Known, Lowest, LowestOpen}
 use Rattle.attackers.proofs.Table.{at-most-refl, at-most-le}
 use Rattle.attackers.proofs.Lowering.{both-trans, weaker-less}
 

@@ -2,7 +2,9 @@ pub mod Table
 pub mod Scans
 pub mod Sets
 pub mod Loops
+pub mod Reaching
 pub mod Lowering
+pub mod Trying
 pub mod Scores
 pub mod Calls
 pub mod Unique

@@ -1,50 +1,85 @@
--- What the loops over all vertices have found at their end, and what one closure tells.
+-- What the loops over the initial vertices have found, and what a kind's vertices open.
 -- Assumes nothing.
 use mathlib.Core.Path.{_≡_, sym, subst}
 use mathlib.Core.Bool.{Bool}
 use mathlib.Core.List.{List}
-use mathlib.Core.Logic.{⊎-elim}
+use mathlib.Core.Logic.{_⊎_, inl, inr, ⊎-elim}
 use Prim.Native.Nat.{ℕ, _^_, _≤_, _<_}
 use native.Mathlib.Omega.{arith}
 use lib.ListN.{getD}
-use Rattle.vertex_set.specs.Set.{Member, Decides}
+use Rattle.vertex_set.specs.Set.{Member, Within, Inserted, Decides, Iff}
 use Rattle.vertex_set.proofs.Cases.{less-or}
 use Rattle.vertex_set.proofs.Decisions.{decide-iff}
-use Rattle.vertex_set.proofs.Sets.{member-below}
+use Rattle.vertex_set.proofs.Sets.{member-below, none-in-zero, within-refl}
 use Rattle.setup.specs.declared.Graph.{Graph}
-use Rattle.derivations.specs.Access.{access}
-use Rattle.derivations.specs.Passes.{Passes}
+use Rattle.derivations.specs.Access.{access, HasAccess}
 use Rattle.derivations.proofs.Rules.{monotone}
 use Rattle.derivations.proofs.Graphs.{access-lawful}
-use Rattle.derivations.proofs.Passes.{passes-closure}
+use Rattle.successors.specs.Inner.{VertexOf, Without}
+use Rattle.successors.proofs.Members.{Passed, passed-none, passed-more, passed-all, left-within}
 use Rattle.attackers.specs.Inner.{BothAtMost, FitOver, Holds, HeldBy, Opens}
-use Rattle.attackers.proofs.Scans.{TakenBelow}
 
 module _ (kinds : List ℕ) (initial : ℕ) (word : initial < 2 ^ 64) where
   pub fit-done : ((i : ℕ) → i < 64 → Member initial i × (6 ≤ getD kinds i 0) → ⊥) → FitOver kinds initial
   fit-done none =
       record { each = λ v m. ⊎-elim (λ l. omega arith) (λ l. absurd (none v (member-below 64 initial v word m) (m, l))) (less-or (getD kinds v 0) 6) }
 
-  pub held-done : (t r : ℕ) → TakenBelow (Holds kinds initial t) 64 r → HeldBy kinds initial t r
-  held-done t r b =
-      record { each = λ v. record { to = λ m. b .each v .to m .1; from = λ h. b .each v .from (member-below 64 initial v word (h .0), h) } }
+-- ---- the vertices that a kind holds
 
--- a vertex's entry was read, and compared
-pub entry-holds : (kinds : List ℕ) (initial t v k : ℕ) (r : Bool) → k ≡ getD kinds v 0 → Member initial v → Decides (BothAtMost k t) r
-    → Decides (Holds kinds initial t v) r
-entry-holds kinds initial t v k r e m d =
-    decide-iff (record {
-      to = λ a. (m, subst (λ (j : ℕ). BothAtMost j t) e a);
-      from = λ h. subst (λ (j : ℕ). BothAtMost j t) (sym e) (h .1);
-    }) d
+-- r has the vertices of at most the kind t that are not left.
+pub record Holding (kinds : List ℕ) (initial t left r : ℕ) : Type 0 where
+  pub within : Within left initial
+  pub each : (v : ℕ) → Iff (Member r v) (Passed initial left v × BothAtMost (getD kinds v 0) t)
 
--- the target is in the closure of what is held
-pub opens-decided : (g : Graph) (kinds : List ℕ) (initial target t held n closed : ℕ) (r : Bool) → HeldBy kinds initial t held
-    → Passes (access g) n held closed → Decides (Member closed target) r → Decides (Opens g kinds initial target t) r
-opens-decided g kinds initial target t held n closed r h p d =
-    let c = passes-closure (access g) (access-lawful g) n held closed p in
+module _ (kinds : List ℕ) (initial t : ℕ) where
+  pub holding-none : Holding kinds initial t initial 0
+  holding-none =
+      record {
+        within = within-refl initial;
+        each = λ v. record { to = λ m. absurd (none-in-zero v m); from = λ p. absurd (passed-none initial v (p .0)) };
+      }
+
+  module _ (left r v rest : ℕ) (h : Holding kinds initial t left r) (p : VertexOf left v) (o : Without left v rest) where
+    passed : (u : ℕ) → Iff (Passed initial left u ⊎ (u ≡ v)) (Passed initial rest u)
+    passed = passed-more initial left v rest (h .within) (p .member) o
+
+    pub holding-more : (r′ : ℕ) → BothAtMost (getD kinds v 0) t → Inserted r v r′ → Holding kinds initial t rest r′
+    holding-more r′ b i =
+        record {
+          within = left-within initial left v rest (h .within) o;
+          each = λ u. record {
+            to = λ m. ⊎-elim (λ x. let q = h .each u .to x in (passed u .to (inl (q .0)), q .1))
+                (λ e. (passed u .to (inr e), subst (λ (x : ℕ). BothAtMost (getD kinds x 0) t) (sym e) b)) (i .taken (p .place) u .to m);
+            from = λ q. i .taken (p .place) u .from (⊎-elim (λ x. inl (h .each u .from (x, q .1))) (λ e. inr e) (passed u .from (q .0)));
+          };
+        }
+
+    pub holding-same : (BothAtMost (getD kinds v 0) t → ⊥) → Holding kinds initial t rest r
+    holding-same n =
+        record {
+          within = left-within initial left v rest (h .within) o;
+          each = λ u. record {
+            to = λ m. let q = h .each u .to m in (passed u .to (inl (q .0)), q .1);
+            from = λ q. ⊎-elim (λ x. h .each u .from (x, q .1)) (λ e. absurd (n (subst (λ (x : ℕ). BothAtMost (getD kinds x 0) t) e (q .1))))
+                (passed u .from (q .0));
+          };
+        }
+
+  pub holding-done : (left r : ℕ) → left ≡ 0 → Holding kinds initial t left r → HeldBy kinds initial t r
+  holding-done left r e h =
+      record {
+        each = λ v. record {
+          to = λ m. let q = h .each v .to m in (q .0 .0, q .1);
+          from = λ q. h .each v .from (passed-all initial left e v .from (q .0), q .1);
+        };
+      }
+
+-- what the held vertices open
+pub opens-decided : (g : Graph) (kinds : List ℕ) (initial target t held : ℕ) (r : Bool) → HeldBy kinds initial t held
+    → Decides (HasAccess g (Member held) target) r → Decides (Opens g kinds initial target t) r
+opens-decided g kinds initial target t held r h d =
     let more = monotone (access g) (access-lawful g) in
     decide-iff (record {
-      to = λ m. more (Member held) (Holds kinds initial t) (λ v. h .each v .to) target (c .each target .to m);
-      from = λ o. c .each target .from (more (Holds kinds initial t) (Member held) (λ v. h .each v .from) target o);
+      to = more (Member held) (Holds kinds initial t) (λ v. h .each v .to) target;
+      from = more (Holds kinds initial t) (Member held) (λ v. h .each v .from) target;
     }) d

@@ -163,7 +163,7 @@ module _ (s : Setup) (kinds : List ℕ) (target : ℕ) (w : WellFormed s) (fit :
       where
         to : (k : ℕ) → Member r k → InScore s kinds target k
         to k m =
-            let p = h .opens k m in
+            let p = h .is k m in
             score-lowest k .from (record {
               able = opens-iff k (p .0) .to (p .1);
               none = λ j b g l.
@@ -175,7 +175,7 @@ module _ (s : Setup) (kinds : List ℕ) (target : ℕ) (w : WellFormed s) (fit :
             let l = score-lowest k .to i in
             let b = score-small k i in
             let q = h .cover k b (opens-iff k b .from (l .able)) in
-            let o = h .opens (q .0) (q .1) in
+            let o = h .is (q .0) (q .1) in
             ⊎-elim (λ e. subst (Member r) e (q .1))
             (λ d. absurd (l .none (q .0) (o .0) (opens-iff (q .0) (o .0) .to (o .1)) (record { atMost = q .2 .is; other = d }))) (same-or (q .0) k)
 

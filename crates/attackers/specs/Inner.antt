@@ -1,6 +1,7 @@
 -- What the inner functions answer. Nothing of this has to be believed: the contract of the call does not cite it.
 use mathlib.Core.Path.{_≡_}
 use mathlib.Core.List.{List}
+use mathlib.Core.Logic.{_⊎_}
 use Prim.Native.Nat.{ℕ, _≤_, _<_}
 use lib.ListN.{getD}
 use Rattle.vertex_set.specs.Set.{Member, Iff}
@@ -35,14 +36,27 @@ pub record HeldBy (kinds : List ℕ) (initial t r : ℕ) : Type 0 where
 abbrev pub Opens : Graph → List ℕ → ℕ → ℕ → ℕ → Type 0
 Opens g kinds initial target t = HasAccess g (Holds kinds initial t) target
 
+-- The kind j tells of the kind t: it gets in and is at most t, or it does not and t is at most it.
+abbrev pub Tells : ℕ → ℕ → ℕ → ℕ → Type 0
+Tells able unable j t = (Member able j × BothAtMost j t) ⊎ (Member unable j × BothAtMost t j)
+
+-- Some kind tells of the kind t.
+pub record Known (able unable t : ℕ) : Type 0 where
+  pub attacker : ℕ
+  pub tells : Tells able unable attacker t
+
 -- Of the six kinds in the set, some is below k.
 pub record SomeWeaker (set k : ℕ) : Type 0 where
   pub attacker : ℕ
   pub member : Member set attacker
   pub weaker : BothWeaker attacker k
 
--- r has kinds whose vertices open the target, none of which has another such kind below; and below each of the six that does so there is one of r, or it is one.
-pub record LowestOpen (g : Graph) (kinds : List ℕ) (initial target r : ℕ) : Type 0 where
-  pub opens : (k : ℕ) → Member r k → (k < 6) × Opens g kinds initial target k
-  pub lowest : (k j : ℕ) → Member r k → Opens g kinds initial target j → BothWeaker j k → ⊥
-  pub cover : (j : ℕ) → j < 6 → Opens g kinds initial target j → (i : ℕ) × Member r i × BothAtMost i j
+-- r has kinds with the property, none of which has another such kind below; and below each of the six that has it there is one of r, or it is one.
+pub record Lowest (P : ℕ → Type 0) (r : ℕ) : Type 0 where
+  pub is : (k : ℕ) → Member r k → (k < 6) × P k
+  pub lowest : (k j : ℕ) → Member r k → P j → BothWeaker j k → ⊥
+  pub cover : (j : ℕ) → j < 6 → P j → (i : ℕ) × Member r i × BothAtMost i j
+
+-- r has the lowest kinds whose vertices open the target.
+abbrev pub LowestOpen : Graph → List ℕ → ℕ → ℕ → ℕ → Type 0
+LowestOpen g kinds initial target r = Lowest (Opens g kinds initial target) r

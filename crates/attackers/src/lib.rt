@@ -1,10 +1,12 @@
 // Who could get in (document 02, point 1; document 003: attackers). Of six kinds of attacker, the
-// lowest whose initial vertices open a target. No base is listed for it: at most six closures tell.
+// lowest whose initial vertices open a target. No base is listed for it: at most four searches tell.
 ghost use mathlib.Core.Path.{_≡_};
 ghost use lib.ListN.{getD};
-ghost use Rattle.vertex_set.specs.Set.{Decides};
+ghost use Rattle.vertex_set.specs.Set.{Member, Decides};
+ghost use Rattle.derivations.specs.Access.{HasAccess};
+ghost use Rattle.successors.specs.Inner.{Successors};
 ghost use Rattle.attackers.specs.Answers.{attackerNumber, attackerValues, AttackerCall};
-ghost use Rattle.attackers.specs.Inner.{BothAtMost, BothWeaker, FitOver, Holds, HeldBy, Opens, SomeWeaker, LowestOpen};
+ghost use Rattle.attackers.specs.Inner.{BothAtMost, BothWeaker, FitOver, HeldBy, Tells, Known, SomeWeaker, Lowest, LowestOpen};
 use setup::Graph;
 use setup::Setup;
 use vertex_set::VertexSet;
@@ -21,6 +23,9 @@ const AT_MOST: [[bool; 6]; 6] = [
     [false, false, false, false, true, true],
     [false, false, false, false, false, true],
 ];
+
+// The order in which the kinds are tried: one in the middle first, which tells of most others.
+const ORDER: [usize; 6] = [4, 1, 3, 0, 5, 2];
 
 pub enum AttackerAnswer {
     Attackers(u64),
@@ -64,38 +69,75 @@ fn entries_fit(kinds: &[u8], initial: VertexSet) -> bool
     true
 }
 
-// Is v one of the initial vertices, and its kind at most t?
-fn is_held(kinds: &[u8], initial: VertexSet, t: usize, v: usize) -> bool
-    ensures { λ r. ⌜ Decides (Holds (now (kinds .entry)) (initial .0) t v) r ⌝ }
-{
-    if initial.has(v) {
-        let kind = entry_of(kinds, v);
-        return at_most(kind, t);
-    }
-    false
-}
-
 // The initial vertices of at most the kind t.
 fn held_by(kinds: &[u8], initial: VertexSet, t: usize) -> VertexSet
     ensures { λ r. ⌜ HeldBy (now (kinds .entry)) (initial .0) t (r .0) ⌝ }
 {
     let mut held = VertexSet(0);
-    for v in 0..64usize {
-        if is_held(kinds, initial, t, v) {
+    let mut left = initial.0;
+    while left != 0 {
+        let v = successors::lowest(left);
+        left = successors::without(left, v);
+        let kind = entry_of(kinds, v);
+        if at_most(kind, t) {
             held = held.insert(v);
         }
     }
     held
 }
 
-// Do the initial vertices of at most the kind t open the target?
-fn gets_in(graph: Graph, kinds: &[u8], initial: VertexSet, target: usize, t: usize) -> bool
-    ensures { λ r. ⌜ Decides (Opens graph (now (kinds .entry)) (initial .0) target t) r ⌝ }
+// Does the set open the target? Vertices are taken in until the target is among them, or nothing is
+// left to look at. `list` has each vertex's successors.
+fn reaches(graph: Graph, list: &[u64], set: VertexSet, target: usize) -> bool
+    requires { ⌜ Successors graph (now list) ⌝ }
+    ensures { λ r. ⌜ Decides (HasAccess graph (Member (set .0)) target) r ⌝ }
 {
-    let held = held_by(kinds, initial, t);
-    let closed = closures::closure(false, graph, held);
-    let opened = closed.set;
-    opened.has(target)
+    let mut left = closures::to_look_at(list, VertexSet(0), set);
+    let mut held = set;
+    loop {
+        if held.has(target) {
+            return true;
+        }
+        if left == 0 {
+            return false;
+        }
+        let v = successors::lowest(left);
+        left = successors::without(left, v);
+        let rows = graph.rows[v];
+        if closures::lowest_colour(rows, held) < 8 {
+            held = held.insert(v);
+            // Of those not left, only a vertex that needs v can be opened now.
+            left = (left | list[v]) & !held.0;
+        }
+    }
+}
+
+// Does the kind j, if it was tried, tell of the kind t? Who is above one that gets in gets in, and
+// who is below one that does not does not.
+fn tells(able: VertexSet, unable: VertexSet, j: usize, t: usize) -> bool
+    ensures { λ r. ⌜ Decides (Tells (able .0) (unable .0) j t) r ⌝ }
+{
+    if able.has(j) {
+        if at_most(j, t) {
+            return true;
+        }
+    }
+    if unable.has(j) {
+        return at_most(t, j);
+    }
+    false
+}
+
+// Does some kind that was tried tell of the kind t?
+fn is_known(able: VertexSet, unable: VertexSet, t: usize) -> bool
+    ensures { λ r. ⌜ Decides (Known (able .0) (unable .0) t) r ⌝ }
+{
+    for j in 0..6usize {
+        if tells(able, unable, j, t) {
+            return true;
+        }
+    }
+    false
 }
 
 // Is one of the six kinds below another of them?
@@ -122,21 +164,45 @@ fn has_weaker(set: VertexSet, k: usize) -> bool
     false
 }
 
-// The lowest of the six kinds whose initial vertices open the target. A kind comes behind all that are
-// below it, and one that is above a kind that gets in is not tried: it gets in, and is not the lowest.
-fn lowest_kinds(graph: Graph, kinds: &[u8], initial: VertexSet, target: usize) -> VertexSet
-    ensures { λ r. ⌜ LowestOpen graph (now (kinds .entry)) (initial .0) target (r .0) ⌝ }
+// The lowest kinds of a set. A kind comes behind all that are below it, so that it is enough to
+// compare it with those that were kept.
+fn lowest_of(able: VertexSet) -> VertexSet
+    ensures { λ r. ⌜ Lowest (Member (able .0)) (r .0) ⌝ }
 {
     let mut found = VertexSet(0);
     for t in 0..6usize {
         if has_weaker(found, t) {
             continue;
         }
-        if gets_in(graph, kinds, initial, target, t) {
+        if able.has(t) {
             found = found.insert(t);
         }
     }
     found
+}
+
+// The lowest of the six kinds whose initial vertices open the target. A kind of which one that was
+// tried tells is not tried: four are tried at most, and two where nobody gets in.
+fn lowest_kinds(graph: Graph, kinds: &[u8], initial: VertexSet, target: usize) -> VertexSet
+    ensures { λ r. ⌜ LowestOpen graph (now (kinds .entry)) (initial .0) target (r .0) ⌝ }
+{
+    let mut list = [0u64; 64];
+    successors::fill(graph, &mut list);
+    let mut able = VertexSet(0);
+    let mut unable = VertexSet(0);
+    for place in 0..6usize {
+        let t = ORDER[place];
+        if is_known(able, unable, t) {
+            continue;
+        }
+        let held = held_by(kinds, initial, t);
+        if reaches(graph, &list, held, target) {
+            able = able.insert(t);
+        } else {
+            unable = unable.insert(t);
+        }
+    }
+    lowest_of(able)
 }
 
 // The target's score by kinds of attacker. `kinds` has one for each vertex; those of initial vertices

@@ -16,7 +16,8 @@ const CALLS: usize = 200;
 /// The kind on which the loop in place is at its best: two turns, whatever the chain's length.
 const IN_ORDER: &str = "chain with vertex order";
 
-fn opened(rows: &Rows, held: u64) -> bool {
+/// Has a vertex with these rows a complete colour?
+pub fn opened(rows: &Rows, held: u64) -> bool {
     rows.iter().any(|&row| row != 0 && row & !held == 0)
 }
 
@@ -31,7 +32,7 @@ pub fn successors(graph: &Graph) -> [u64; 64] {
 }
 
 /// The twin: the closure and its number of passes, by the steps of `closures::closure`.
-pub fn closure(graph: &Graph, set: u64) -> (u64, usize) {
+fn closure(graph: &Graph, set: u64) -> (u64, usize) {
     let list = successors(graph);
     let gained = |held: u64, grown: u64| members(grown & !held).fold(0, |all, f| all | list[f]);
     let (mut held, mut grown, mut passes) = (set, set, 0);

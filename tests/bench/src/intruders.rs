@@ -1,13 +1,13 @@
-//! The score by kinds of intruder: the proved call beside a twin that makes the same closures, and
+//! The score by kinds of intruder: the proved call beside a twin that makes the same searches, and
 //! beside a twin that makes the opening list and takes kinds from it.
 
-use crate::closing::closure;
+use crate::closing::{opened, successors};
 use crate::formed::{Whole, START};
 use crate::grid::{micros, ratio, Grid};
 use crate::kinds::{Kind, ROOM};
 use crate::targets::{at_most, smallest, Target};
 use crate::timing::in_turn;
-use crate::twin::{fill, members, minimal_members, write_sets, VERTICES, WORDS};
+use crate::twin::{fill, members, minimal_members, write_sets, Graph, VERTICES, WORDS};
 use crate::Rounds;
 use std::hint::black_box;
 
@@ -21,15 +21,17 @@ const AT_MOST: [[bool; 6]; 6] = [
     [false, false, false, false, false, true],
 ];
 
+/// The order in which the kinds are tried.
+const ORDER: [usize; 6] = [4, 1, 3, 0, 5, 2];
+
 /// Of a set of kinds, those that have no other of them below.
 fn lowest(able: u64) -> u64 {
     let weaker = |k: usize| members(able).any(|j| j != k && AT_MOST[j][k]);
     members(able).filter(|&k| !weaker(k)).fold(0, |set, k| set | 1 << k)
 }
 
-/// The questions 12, 13, 16 and 17.
-fn asked(words: &[u64], target: usize, kinds: &[u8]) -> Result<Whole, u64> {
-    let setup = Whole::asked(words).ok_or(12u64)?;
+/// The questions 13, 16 and 17 of a setup that question 12 has let pass.
+fn questions(setup: &Whole, target: usize, kinds: &[u8]) -> Result<(), u64> {
     if target >= setup.count {
         return Err(13);
     }
@@ -39,29 +41,53 @@ fn asked(words: &[u64], target: usize, kinds: &[u8]) -> Result<Whole, u64> {
     if members(setup.chosen(START)).any(|v| kinds[v] > 5) {
         return Err(17);
     }
-    Ok(setup)
+    Ok(())
 }
 
-/// The twin of the proved call: a kind above one that gets in is not tried.
-fn by_closures(words: &[u64], target: usize, kinds: &[u8]) -> Result<u64, u64> {
-    let setup = asked(words, target, kinds)?;
-    let initial = setup.chosen(START);
-    let opens = |t: usize| {
-        let held = members(initial).filter(|&v| AT_MOST[usize::from(kinds[v])][t]);
-        closure(&setup.graph, held.fold(0, |set, v| set | 1 << v)).0 >> target & 1 == 1
-    };
-    let mut found = 0;
-    for t in 0..6 {
-        if !members(found).any(|j| AT_MOST[j][t]) && opens(t) {
-            found |= 1 << t;
+/// Does the set open the target? Vertices are taken in until it is among them.
+fn reaches(graph: &Graph, list: &[u64; 64], set: u64, target: usize) -> bool {
+    let mut held = set;
+    let mut left = members(set).fold(0, |all, f| all | list[f]) & !set;
+    while held >> target & 1 == 0 {
+        if left == 0 {
+            return false;
+        }
+        let v = left.trailing_zeros() as usize;
+        left &= left - 1;
+        if opened(&graph[v], held) {
+            held |= 1 << v;
+            left = (left | list[v]) & !held;
         }
     }
-    Ok(found)
+    true
+}
+
+/// The twin of the proved call: a kind above one that gets in is not tried, nor one below one that
+/// does not.
+fn by_searches(words: &[u64], target: usize, kinds: &[u8]) -> Result<u64, u64> {
+    let setup = Whole::asked(words).ok_or(12u64)?;
+    questions(&setup, target, kinds)?;
+    let initial = setup.chosen(START);
+    let list = successors(&setup.graph);
+    let (mut able, mut unable) = (0, 0);
+    for t in ORDER {
+        if members(able).any(|j| AT_MOST[j][t]) || members(unable).any(|j| AT_MOST[t][j]) {
+            continue;
+        }
+        let held = members(initial).filter(|&v| AT_MOST[usize::from(kinds[v])][t]);
+        if reaches(&setup.graph, &list, held.fold(0, |set, v| set | 1 << v), target) {
+            able |= 1 << t;
+        } else {
+            unable |= 1 << t;
+        }
+    }
+    Ok(lowest(able))
 }
 
 /// The same from the opening list: a set's kind is the larger of each part.
 fn by_list(words: &[u64], target: usize, kinds: &[u8], sets: &mut [u64]) -> Result<u64, u64> {
-    let setup = asked(words, target, kinds)?;
+    let setup = Whole::asked(words).ok_or(12u64)?;
+    questions(&setup, target, kinds)?;
     let initial = setup.chosen(START);
     let mut table = [[0; WORDS]; VERTICES];
     fill::<false>(&setup.graph, initial, false, &mut table);
@@ -94,7 +120,7 @@ fn times(kind: &Kind, list: &[u8], rounds: usize) -> [f64; 3] {
                 black_box(proved(black_box(words), target, list));
             },
             &mut || {
-                black_box(by_closures(black_box(words), target, list)).ok();
+                black_box(by_searches(black_box(words), target, list)).ok();
             },
         ],
     );
@@ -118,7 +144,7 @@ const HEADS: [&str; 7] = [
 
 const NOTE: &str =
     "`portal_kinds` for the target with the longest lists. All three take the setup from the same words \
-     and ask 12, 13, 16 and 17. Proved and twin make the same closures and are called in turn; the third makes \
+     and ask 12, 13, 16 and 17. Proved and twin make the same searches and are called in turn; the third makes \
      the opening list by a table and takes kinds from its sets.";
 
 /// The score by kinds on each kind of sheet.
@@ -154,7 +180,7 @@ pub fn scores(kinds: &[Kind], rounds: &Rounds, targets: &mut Vec<Target>) -> Gri
 fn same_answers(kind: &Kind, list: &[u8]) {
     for target in members(u64::MAX >> (VERTICES - kind.setup.count)) {
         let score = proved(&kind.words, target, list);
-        assert_eq!(Ok(score), by_closures(&kind.words, target, list), "{}: {target}", kind.name);
+        assert_eq!(Ok(score), by_searches(&kind.words, target, list), "{}: {target}", kind.name);
     }
     let score = proved(&kind.words, kind.target, list);
     assert_eq!(Ok(score), by_list(&kind.words, kind.target, list, &mut [0; ROOM]), "{}", kind.name);

@@ -1,58 +1,64 @@
-use Rattle.attackers.proofs.Loops.{held-done}
 use borrow.Author.Needs.{needs}
-use native.Mathlib.Omega.{arith}
-use Prim.Native.Nat.{ℕ, _+_, _-_, _≤_}
-use mathlib.Core.Path.{_≡_, subst, sym}
-use mathlib.Core.Logic.{⊎-elim}
-use Rattle.vertex_set.specs.declared.VertexSet.{VertexSet}
-use Rattle.attackers.specs.Inner.{Holds}
-use Rattle.attackers.proofs.Scans.{TakenBelow, taken-none, taken-more, taken-same}
+use Prim.Native.Nat.{ℕ}
+use mathlib.Core.Path.{sym, subst}
+use Rattle.attackers.specs.Inner.{BothAtMost}
+use Rattle.attackers.proofs.Loops.{Holding, holding-none, holding-more, holding-same, holding-done}
 use Rattle.attackers.proofs.held_by.Statement.{statement}
 use Rattle.attackers.proofs.held_by.Tie as tie
 
--- held has the initial vertices below v whose kind is at most t.
+-- held has the vertices of at most the kind t that are not left.
 abbrev Inv-loop : tie.InvT-loop
-Inv-loop kinds initial t held₀ v₀ held v = (v ≤ 64) × TakenBelow (Holds kinds (initial .0) t) v (held .0)
+Inv-loop kinds t held₀ left₀ held left = Holding kinds left₀ t left (held .0)
 
 abbrev μ-loop : tie.MeasureT-loop
-μ-loop kinds initial t held₀ v₀ held v = 64 - v
+μ-loop kinds t held₀ left₀ held left = left
 
 loop-holds : tie.Need-loop-holds Inv-loop μ-loop
-loop-holds c = (omega arith, taken-none _)
+loop-holds c = holding-none _ _ _
 
-is-held-requires : tie.Need-is-held-requires Inv-loop μ-loop
-is-held-requires c κs = search needs
+lowest-requires : tie.Need-lowest-requires Inv-loop μ-loop
+lowest-requires c κs = search needs
+
+without-requires : tie.Need-without-requires Inv-loop μ-loop
+without-requires c κs = search needs
+
+entry-of-requires : tie.Need-entry-of-requires Inv-loop μ-loop
+entry-of-requires c κs = search needs
+
+at-most-requires : tie.Need-at-most-requires Inv-loop μ-loop
+at-most-requires c κs = search needs
 
 insert-requires : tie.Need-insert-requires Inv-loop μ-loop
 insert-requires c κs = search needs
 
-add-v : tie.Need-add-v Inv-loop μ-loop
-add-v c = search needs
-
 loop-less : tie.Need-loop-less Inv-loop μ-loop
-loop-less c = search needs
+loop-less c = c .before .before .before .before .without .ensures .less
 
 loop-again : tie.Need-loop-again Inv-loop μ-loop
 loop-again c =
-    let h = c .before in
-    let l = h .before .before in
-    let a = l .before .before .args in
-    let P : ℕ → Type 0 = Holds (a .kinds .now) (a .initial .0) (a .t) in (
-      omega arith,
-      ⊎-elim
-          (λ w. subst (λ (x : VertexSet). TakenBelow P (l .loop .v + 1) (x .0)) (sym (w .2))
-          (taken-more P (l .loop .v) (l .loop .held .0) (l .loop .inv .1) (w .1 .result .0) (omega arith) (h .is-held .ensures .yes (w .0 .taken)) (w .1 .ensures)))
-          (λ w. subst (λ (x : VertexSet). TakenBelow P (l .loop .v + 1) (x .0)) (sym (w .1))
-          (taken-same P (l .loop .v) (l .loop .held .0) (l .loop .inv .1) (h .is-held .ensures .no (w .0 .left))))
-          (c .if1 .came),
-    )
+    let b = c .before .before in
+    let e = b .before in
+    let w = e .before in
+    let v = w .before in
+    let l = v .before .before in
+    holding-more _ _ _ _ _ _ _ (l .loop .inv) (v .lowest .ensures .vertex) (w .without .ensures) _
+    (subst (λ (k : ℕ). BothAtMost k (l .before .before .args .t)) (e .entry-of .ensures) (b .at-most .ensures .yes (c .before .if1 .taken))) (c .insert .ensures)
+
+loop-less-2 : tie.Need-loop-less-2 Inv-loop μ-loop
+loop-less-2 c = c .before .before .before .without .ensures .less
+
+loop-again-2 : tie.Need-loop-again-2 Inv-loop μ-loop
+loop-again-2 c =
+    let b = c .before in
+    let e = b .before in
+    let w = e .before in
+    let v = w .before in
+    let l = v .before .before in
+    holding-same _ _ _ _ _ _ _ (l .loop .inv) (v .lowest .ensures .vertex) (w .without .ensures)
+    (λ h. b .at-most .ensures .no (c .if1 .left) (subst (λ (k : ℕ). BothAtMost k (l .before .before .args .t)) (sym (e .entry-of .ensures)) h))
 
 returns : tie.Need-returns Inv-loop μ-loop
-returns c =
-    let l = c .before in
-    let a = l .before .before .args in
-    let e : l .loop .v ≡ 64 = omega arith in
-    held-done (a .kinds .now) (a .initial .0) (search needs) (a .t) (l .loop .held .0) (rw e at (l .loop .inv .1))
+returns c = holding-done _ _ _ _ _ (c .loop-test .left) (c .before .loop .inv)
 
 pub held-by-spec : {M : Type 1} → statement M
 held-by-spec =
@@ -61,9 +67,13 @@ held-by-spec =
     Inv-loop
     μ-loop
     loop-holds
-    is-held-requires
+    lowest-requires
+    without-requires
+    entry-of-requires
+    at-most-requires
     insert-requires
-    add-v
     loop-less
     loop-again
+    loop-less-2
+    loop-again-2
     returns)

@@ -16,14 +16,17 @@
  *              portal_next_opening           the next of the smallest sets that open an item, while the setup may change
  *              portal_setup_score, portal_setup_risk
  *              portal_mark_openings, portal_mark_lockouts
+ *              portal_hand_in                a student's attempt, marked and kept in the class register
  *              portal_backdoor, portal_idle, portal_out_of_rank
+ *   records    portal_withdraw               a student's records taken out of the class register
  *
  * Every call takes any input. It answers, or it refuses with exactly one number (enum portal_number), and its contract, which
  * is proved, says for every input what is returned and how every lent place ends (docs/INDEX.md leads from each call to it).
  *
  * Results. A result is a struct of plain numbers. Its first field is `number`: 0 for an answer, else that of the refusal. The
  * other fields have the answer's values; a field that the answer has no value for is 0, so all of them are after a refusal.
- * (portal_reading's line is the exception that document 01 asks for: a refused sheet has a line.)
+ * (portal_reading's line is the exception that document 01 asks for: a refused sheet has a line. portal_registered's count is
+ * that of document 02: it comes back from a refusal as it was given.)
  *
  * Lent places. A slice is a pointer and the count of its places. A pointer may be null where the count is 0, and nowhere else.
  * It is aligned as its type is. Memory that a call may write to overlaps nothing else that the same call is given. A refused
@@ -42,6 +45,7 @@
 #ifndef GEMZULEG_PORTAL_H
 #define GEMZULEG_PORTAL_H
 
+#include <stdbool.h>
 #include <stddef.h>
 #include <stdint.h>
 
@@ -51,9 +55,9 @@ extern "C" {
 
 /* ---- version ---- */
 
-/* 2.4.0 is 20400: the last two parts have two digits each. The first part changes where a call or a struct does, the second
+/* 2.5.0 is 20500: the last two parts have two digits each. The first part changes where a call or a struct does, the second
  * where one is new. */
-#define PORTAL_VERSION 20400
+#define PORTAL_VERSION 20500
 
 /* The version of the library. A program that was compiled with another one's header sees PORTAL_VERSION differ from it. */
 uint64_t portal_version(void);
@@ -63,9 +67,9 @@ uint64_t portal_version(void);
 /* The score of an item that no set opens, and the risk of an item that no loss shuts: "never", above every number. */
 #define PORTAL_NEVER (UINT64_C(1) << 62)
 
-/* Bytes of stack: for a call that asks all subsets of the starting or losable items, which scores, lists, the next opening set
- *, next sets and findings do; for one that marks a handed-in list; and for the others (portal_version, _read, _name, _check, _closure,
- * _lost, _way_in, _opens, _forecast, _kinds). */
+/* Bytes of stack: for a call that asks all subsets of the starting or losable items, which scores, lists, next sets and findings
+ * do; for one that marks a handed-in list, which portal_hand_in does; and for the others (portal_version, _read, _name, _check,
+ * _closure, _lost, _way_in, _opens, _forecast, _kinds, _withdraw). */
 #define PORTAL_STACK ((size_t)256 * 1024)
 #define PORTAL_STACK_MARKS ((size_t)512 * 1024)
 #define PORTAL_STACK_SMALL ((size_t)128 * 1024)
@@ -92,7 +96,11 @@ enum portal_number {
     PORTAL_SHORT = 15,
     PORTAL_KINDS_LENGTH = 16,
     PORTAL_NO_KIND = 17,
-    PORTAL_STRANGER = 21
+    PORTAL_STRANGER = 21,
+    /* of a call on the class register */
+    PORTAL_OVERFULL = 25,
+    PORTAL_ALL_USED = 26,
+    PORTAL_NO_RECORD = 27
 };
 
 /* What a refusal says, in a sentence that lives as long as the program; "answered" for 0. */
@@ -118,6 +126,9 @@ static inline const char *portal_refusal_text(uint64_t number)
     case PORTAL_KINDS_LENGTH: return "the list of kinds has not one entry for each item";
     case PORTAL_NO_KIND: return "the entry of a starting item is none of the six kinds";
     case PORTAL_STRANGER: return "the last set shown has an item that is not a starting one";
+    case PORTAL_OVERFULL: return "the used count is above the slice's length";
+    case PORTAL_ALL_USED: return "a new record is needed, and all are used";
+    case PORTAL_NO_RECORD: return "the student to withdraw has no record";
     default: return "a number that this version does not have";
     }
 }
@@ -262,6 +273,28 @@ struct portal_finding {
     uint64_t yes;
 };
 
+/*
+ * An attempt in the class register: whose it is, at which target, and by which way, 0 for its opening list and 1 for its lockout
+ * list; then the marks. The caller lends a slice of them, the used ones first, and keeps their count. What stands behind the used
+ * ones is the caller's. A record may have any numbers: one with another way is used as any other, and none that portal_hand_in replaces.
+ */
+struct portal_record {
+    uint64_t student;
+    uint64_t target;
+    uint64_t way;
+    uint64_t right;
+    uint64_t repeated;
+    uint64_t shut;
+    uint64_t loose;
+    uint64_t missing;
+};
+
+/* How many records are used now; after a refusal as many as before. */
+struct portal_registered {
+    uint64_t number;
+    size_t used;
+};
+
 /* Is this a full mark: no set is repeated, shut, loose or missing? */
 static inline int portal_is_full(struct portal_marks marks)
 {
@@ -399,6 +432,15 @@ struct portal_marks portal_mark_openings(const uint64_t *setup, size_t words, ui
 /* Marks for handed-in lockout sets, likewise. Refused with 12, 13. */
 struct portal_marks portal_mark_lockouts(const uint64_t *setup, size_t words, uint64_t target, const uint64_t *sets, size_t count);
 
+/*
+ * Hands in sets as a student's attempt at the target's opening list, or with `lock` at its lockout list. They are marked, and the
+ * attempt's record takes the place of the first used one with the same student, target and way; where there is none, it goes behind the
+ * used ones. No other record changes. Refused with 25, 12, 13, and 26 where a new record is needed and all are used.
+ */
+struct portal_registered portal_hand_in(const uint64_t *setup, size_t words, struct portal_record *records, size_t places,
+                                        size_t used, uint64_t student, uint64_t target, bool lock,
+                                        const uint64_t *sets, size_t count);
+
 /* Is recovery a backdoor to the item: is its score below that without recovery (PORTAL_RECOVERY)? Refused with 12, 13. */
 struct portal_finding portal_backdoor(const uint64_t *setup, size_t words, uint64_t item);
 
@@ -407,6 +449,14 @@ struct portal_finding portal_idle(const uint64_t *setup, size_t words, uint64_t 
 
 /* Out of rank: is `above` of higher rank than `below`, and its score at most that of `below`? Refused with 12, 13. */
 struct portal_finding portal_out_of_rank(const uint64_t *setup, size_t words, uint64_t above, uint64_t below);
+
+/* ---- calls on the class register ---- */
+
+/*
+ * Withdraws a student: all of the student's used records are removed and the gaps closed, the order kept. Places that this frees at
+ * the end keep what stood in them before the call. Refused with 25, 27.
+ */
+struct portal_registered portal_withdraw(struct portal_record *records, size_t places, size_t used, uint64_t student);
 
 #ifdef __cplusplus
 }

@@ -11,9 +11,10 @@ import sys
 from pathlib import Path
 
 ROOT = Path(__file__).resolve().parent.parent
-FEWEST = {"calls": 22, "structs": 15, "refusals": 18}
-SLICES = {"&[u8]": "const uint8_t *", "&mut [u8]": "uint8_t *", "&[u64]": "const uint64_t *", "&mut [u64]": "uint64_t *"}
-SCALARS = {"u64": "uint64_t", "u8": "uint8_t", "bool": "bool"}
+FEWEST = {"calls": 24, "structs": 17, "refusals": 21}
+SLICES = {"&[u8]": "const uint8_t *", "&mut [u8]": "uint8_t *", "&[u64]": "const uint64_t *", "&mut [u64]": "uint64_t *",
+          "&mut [Record]": "struct portal_record *"}
+SCALARS = {"u64": "uint64_t", "u8": "uint8_t", "bool": "bool", "usize": "size_t"}
 
 
 def read(path):
@@ -21,8 +22,13 @@ def read(path):
 
 
 def snake(name):
-    """PortalSetupScore is struct portal_setup_score in C."""
+    """SetupScore is setup_score in C."""
     return re.sub(r"(?<!^)(?=[A-Z])", "_", name).lower()
+
+
+def struct(name):
+    """PortalSetupScore is struct portal_setup_score in C; Record, of a crate below the portal's, is struct portal_record."""
+    return "portal_" + snake(name).removeprefix("portal_")
 
 
 def parts(text):
@@ -39,18 +45,18 @@ def calls_of(source):
                 wanted += [(SLICES[kind], word), ("size_t", None)]
             else:
                 wanted.append((SCALARS[kind], word))
-        yield name, SCALARS.get(result) or f"struct {snake(result)}", wanted
+        yield name, SCALARS.get(result) or f"struct {struct(result)}", wanted
 
 
 def structs_of(source):
     for name, fields in re.findall(r"^#\[repr\(C\)\]\npub struct (\w+) \{\n(.*?)^\}", source, re.M | re.S):
         pairs = (field.split(":") for field in parts(fields))
-        yield snake(name), [(SCALARS[kind.strip()], word.strip().removeprefix("pub ")) for word, kind in pairs]
+        yield struct(name), [(SCALARS[kind.strip()], word.strip().removeprefix("pub ")) for word, kind in pairs]
 
 
 def declared(text):
     """A C declaration's type and name."""
-    return re.fullmatch(r"((?:const )?\w+ \*?|struct \w+ )(\w+)", text).groups()
+    return re.fullmatch(r"((?:const |struct )?\w+ \*?)(\w+)", text).groups()
 
 
 def prototypes(header):
@@ -92,7 +98,7 @@ for name in sorted(offered.keys() | shown.keys()):
     faults += [f"{name} is not in {where}" for where, page in (("README.md", readme), ("man/portal.3", manual)) if not re.search(rf"\b{name}\b", page)]
 
 # structs
-made = {name: fields for source in sources.values() for name, fields in structs_of(source)}
+made = {name: fields for source in [*sources.values(), read("crates/records/src/lib.rt")] for name, fields in structs_of(source)}
 laid = {
     name: [declared(" ".join(field.split())) for field in fields.split(";") if field.strip()]
     for name, fields in re.findall(r"^struct (\w+) \{\n(.*?)^\};", header, re.M | re.S)
@@ -107,6 +113,8 @@ wrapped = {
     f"portal_{snake(name)}": ["number", *re.findall(r"^        (\w+),$", fields, re.M)]
     for name, fields in re.findall(r"^    (\w+) \{\n(.*?)^    \}$", read("tests/product/src/results.rs"), re.M | re.S)
 }
+plain = re.findall(r"^pub struct (\w+) \{\n(.*?)^\}", read("tests/product/src/results.rs"), re.M | re.S)
+wrapped |= {struct(name): re.findall(r"^    pub (\w+):", fields, re.M) for name, fields in plain}
 for name, fields in made.items():
     if wrapped.get(name) != [word for _, word in fields]:
         faults.append(f"struct {name}: the source has {fields}, tests/product {wrapped.get(name)}")

@@ -361,6 +361,65 @@ static void try_mark_lockouts(void)
     expect("no full marks", (uint64_t)portal_is_full(portal_mark_lockouts(setup, WORDS, 5, handed, 2)), 0);
 }
 
+/* An afternoon on SHEET: places for three records. */
+static void try_hand_in(void)
+{
+    const uint64_t openings[2] = { ORDPW + TOKEN, MAILPW }, one[1] = { MAILPW }, lockouts[2] = { MAILPW + TOKEN, ORDPW + MAILPW };
+    struct portal_record r[3];
+    memset(r, 0x5a, sizeof r);
+    const struct portal_record before = r[0];
+    struct portal_registered a = portal_hand_in(setup, WORDS, r, 3, 0, 7, ORDER_ITEM, false, openings, 2);
+    expect("handed in", a.number, 0);
+    expect("one record", a.used, 1);
+    expect("whose", r[0].student, 7);
+    expect("at which target", r[0].target, ORDER_ITEM);
+    expect("open", r[0].way, 0);
+    expect("full marks", r[0].right == 2 && r[0].repeated + r[0].shut + r[0].loose + r[0].missing == 0, 1);
+    expect("the record behind", (uint64_t)memcmp(&r[1], &before, sizeof before), 0);
+    a = portal_hand_in(setup, WORDS, r, 3, a.used, 8, ORDER_ITEM, false, one, 1);
+    expect("another student", a.used, 2);
+    a = portal_hand_in(setup, WORDS, r, 3, a.used, 7, ORDER_ITEM, true, lockouts, 2);
+    expect("the other way", a.used, 3);
+    expect("lock", r[2].way, 1);
+    a = portal_hand_in(setup, WORDS, r, 3, a.used, 7, ORDER_ITEM, false, one, 1);
+    expect("replaced, though all are used", a.number, 0);
+    expect("no record more", a.used, 3);
+    expect("the latest, not the better", r[0].right, 1);
+    expect("one is missing", r[0].missing, 1);
+    a = portal_hand_in(setup, WORDS, r, 3, 3, 9, ORDER_ITEM, false, one, 1);
+    expect("all are used", a.number, PORTAL_ALL_USED);
+    expect("all are used, as many", a.used, 3);
+    a = portal_hand_in(malformed, WORDS, r, 3, 4, 9, 5, false, NULL, 0);
+    expect("more used than there are", a.number, PORTAL_OVERFULL);
+    expect("more used, as many", a.used, 4);
+    expect("no setup", portal_hand_in(malformed, WORDS, r, 3, 3, 9, 5, false, NULL, 0).number, PORTAL_NO_SETUP);
+    expect("no target", portal_hand_in(setup, WORDS, r, 3, 3, 9, 5, false, NULL, 0).number, PORTAL_NO_ITEM);
+    expect("no place at all", portal_hand_in(setup, WORDS, NULL, 0, 0, 9, ORDER_ITEM, false, one, 1).number, PORTAL_ALL_USED);
+    expect("still the first", r[0].student, 7);
+    expect("still the second", r[1].student, 8);
+    expect("still the third", r[2].way, 1);
+}
+
+static void try_withdraw(void)
+{
+    struct portal_record r[4];
+    memset(r, 0, sizeof r);
+    for (uint64_t i = 0; i < 4; i++) {
+        r[i].student = i == 1 ? 8 : 7;
+        r[i].target = i;
+    }
+    expect("no record", portal_withdraw(r, 4, 3, 9).number, PORTAL_NO_RECORD);
+    expect("no record, as many", portal_withdraw(r, 4, 3, 9).used, 3);
+    expect("too many used", portal_withdraw(r, 4, 5, 7).number, PORTAL_OVERFULL);
+    expect("nobody to withdraw", portal_withdraw(NULL, 0, 0, 7).number, PORTAL_NO_RECORD);
+    struct portal_registered a = portal_withdraw(r, 4, 3, 7);
+    expect("withdrawn", a.number, 0);
+    expect("one is left", a.used, 1);
+    expect("it moved up", r[0].target, 1);
+    expect("a freed place keeps its record", r[1].target == 1 && r[2].target == 2, 1);
+    expect("behind the used ones", r[3].target, 3);
+}
+
 /* SHEET's setup, with the token's edge marked alone of the order account's colour 0, and colour 1 needing `second`, unmarked. */
 static void mix_colour(uint64_t words[WORDS], uint64_t second)
 {
@@ -420,6 +479,8 @@ static const struct call {
     { "portal_setup_risk", PORTAL_STACK, try_setup_risk },
     { "portal_mark_openings", PORTAL_STACK_MARKS, try_mark_openings },
     { "portal_mark_lockouts", PORTAL_STACK_MARKS, try_mark_lockouts },
+    { "portal_hand_in", PORTAL_STACK_MARKS, try_hand_in },
+    { "portal_withdraw", PORTAL_STACK_SMALL, try_withdraw },
     { "portal_backdoor", PORTAL_STACK, try_backdoor },
     { "portal_idle", PORTAL_STACK, try_idle },
     { "portal_out_of_rank", PORTAL_STACK, try_out_of_rank },

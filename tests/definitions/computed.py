@@ -26,6 +26,8 @@ FIRST = {
     "cut_sets": ["cuts-"],
     "attackers": ["attacker-"],
     "next_sets": ["next-"],
+    "records": ["record-"],
+    "register": ["register-"],
     "sheet_format/Names": ["name-", "line-"],
     "sheet_format": ["reads-alone", "reads-loop", "reads-pair", "refuses-", "passes-", "renders", "decimal-", "no-fields"],
     "findings": ["finding-"],

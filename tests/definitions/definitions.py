@@ -4,14 +4,18 @@ A record is the conjunction of its fields, in order; `→` is `implies`, `⊎` i
 runs over a finite part of them, the `world` of an example, which examples.py makes wide enough: beyond the setup's own vertices and colours
 there are others. Definitions that compute stand in executables.py.
 """
+import itertools
+
 from executables import *
 
 
 class World:
-    """What quantifiers range over: vertices, colours, sets of vertices, and lists of sets."""
+    """What quantifiers range over: vertices, colours, sets of vertices, and lists of sets; records, and attempts."""
 
-    def __init__(self, vertices, colours, sets, lists):
+    def __init__(self, vertices, colours, sets, lists, records=(), attempts=()):
         self.vertices, self.colours, self.sets, self.lists = vertices, colours, sets, lists
+        # of the class register: times are as many as calls are made, and one more
+        self.records, self.attempts, self.times = records, attempts, range(7)
 
 
 world = World(range(8), range(9), range(64), [])
@@ -690,6 +694,181 @@ def MarksCall(loss, s, target, handed, number, values):
         and Iff(Full(*values[1:]), IsBaseOnce(loss, s, s.graph, target, handed)),
     )
     return malformed and noTarget and answers
+
+
+# ---- records/Records
+
+
+def RecordOf(s, student, target, loss, handed, r):
+    isStudent = r.student == student
+    isTarget = r.target == target
+    isWay = r.way == wayNumber(loss)
+    if not (isStudent and isTarget and isWay):
+        return False
+    key = ("record", mark(s), target, loss, tuple(handed), r)
+    if key not in cache:
+        counts = Counts(loss, s, s.graph, target, handed, r.right, r.repeated, r.shut, r.loose, r.missing)
+        full = Iff(Full(r.repeated, r.shut, r.loose, r.missing), IsBaseOnce(loss, s, s.graph, target, handed))
+        cache[key] = counts and full
+    return cache[key]
+
+
+# ---- register/Calls
+
+
+def CallRefused(q, used, a, entry, exit):
+    answer = a == Registered(q, used)
+    untouched = exit == entry
+    return answer and untouched
+
+
+def RegisterLeft(w, a, entry, exit):
+    answer = a == Registered(0, len(w))
+    written = exit == w + entry[len(w):]
+    return answer and written
+
+
+def TakesRecord(n, used, a, entry, exit):
+    full = implies(lambda: hasThree(n, entry[:used]) == False and used == len(entry), lambda: CallRefused(26, used, a, entry, exit))
+    room = implies(lambda: hasThree(n, entry[:used]) == True or used < len(entry), lambda: RegisterLeft(withRecord(n, entry[:used]), a, entry, exit))
+    return full and room
+
+
+def HandInCall(s, used, student, target, loss, handed, a, entry, exit):
+    overfull = implies(lambda: len(entry) < used, lambda: CallRefused(25, used, a, entry, exit))
+    malformed = implies(lambda: used <= len(entry) and not WellFormed(s), lambda: CallRefused(12, used, a, entry, exit))
+    noTarget = implies(lambda: used <= len(entry) and WellFormed(s) and s.count <= target, lambda: CallRefused(13, used, a, entry, exit))
+    answers = implies(
+        lambda: used <= len(entry) and WellFormed(s) and target < s.count,
+        lambda: any(RecordOf(s, student, target, loss, handed, n) and TakesRecord(n, used, a, entry, exit) for n in world.records),
+    )
+    return overfull and malformed and noTarget and answers
+
+
+def WithdrawCall(used, student, a, entry, exit):
+    overfull = implies(lambda: len(entry) < used, lambda: CallRefused(25, used, a, entry, exit))
+    none = implies(lambda: used <= len(entry) and hasStudent(student, entry[:used]) == False, lambda: CallRefused(27, used, a, entry, exit))
+    answers = implies(
+        lambda: used <= len(entry) and hasStudent(student, entry[:used]) == True, lambda: RegisterLeft(without(student, entry[:used]), a, entry, exit)
+    )
+    return overfull and none and answers
+
+
+# ---- register/Afternoon
+
+
+def MeetsCall(s, call, used, entry, a, exit):
+    kind, x = call
+    if kind == "HandIn":
+        return HandInCall(s, used, x.student, x.target, x.loss, x.handed, a, entry, exit)
+    return WithdrawCall(used, x, a, entry, exit)
+
+
+def Afternoon(s, slice_, log):
+    if not log:
+        return True
+    m, earlier = log[0], log[1:]
+    return MeetsCall(s, m.call, usedAfter(earlier), sliceAfter(slice_, earlier), m.answer, m.exit) and Afternoon(s, slice_, earlier)
+
+
+def IsHandIn(call, x):
+    kind, y = call
+    return kind == "HandIn" and y == x
+
+
+def IsWithdrawal(call, k):
+    kind, j = call
+    return kind == "Withdraw" and j == k
+
+
+def HandedIn(log, t, x):
+    if not log:
+        return False
+    m, earlier = log[0], log[1:]
+    return (t == len(earlier) and m.answer.number == 0 and IsHandIn(m.call, x)) or HandedIn(earlier, t, x)
+
+
+def Withdrawn(log, t, k):
+    if not log:
+        return False
+    m, earlier = log[0], log[1:]
+    return (t == len(earlier) and m.answer.number == 0 and IsWithdrawal(m.call, k)) or Withdrawn(earlier, t, k)
+
+
+def Stands(log, t, x):
+    handed = HandedIn(log, t, x)
+    since = all(implies(lambda: Withdrawn(log, u, x.student), lambda: u < t) for u in world.times)
+    return handed and since
+
+
+def SameAttempt(x, y):
+    student = x.student == y.student
+    target = x.target == y.target
+    way = x.loss == y.loss
+    return student and target and way
+
+
+def First(P, t, x):
+    stands = P(t, x)
+    first = all(implies(lambda: P(u, y) and SameAttempt(y, x), lambda: t <= u) for u in world.times for y in world.attempts)
+    return stands and first
+
+
+def Latest(P, t, x):
+    stands = P(t, x)
+    latest = all(implies(lambda: P(u, y) and SameAttempt(y, x), lambda: u <= t) for u in world.times for y in world.attempts)
+    return stands and latest
+
+
+def Entry(s, P, t, r):
+    return any(
+        First(P, t, first)
+        and SameAttempt(latest, first)
+        and RecordOf(s, latest.student, latest.target, latest.loss, latest.handed, r)
+        and any(Latest(P, time, latest) for time in world.times)
+        for first in world.attempts
+        for latest in world.attempts
+    )
+
+
+def Entries(s, P, ts, rs):
+    if not ts or not rs:
+        return not ts and not rs
+    return Entry(s, P, ts[0], rs[0]) and Entries(s, P, ts[1:], rs[1:])
+
+
+def TimesRise(ts):
+    if not ts:
+        return True
+    return all(implies(lambda: Listed(ts[1:], u), lambda: ts[0] < u) for u in world.times) and TimesRise(ts[1:])
+
+
+def IsOf(r, x):
+    student = r.student == x.student
+    target = r.target == x.target
+    way = r.way == wayNumber(x.loss)
+    return student and target and way
+
+
+def Held(rs, x):
+    return bool(rs) and (IsOf(rs[0], x) or Held(rs[1:], x))
+
+
+def RegisterHolds(s, P, records):
+    many = itertools.product(world.times, repeat=len(records))
+    times = any(TimesRise(list(ts)) and Entries(s, P, list(ts), records) for ts in many)
+    whole = all(implies(lambda: P(t, x), lambda: Held(records, x)) for t in world.times for x in world.attempts)
+    return times and whole
+
+
+def RegisterLaw(s, slice_, logs):
+    return all(
+        implies(
+            lambda: Afternoon(s, slice_, log),
+            lambda: RegisterHolds(s, lambda t, x: Stands(log, t, x), sliceAfter(slice_, log)[:usedAfter(log)]),
+        )
+        for log in logs
+    )
 
 
 # ---- antichains/Antichains
@@ -1662,6 +1841,52 @@ def SettledPortal(loss, text, item, r, numbers):
     return outcome and meets and only
 
 
+# ---- demands/Register
+
+
+def CallTurned(numbers, used, a, entry, exit):
+    listed = Listed(numbers, a.number)
+    count = a.used == used
+    kept = exit == entry
+    return listed and count and kept
+
+
+def SameCall(a, b, exit, other):
+    answer = a == b
+    slice_ = exit == other
+    return answer and slice_
+
+
+def SettledRegister(numbers, Call, used, a, entry, exit, answers):
+    outcome = a.number == 0 or CallTurned(numbers, used, a, entry, exit)
+    meets = Call(a, exit)
+    only = all(implies(lambda: Call(b, other), lambda: SameCall(b, a, other, exit)) for b, other in answers)
+    return outcome and meets and only
+
+
+def HandInDemands(s, used, student, target, loss, handed, a, entry, exit, answers):
+    call = lambda b, other: HandInCall(s, used, student, target, loss, handed, b, entry, other)
+    one = SettledRegister([25, 12, 13, 26], call, used, a, entry, exit, answers)
+    two = HandInCall(s, used, student, target, loss, handed, a, entry, exit)
+    return one and two
+
+
+def WithdrawDemands(used, student, a, entry, exit, answers):
+    one = SettledRegister([25, 27], lambda b, other: WithdrawCall(used, student, b, entry, other), used, a, entry, exit, answers)
+    two = WithdrawCall(used, student, a, entry, exit)
+    return one and two
+
+
+def OneHandInAnswer(asked, entry, answers):
+    met = [(a, exit) for a, exit in answers if HandInCall(*asked, a, entry, exit)]
+    return all(SameCall(a, b, exit, other) for a, exit in met for b, other in met)
+
+
+def OneWithdrawAnswer(asked, entry, answers):
+    met = [(a, exit) for a, exit in answers if WithdrawCall(*asked, a, entry, exit)]
+    return all(SameCall(a, b, exit, other) for a, exit in met for b, other in met)
+
+
 # ---- demands/Demands: each call's answer in `r` is its number and its values; `among` has the other answers, texts and rows that are looked at
 
 
@@ -1687,10 +1912,12 @@ def Demand1(text, item, s, set_, target, other, opened, locked, kinds, vertices,
     quick = Settled([12, 13, 14], lambda n, v: QuickCall(s, target, set_, n, v), *r.quick, both)
     cuts = SettledList(lambda n, v, x: CutsCall(s, target, n, v, harden, x), *r.cuts, harden, harden_, among.cuts)
     next_ = Settled([12, 13, 21], lambda n, v: NextCall(s, target, set_, n, v), *r.next, both)
+    handIn = OneHandInAnswer(*among.handIns)
+    withdraw = OneWithdrawAnswer(*among.withdrawals)
     sets = closure and lost and way and quick
     lists = bases and score and risk and openings and lockouts
     ahead = forecast and next_
-    return sets and lists and backdoor and idle and pair and formed and reading and portalScore and portalRisk and ahead and cuts and attackers
+    return sets and lists and backdoor and idle and pair and formed and reading and portalScore and portalRisk and ahead and cuts and attackers and handIn and withdraw
 
 
 def Demand2(text, item, s, set_, target, other, opened, locked, kinds, vertices, vertices_, colours, colours_, list_, exit, harden, harden_, r, among):
@@ -1715,10 +1942,11 @@ def Demand2(text, item, s, set_, target, other, opened, locked, kinds, vertices,
     quick = QuickCall(s, target, set_, *r.quick)
     cuts = CutsCall(s, target, *r.cuts, harden, harden_)
     next_ = NextCall(s, target, set_, *r.next)
+    register = RegisterLaw(*among.afternoons)
     sets = closure and lost and way and quick
     lists = bases and score and risk and openings and lockouts
     ahead = forecast and next_
-    return sets and lists and backdoor and idle and pair and formed and reading and asked and portalScore and portalRisk and ahead and cuts and attackers
+    return sets and lists and backdoor and idle and pair and formed and reading and asked and portalScore and portalRisk and ahead and cuts and attackers and register
 
 
 # ---- reference/Meaning
@@ -1909,7 +2137,7 @@ def OneResult(Call, results, candidates):
     )
 
 
-def OneResultOnSetups(words, set_, target, other, sets, kinds, a, b, numbers, results, values, ways, lists, cut_lists):
+def OneResultOnSetups(words, set_, target, other, sets, kinds, a, b, numbers, results, values, ways, lists, cut_lists, entry, registers):
     s = setupIn(words)
     check = all(implies(lambda: CheckCall(s, r) and CheckCall(s, r_), lambda: r == r_) for r in numbers for r_ in numbers)
     closure = OneResult(lambda n, v: ClosureCall(s, set_, n, v), results, values)
@@ -1955,7 +2183,9 @@ def OneResultOnSetups(words, set_, target, other, sets, kinds, a, b, numbers, re
     )
     attackers = OneResult(lambda n, v: AttackerCall(s, target, kinds, n, v), results, values)
     next_ = OneResult(lambda n, v: NextCall(s, target, set_, n, v), results, values)
-    return all((check, closure, lost, wayIn, lists_, score, risk, openings, lockouts, backdoor, idle, outOfRank, forecast, opens, cuts, attackers, next_))
+    met = [(c, x) for c, x in registers if HandInCall(s, 1, 7, target, False, sets, c, entry, x)]
+    handIn = all(SameCall(c, d, x, y) for c, x in met for d, y in met)
+    return all((check, closure, lost, wayIn, lists_, score, risk, openings, lockouts, backdoor, idle, outOfRank, forecast, opens, cuts, attackers, next_, handIn))
 
 
 def OneResultOnSheets(text, item, entry, readings, parts):

@@ -3,7 +3,8 @@ wrong answer. The setups are read from sheets."""
 import itertools
 from collections import namedtuple
 
-from executables import Account, Credential, Doc, EdgeRow, Graph, ItemRow, Rows, Setup, Step, Vertex, emptyGraph, lessRecovery, never
+from executables import Account, Attempt, Credential, Doc, EdgeRow, Graph, ItemRow, Made, Record, Registered, Rows, Setup, Step, Vertex, emptyGraph
+from executables import lessRecovery, never
 from executables import readSheet, render, setupIn, setupOf, text, unusedVertex, wordsOf
 
 H1, H2 = "name kind start loss rank", "from to colour rec"
@@ -37,6 +38,16 @@ useful = read([H1, "password c 1 2 0", *MIXED[2:6], H2, "password mail 0 0", *MI
 MAIL, ORDER = 3, 4
 
 
+# Attempts at order: both opening sets, one of them with a loose one, none; the lockout sets. A student of the same number at another target, or way.
+BOTH, ONE, NONE = (Attempt(7, ORDER, False, handed) for handed in ((2, 5), (2, 6), ()))
+LOCKS, ELSEWHERE, ANOTHER = Attempt(7, ORDER, True, (3, 6)), Attempt(7, MAIL, False, (2,)), Attempt(8, ORDER, False, (2, 5))
+ATTEMPTS = [BOTH, ONE, NONE, LOCKS, ELSEWHERE, ANOTHER]
+R_BOTH, R_ONE, R_NONE = Record(7, 4, 0, 2, 0, 0, 0, 0), Record(7, 4, 0, 1, 0, 0, 1, 1), Record(7, 4, 0, 0, 0, 0, 0, 2)
+R_LOCKS, R_ELSEWHERE, R_ANOTHER = Record(7, 4, 1, 2, 0, 0, 0, 0), Record(7, 3, 0, 1, 0, 0, 0, 0), Record(8, 4, 0, 2, 0, 0, 0, 0)
+R_ANY, R_MIXED = Record(9, 9, 7, 9, 9, 9, 9, 9), Record(7, 4, 0, 1, 1, 1, 1, 1)
+RECORDS = [R_BOTH, R_ONE, R_NONE, R_LOCKS, R_ELSEWHERE, R_ANOTHER, R_ANY, R_MIXED, R_ONE._replace(shut=1, loose=0), R_BOTH._replace(right=1)]
+
+
 def lists_over(pool, most=2):
     """All lists of up to `most` sets of the pool, repeats and every order included."""
     return [list(l) for n in range(most + 1) for l in itertools.product(pool, repeat=n)]
@@ -46,7 +57,7 @@ def worlds(D):
     return {
         "far": D.World([0, 1, 2, 3, 4, 5, 6, 7, 62, 63, 64, 65], range(10), range(16), []),
         "rows": D.World(range(8), range(9), range(16), []),
-        "bench": D.World(range(6), range(3), range(64), lists_over([1, 2, 3, 5, 6, 7])),
+        "bench": D.World(range(6), range(3), range(64), lists_over([1, 2, 3, 5, 6, 7]), RECORDS, ATTEMPTS),
         "ring": D.World(range(6), range(2), range(16), [[5, 6, 9, 10], [5, 6, 10, 9], [5, 6, 9], [5, 6, 9, 10, 12]]),
         "one": D.World(range(3), range(3), range(8), lists_over([0, 1, 2, 3])),
         "sums": D.World(range(16), range(2), [0, 1, 2**13, 2**14 - 1, 2**15 - 1], []),
@@ -735,6 +746,141 @@ def of_next_sets(D):
     ]
 
 
+def made(kind, x, number, exit, used):
+    return Made((kind, x), Registered(number, used), exit)
+
+
+def afternoon(*calls):
+    """The log of calls, which are given from the first one on."""
+    return [made(*call) for call in reversed(calls)]
+
+
+# With places for three records: 7's attempt, another's, 7's again in its place, 7's other way; no place for one at mail; 7 leaves, and comes again.
+DAY = [
+    ("HandIn", BOTH, 0, [R_BOTH, R_ANY, R_ANY], 1),
+    ("HandIn", ANOTHER, 0, [R_BOTH, R_ANOTHER, R_ANY], 2),
+    ("HandIn", ONE, 0, [R_ONE, R_ANOTHER, R_ANY], 2),
+    ("HandIn", LOCKS, 0, [R_ONE, R_ANOTHER, R_LOCKS], 3),
+    ("HandIn", ELSEWHERE, 26, [R_ONE, R_ANOTHER, R_LOCKS], 3),
+    ("Withdraw", 7, 0, [R_ANOTHER, R_ANOTHER, R_LOCKS], 1),
+]
+BACK = ("HandIn", NONE, 0, [R_ANOTHER, R_NONE, R_LOCKS], 2)
+SLICE = [R_ANY] * 3
+SLICES = [[R_BOTH, R_ANY], [R_ONE, R_ANY], [R_ONE], [R_BOTH, R_ONE], [R_ANY, R_ANY], [R_ANY, R_ONE], [R_ANY, R_MIXED]]
+REGISTERS = [(Registered(n, used), x) for n in (0, 12, 13, 25, 26, 27) for used in (0, 1, 2) for x in SLICES]
+
+
+def of_register(D):
+    """The class register on the bench sheet: records, calls, and an afternoon."""
+    one, logs = (bench, 1, 7, ORDER, False, (2, 6)), [afternoon(*DAY[:n]) for n in range(7)]
+    in_any = lambda number, used, exit, entry, handed=one: D.HandInCall(*handed[:1], used, *handed[2:], Registered(number, exit[0]), entry, exit[1])
+    left = lambda used, k, number, back, entry, exit: D.WithdrawCall(used, k, Registered(number, back), entry, exit)
+    stands = lambda n: lambda t, x: D.Stands(afternoon(*DAY[:n]), t, x)
+    back = afternoon(*DAY, BACK)
+    return [
+        ("record: both opening sets", lambda: D.RecordOf(bench, 7, ORDER, False, (2, 5), R_BOTH), True),
+        ("record: one right and one loose", lambda: D.RecordOf(bench, 7, ORDER, False, (2, 6), R_ONE), True),
+        ("record: lockouts", lambda: D.RecordOf(bench, 7, ORDER, True, (3, 6), R_LOCKS), True),
+        ("not record: loose told as shut", lambda: D.RecordOf(bench, 7, ORDER, False, (2, 6), R_ONE._replace(shut=1, loose=0)), False),
+        ("not record: another student", lambda: D.RecordOf(bench, 8, ORDER, False, (2, 5), R_BOTH), False),
+        ("not record: another target", lambda: D.RecordOf(bench, 7, ORDER, False, (2, 5), R_BOTH._replace(target=3)), False),
+        ("not record: the other way", lambda: D.RecordOf(bench, 7, ORDER, False, (2, 5), R_BOTH._replace(way=1)), False),
+        ("call: hand-in, behind", lambda: in_any(0, 1, (2, [R_ANY, R_ONE]), [R_ANY, R_BOTH]), True),
+        ("call: hand-in, replaced in a full slice", lambda: in_any(0, 1, (1, [R_ONE]), [R_BOTH]), True),
+        ("call: hand-in, the first of two", lambda: in_any(0, 2, (2, [R_ONE, R_BOTH]), [R_BOTH, R_BOTH]), True),
+        ("not call: hand-in, every match", lambda: in_any(0, 2, (2, [R_ONE, R_ONE]), [R_BOTH, R_BOTH]), False),
+        ("not call: hand-in, 26 though one is replaced", lambda: in_any(26, 1, (1, [R_BOTH]), [R_BOTH]), False),
+        ("not call: hand-in, the record behind changed", lambda: in_any(0, 1, (1, [R_ONE, R_ONE]), [R_BOTH, R_ANY]), False),
+        ("not call: hand-in, the count raised", lambda: in_any(0, 1, (2, [R_ONE, R_ANY]), [R_BOTH, R_ANY]), False),
+        ("call: hand-in, 26", lambda: in_any(26, 1, (1, [R_ANY]), [R_ANY]), True),
+        ("not call: hand-in, 26 with a place", lambda: in_any(26, 1, (1, [R_ANY, R_ANY]), [R_ANY, R_ANY]), False),
+        ("not call: hand-in, 26 and a record left", lambda: in_any(26, 1, (1, [R_ONE]), [R_ANY]), False),
+        ("call: hand-in, 25", lambda: in_any(25, 2, (2, [R_ANY]), [R_ANY], (EMPTY, *one[1:])), True),
+        ("not call: hand-in, 12 before 25", lambda: in_any(12, 2, (2, [R_ANY]), [R_ANY], (EMPTY, *one[1:])), False),
+        ("not call: hand-in, the count lost", lambda: in_any(25, 2, (0, [R_ANY]), [R_ANY]), False),
+        ("call: hand-in, 12", lambda: in_any(12, 1, (1, [R_ANY]), [R_ANY], (EMPTY, *one[1:])), True),
+        ("call: hand-in, 13", lambda: in_any(13, 1, (1, [R_ANY]), [R_ANY], (bench, 1, 7, 5, False, (2, 6))), True),
+        ("call: withdraw", lambda: left(3, 7, 0, 1, [R_ONE, R_ANOTHER, R_LOCKS], [R_ANOTHER, R_ANOTHER, R_LOCKS]), True),
+        ("not call: withdraw, freed places cleared", lambda: left(3, 7, 0, 1, [R_ONE, R_ANOTHER, R_LOCKS], [R_ANOTHER, R_ANY, R_ANY]), False),
+        ("not call: withdraw, one record alone", lambda: left(3, 7, 0, 2, [R_ONE, R_ANOTHER, R_LOCKS], [R_ANOTHER, R_LOCKS, R_LOCKS]), False),
+        ("call: withdraw, 27", lambda: left(1, 8, 27, 1, [R_ONE, R_ANOTHER], [R_ONE, R_ANOTHER]), True),
+        ("not call: withdraw, 27 of one who has", lambda: left(2, 8, 27, 2, [R_ONE, R_ANOTHER], [R_ONE, R_ANOTHER]), False),
+        ("call: withdraw, 25", lambda: left(2, 7, 25, 2, [R_ONE], [R_ONE]), True),
+        ("afternoon", lambda: D.Afternoon(bench, SLICE, back), True),
+        ("not afternoon: from another count", lambda: D.Afternoon(bench, SLICE, afternoon(("HandIn", BOTH, 0, [R_ANY, R_BOTH, R_ANY], 2))), False),
+        ("not afternoon: a slice not handed on", lambda: D.Afternoon(bench, SLICE, afternoon(DAY[0], ("HandIn", ANOTHER, 0, [R_ONE, R_ANOTHER, R_ANY], 2))), False),
+        ("not afternoon: a withdrawal that hands in", lambda: D.MeetsCall(bench, ("Withdraw", 7), 0, [], Registered(26, 0), []), False),
+        ("is hand-in", lambda: D.IsHandIn(("HandIn", ONE), ONE), True),
+        ("not is hand-in: another attempt", lambda: D.IsHandIn(("HandIn", ONE), BOTH), False),
+        ("is withdrawal", lambda: D.IsWithdrawal(("Withdraw", 7), 7), True),
+        ("not is withdrawal: another student", lambda: D.IsWithdrawal(("Withdraw", 7), 8), False),
+        ("handed in: at its time", lambda: D.HandedIn(back, 2, ONE), True),
+        ("not handed in: at another time", lambda: D.HandedIn(back, 3, ONE), False),
+        ("not handed in: refused", lambda: D.HandedIn(back, 4, ELSEWHERE), False),
+        ("withdrawn: at its time", lambda: D.Withdrawn(back, 5, 7), True),
+        ("not withdrawn: at another time", lambda: D.Withdrawn(back, 4, 7), False),
+        ("not withdrawn: refused", lambda: D.Withdrawn(afternoon(("Withdraw", 7, 27, SLICE, 0)), 0, 7), False),
+        ("stands: after its withdrawal", lambda: D.Stands(back, 6, NONE), True),
+        ("stands: another's", lambda: D.Stands(back, 1, ANOTHER), True),
+        ("not stands: withdrawn since", lambda: D.Stands(back, 2, ONE), False),
+        ("same attempt", lambda: D.SameAttempt(ONE, BOTH), True),
+        ("not same attempt: another student", lambda: D.SameAttempt(ANOTHER, BOTH), False),
+        ("not same attempt: another target", lambda: D.SameAttempt(ELSEWHERE, BOTH), False),
+        ("not same attempt: the other way", lambda: D.SameAttempt(LOCKS, BOTH), False),
+        ("first", lambda: D.First(stands(5), 0, BOTH), True),
+        ("not first: the third", lambda: D.First(stands(5), 2, ONE), False),
+        ("not first: withdrawn", lambda: D.First(stands(6), 0, BOTH), False),
+        ("latest", lambda: D.Latest(stands(5), 2, ONE), True),
+        ("not latest: the first", lambda: D.Latest(stands(5), 0, BOTH), False),
+        ("not latest: withdrawn", lambda: D.Latest(stands(6), 2, ONE), False),
+        ("entry: the latest at the first's time", lambda: D.Entry(bench, stands(5), 0, R_ONE), True),
+        ("not entry: the better one", lambda: D.Entry(bench, stands(5), 0, R_BOTH), False),
+        ("not entry: at its own time", lambda: D.Entry(bench, stands(5), 2, R_ONE), False),
+        ("not entry: of another three", lambda: D.Entry(bench, stands(5), 0, R_ANOTHER), False),
+        ("entries", lambda: D.Entries(bench, stands(5), [0, 1, 3], [R_ONE, R_ANOTHER, R_LOCKS]), True),
+        ("not entries: one too few", lambda: D.Entries(bench, stands(5), [0, 1], [R_ONE, R_ANOTHER, R_LOCKS]), False),
+        ("not entries: one too many", lambda: D.Entries(bench, stands(5), [0, 1, 3], [R_ONE, R_ANOTHER]), False),
+        ("rising", lambda: D.TimesRise([0, 1, 3]), True),
+        ("not rising", lambda: D.TimesRise([0, 3, 1]), False),
+        ("not rising: twice", lambda: D.TimesRise([0, 0]), False),
+        ("is of", lambda: D.IsOf(R_ONE, BOTH), True),
+        ("not is of: another student", lambda: D.IsOf(R_ANOTHER, BOTH), False),
+        ("not is of: another target", lambda: D.IsOf(R_ELSEWHERE, BOTH), False),
+        ("not is of: the other way", lambda: D.IsOf(R_LOCKS, BOTH), False),
+        ("held: the second", lambda: D.Held([R_ANOTHER, R_ONE], BOTH), True),
+        ("not held", lambda: D.Held([R_ANOTHER], BOTH), False),
+        ("holds", lambda: D.RegisterHolds(bench, stands(5), [R_ONE, R_ANOTHER, R_LOCKS]), True),
+        ("holds: after the withdrawal", lambda: D.RegisterHolds(bench, stands(6), [R_ANOTHER]), True),
+        ("holds: come again, behind", lambda: D.RegisterHolds(bench, lambda t, x: D.Stands(back, t, x), [R_ANOTHER, R_NONE]), True),
+        ("not holds: the old place", lambda: D.RegisterHolds(bench, lambda t, x: D.Stands(back, t, x), [R_NONE, R_ANOTHER]), False),
+        ("not holds: moved to the end", lambda: D.RegisterHolds(bench, stands(5), [R_ANOTHER, R_ONE, R_LOCKS]), False),
+        ("not holds: one left out", lambda: D.RegisterHolds(bench, stands(5), [R_ONE, R_ANOTHER]), False),
+        ("not holds: the first kept", lambda: D.RegisterHolds(bench, stands(5), [R_BOTH, R_ANOTHER, R_LOCKS]), False),
+        ("register law", lambda: D.RegisterLaw(bench, SLICE, logs + [back]), True),
+        ("turned", lambda: D.CallTurned([25, 27], 1, Registered(27, 1), [R_ONE], [R_ONE]), True),
+        ("not turned: another number", lambda: D.CallTurned([25, 27], 1, Registered(26, 1), [R_ONE], [R_ONE]), False),
+        ("not turned: another count", lambda: D.CallTurned([25, 27], 1, Registered(27, 0), [R_ONE], [R_ONE]), False),
+        ("not turned: another slice", lambda: D.CallTurned([25, 27], 1, Registered(27, 1), [R_ONE], [R_ANY]), False),
+        ("same call", lambda: D.SameCall(Registered(0, 1), Registered(0, 1), [R_ONE], [R_ONE]), True),
+        ("not same call: another count", lambda: D.SameCall(Registered(0, 1), Registered(0, 2), [R_ONE], [R_ONE]), False),
+        ("not same call: another slice", lambda: D.SameCall(Registered(0, 1), Registered(0, 1), [R_ONE], [R_ANY]), False),
+        ("demands: hand-in", lambda: D.HandInDemands(*one, Registered(0, 1), [R_BOTH, R_ANY], [R_ONE, R_ANY], REGISTERS), True),
+        ("demands: hand-in, 26", lambda: D.HandInDemands(*one, Registered(26, 1), [R_ANY], [R_ANY], REGISTERS), True),
+        ("demands: hand-in, 13", lambda: D.HandInDemands(bench, 1, 7, 5, False, (2,), Registered(13, 1), [R_ANY], [R_ANY], REGISTERS), True),
+        ("demands: hand-in, 12", lambda: D.HandInDemands(EMPTY, 1, 7, 5, False, (2,), Registered(12, 1), [R_ANY], [R_ANY], REGISTERS), True),
+        ("not demands: hand-in, the old slice", lambda: D.HandInDemands(*one, Registered(0, 1), [R_BOTH, R_ANY], [R_BOTH, R_ANY], REGISTERS), False),
+        ("demands: withdrawal", lambda: D.WithdrawDemands(1, 7, Registered(0, 0), [R_ONE, R_ANY], [R_ONE, R_ANY], REGISTERS), True),
+        ("demands: withdrawal, 27", lambda: D.WithdrawDemands(1, 8, Registered(27, 1), [R_ONE, R_ANY], [R_ONE, R_ANY], REGISTERS), True),
+        ("demands: withdrawal, 25", lambda: D.WithdrawDemands(3, 7, Registered(25, 3), [R_ONE, R_ANY], [R_ONE, R_ANY], REGISTERS), True),
+        ("not demands: withdrawal, 27 of one who has", lambda: D.WithdrawDemands(1, 7, Registered(27, 1), [R_ONE, R_ANY], [R_ONE, R_ANY], REGISTERS), False),
+        ("settled: nothing else", lambda: D.SettledRegister([27], lambda b, l: b.number == 0 and l == [R_ANY, R_ANY], 0, Registered(0, 0), [], [R_ANY, R_ANY], REGISTERS), False),
+        ("not settled: not met", lambda: D.SettledRegister([27], lambda b, l: False, 0, Registered(0, 0), [], [], []), False),
+        ("not settled: another number", lambda: D.SettledRegister([27], lambda b, l: True, 0, Registered(26, 0), [], [], []), False),
+        ("one answer: hand-in", lambda: D.OneHandInAnswer(one, [R_BOTH, R_ANY], REGISTERS), True),
+        ("one answer: withdrawal", lambda: D.OneWithdrawAnswer((1, 7), [R_ONE, R_ANY], REGISTERS), True),
+    ]
+
+
 def of_findings(D):
     """Findings."""
     return [
@@ -883,7 +1029,7 @@ def of_results(D):
     ways = [(0, [1, 2], [3, 4], [0, 1]), (0, [1, 2], [3, 4], lent), (0, [0, 0], lent, lent), (15, [0, 0], lent, lent), (13, [0, 0], lent, lent)]
     lists = [(0, [2, 2], [2, 5, 3, 6]), (0, [2, 2], [5, 2, 3, 6]), (0, [0, 0], out), (15, [0, 0], out)]
     cuts = [(0, [2], [3, 6]), (0, [2], [6, 3]), (0, [0], lent), (15, [0], lent)]
-    handed = (wordsOf(bench), 2, ORDER, MAIL, [2, 2, 6, 4], APART, lent, out, (0, 12), results, values, ways, lists, cuts)
+    handed = (wordsOf(bench), 2, ORDER, MAIL, [2, 2, 6, 4], APART, lent, out, (0, 12), results, values, ways, lists, cuts, [R_ANY, R_ANY], REGISTERS)
     readings = [(n, l, x) for n in (0, 15) for l in (0, 1) for x in ([9] * 1281, wordsOf(bench))]
     parts = [(n, p, k) for n in (0, 13) for p in (0, 69, 84) for k in (0, 4, 5)]
     return [
@@ -949,7 +1095,7 @@ def of_demands(D):
 Answers = namedtuple(
     "Answers", "closure lost way bases score risk openings lockouts backdoor idle pair formed reading portalScore portalRisk forecast quick cuts attackers next"
 )
-Among = namedtuple("Among", "answers ways lists cuts texts docs readings numbers")
+Among = namedtuple("Among", "answers ways lists cuts texts docs readings numbers handIns withdrawals afternoons")
 
 
 def of_both_demands(D):
@@ -967,7 +1113,9 @@ def of_both_demands(D):
     lists = [(0, [2, 2], [2, 5, 3, 6]), (0, [2, 2], out)] + [(n, v, out) for n, v in answers + [(15, [])]]
     readings = [D.accepted(bench), D.accepted(EMPTY), D.refused(5, 2), D.refused(2, 5)]
     cuts = [(0, [2], [3, 6]), (0, [2], [6, 3]), (0, [2], lent)] + [(n, v, lent) for n, v in answers + [(15, [])]]
-    among = Among(answers, ways, lists, cuts, [sheet, render(DOC)], [BENCH_DOC, DOC], readings, [0, 1, 3, 13, never, never + 5, never + 13])
+    hand_in, day = (bench, 1, 7, ORDER, False, (2, 6)), [afternoon(*DAY)]
+    registers = [(hand_in, [R_BOTH, R_ANY], REGISTERS), ((1, 7), [R_ONE, R_ANY], REGISTERS), (bench, SLICE, day)]
+    among = Among(answers, ways, lists, cuts, [sheet, render(DOC)], [BENCH_DOC, DOC], readings, [0, 1, 3, 13, never, never + 5, never + 13], *registers)
     asked = lambda t, i, s, set_, v, w: [t, i, s, set_, v, w, [2], [3, 6], APART, lent]
     listed = [out, [2, 5, 3, 6], lent, [3, 6]]
     untouched, no_way, both = [lent, lent, lent, out, out, lent, lent], [lent, lent, lent, *listed], [[3, 4], lent, [0, 1], *listed]
@@ -1201,7 +1349,7 @@ GROUPS = {
     "one": [of_one, of_few_cuts],
     "sums": [of_sums],
     "bench": [of_derivations, of_passes, of_ways, of_bases, of_scores, of_marks, of_set_calls, of_way_calls, of_base_calls, of_score_calls, of_demand3]
-    + [of_quick, of_forecasts, of_cuts, of_attackers, of_next_sets, of_findings, of_portal, of_same, of_told, of_readings, of_one_answer, of_results, of_demands, of_both_demands],
+    + [of_quick, of_forecasts, of_cuts, of_attackers, of_next_sets, of_register, of_findings, of_portal, of_same, of_told, of_readings, of_one_answer, of_results, of_demands, of_both_demands],
     "rows": [of_valid_rows, of_rows, of_stated, of_meaning, of_refusals],
     "spare": [of_spare],
     "ring": [of_ring],

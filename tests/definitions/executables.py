@@ -13,6 +13,10 @@ Place = namedtuple("Place", "phase above")
 Asked = namedtuple("Asked", "number answer")
 Reading = namedtuple("Reading", "number line setup")
 Step = namedtuple("Step", "vertex colour")
+Record = namedtuple("Record", "student target way right repeated shut loose missing")
+Registered = namedtuple("Registered", "number used")
+Attempt = namedtuple("Attempt", "student target loss handed")
+Made = namedtuple("Made", "call answer exit")
 
 Credential, Account = "Credential", "Account"
 never = 2**62
@@ -82,6 +86,42 @@ def choose(n, k):
     if k == 0:
         return 1
     return choose(n - 1, k - 1) + choose(n - 1, k)
+
+
+def wayNumber(loss):
+    return 1 if loss else 0
+
+
+def sameThree(x, y):
+    return x.student == y.student and x.target == y.target and x.way == y.way
+
+
+def hasThree(n, u):
+    return bool(u) and (sameThree(u[0], n) or hasThree(n, u[1:]))
+
+
+def hasStudent(k, u):
+    return bool(u) and (u[0].student == k or hasStudent(k, u[1:]))
+
+
+def withRecord(n, u):
+    if not u:
+        return [n]
+    return [n, *u[1:]] if sameThree(u[0], n) else [u[0], *withRecord(n, u[1:])]
+
+
+def without(k, u):
+    if not u:
+        return []
+    return without(k, u[1:]) if u[0].student == k else [u[0], *without(k, u[1:])]
+
+
+def sliceAfter(slice_, log):
+    return log[0].exit if log else slice_
+
+
+def usedAfter(log):
+    return log[0].answer.used if log else 0
 
 
 def edgeCount(g):

@@ -4,3 +4,4 @@ pub mod Outcomes
 pub mod OneResult
 pub mod Sheets
 pub mod Stable
+pub mod Register

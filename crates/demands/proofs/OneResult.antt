@@ -15,6 +15,7 @@ use Rattle.forecasts.proofs.Unique.{one-forecast-answer}
 use Rattle.quick_yes.proofs.Unique.{one-quick-answer}
 use Rattle.next_sets.proofs.Unique.{one-next-answer}
 use Rattle.setup.specs.Calls.{Same}
+use Rattle.demands.proofs.Register.{one-hand-in-answer}
 use Rattle.demands.proofs.OneAnswer.{one-closure-answer, one-lost-answer, one-way-answer, one-bases-answer, one-cuts-answer, one-score-answer, one-marks-answer}
 use Rattle.demands.proofs.Stable.{stable-number, by-cases}
 use Rattle.portal_setup.specs.Words.{setupIn}
@@ -65,6 +66,7 @@ one-result-on-setups words =
           record { answer = same-fields e t t′ (d .answer); list = d .list };
       attackers = λ target kinds. one-result _ (one-attacker-answer s target kinds);
       next = λ target last. one-result _ (one-next-answer s target last);
+      handIn = one-hand-in-answer s;
     }
 
 -- ---- the calls on a sheet

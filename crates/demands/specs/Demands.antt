@@ -1,5 +1,6 @@
 -- Demands 1 and 2: what the offered calls answer, all of them on one input. Each is the contract of a function that makes the calls; the name of
--- an item, a part of the sheet, is handed back by a function of its own (`SettledName`, `Named`).
+-- an item, a part of the sheet, is handed back by a function of its own (`SettledName`, `Named`), and so are the answers of the class register's calls,
+-- which are lent records (`HandInDemands`, `WithdrawDemands`).
 use mathlib.Core.Path.{_≡_}
 use mathlib.Core.Bool.{true, false}
 use mathlib.Core.List.{List, [], _∷_}
@@ -14,9 +15,11 @@ use Rattle.forecasts.specs.Answers.{forecastNumber, forecastValues, ForecastCal
 use Rattle.quick_yes.specs.Answers.{quickNumber, quickValues, QuickCall}
 use Rattle.cut_sets.specs.Answers.{cutsNumber, cutsValues, CutsCall}
 use Rattle.next_sets.specs.Answers.{nextNumber, nextValues, NextCall}
+use Rattle.register.specs.Afternoon.{RegisterLaw}
 use Rattle.sheet_format.specs.Read.{readSheet}
 use Rattle.portal.specs.Portal.{PortalCall}
 use Rattle.demands.specs.declared.Answers.{Answers}
+use Rattle.demands.specs.Register.{OneHandInAnswer, OneWithdrawAnswer}
 use Rattle.demands.specs.Outcomes.{Settled, SettledWay, SettledList, Yielded, SettledQuestion12}
 use Rattle.demands.specs.Sheets.{Reads, SettledReading, SettledPortal}
 
@@ -53,6 +56,9 @@ pub record Demand1 (text : List ℕ) (item : ℕ) (s : Setup) (set target other 
   pub cuts : SettledList (λ n v x. CutsCall s target n v harden x) (cutsNumber (r .cuts)) (cutsValues (r .cuts)) harden harden′
   -- the next set after the given one: 12, 13, 21
   pub next : Settled (12 ∷ 13 ∷ 21 ∷ []) (NextCall s target set) (nextNumber (r .next)) (nextValues (r .next))
+  -- the class register: 25, 12, 13, 26; 25, 27
+  pub handIn : OneHandInAnswer
+  pub withdraw : OneWithdrawAnswer
 
 -- Demand 2: every answer is the one of the paper's definitions, by the calls' own contracts; a sheet is accepted exactly where it has the paper's
 -- form, and yields the setup that its rows state.
@@ -92,3 +98,5 @@ pub record Demand2 (text : List ℕ) (item : ℕ) (s : Setup) (set target other 
   pub cuts : CutsCall s target (cutsNumber (r .cuts)) (cutsValues (r .cuts)) harden harden′
   -- the first set of the opening list after the given one, or "no more" exactly where there is none
   pub next : NextCall s target set (nextNumber (r .next)) (nextValues (r .next))
+  -- after every list of calls on the class register, its records are those of the latest accepted attempts
+  pub register : RegisterLaw

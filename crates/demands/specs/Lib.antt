@@ -3,3 +3,4 @@ pub mod OneAnswer
 pub mod Outcomes
 pub mod OneResult
 pub mod Sheets
+pub mod Register

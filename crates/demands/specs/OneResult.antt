@@ -1,6 +1,6 @@
 -- Two results that meet the contract of a call for C, on the same input, are the same, with every lent place.
 use mathlib.Core.Path.{_≡_}
-use mathlib.Core.Bool.{true, false}
+use mathlib.Core.Bool.{Bool, true, false}
 use mathlib.Core.List.{List}
 use Prim.Native.Nat.{ℕ}
 use lib.ListN.{length}
@@ -12,8 +12,12 @@ use Rattle.forecasts.specs.Answers.{ForecastCall}
 use Rattle.quick_yes.specs.Answers.{QuickCall}
 use Rattle.cut_sets.specs.Answers.{CutsCall}
 use Rattle.next_sets.specs.Answers.{NextCall}
+use Rattle.records.specs.declared.Record.{Record}
+use Rattle.records.specs.declared.Registered.{Registered}
+use Rattle.register.specs.Calls.{HandInCall}
 use Rattle.setup.specs.Calls.{Same, SameList}
 use Rattle.demands.specs.OneAnswer.{SameWay}
+use Rattle.demands.specs.Register.{SameCall}
 use Rattle.portal_setup.specs.Words.{setupIn}
 use Rattle.portal_results.specs.Told.{Told}
 use Rattle.portal_closures.specs.Check.{CheckCall}
@@ -51,6 +55,8 @@ pub record OneResultOnSetups (words : List ℕ) : Type 0 where
       → SameList n n′ f f′ x x′
   pub attackers : (target : ℕ) (kinds : List ℕ) → OneResult (AttackerCall (setupIn words) target kinds)
   pub next : (target last : ℕ) → OneResult (NextCall (setupIn words) target last)
+  pub handIn : (used student target : ℕ) (lock : Bool) (sets : List ℕ) (a b : Registered) (entry exit other : List Record)
+      → HandInCall (setupIn words) used student target lock sets a entry exit → HandInCall (setupIn words) used student target lock sets b entry other → SameCall a b exit other
 
 -- The calls on a sheet, for every text.
 pub record OneResultOnSheets (text : List ℕ) : Type 0 where

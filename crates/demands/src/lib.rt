@@ -14,6 +14,7 @@ ghost use Rattle.portal.specs.Portal.{PortalCall};
 ghost use Rattle.demands.specs.Outcomes.{Yielded};
 ghost use Rattle.demands.specs.Sheets.{Reads, Named, SettledName};
 ghost use Rattle.demands.specs.Demands.{Demand1, Demand2};
+ghost use Rattle.demands.specs.Register.{HandInDemands, WithdrawDemands};
 use access::ClosureAnswer;
 use access::LostAnswer;
 use access::WayAnswer;
@@ -24,6 +25,8 @@ use findings::FindingAnswer;
 use forecasts::ForecastAnswer;
 use next_sets::NextAnswer;
 use quick_yes::QuickAnswer;
+use records::Record;
+use records::Registered;
 use setup::Setup;
 use sheet_format::Reading;
 use vertex_set::VertexSet;
@@ -204,4 +207,26 @@ pub fn demands_of_name(sheet: &[u8], item: usize) -> &[u8]
     ensures within { λ r. ⌜ r .ptr .0 ≡ sheet .entry .ptr .0 ⌝ }
 {
     sheet::name_of(sheet, item)
+}
+
+// Both demands of a hand-in to the class register, which is lent a slice of records.
+pub fn demands_of_hand_in(
+    records: &mut [Record],
+    used: usize,
+    s: Setup,
+    student: u64,
+    target: u64,
+    loss: bool,
+    handed: &[u64],
+) -> Registered
+    ensures { λ a. ⌜ HandInDemands s used student target loss (now (handed .entry)) a (now (records .entry)) (now (records .exit)) ⌝ }
+{
+    register::hand_in(records, used, s, student, target, loss, handed)
+}
+
+// Both demands of a withdrawal from the class register.
+pub fn demands_of_withdrawal(records: &mut [Record], used: usize, student: u64) -> Registered
+    ensures { λ a. ⌜ WithdrawDemands used student a (now (records .entry)) (now (records .exit)) ⌝ }
+{
+    register::withdraw(records, used, student)
 }

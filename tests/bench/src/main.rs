@@ -4,7 +4,8 @@
 //! marks alone, `bench rows` that of the report with the most rows, `bench reports` those of reading
 //! and of reports, `bench forecast` that of forecasts,
 //! `bench next` that of next sets, `bench closing` that of closures, `bench opens` that of quick
-//! answers, `bench cuts` that of cut sets, and `bench intruders` that of kinds of intruder.
+//! answers, `bench cuts` that of cut sets, `bench intruders` that of kinds of intruder, and `bench
+//! register` that of the class register.
 
 mod calls;
 mod chart;
@@ -26,6 +27,7 @@ mod plain;
 mod programs;
 mod proved;
 mod ready;
+mod register;
 mod targets;
 mod timing;
 mod twin;
@@ -84,8 +86,9 @@ fn main() -> ExitCode {
         ["opens"] => print_opens(),
         ["cuts"] => print_cuts(),
         ["intruders"] => print_intruders(),
+        ["register"] => print_register(),
         _ => {
-            eprintln!("usage: bench [quick | marking | rows | reports | forecast | next | closing | opens | cuts | intruders]");
+            eprintln!("usage: bench [quick | marking | rows | reports | forecast | next | closing | opens | cuts | intruders | register]");
             return ExitCode::from(2);
         }
     }
@@ -118,6 +121,7 @@ fn run(rounds: &Rounds, folder: &str) {
     show(cuts::cut_sets(&kinds, rounds, &mut targets));
     show(intruders::scores(&kinds, rounds, &mut targets));
     show(marking::marking(antichain(&kinds), rounds, &mut targets));
+    show(register::register(&kinds, rounds, &mut targets));
     let clingo = clingo::opening_lists(&kinds, &programs, rounds, &mut targets);
     clingo.into_iter().for_each(&mut show);
     show(programs::case_study(&root, &programs, rounds));
@@ -206,4 +210,10 @@ fn print_cuts() {
     let grid = cuts::cut_sets(&kinds::all(), &FULL, &mut targets);
     let reasons = targets::reasons(&targets);
     println!("{}\n{}\n{reasons}", grid.text(), targets::grid(&targets).text());
+}
+
+fn print_register() {
+    let mut targets = Vec::new();
+    let grid = register::register(&kinds::all(), &FULL, &mut targets);
+    println!("{}\n{}", grid.text(), targets::grid(&targets).text());
 }

@@ -12,6 +12,7 @@
 //! * [`forecast`] tells how long an opening list can be (02, point 10), [`kinds`] which kinds of
 //!   intruder could get in (02, point 1).
 //! * [`next`] shows an opening list one set at a time (02, point 9).
+//! * [`register`] works the class register out from the log of its calls (02, point 12).
 //! * [`calls`] answers as the product's calls do: questions 12 to 17, and 21, in order, lent lists.
 //! * [`report`] prints the report's bytes and the portal's numbers.
 //! * [`cases`] makes the inputs on which the two programs are compared.
@@ -23,6 +24,7 @@ pub mod graph;
 pub mod kinds;
 pub mod lists;
 pub mod next;
+pub mod register;
 pub mod report;
 pub mod setup;
 pub mod sheet;

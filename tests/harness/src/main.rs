@@ -8,6 +8,7 @@ mod intruders;
 mod long_lists;
 mod passes;
 mod program;
+mod register;
 mod runs;
 mod setups;
 mod sheets;

@@ -1,6 +1,7 @@
 //! All calls on a setup that is given as plain numbers.
 
 use crate::compare::{told, Difference, Subject};
+use crate::register::{compare_afternoon, compare_register_calls};
 use crate::walks::values;
 use crate::words::words_of;
 use brute::calls::{Calls, Way};
@@ -114,6 +115,16 @@ impl Compare<'_> {
         }
         for target in self.targets(count) {
             self.target(target, &sets, count)?;
+        }
+        self.register()
+    }
+
+    /// The class register: an afternoon, and single calls.
+    fn register(&mut self) -> Outcome {
+        let (afternoon, single) = if self.depth.all { (30, 6) } else { (6, 1) };
+        if self.more() {
+            compare_afternoon(&self.subject, &self.words, self.calls, self.rng, afternoon)?;
+            compare_register_calls(&self.subject, &self.words, self.calls, self.rng, single)?;
         }
         Ok(())
     }

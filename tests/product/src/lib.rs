@@ -14,7 +14,7 @@ mod results;
 
 pub use results::{
     Closure, CutSets, Finding, Forecast, Kinds, Lists, Marks, NextOpening, Part, Quick, Reading,
-    Refusal, Set, SetupRisk, SetupScore, Way,
+    Record, Refusal, Registered, Set, SetupRisk, SetupScore, Way,
 };
 
 /// How many words a setup has.
@@ -24,7 +24,7 @@ pub const BLANK: u64 = u64::MAX;
 /// "Never": the score of an item that no set opens, the risk of one that no loss shuts.
 pub const NEVER: u64 = 1 << 62;
 /// The version of the header that this crate was written for.
-pub const VERSION: u64 = 20400;
+pub const VERSION: u64 = 20500;
 
 mod linked {
     use super::*;
@@ -93,6 +93,24 @@ mod linked {
             sets: *const u64,
             count: usize,
         ) -> Marks;
+        pub fn portal_hand_in(
+            setup: *const u64,
+            words: usize,
+            records: *mut Record,
+            places: usize,
+            used: usize,
+            student: u64,
+            target: u64,
+            lock: bool,
+            sets: *const u64,
+            count: usize,
+        ) -> Registered;
+        pub fn portal_withdraw(
+            records: *mut Record,
+            places: usize,
+            used: usize,
+            student: u64,
+        ) -> Registered;
         pub fn portal_backdoor(setup: *const u64, words: usize, item: u64) -> Finding;
         pub fn portal_idle(setup: *const u64, words: usize, item: u64) -> Finding;
         pub fn portal_out_of_rank(
@@ -217,6 +235,39 @@ pub fn mark_openings(setup: &[u64], target: u64, sets: &[u64]) -> Marks {
 pub fn mark_lockouts(setup: &[u64], target: u64, sets: &[u64]) -> Marks {
     let (words, length) = (setup.as_ptr(), setup.len());
     unsafe { linked::portal_mark_lockouts(words, length, target, sets.as_ptr(), sets.len()) }
+}
+
+/// Hands in sets as a student's attempt at the target's opening list, or with `lock` at its lockout
+/// list: its record takes the place of the first used one with the same student, target and way, and
+/// otherwise goes behind the used ones. 25, 12, 13, 26.
+pub fn hand_in(
+    setup: &[u64],
+    records: &mut [Record],
+    used: usize,
+    student: u64,
+    target: u64,
+    lock: bool,
+    sets: &[u64],
+) -> Registered {
+    unsafe {
+        linked::portal_hand_in(
+            setup.as_ptr(),
+            setup.len(),
+            records.as_mut_ptr(),
+            records.len(),
+            used,
+            student,
+            target,
+            lock,
+            sets.as_ptr(),
+            sets.len(),
+        )
+    }
+}
+
+/// Removes all records of a student and closes the gaps, order kept. 25, 27.
+pub fn withdraw(records: &mut [Record], used: usize, student: u64) -> Registered {
+    unsafe { linked::portal_withdraw(records.as_mut_ptr(), records.len(), used, student) }
 }
 
 /// Is recovery a backdoor to the item? 12, 13.

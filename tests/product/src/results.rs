@@ -137,6 +137,37 @@ results! {
     }
 }
 
+/// An attempt as the class register keeps it. The way is 0 for open and 1 for lock.
+#[repr(C)]
+#[derive(Clone, Copy, Debug, Default, PartialEq, Eq)]
+pub struct Record {
+    pub student: u64,
+    pub target: u64,
+    pub way: u64,
+    pub right: u64,
+    pub repeated: u64,
+    pub shut: u64,
+    pub loose: u64,
+    pub missing: u64,
+}
+
+/// What a call on the class register hands back, after a refusal too.
+#[repr(C)]
+#[derive(Clone, Copy, Debug, PartialEq, Eq)]
+pub struct Registered {
+    /// 0 for an answer, else the refusal's number.
+    pub number: u64,
+    /// How many records are used now.
+    pub used: usize,
+}
+
+impl Record {
+    /// Full: nothing is repeated, shut, loose or missing.
+    pub fn full(self) -> bool {
+        self.repeated == 0 && self.shut == 0 && self.loose == 0 && self.missing == 0
+    }
+}
+
 impl Part {
     /// The part's bytes, of the sheet that it is a part of.
     pub fn of(self, sheet: &[u8]) -> &[u8] {

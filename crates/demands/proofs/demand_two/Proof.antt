@@ -1,3 +1,4 @@
+use Rattle.register.proofs.Afternoon.{register-law}
 use borrow.Author.Needs.{needs}
 use Rattle.demands.proofs.demand_two.Statement.{statement}
 use Rattle.demands.proofs.demand_two.Tie as tie
@@ -82,6 +83,7 @@ returns c =
       cuts = k .smallest-cuts .ensures;
       attackers = a .attacker-score .ensures;
       next = c .next-access-set .ensures;
+      register = register-law;
     }
 
 pub demand-two-spec : {M : Type 1} → statement M

@@ -13,6 +13,7 @@ pub mod noise;
 pub mod probes;
 pub mod random;
 pub mod readings;
+pub mod registers;
 pub mod rng;
 pub mod setups;
 pub mod tiny;

@@ -10,6 +10,7 @@ mod intruders;
 mod questions;
 mod quick;
 mod reading;
+mod registers;
 mod reports;
 mod walks;
 

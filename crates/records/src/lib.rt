@@ -1,0 +1,318 @@
+// Records of attempts, and what a call on the register does with one record at a time. All that the
+// register's calls decide is decided here, by value: the functions over the slice decide nothing.
+ghost use mathlib.Core.Path.{_≡_};
+ghost use Prim.Native.Nat.{_<_, _≤_, _+_, _^_};
+ghost use Rattle.answers.specs.Answers.{marksNumber, marksValues, MarksCall};
+ghost use Rattle.records.specs.Records.{wayNumber, sameThree};
+ghost use Rattle.records.specs.Inner.{lesser, removeOf, layOf, stepOf, turnsOf, refusesOf, countsOf, beginOf, finishOf, leaving, taskOf, Attempts};
+use answers::MarksAnswer;
+use setup::Setup;
+
+// An attempt as the register keeps it. All fields are plain numbers, since a lent slice may hold any
+// bytes: the way is 0 for open and 1 for lock, and a record with another way is none that a hand-in
+// makes or replaces.
+#[repr(C)]
+pub struct Record {
+    pub student: u64,
+    pub target: u64,
+    pub way: u64,
+    pub right: u64,
+    pub repeated: u64,
+    pub shut: u64,
+    pub loose: u64,
+    pub missing: u64,
+}
+
+// What a call on the register answers: a refusal's number or 0, and how many records are used.
+#[repr(C)]
+pub struct Registered {
+    pub number: u64,
+    pub used: usize,
+}
+
+// What a call asks for: to lay down a record, or to remove the records of its student. `refused` is
+// the number by which the marking refused, or 0.
+pub struct Task {
+    pub remove: bool,
+    pub refused: u64,
+    pub row: Record,
+}
+
+// How far a pass over the register is. `turns` is how many places it looks at, `count` how many
+// records are used so far.
+pub struct Pass {
+    pub found: bool,
+    pub refused: u64,
+    pub used: usize,
+    pub turns: usize,
+    pub count: usize,
+}
+
+// What a pass does at one place: which record goes to which place, and how the pass goes on.
+pub struct Turn {
+    pub at: usize,
+    pub row: Record,
+    pub pass: Pass,
+}
+
+// Have the two the same student, target and way?
+fn same(r: Record, n: Record) -> bool
+    ensures { λ b. ⌜ b ≡ sameThree r n ⌝ }
+{
+    if r.student == n.student {
+        if r.target == n.target {
+            return r.way == n.way;
+        }
+    }
+    false
+}
+
+fn least(c: usize, i: usize) -> usize
+    ensures { λ n. ⌜ (n ≡ lesser c i) × (n ≤ i) ⌝ }
+{
+    if c < i {
+        return c;
+    }
+    i
+}
+
+// A turn of a withdrawal: a record of the student stays where it is, and is overwritten by one that
+// moves up; another one moves up to the first free place.
+fn remove(t: Task, p: Pass, r: Record, i: usize) -> Turn
+    requires { ⌜ i + 1 < 2 ^ 64 ⌝ }
+    ensures { λ d. ⌜ d ≡ removeOf t p r i ⌝ }
+{
+    let n = t.row;
+    let mut next = p;
+    if r.student == n.student {
+        next.found = true;
+        return Turn {
+            at: i,
+            row: r,
+            pass: next,
+        };
+    }
+    let at = least(p.count, i);
+    next.count = at + 1;
+    Turn {
+        at: at,
+        row: r,
+        pass: next,
+    }
+}
+
+// A turn of a hand-in: the first record with the same three gets the new one; where there is none,
+// the place behind the used ones does.
+fn lay(t: Task, p: Pass, r: Record, i: usize) -> Turn
+    requires { ⌜ i + 1 < 2 ^ 64 ⌝ }
+    ensures { λ d. ⌜ d ≡ layOf t p r i ⌝ }
+{
+    let n = t.row;
+    let mut next = p;
+    if p.found {
+        return Turn {
+            at: i,
+            row: r,
+            pass: p,
+        };
+    }
+    if i == p.used {
+        next.found = true;
+        next.count = i + 1;
+        return Turn {
+            at: i,
+            row: n,
+            pass: next,
+        };
+    }
+    if same(r, n) {
+        next.found = true;
+        return Turn {
+            at: i,
+            row: n,
+            pass: next,
+        };
+    }
+    Turn {
+        at: i,
+        row: r,
+        pass: p,
+    }
+}
+
+// One turn: r stands at the place i.
+pub fn step(t: Task, p: Pass, r: Record, i: usize) -> Turn
+    requires { ⌜ i + 1 < 2 ^ 64 ⌝ }
+    ensures { λ d. ⌜ d ≡ stepOf t p r i ⌝ }
+{
+    if t.remove {
+        return remove(t, p, r, i);
+    }
+    lay(t, p, r, i)
+}
+
+// How many places a pass looks at: none where the call is refused already. A hand-in also looks at the
+// place behind the used ones, where there is one: a new record goes there.
+fn turns(len: usize, used: usize, t: Task) -> usize
+    ensures { λ n. ⌜ n ≡ turnsOf len used t ⌝ }
+{
+    if len < used {
+        return 0;
+    }
+    if t.refused != 0 {
+        return 0;
+    }
+    if t.remove {
+        return used;
+    }
+    if used < len {
+        return used + 1;
+    }
+    used
+}
+
+// 25 comes before the marking's own questions.
+fn refuses(len: usize, used: usize, refused: u64) -> u64
+    ensures { λ n. ⌜ n ≡ refusesOf len used refused ⌝ }
+{
+    if len < used {
+        return 25;
+    }
+    refused
+}
+
+// A withdrawal counts the records that stay, from 0 on.
+fn counts(remove: bool, used: usize) -> usize
+    ensures { λ n. ⌜ n ≡ countsOf remove used ⌝ }
+{
+    if remove {
+        return 0;
+    }
+    used
+}
+
+// How a pass begins over a slice of `len` records, `used` of them in use.
+pub fn begin(len: usize, used: usize, t: Task) -> Pass
+    ensures { λ p. ⌜ p ≡ beginOf len used t ⌝ }
+{
+    let n = turns(len, used, t);
+    let refused = refuses(len, used, t.refused);
+    let count = counts(t.remove, used);
+    Pass {
+        found: false,
+        refused: refused,
+        used: used,
+        turns: n,
+        count: count,
+    }
+}
+
+// What the call answers once its pass is over. A pass that found nothing has stored each record where
+// it stood, so that 26 and 27 leave the slice as it was.
+pub fn finish(t: Task, p: Pass) -> Registered
+    ensures { λ a. ⌜ a ≡ finishOf t p ⌝ }
+{
+    if p.refused != 0 {
+        return Registered {
+            number: p.refused,
+            used: p.used,
+        };
+    }
+    if p.found {
+        return Registered {
+            number: 0,
+            used: p.count,
+        };
+    }
+    if t.remove {
+        return Registered {
+            number: 27,
+            used: p.used,
+        };
+    }
+    Registered {
+        number: 26,
+        used: p.used,
+    }
+}
+
+// The task of a withdrawal.
+pub fn leave(student: u64) -> Task
+    ensures { λ t. ⌜ t ≡ leaving student ⌝ }
+{
+    let r = Record {
+        student: student,
+        target: 0,
+        way: 0,
+        right: 0,
+        repeated: 0,
+        shut: 0,
+        loose: 0,
+        missing: 0,
+    };
+    Task {
+        remove: true,
+        refused: 0,
+        row: r,
+    }
+}
+
+// The marks of sets that are handed in for one way of the target.
+fn mark(s: Setup, target: usize, loss: bool, handed: &[u64]) -> MarksAnswer
+    ensures { λ r. ⌜ MarksCall loss s target (now (handed .entry)) (marksNumber r) (marksValues r) ⌝ }
+{
+    if loss {
+        return answers::mark_lockout(s, target, handed);
+    }
+    answers::mark_access(s, target, handed)
+}
+
+fn way_number(loss: bool) -> u64
+    ensures { λ n. ⌜ n ≡ wayNumber loss ⌝ }
+{
+    if loss {
+        return 1;
+    }
+    0
+}
+
+// The task of a hand-in whose sets got this answer from the marking.
+fn enter(student: u64, target: u64, loss: bool, answer: MarksAnswer) -> Task
+    ensures { λ t. ⌜ t ≡ taskOf student target loss answer ⌝ }
+{
+    let way = way_number(loss);
+    let none = leave(student);
+    let row = none.row;
+    match answer {
+        MarksAnswer::Marked(m) => {
+            let r = Record {
+                student: student,
+                target: target,
+                way: way,
+                right: m.right as u64,
+                repeated: m.repeated as u64,
+                shut: m.shut as u64,
+                loose: m.loose as u64,
+                missing: m.missing as u64,
+            };
+            Task {
+                remove: false,
+                refused: 0,
+                row: r,
+            }
+        }
+        MarksAnswer::Refused(q) => Task {
+            remove: false,
+            refused: q,
+            row: row,
+        },
+    }
+}
+
+// The task of a hand-in: the sets are marked.
+pub fn attempt(s: Setup, student: u64, target: u64, loss: bool, handed: &[u64]) -> Task
+    ensures { λ t. ⌜ Attempts s student target loss (now (handed .entry)) t ⌝ }
+{
+    let answer = mark(s, target as usize, loss, handed);
+    enter(student, target, loss, answer)
+}

@@ -1,0 +1,138 @@
+-- An afternoon: hand-ins and withdrawals over one setup, from an empty register, and what the register then holds (document 02, point 12).
+use mathlib.Core.Path.{_≡_}
+use mathlib.Core.Bool.{Bool}
+use mathlib.Core.List.{List, [], _∷_}
+use mathlib.Core.Logic.{_⊎_}
+use Prim.Native.Nat.{ℕ, _≤_, _<_}
+use lib.ListN.{length, take}
+use Rattle.vertex_set.specs.Order.{Listed}
+use Rattle.setup.specs.declared.Setup.{Setup}
+use Rattle.records.specs.declared.Record.{Record}
+use Rattle.records.specs.declared.Registered.{Registered}
+use Rattle.records.specs.Records.{wayNumber, RecordOf}
+use Rattle.register.specs.Calls.{HandInCall, WithdrawCall}
+
+-- ---- the calls, one after the other
+
+pub record Attempt : Type 0 where
+  pub student : ℕ
+  pub target : ℕ
+  pub loss : Bool
+  pub handed : List ℕ
+
+pub data Call : Type 0 where
+  HandIn : Attempt → Call
+  Withdraw : ℕ → Call
+
+-- A call that was made: what it answered, and the slice that it left.
+pub record Made : Type 0 where
+  pub call : Call
+  pub answer : Registered
+  pub exit : List Record
+
+-- The call meets its contract, on this slice and count.
+abbrev pub MeetsCall : Setup → Call → ℕ → List Record → Registered → List Record → Type 0
+MeetsCall s (HandIn x) used entry a exit = HandInCall s used (x .student) (x .target) (x .loss) (x .handed) a entry exit
+MeetsCall s (Withdraw k) used entry a exit = WithdrawCall used k a entry exit
+
+-- The calls so far, the latest one first: slice and count as they came back. At the beginning no record is used, whatever stands in the slice.
+abbrev pub sliceAfter : List Record → List Made → List Record
+sliceAfter slice [] = slice
+sliceAfter slice (m ∷ earlier) = m .exit
+
+abbrev pub usedAfter : List Made → ℕ
+usedAfter [] = 0
+usedAfter (m ∷ earlier) = m .answer .used
+
+-- Slice and count are handed on as they came back, and each call meets its contract.
+abbrev pub Afternoon : Setup → List Record → List Made → Type 0
+Afternoon s slice [] = Unit {0}
+Afternoon s slice (m ∷ earlier) = MeetsCall s (m .call) (usedAfter earlier) (sliceAfter slice earlier) (m .answer) (m .exit) × Afternoon s slice earlier
+
+-- ---- what was accepted, and when: the time of a call is the number of calls made before it
+
+abbrev pub IsHandIn : Call → Attempt → Type 0
+IsHandIn (HandIn y) x = y ≡ x
+IsHandIn (Withdraw k) x = ⊥
+
+abbrev pub IsWithdrawal : Call → ℕ → Type 0
+IsWithdrawal (HandIn y) k = ⊥
+IsWithdrawal (Withdraw j) k = j ≡ k
+
+-- At the time t the attempt x was handed in and accepted.
+abbrev pub HandedIn : List Made → ℕ → Attempt → Type 0
+HandedIn [] t x = ⊥
+HandedIn (m ∷ earlier) t x = ((t ≡ length earlier) × (m .answer .number ≡ 0) × IsHandIn (m .call) x) ⊎ HandedIn earlier t x
+
+-- At the time t the student k was withdrawn: the call was accepted.
+abbrev pub Withdrawn : List Made → ℕ → ℕ → Type 0
+Withdrawn [] t k = ⊥
+Withdrawn (m ∷ earlier) t k = ((t ≡ length earlier) × (m .answer .number ≡ 0) × IsWithdrawal (m .call) k) ⊎ Withdrawn earlier t k
+
+-- The attempt x, accepted at the time t, is not withdrawn since.
+pub record Stands (log : List Made) (t : ℕ) (x : Attempt) : Type 0 where
+  pub handed : HandedIn log t x
+  pub since : (u : ℕ) → Withdrawn log u (x .student) → u < t
+
+-- ---- what the register holds. P t x: the attempt x, accepted at the time t, is not withdrawn since
+
+-- The same student, target and way.
+pub record SameAttempt (x y : Attempt) : Type 0 where
+  pub student : x .student ≡ y .student
+  pub target : x .target ≡ y .target
+  pub way : x .loss ≡ y .loss
+
+-- x is the first with its student, target and way that was accepted after the student's last withdrawal.
+pub record First (P : ℕ → Attempt → Type 0) (t : ℕ) (x : Attempt) : Type 0 where
+  pub stands : P t x
+  pub first : (u : ℕ) (y : Attempt) → P u y → SameAttempt y x → t ≤ u
+
+-- x is the latest with its student, target and way.
+pub record Latest (P : ℕ → Attempt → Type 0) (t : ℕ) (x : Attempt) : Type 0 where
+  pub stands : P t x
+  pub latest : (u : ℕ) (y : Attempt) → P u y → SameAttempt y x → u ≤ t
+
+-- r is the record of the latest attempt with the student, target and way that were first accepted at the time t.
+pub record Entry (s : Setup) (P : ℕ → Attempt → Type 0) (t : ℕ) (r : Record) : Type 0 where
+  pub first : Attempt
+  pub isFirst : First P t first
+  pub time : ℕ
+  pub latest : Attempt
+  pub isLatest : Latest P time latest
+  pub same : SameAttempt latest first
+  pub isRecord : RecordOf s (latest .student) (latest .target) (latest .loss) (latest .handed) r
+
+-- An entry for each time, in this order.
+abbrev pub Entries : Setup → (ℕ → Attempt → Type 0) → List ℕ → List Record → Type 0
+Entries s P [] [] = Unit {0}
+Entries s P [] (r ∷ rs) = ⊥
+Entries s P (t ∷ ts) [] = ⊥
+Entries s P (t ∷ ts) (r ∷ rs) = Entry s P t r × Entries s P ts rs
+
+-- Each time is before all that follow it.
+abbrev pub TimesRise : List ℕ → Type 0
+TimesRise [] = Unit {0}
+TimesRise (t ∷ ts) = ((u : ℕ) → Listed ts u → t < u) × TimesRise ts
+
+-- The record has the attempt's student, target and way.
+pub record IsOf (r : Record) (x : Attempt) : Type 0 where
+  pub student : r .student ≡ x .student
+  pub target : r .target ≡ x .target
+  pub way : r .way ≡ wayNumber (x .loss)
+
+abbrev pub Held : List Record → Attempt → Type 0
+Held [] x = ⊥
+Held (r ∷ rs) x = IsOf r x ⊎ Held rs x
+
+-- The records are, for each student, target and way, that of the latest attempt, in the order in which these three were first accepted.
+pub record RegisterHolds (s : Setup) (P : ℕ → Attempt → Type 0) (records : List Record) : Type 0 where
+  pub times : List ℕ
+  pub rising : TimesRise times
+  pub entries : Entries s P times records
+  pub whole : (t : ℕ) (x : Attempt) → P t x → Held records x
+
+-- For every list of hand-ins and withdrawals over one setup from an empty register, the used records are, for each student, target and way, the latest
+-- accepted attempt of those not withdrawn since, in the order in which these three were first accepted after the student's last withdrawal.
+abbrev pub RegisterLaw : Type 0
+RegisterLaw = (s : Setup) (slice : List Record) (log : List Made) → Afternoon s slice log
+    → RegisterHolds s (Stands log) (take (usedAfter log) (sliceAfter slice log))

@@ -31,7 +31,7 @@
  * Lent places. A slice is a pointer and the count of its places. A pointer may be null where the count is 0, and nowhere else.
  * It is aligned as its type is. Memory that a call may write to overlaps nothing else that the same call is given. A refused
  * call changes no place that it was lent; an answered one leaves the places behind the written ones as they were.
- * (portal_read is the exception that document 01 asks for: a refused sheet gives a setup of 0 items.)
+ * (portal_read is the exception that document 01 asks for: a refused sheet gives a setup of 0 items.) A bool is 0 or 1, as C makes it.
  *
  * Threads. No call keeps anything: there is no state, no heap and no lock, so threads may call at the same time, as long as
  * none writes to what another one uses. No call reads or changes errno, a signal or the floating point environment.
@@ -276,7 +276,7 @@ struct portal_finding {
 /*
  * An attempt in the class register: whose it is, at which target, and by which way, 0 for its opening list and 1 for its lockout
  * list; then the marks. The caller lends a slice of them, the used ones first, and keeps their count. What stands behind the used
- * ones is the caller's. A record may have any numbers: one with another way is used as any other, and none that portal_hand_in replaces.
+ * ones is the caller's. A record may have any numbers: one with another way is used as any other, and portal_hand_in never replaces it.
  */
 struct portal_record {
     uint64_t student;
@@ -432,15 +432,6 @@ struct portal_marks portal_mark_openings(const uint64_t *setup, size_t words, ui
 /* Marks for handed-in lockout sets, likewise. Refused with 12, 13. */
 struct portal_marks portal_mark_lockouts(const uint64_t *setup, size_t words, uint64_t target, const uint64_t *sets, size_t count);
 
-/*
- * Hands in sets as a student's attempt at the target's opening list, or with `lock` at its lockout list. They are marked, and the
- * attempt's record takes the place of the first used one with the same student, target and way; where there is none, it goes behind the
- * used ones. No other record changes. Refused with 25, 12, 13, and 26 where a new record is needed and all are used.
- */
-struct portal_registered portal_hand_in(const uint64_t *setup, size_t words, struct portal_record *records, size_t places,
-                                        size_t used, uint64_t student, uint64_t target, bool lock,
-                                        const uint64_t *sets, size_t count);
-
 /* Is recovery a backdoor to the item: is its score below that without recovery (PORTAL_RECOVERY)? Refused with 12, 13. */
 struct portal_finding portal_backdoor(const uint64_t *setup, size_t words, uint64_t item);
 
@@ -451,6 +442,15 @@ struct portal_finding portal_idle(const uint64_t *setup, size_t words, uint64_t 
 struct portal_finding portal_out_of_rank(const uint64_t *setup, size_t words, uint64_t above, uint64_t below);
 
 /* ---- calls on the class register ---- */
+
+/*
+ * Hands in sets as a student's attempt at the target's opening list, or with `lock` at its lockout list. They are marked, and the
+ * attempt's record takes the place of the first used one with the same student, target and way; where there is none, it goes behind the
+ * used ones. No other record changes. Refused with 25, 12, 13, and 26 where a new record is needed and all are used.
+ */
+struct portal_registered portal_hand_in(const uint64_t *setup, size_t words, struct portal_record *records, size_t places,
+                                        size_t used, uint64_t student, uint64_t target, bool lock,
+                                        const uint64_t *sets, size_t count);
 
 /*
  * Withdraws a student: all of the student's used records are removed and the gaps closed, the order kept. Places that this frees at

@@ -33,6 +33,8 @@ NOTES = ROOT / "scripts" / "survivors.txt"
 LEFT_OUT = {"sheet_cases"}
 # The first error of a proof that only does not fit the code's shape any more; no fact is said not to hold.
 SHAPE = re.compile(r"can be named from here|is not in scope|expected .*Need-|takes \d+ argument|unknown name|has no (?:field )?`")
+# A proof that goes through the function's code statement by statement has this among its imports.
+WALKED = re.compile(r"^use denote\.Triple\.Walked\b", re.M)
 ERROR = re.compile(r"^(\S*?)crates/(\w+)/(\S+?):(\d+):(\d+): error(.*)$", re.M)
 
 
@@ -48,8 +50,8 @@ class Trial:
     edit: object = None
 
     def wants(self):
-        """Is another edit to be tried?"""
-        wanted = 1 if self.function.constant else WANTED
+        """Is another edit to be tried? None of a function whose proof is a walk: that any of them is refused tells nothing."""
+        wanted = 1 if self.function.constant else 0 if is_walked(self.function) else WANTED
         return len(self.results) < wanted and bool(self.left) and self.tries < MOST_TRIES
 
     def choose(self):
@@ -177,9 +179,20 @@ def proof_homes(function):
     return [f"proofs/{folder}/{name}/".replace("//", "/") for name in (last, f"+{last}")]
 
 
+def proof_files(function):
+    """The files with the function's proof: one, or none."""
+    homes = [ROOT / "crates" / function.crate / home / "Proof.antt" for home in proof_homes(function)]
+    return [home for home in homes if home.is_file()]
+
+
 def has_proof(function):
     """Is there a file with the function's proof?"""
-    return any((ROOT / "crates" / function.crate / home / "Proof.antt").is_file() for home in proof_homes(function))
+    return bool(proof_files(function))
+
+
+def is_walked(function):
+    """Is the function's proof a walk of its code, which fits no other code, whatever it means?"""
+    return not function.constant and any(WALKED.search(file.read_text(encoding="utf-8")) for file in proof_files(function))
 
 
 def pick_batch(trials, reached):
@@ -327,6 +340,8 @@ def try_written(crate):
             sys.exit(f"mutate: {path.relative_to(ROOT)}: the old text stands {text.count(old)} times in {name}")
         home.write_text(text.replace(old, new), encoding="utf-8")
         said = run_dev(crate)
+        # what lies in src/ is laid anew for each edit, what lies in specs/ is not
+        home.write_text(text, encoding="utf-8")
         keep_said(crate, said)
         verdict = "refused" if re.search(r"^logic=not-proved", said, re.M) else "survived" if re.search(r"^logic=", said, re.M) else "rejected"
         places = [f"{error.group(3)}:{error.group(4)}" for error in ERROR.finditer(said)]
@@ -347,7 +362,7 @@ def rows_of(trials):
         for edit, result, place in sorted(trial.results, key=lambda r: r[0].start):
             rows.append([name, str(edit.line), code(edit.before), code(edit.after), result, place])
         if not trial.results:
-            rows.append([name, "-", "-", "-", "no edit", "-"])
+            rows.append([name, "-", "-", "-", "walked" if is_walked(trial.function) else "no edit", "-"])
     return rows
 
 
@@ -394,12 +409,17 @@ def untried(sections, order):
     return [crate for crate in order if crate not in sections and any(not item.constant for item in items_of(crate))]
 
 
+def was_tried(row):
+    """Is the row that of an edit, and not of a function of which none was made?"""
+    return row[4] not in ("no edit", "walked")
+
+
 def few_of(sections):
-    """The functions with fewer edits than wanted, by crate."""
+    """The functions with fewer edits than wanted, by crate, but for those that are walked."""
     few = []
     for crate, (_, _, rows) in sections.items():
-        names = list(dict.fromkeys(row[0] for row in rows if not row[0].startswith(("const ", "edit "))))
-        short = [(name, sum(row[0] == name and row[4] != "no edit" for row in rows)) for name in names]
+        names = list(dict.fromkeys(row[0] for row in rows if not row[0].startswith(("const ", "edit ")) and row[4] != "walked"))
+        short = [(name, sum(row[0] == name and was_tried(row) for row in rows)) for name in names]
         short = [f"`{name}` {count}" for name, count in short if count < WANTED]
         if short:
             few.append(f"- `{crate}`: {', '.join(short)}")
@@ -409,7 +429,9 @@ def few_of(sections):
 HEAD = """# Mutation testing: the record
 
 Written by `scripts/mutate.py` (`make mutate`); docs/TESTING.md says what is done and what it shows. {date}: {functions} functions and
-{constants} constants of {crates} crates, {edits} edits, {refused} refused ({shape} of them by shape), {survived} not refused.
+{constants} constants of {crates} crates, {edits} edits, {refused} refused ({shape} of them by shape), {survived} not refused. {walked} functions
+are walked: their proofs go through the code statement by statement, so that any edit is refused by shape, whatever it means, and tells
+nothing. None of them is tried; they decide nothing, and what they call does.
 
 "Where" is the place of the first error about the edited function, or `search` where it has no proof file and the prover finds no proof by
 itself. A crate is tried again when its own files, or the code or definitions of a crate below it, have changed: the sum beside its name
@@ -421,7 +443,7 @@ def write_record(sections, order, notes):
     """Writes the record; gives the number of survivors of which nothing is said."""
     sections = {crate: sections[crate] for crate in order if crate in sections}
     everything = [(crate, row) for crate, (_, _, rows) in sections.items() for row in rows]
-    tried = [(crate, row) for crate, row in everything if row[4] != "no edit"]
+    tried = [(crate, row) for crate, row in everything if was_tried(row)]
     survivors = [(crate, row, note_of(notes, crate, row)) for crate, row in tried if row[4] == "survived"]
     items = {(crate, row[0]) for crate, row in everything}
     counts = {
@@ -434,6 +456,7 @@ def write_record(sections, order, notes):
         "survived": len(survivors),
         "untried": ", ".join(f"`{crate}`" for crate in untried(sections, order)) or "none",
         "shape": sum(row[4] == "refused by shape" for _, row in tried),
+        "walked": sum(row[4] == "walked" for _, row in everything),
     }
     lines = [HEAD.format(**counts), "## Not refused", "", "| crate | function | before | after | why |", "|---|---|---|---|---|"]
     lines += [f"| {crate} | {row[0]} | {row[2]} | {row[3]} | {note or '**open**'} |" for crate, row, note in survivors]
@@ -467,7 +490,7 @@ def main():
             sections[crate] = (total, datetime.date.today().isoformat(), rows)
             write_record(sections, order, read_notes())
             survived = sum(row[4] == "survived" for row in rows)
-            count = sum(row[4] != "no edit" for row in rows)
+            count = sum(was_tried(row) for row in rows)
             print(f"mutate: {crate}: {count} edits, {survived} not refused, {time.time() - began:.0f} s", flush=True)
     open_ones = write_record(read_record(), order, read_notes())
     print(f"mutate: {open_ones} survivors of which nothing is said")

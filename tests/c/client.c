@@ -365,9 +365,10 @@ static void try_mark_lockouts(void)
 static void try_hand_in(void)
 {
     const uint64_t openings[2] = { ORDPW + TOKEN, MAILPW }, one[1] = { MAILPW }, lockouts[2] = { MAILPW + TOKEN, ORDPW + MAILPW };
-    struct portal_record r[3];
+    struct portal_record r[3], kept[3];
     memset(r, 0x5a, sizeof r);
     const struct portal_record before = r[0];
+    expect("eight numbers", sizeof before, 64);
     struct portal_registered a = portal_hand_in(setup, WORDS, r, 3, 0, 7, ORDER_ITEM, false, openings, 2);
     expect("handed in", a.number, 0);
     expect("one record", a.used, 1);
@@ -381,11 +382,13 @@ static void try_hand_in(void)
     a = portal_hand_in(setup, WORDS, r, 3, a.used, 7, ORDER_ITEM, true, lockouts, 2);
     expect("the other way", a.used, 3);
     expect("lock", r[2].way, 1);
+    expect("marked as lockouts", r[2].right == 2 && r[2].missing == 0, 1);
     a = portal_hand_in(setup, WORDS, r, 3, a.used, 7, ORDER_ITEM, false, one, 1);
     expect("replaced, though all are used", a.number, 0);
     expect("no record more", a.used, 3);
     expect("the latest, not the better", r[0].right, 1);
     expect("one is missing", r[0].missing, 1);
+    memcpy(kept, r, sizeof r);
     a = portal_hand_in(setup, WORDS, r, 3, 3, 9, ORDER_ITEM, false, one, 1);
     expect("all are used", a.number, PORTAL_ALL_USED);
     expect("all are used, as many", a.used, 3);
@@ -395,9 +398,7 @@ static void try_hand_in(void)
     expect("no setup", portal_hand_in(malformed, WORDS, r, 3, 3, 9, 5, false, NULL, 0).number, PORTAL_NO_SETUP);
     expect("no target", portal_hand_in(setup, WORDS, r, 3, 3, 9, 5, false, NULL, 0).number, PORTAL_NO_ITEM);
     expect("no place at all", portal_hand_in(setup, WORDS, NULL, 0, 0, 9, ORDER_ITEM, false, one, 1).number, PORTAL_ALL_USED);
-    expect("still the first", r[0].student, 7);
-    expect("still the second", r[1].student, 8);
-    expect("still the third", r[2].way, 1);
+    expect("all records as they were", (uint64_t)memcmp(r, kept, sizeof r), 0);
 }
 
 static void try_withdraw(void)

@@ -14,7 +14,7 @@ class World:
 
     def __init__(self, vertices, colours, sets, lists, records=(), attempts=()):
         self.vertices, self.colours, self.sets, self.lists = vertices, colours, sets, lists
-        # of the class register: times are as many as calls are made, and one more
+        # of the class register: a time for each call of the longest list of calls, and no more
         self.records, self.attempts, self.times = records, attempts, range(7)
 
 
@@ -1887,6 +1887,14 @@ def OneWithdrawAnswer(asked, entry, answers):
     return all(SameCall(a, b, exit, other) for a, exit in met for b, other in met)
 
 
+def SettledHandIns(asked, entry, answers):
+    return all(implies(lambda: HandInCall(*asked, a, entry, exit), lambda: HandInDemands(*asked, a, entry, exit, answers)) for a, exit in answers)
+
+
+def SettledWithdrawals(asked, entry, answers):
+    return all(implies(lambda: WithdrawCall(*asked, a, entry, exit), lambda: WithdrawDemands(*asked, a, entry, exit, answers)) for a, exit in answers)
+
+
 # ---- demands/Demands: each call's answer in `r` is its number and its values; `among` has the other answers, texts and rows that are looked at
 
 
@@ -1912,8 +1920,8 @@ def Demand1(text, item, s, set_, target, other, opened, locked, kinds, vertices,
     quick = Settled([12, 13, 14], lambda n, v: QuickCall(s, target, set_, n, v), *r.quick, both)
     cuts = SettledList(lambda n, v, x: CutsCall(s, target, n, v, harden, x), *r.cuts, harden, harden_, among.cuts)
     next_ = Settled([12, 13, 21], lambda n, v: NextCall(s, target, set_, n, v), *r.next, both)
-    handIn = OneHandInAnswer(*among.handIns)
-    withdraw = OneWithdrawAnswer(*among.withdrawals)
+    handIn = SettledHandIns(*among.handIns)
+    withdraw = SettledWithdrawals(*among.withdrawals)
     sets = closure and lost and way and quick
     lists = bases and score and risk and openings and lockouts
     ahead = forecast and next_

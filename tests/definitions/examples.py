@@ -805,6 +805,7 @@ def of_register(D):
         ("not call: withdraw, one record alone", lambda: left(3, 7, 0, 2, [R_ONE, R_ANOTHER, R_LOCKS], [R_ANOTHER, R_LOCKS, R_LOCKS]), False),
         ("call: withdraw, 27", lambda: left(1, 8, 27, 1, [R_ONE, R_ANOTHER], [R_ONE, R_ANOTHER]), True),
         ("not call: withdraw, 27 of one who has", lambda: left(2, 8, 27, 2, [R_ONE, R_ANOTHER], [R_ONE, R_ANOTHER]), False),
+        ("not call: withdraw, one behind the used ones", lambda: left(1, 8, 0, 0, [R_ONE, R_ANOTHER], [R_ONE, R_ANOTHER]), False),
         ("call: withdraw, 25", lambda: left(2, 7, 25, 2, [R_ONE], [R_ONE]), True),
         ("afternoon", lambda: D.Afternoon(bench, SLICE, back), True),
         ("not afternoon: from another count", lambda: D.Afternoon(bench, SLICE, afternoon(("HandIn", BOTH, 0, [R_ANY, R_BOTH, R_ANY], 2))), False),
@@ -873,11 +874,13 @@ def of_register(D):
         ("demands: withdrawal, 27", lambda: D.WithdrawDemands(1, 8, Registered(27, 1), [R_ONE, R_ANY], [R_ONE, R_ANY], REGISTERS), True),
         ("demands: withdrawal, 25", lambda: D.WithdrawDemands(3, 7, Registered(25, 3), [R_ONE, R_ANY], [R_ONE, R_ANY], REGISTERS), True),
         ("not demands: withdrawal, 27 of one who has", lambda: D.WithdrawDemands(1, 7, Registered(27, 1), [R_ONE, R_ANY], [R_ONE, R_ANY], REGISTERS), False),
-        ("settled: nothing else", lambda: D.SettledRegister([27], lambda b, l: b.number == 0 and l == [R_ANY, R_ANY], 0, Registered(0, 0), [], [R_ANY, R_ANY], REGISTERS), False),
+        ("not settled: something else", lambda: D.SettledRegister([27], lambda b, l: b.number == 0 and l == [R_ANY, R_ANY], 0, Registered(0, 0), [], [R_ANY, R_ANY], REGISTERS), False),
         ("not settled: not met", lambda: D.SettledRegister([27], lambda b, l: False, 0, Registered(0, 0), [], [], []), False),
         ("not settled: another number", lambda: D.SettledRegister([27], lambda b, l: True, 0, Registered(26, 0), [], [], []), False),
         ("one answer: hand-in", lambda: D.OneHandInAnswer(one, [R_BOTH, R_ANY], REGISTERS), True),
         ("one answer: withdrawal", lambda: D.OneWithdrawAnswer((1, 7), [R_ONE, R_ANY], REGISTERS), True),
+        ("settled: every hand-in", lambda: D.SettledHandIns(one, [R_BOTH, R_ANY], REGISTERS), True),
+        ("settled: every withdrawal", lambda: D.SettledWithdrawals((1, 7), [R_ONE, R_ANY], REGISTERS), True),
     ]
 
 

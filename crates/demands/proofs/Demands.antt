@@ -8,7 +8,7 @@ use Rattle.findings.specs.Findings.{FindsBackdoor, FindsIneffective, FindsIncon
 use Rattle.findings.proofs.Unique.{backdoor-unique, ineffective-unique, inconsistent-unique}
 use Rattle.demands.specs.declared.Answers.{Answers}
 use Rattle.demands.specs.Demands.{Demand1, Demand2}
-use Rattle.demands.proofs.Register.{one-hand-in-answer, one-withdraw-answer}
+use Rattle.demands.proofs.Register.{hand-in-demands, withdraw-demands}
 use Rattle.demands.proofs.Outcomes.{settled-closure, settled-lost, settled-score, settled-marks, settled-finding, settled-forecast, settled-quick, settled-attackers, settled-next, settled-lists, settled-cuts, settled-way, settled-question-12}
 use Rattle.demands.proofs.Sheets.{settled-reading, settled-portal}
 
@@ -37,6 +37,6 @@ one-of-two {text = text} {item = item} {s = s} {set = set} {target = target} {ot
       cuts = settled-cuts s target _ _ _ _ (d .cuts);
       attackers = settled-attackers s _ _ target kinds (d .attackers);
       next = settled-next s _ _ target set (d .next);
-      handIn = one-hand-in-answer;
-      withdraw = one-withdraw-answer;
+      handIn = hand-in-demands;
+      withdraw = withdraw-demands;
     }

@@ -1,8 +1,8 @@
 -- The calls on the class register have an outcome, and no second one: this follows from their contracts, since a record's marks are unique.
 -- Assumes nothing.
-use mathlib.Core.Path.{_≡_, refl, sym, _∙_, ap, subst}
-use mathlib.Core.Bool.{Bool, true, false}
-use mathlib.Core.List.{List, [], _∷_}
+use mathlib.Core.Path.{_≡_, sym, _∙_, ap, subst}
+use mathlib.Core.Bool.{Bool}
+use mathlib.Core.List.{List}
 use mathlib.Core.Logic.{_⊎_, inl, inr, ⊎-elim}
 use Prim.Native.Nat.{ℕ, _≤_, _<_}
 use native.Mathlib.Omega.{arith}
@@ -14,10 +14,10 @@ use Rattle.formed.specs.WellFormed.{WellFormed}
 use Rattle.records.specs.declared.Record.{Record}
 use Rattle.records.specs.declared.Registered.{Registered}
 use Rattle.records.specs.Records.{RecordOf, hasThree, hasStudent}
-use Rattle.register.specs.Calls.{CallRefused, RegisterLeft, TakesRecord, HandInCall, WithdrawCall}
+use Rattle.register.specs.Calls.{CallRefused, RegisterLeft, TakesRecord}
 use Rattle.register.proofs.Outcomes.{Turned, left-number, refused-number, formed-or, hand-in-outcome, withdraw-outcome}
 use Rattle.reference.proofs.Unique.{counts-unique}
-use Rattle.demands.specs.Register.{CallTurned, SameCall, SettledRegister, HandInDemands, WithdrawDemands, OneHandInAnswer, OneWithdrawAnswer}
+use Rattle.demands.specs.Register.{CallTurned, SameCall, OneHandInAnswer, OneWithdrawAnswer, SettledHandIns, SettledWithdrawals}
 
 -- ---- a record by its fields
 
@@ -108,8 +108,7 @@ turned {numbers = numbers} t =
       kept = t .refused .untouched;
     }
 
-pub hand-in-demands : (s : Setup) (used student target : ℕ) (loss : Bool) (handed : List ℕ) (a : Registered) (entry exit : List Record)
-    → HandInCall s used student target loss handed a entry exit → HandInDemands s used student target loss handed a entry exit
+pub hand-in-demands : SettledHandIns
 hand-in-demands s used student target loss handed a entry exit c =
     record {
       one = record {
@@ -120,7 +119,7 @@ hand-in-demands s used student target loss handed a entry exit c =
       two = c;
     }
 
-pub withdraw-demands : (used student : ℕ) (a : Registered) (entry exit : List Record) → WithdrawCall used student a entry exit → WithdrawDemands used student a entry exit
+pub withdraw-demands : SettledWithdrawals
 withdraw-demands used student a entry exit c =
     record {
       one = record {

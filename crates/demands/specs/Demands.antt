@@ -19,7 +19,7 @@ use Rattle.register.specs.Afternoon.{RegisterLaw}
 use Rattle.sheet_format.specs.Read.{readSheet}
 use Rattle.portal.specs.Portal.{PortalCall}
 use Rattle.demands.specs.declared.Answers.{Answers}
-use Rattle.demands.specs.Register.{OneHandInAnswer, OneWithdrawAnswer}
+use Rattle.demands.specs.Register.{SettledHandIns, SettledWithdrawals}
 use Rattle.demands.specs.Outcomes.{Settled, SettledWay, SettledList, Yielded, SettledQuestion12}
 use Rattle.demands.specs.Sheets.{Reads, SettledReading, SettledPortal}
 
@@ -56,9 +56,9 @@ pub record Demand1 (text : List ℕ) (item : ℕ) (s : Setup) (set target other 
   pub cuts : SettledList (λ n v x. CutsCall s target n v harden x) (cutsNumber (r .cuts)) (cutsValues (r .cuts)) harden harden′
   -- the next set after the given one: 12, 13, 21
   pub next : Settled (12 ∷ 13 ∷ 21 ∷ []) (NextCall s target set) (nextNumber (r .next)) (nextValues (r .next))
-  -- the class register: 25, 12, 13, 26; 25, 27
-  pub handIn : OneHandInAnswer
-  pub withdraw : OneWithdrawAnswer
+  -- the class register, for every answer that a call may give: 25, 12, 13, 26; 25, 27
+  pub handIn : SettledHandIns
+  pub withdraw : SettledWithdrawals
 
 -- Demand 2: every answer is the one of the paper's definitions, by the calls' own contracts; a sheet is accepted exactly where it has the paper's
 -- form, and yields the setup that its rows state.

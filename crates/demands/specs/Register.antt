@@ -43,7 +43,17 @@ abbrev pub OneHandInAnswer : Type 0
 OneHandInAnswer = (s : Setup) (used student target : ℕ) (loss : Bool) (handed : List ℕ) (a b : Registered) (entry exit other : List Record)
     → HandInCall s used student target loss handed a entry exit → HandInCall s used student target loss handed b entry other → SameCall a b exit other
 
--- So are two that meet a withdrawal's.
+-- Two answers that meet a withdrawal's contract are the same, with the lent slice.
 abbrev pub OneWithdrawAnswer : Type 0
 OneWithdrawAnswer = (used student : ℕ) (a b : Registered) (entry exit other : List Record)
     → WithdrawCall used student a entry exit → WithdrawCall used student b entry other → SameCall a b exit other
+
+-- Every answer that meets a hand-in's contract meets both demands.
+abbrev pub SettledHandIns : Type 0
+SettledHandIns = (s : Setup) (used student target : ℕ) (loss : Bool) (handed : List ℕ) (a : Registered) (entry exit : List Record)
+    → HandInCall s used student target loss handed a entry exit → HandInDemands s used student target loss handed a entry exit
+
+-- Every answer that meets a withdrawal's contract meets both demands.
+abbrev pub SettledWithdrawals : Type 0
+SettledWithdrawals = (used student : ℕ) (a : Registered) (entry exit : List Record)
+    → WithdrawCall used student a entry exit → WithdrawDemands used student a entry exit

@@ -1,22 +1,22 @@
 -- What the marking answers, as the task of a hand-in.
 -- Assumes nothing.
 use mathlib.Core.Path.{_≡_, refl, sym, ap, subst, _∙_}
-use mathlib.Core.Bool.{Bool, true, false}
+use mathlib.Core.Bool.{Bool, false}
 use mathlib.Core.List.{List, [], _∷_}
-use Prim.Native.Nat.{ℕ, _<_}
+use Prim.Native.Nat.{ℕ}
 use native.Mathlib.Omega.{arith}
 use lib.ListN.{length, getD}
 use Rattle.vertex_set.specs.Set.{Iff}
 use Rattle.setup.specs.declared.Setup.{Setup}
-use Rattle.formed.specs.WellFormed.{WellFormed}
 use Rattle.bases.specs.Marks.{Counts, IsBaseOnce, Full}
 use Rattle.answers.specs.declared.Marks.{Marks}
 use Rattle.answers.specs.declared.MarksAnswer.{MarksAnswer}
 use Rattle.answers.specs.declared.MarksAnswer.the-variants as marks
 use Rattle.answers.specs.Answers.{marksNumber, marksValues, MarksCall}
+use Rattle.records.specs.declared.Record.{Record}
 use Rattle.records.specs.declared.Task.{Task}
 use Rattle.records.specs.Records.{wayNumber}
-use Rattle.records.specs.Inner.{leaving, taskOf, Attempts}
+use Rattle.records.specs.Inner.{rowOf, taskOf, Attempts}
 
 pub by-way : (s : Setup) (target : ℕ) (loss b : Bool) (handed : List ℕ) (n : ℕ) (v : List ℕ) → loss ≡ b → MarksCall b s target handed n v → MarksCall loss s target handed n v
 by-way s target loss b handed n v e c = subst (λ (x : Bool). MarksCall x s target handed n v) (sym e) c
@@ -82,7 +82,6 @@ module _ (student target : ℕ) (loss : Bool) (answer : MarksAnswer) where
       }) e
       ∙ sym (ap (taskOf student target loss) a)
 
-  pub turned-away : (none : Task) (q : ℕ) → none ≡ leaving student → answer ≡ marks.Refused q
-      → record { remove = false; refused = q; row = none .row } ≡ taskOf student target loss answer
-  turned-away none q e a =
-      ap (λ (t : Task). record { remove = false; refused = q; row = t .row }) e ∙ sym (ap (taskOf student target loss) a)
+  pub turned-away : (row : Record) (q : ℕ) → row ≡ rowOf student → answer ≡ marks.Refused q
+      → record { remove = false; refused = q; row = row } ≡ taskOf student target loss answer
+  turned-away row q e a = ap (λ (r : Record). record { remove = false; refused = q; row = r }) e ∙ sym (ap (taskOf student target loss) a)

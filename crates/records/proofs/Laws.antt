@@ -4,15 +4,14 @@ use mathlib.Core.Path.{_≡_, refl, sym, _∙_, ap, subst}
 use mathlib.Core.Bool.{Bool, true, false, cond}
 use mathlib.Core.List.{List, [], _∷_, _++_, append-nil, append-assoc}
 use Prim.Native.Nat.{ℕ, zero, suc, _+_, _<_, _≤_}
-use native.Mathlib.Nat.{add-zero}
 use native.Mathlib.Omega.{arith}
 use lib.ListN.{length, take, drop, getD, set, length-append, take-append-drop, drop-of-length-le}
-use lib.Seq.{set-getD, set-append-seam, getD-append-seam, append-snoc, drop-cons, drop-append-seam, getD-append-add, getD-drop, length-take-le, take-append-seam, take-length}
+use lib.Seq.{set-getD, set-append-seam, getD-append-seam, drop-cons, drop-append-seam, getD-append-add, getD-drop, length-take-le}
 use lib.Dec.{T as Holds, eqb, ltb}
-use borrow.Author.Tests.{eq-eqb, ne-eqb, lt-ltb, le-ltb, eqb-true, eqb-false, ltb-true, ltb-false}
+use borrow.Author.Tests.{eq-eqb, ne-eqb, lt-ltb, le-ltb, ltb-true, ltb-false}
 use Rattle.vertex_set.proofs.Cases.{byTest}
 use Rattle.records.specs.Records.{sameThree, hasThree, hasStudent, withRecord, without}
-use Rattle.records.specs.Inner.{blank, went, turn, lesser, removeOf, layOf, stepOf, turnsOf, beginOf, finishOf, End, endOf, Outcome, refusal, accepts, handIn, withdraw, outcomeOf, Answers}
+use Rattle.records.specs.Inner.{blank, went, turn, lesser, stepOf, turnsOf, beginOf, finishOf, End, endOf, Outcome, refusal, accepts, handIn, withdraw, outcomeOf, Answers}
 use Rattle.records.specs.declared.Record.{Record}
 use Rattle.records.specs.declared.Task.{Task}
 use Rattle.records.specs.declared.Pass.{Pass}

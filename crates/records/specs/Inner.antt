@@ -35,6 +35,14 @@ lesser c i = cond (ltb c i) c i
 abbrev pub removeOf : Task → Pass → Record → ℕ → Turn
 removeOf t p r i = cond (eqb (r .student) (t .row .student)) (turn i r (went p true (p .count))) (turn (lesser (p .count) i) r (went p (p .found) (lesser (p .count) i + 1)))
 
+-- does the new record n go to the place i, where r stands?
+abbrev pub takesOf : Pass → Record → Record → ℕ → Bool
+takesOf p r n i = cond (p .found) false (cond (eqb i (p .used)) true (sameThree r n))
+
+-- p behind a place that the new record takes, or not
+abbrev pub onOf : Pass → Bool → ℕ → Pass
+onOf p b i = cond b (went p true (cond (eqb i (p .used)) (i + 1) (p .count))) p
+
 abbrev pub layOf : Task → Pass → Record → ℕ → Turn
 layOf t p r i = cond (p .found) (turn i r p) (cond (eqb i (p .used)) (turn i (t .row) (went p true (i + 1))) (cond (sameThree r (t .row)) (turn i (t .row) (went p true (p .count))) (turn i r p)))
 

@@ -1,10 +1,11 @@
 // Records of attempts, and what a call on the register does with one record at a time. All that the
 // register's calls decide is decided here, by value: the functions over the slice decide nothing.
 ghost use mathlib.Core.Path.{_≡_};
+ghost use mathlib.Core.Bool.{cond};
 ghost use Prim.Native.Nat.{_<_, _≤_, _+_, _^_};
 ghost use Rattle.answers.specs.Answers.{marksNumber, marksValues, MarksCall};
 ghost use Rattle.records.specs.Records.{wayNumber, sameThree};
-ghost use Rattle.records.specs.Inner.{lesser, removeOf, layOf, stepOf, turnsOf, refusesOf, countsOf, beginOf, finishOf, leaving, taskOf, Attempts};
+ghost use Rattle.records.specs.Inner.{lesser, removeOf, takesOf, onOf, layOf, stepOf, turnsOf, refusesOf, countsOf, beginOf, finishOf, rowOf, leaving, taskOf, Attempts};
 use answers::MarksAnswer;
 use setup::Setup;
 
@@ -67,6 +68,8 @@ fn same(r: Record, n: Record) -> bool
     false
 }
 
+// The lesser of the two. A pass's count is never above its place, so that this is the count: it is asked
+// for so that the place where a record is stored is known to lie within the slice, whatever the count.
 fn least(c: usize, i: usize) -> usize
     ensures { λ n. ⌜ (n ≡ lesser c i) × (n ≤ i) ⌝ }
 {
@@ -76,8 +79,8 @@ fn least(c: usize, i: usize) -> usize
     i
 }
 
-// A turn of a withdrawal: a record of the student stays where it is, and is overwritten by one that
-// moves up; another one moves up to the first free place.
+// A turn of a withdrawal: a record of the student stays where it is until one that moves up is stored
+// over it, if any is; another one moves up to the first free place.
 fn remove(t: Task, p: Pass, r: Record, i: usize) -> Turn
     requires { ⌜ i + 1 < 2 ^ 64 ⌝ }
     ensures { λ d. ⌜ d ≡ removeOf t p r i ⌝ }
@@ -101,6 +104,72 @@ fn remove(t: Task, p: Pass, r: Record, i: usize) -> Turn
     }
 }
 
+// One of two numbers.
+fn pick(take: bool, new: u64, old: u64) -> u64
+    ensures { λ n. ⌜ n ≡ cond take new old ⌝ }
+{
+    if take {
+        return new;
+    }
+    old
+}
+
+// One of two records, number by number, so that compiled all eight stay in registers: one that is chosen
+// as a whole goes through memory, which was most of a pass's time.
+fn choose(take: bool, n: Record, r: Record) -> Record
+    ensures { λ d. ⌜ d ≡ cond take n r ⌝ }
+{
+    let student = pick(take, n.student, r.student);
+    let target = pick(take, n.target, r.target);
+    let way = pick(take, n.way, r.way);
+    let right = pick(take, n.right, r.right);
+    let repeated = pick(take, n.repeated, r.repeated);
+    let shut = pick(take, n.shut, r.shut);
+    let loose = pick(take, n.loose, r.loose);
+    let missing = pick(take, n.missing, r.missing);
+    Record {
+        student: student,
+        target: target,
+        way: way,
+        right: right,
+        repeated: repeated,
+        shut: shut,
+        loose: loose,
+        missing: missing,
+    }
+}
+
+// Does the new record n go to the place i, where r stands? To the first with the same three, and where
+// there is none, to the place behind the used ones.
+fn takes(p: Pass, r: Record, n: Record, i: usize) -> bool
+    ensures { λ b. ⌜ b ≡ takesOf p r n i ⌝ }
+{
+    if p.found {
+        return false;
+    }
+    if i == p.used {
+        return true;
+    }
+    same(r, n)
+}
+
+// How a hand-in's pass goes on from a place that the new record takes, or does not take.
+fn pass_on(p: Pass, take: bool, i: usize) -> Pass
+    requires { ⌜ i + 1 < 2 ^ 64 ⌝ }
+    ensures { λ q. ⌜ q ≡ onOf p take i ⌝ }
+{
+    let mut next = p;
+    if take {
+        next.found = true;
+        if i == p.used {
+            next.count = i + 1;
+            return next;
+        }
+        return next;
+    }
+    p
+}
+
 // A turn of a hand-in: the first record with the same three gets the new one; where there is none,
 // the place behind the used ones does.
 fn lay(t: Task, p: Pass, r: Record, i: usize) -> Turn
@@ -108,35 +177,13 @@ fn lay(t: Task, p: Pass, r: Record, i: usize) -> Turn
     ensures { λ d. ⌜ d ≡ layOf t p r i ⌝ }
 {
     let n = t.row;
-    let mut next = p;
-    if p.found {
-        return Turn {
-            at: i,
-            row: r,
-            pass: p,
-        };
-    }
-    if i == p.used {
-        next.found = true;
-        next.count = i + 1;
-        return Turn {
-            at: i,
-            row: n,
-            pass: next,
-        };
-    }
-    if same(r, n) {
-        next.found = true;
-        return Turn {
-            at: i,
-            row: n,
-            pass: next,
-        };
-    }
+    let take = takes(p, r, n, i);
+    let row = choose(take, n, r);
+    let next = pass_on(p, take, i);
     Turn {
         at: i,
-        row: r,
-        pass: p,
+        row: row,
+        pass: next,
     }
 }
 
@@ -236,11 +283,11 @@ pub fn finish(t: Task, p: Pass) -> Registered
     }
 }
 
-// The task of a withdrawal.
-pub fn leave(student: u64) -> Task
-    ensures { λ t. ⌜ t ≡ leaving student ⌝ }
+// A record that has the student alone, for a task that lays none down.
+fn row_of(student: u64) -> Record
+    ensures { λ r. ⌜ r ≡ rowOf student ⌝ }
 {
-    let r = Record {
+    Record {
         student: student,
         target: 0,
         way: 0,
@@ -249,7 +296,14 @@ pub fn leave(student: u64) -> Task
         shut: 0,
         loose: 0,
         missing: 0,
-    };
+    }
+}
+
+// The task of a withdrawal.
+pub fn leave(student: u64) -> Task
+    ensures { λ t. ⌜ t ≡ leaving student ⌝ }
+{
+    let r = row_of(student);
     Task {
         remove: true,
         refused: 0,
@@ -281,8 +335,7 @@ fn enter(student: u64, target: u64, loss: bool, answer: MarksAnswer) -> Task
     ensures { λ t. ⌜ t ≡ taskOf student target loss answer ⌝ }
 {
     let way = way_number(loss);
-    let none = leave(student);
-    let row = none.row;
+    let row = row_of(student);
     match answer {
         MarksAnswer::Marked(m) => {
             let r = Record {

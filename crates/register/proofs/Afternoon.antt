@@ -1,7 +1,6 @@
 -- The theorem over every list of calls: what the register holds after it.
 -- Assumes nothing.
 use mathlib.Core.Path.{_≡_, refl, sym, _∙_, ap, subst}
-use mathlib.Core.Bool.{Bool}
 use mathlib.Core.List.{List, [], _∷_}
 use mathlib.Core.Logic.{⊎-elim}
 use Prim.Native.Nat.{ℕ}
@@ -11,9 +10,9 @@ use Rattle.setup.specs.declared.Setup.{Setup}
 use Rattle.records.specs.declared.Record.{Record}
 use Rattle.records.specs.declared.Registered.{Registered}
 use Rattle.records.specs.Records.{withRecord, without}
-use Rattle.register.specs.Calls.{CallRefused, RegisterLeft, HandInCall, WithdrawCall}
-use Rattle.register.specs.Afternoon.{Attempt, Call, HandIn, Withdraw, Made, MeetsCall, sliceAfter, usedAfter, Afternoon, Stands, RegisterHolds, RegisterLaw}
-use Rattle.register.proofs.Outcomes.{Turned, Taken, handInNumbers, withdrawNumbers, left-number, refused-number, hand-in-outcome, withdraw-outcome, hand-in-no, withdraw-no}
+use Rattle.register.specs.Calls.{CallRefused, RegisterLeft}
+use Rattle.register.specs.Afternoon.{Call, HandIn, Withdraw, Made, MeetsCall, sliceAfter, usedAfter, Stands, RegisterHolds, RegisterLaw}
+use Rattle.register.proofs.Outcomes.{Turned, Taken, left-number, refused-number, hand-in-outcome, withdraw-outcome, hand-in-no, withdraw-no}
 use Rattle.register.proofs.Times.{stands-before, stands-refused, stands-withdrawn, stands-handed}
 use Rattle.register.proofs.Holds.{holds-same, holds-less, holds-more}
 

@@ -1,21 +1,20 @@
 -- From the outcome of a pass to the contracts of the two calls.
 -- Assumes nothing.
-use mathlib.Core.Path.{_≡_, refl, sym, _∙_, ap, subst}
-use mathlib.Core.Bool.{Bool, true, false, cond}
+use mathlib.Core.Path.{_≡_, _∙_, ap, subst}
+use mathlib.Core.Bool.{Bool, true, false}
 use mathlib.Core.List.{List}
 use mathlib.Core.Logic.{_⊎_, ⊎-elim}
 use Prim.Native.Nat.{ℕ, suc, _≤_, _<_}
 use native.Mathlib.Omega.{arith}
 use lib.ListN.{length, take}
 use lib.Seq.{length-take-le}
-use lib.Dec.{eqb, ltb}
 use borrow.Author.Tests.{eq-eqb, ne-eqb, lt-ltb, le-ltb}
 use Rattle.vertex_set.proofs.Cases.{byTest}
 use Rattle.setup.specs.declared.Setup.{Setup}
 use Rattle.records.specs.declared.Record.{Record}
 use Rattle.records.specs.declared.Registered.{Registered}
 use Rattle.records.specs.declared.Task.{Task}
-use Rattle.records.specs.Records.{hasThree, hasStudent, withRecord, without}
+use Rattle.records.specs.Records.{hasThree, withRecord, without}
 use Rattle.records.specs.Inner.{Outcome, refusal, accepts, handIn, withdraw, outcomeOf, Answers, leaving, Attempts}
 use Rattle.records.proofs.Laws.{if-true, if-false, withRecord-length, any-less, none-same}
 use Rattle.register.specs.Calls.{CallRefused, RegisterLeft, TakesRecord, HandInCall, WithdrawCall}

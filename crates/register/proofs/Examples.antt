@@ -1,21 +1,21 @@
 -- Small registers, computed, and wrong answers that the contracts exclude.
 -- Assumes nothing.
 use mathlib.Core.Path.{_≡_, refl, sym, _∙_, ap}
-use mathlib.Core.Bool.{Bool, true, false}
-use mathlib.Core.List.{List, [], _∷_, _++_}
+use mathlib.Core.Bool.{Bool, true}
+use mathlib.Core.List.{List, [], _∷_}
 use mathlib.Core.Logic.{inl, inr, ⊎-elim}
-use Prim.Native.Nat.{ℕ, _≤_, _<_}
+use Prim.Native.Nat.{ℕ, _<_}
 use native.Mathlib.Omega.{arith}
 use lib.ListN.{length, take, drop}
 use lib.Seq.{drop-append-seam}
 use Rattle.setup.specs.declared.Setup.{Setup}
 use Rattle.records.specs.declared.Record.{Record}
 use Rattle.records.specs.declared.Registered.{Registered}
-use Rattle.records.specs.Records.{sameThree, hasThree, hasStudent, withRecord, without}
+use Rattle.records.specs.Records.{sameThree, hasThree, withRecord, without}
 use Rattle.register.specs.Calls.{RegisterLeft, TakesRecord, HandInCall, WithdrawCall}
 use Rattle.register.proofs.Outcomes.{left-number, refused-number, hand-in-outcome, withdraw-outcome}
 
--- the record of a student's attempt at item 4, or another, with so many right sets
+-- the record of a student's attempt, with its target, way and number of right sets
 abbrev attempt : ℕ → ℕ → ℕ → ℕ → Record
 attempt student target way right = record { student = student; target = target; way = way; right = right; repeated = 0; shut = 0; loose = 0; missing = 2 }
 

@@ -1,6 +1,6 @@
 -- Which attempts stand after one more call.
 -- Assumes nothing.
-use mathlib.Core.Path.{_≡_, refl, sym, _∙_, ap, subst}
+use mathlib.Core.Path.{_≡_, refl, sym}
 use mathlib.Core.List.{List, [], _∷_}
 use mathlib.Core.Logic.{_⊎_, inl, inr, ⊎-elim}
 use Prim.Native.Nat.{ℕ, _<_}
@@ -9,7 +9,7 @@ use lib.ListN.{length}
 use Rattle.vertex_set.specs.Set.{Iff}
 use Rattle.records.specs.declared.Record.{Record}
 use Rattle.records.specs.declared.Registered.{Registered}
-use Rattle.register.specs.Afternoon.{Attempt, Call, HandIn, Withdraw, Made, HandedIn, Withdrawn, Stands}
+use Rattle.register.specs.Afternoon.{Attempt, HandIn, Withdraw, Made, HandedIn, Withdrawn, Stands}
 
 -- calls are made before the present time
 handed-before : (log : List Made) (t : ℕ) (x : Attempt) → HandedIn log t x → t < length log

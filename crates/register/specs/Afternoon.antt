@@ -14,12 +14,14 @@ use Rattle.register.specs.Calls.{HandInCall, WithdrawCall}
 
 -- ---- the calls, one after the other
 
+-- An attempt: whose it is, the target, the way (its lockout sets where `loss` holds, else its opening sets), and the sets that are handed in.
 pub record Attempt : Type 0 where
   pub student : ℕ
   pub target : ℕ
   pub loss : Bool
   pub handed : List ℕ
 
+-- A call: an attempt is handed in, or a student is withdrawn.
 pub data Call : Type 0 where
   HandIn : Attempt → Call
   Withdraw : ℕ → Call
@@ -51,10 +53,12 @@ Afternoon s slice (m ∷ earlier) = MeetsCall s (m .call) (usedAfter earlier) (s
 
 -- ---- what was accepted, and when: the time of a call is the number of calls made before it
 
+-- The call hands in the attempt x.
 abbrev pub IsHandIn : Call → Attempt → Type 0
 IsHandIn (HandIn y) x = y ≡ x
 IsHandIn (Withdraw k) x = ⊥
 
+-- The call withdraws the student k.
 abbrev pub IsWithdrawal : Call → ℕ → Type 0
 IsWithdrawal (HandIn y) k = ⊥
 IsWithdrawal (Withdraw j) k = j ≡ k
@@ -120,6 +124,7 @@ pub record IsOf (r : Record) (x : Attempt) : Type 0 where
   pub target : r .target ≡ x .target
   pub way : r .way ≡ wayNumber (x .loss)
 
+-- One of the records has the attempt's student, target and way.
 abbrev pub Held : List Record → Attempt → Type 0
 Held [] x = ⊥
 Held (r ∷ rs) x = IsOf r x ⊎ Held rs x
@@ -131,8 +136,10 @@ pub record RegisterHolds (s : Setup) (P : ℕ → Attempt → Type 0) (records :
   pub entries : Entries s P times records
   pub whole : (t : ℕ) (x : Attempt) → P t x → Held records x
 
--- For every list of hand-ins and withdrawals over one setup from an empty register, the used records are, for each student, target and way, the latest
--- accepted attempt of those not withdrawn since, in the order in which these three were first accepted after the student's last withdrawal.
+-- For every list of hand-ins and withdrawals over one setup from an empty register, refused ones among them, slice and count handed on as they came back:
+-- the used records are, for each student, target and way, that of the latest accepted attempt of those not withdrawn since, in the order in which these
+-- three were first accepted after the student's last withdrawal. Each is its attempt's record by `RecordOf`, which says when it has full marks. How many
+-- are used is said by the calls' contracts.
 abbrev pub RegisterLaw : Type 0
 RegisterLaw = (s : Setup) (slice : List Record) (log : List Made) → Afternoon s slice log
     → RegisterHolds s (Stands log) (take (usedAfter log) (sliceAfter slice log))

@@ -28,7 +28,7 @@ pub struct Record {
 
 impl Record {
     /// Student, target and way.
-    fn three(&self) -> (u64, u64, u64) {
+    pub fn three(&self) -> (u64, u64, u64) {
         (self.student, self.target, self.way)
     }
 }
@@ -47,7 +47,8 @@ pub struct Attempt {
 }
 
 impl Attempt {
-    fn three(&self) -> (u64, u64, u64) {
+    /// Student, target and way.
+    pub fn three(&self) -> (u64, u64, u64) {
         (self.student, self.target, u64::from(self.lock))
     }
 

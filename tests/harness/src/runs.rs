@@ -9,6 +9,7 @@ use crate::setups::{compare_setup, Depth, FEW, FULL, MANY, MOST};
 use crate::sheets::{compare_report, compare_sheet};
 use crate::walks::{compare_next_cases, compare_walks};
 use brute::cases::draft::sheet_of_setup;
+use brute::cases::registers::Met;
 use brute::cases::{
     bounds, buffers, cuts, damaged, forecasts, intruders, noise, random, readings, setups, tiny,
     Rng, SetupCase, SheetCase,
@@ -22,6 +23,21 @@ type Outcome = Result<(), Box<Difference>>;
 /// the list.
 const SHOWN: usize = 800;
 const LEFT: usize = 80;
+
+/// The fewest of the gate's calls on the class register, by what they came to.
+const REGISTERED: [(&str, usize); 11] = [
+    ("new", 10_000),
+    ("replaced", 1_500),
+    ("the first of several replaced", 250),
+    ("withdrawn", 2_000),
+    ("gaps closed", 200),
+    ("12", 100),
+    ("13", 4_000),
+    ("25", 1_000),
+    ("25 before 12", 3),
+    ("26", 4_000),
+    ("27", 5_000),
+];
 
 /// How many inputs were compared, and how many reports among them.
 #[derive(Default)]
@@ -47,19 +63,20 @@ impl fmt::Display for Counts {
 /// A run of comparisons.
 pub struct Run {
     pub counts: Counts,
+    met: Met,
     rng: Rng,
     program: Option<Program>,
 }
 
 impl Run {
     pub fn new(seed: u64, program: Option<Program>) -> Run {
-        Run { counts: Counts::default(), rng: Rng::new(seed), program }
+        Run { counts: Counts::default(), met: Met::default(), rng: Rng::new(seed), program }
     }
 
     fn sheet(&mut self, case: &SheetCase, depth: Depth, report: bool) -> Outcome {
         let program = self.program.as_ref().filter(|_| report);
         self.counts.reports += u64::from(program.is_some());
-        compare_sheet(case, &mut self.rng, depth, program)
+        compare_sheet(case, &mut self.rng, depth, program, &mut self.met)
     }
 
     /// The report of a sheet, and nothing else.
@@ -76,7 +93,8 @@ impl Run {
     }
 
     fn setup(&mut self, case: &SetupCase, depth: Depth) -> Outcome {
-        let said = compare_setup(&case.label, None, &case.setup, &mut self.rng, depth)?;
+        let (rng, met) = (&mut self.rng, &mut self.met);
+        let said = compare_setup(&case.label, None, &case.setup, rng, depth, met)?;
         self.counts.setups += u64::from(said);
         Ok(())
     }
@@ -136,6 +154,8 @@ impl Run {
         for case in &given {
             self.setup(case, MANY)?;
         }
+        let too_few = self.met.too_few(&REGISTERED);
+        assert!(too_few.is_empty(), "too few of {too_few:?} were registered: {:?}", self.met);
         Ok(())
     }
 

@@ -5,6 +5,7 @@ use crate::register::{compare_afternoon, compare_register_calls};
 use crate::walks::values;
 use crate::words::words_of;
 use brute::calls::{Calls, Way};
+use brute::cases::registers::Met;
 use brute::cases::{probes, Rng};
 use brute::forecast;
 use brute::graph;
@@ -26,6 +27,8 @@ pub struct Depth {
     pub lent: usize,
     pub handed: usize,
     pub pairs: usize,
+    /// The calls of an afternoon; a fifth of them are made by themselves, too.
+    pub register: usize,
     /// All calls on each target; otherwise some of those that are alike are left out, at random.
     pub all: bool,
 }
@@ -39,33 +42,55 @@ pub const FULL: Depth = Depth {
     lent: 4,
     handed: usize::MAX,
     pairs: 4,
+    register: 30,
     all: true,
 };
 /// For many small setups.
-pub const MANY: Depth =
-    Depth { sets: 4, items: 5, strangers: 1, ways: 1, lent: 1, handed: 1, pairs: 1, all: false };
+pub const MANY: Depth = Depth {
+    sets: 4,
+    items: 5,
+    strangers: 1,
+    ways: 1,
+    lent: 1,
+    handed: 1,
+    pairs: 1,
+    register: 6,
+    all: false,
+};
 /// For a million tiny ones.
-pub const MOST: Depth =
-    Depth { sets: 4, items: 2, strangers: 1, ways: 1, lent: 1, handed: 1, pairs: 1, all: false };
+pub const MOST: Depth = Depth { items: 2, ..MANY };
 /// For setups at the bounds, where the brute force takes long.
-pub const FEW: Depth =
-    Depth { sets: 8, items: 5, strangers: 1, ways: 2, lent: 2, handed: 4, pairs: 2, all: true };
+pub const FEW: Depth = Depth {
+    sets: 8,
+    items: 5,
+    strangers: 1,
+    ways: 2,
+    lent: 2,
+    handed: 4,
+    pairs: 2,
+    register: 6,
+    all: true,
+};
 
 type Outcome = Result<(), Box<Difference>>;
 
-/// Compares all calls on a setup. A setup that words can't say is passed over: `false`.
+/// Compares all calls on a setup, and counts what the register's calls came to. A setup that words
+/// can't say is passed over: `false`.
 pub fn compare_setup(
     label: &str,
     sheet: Option<&[u8]>,
     setup: &Setup,
     rng: &mut Rng,
     depth: Depth,
+    met: &mut Met,
 ) -> Result<bool, Box<Difference>> {
     let Some(words) = words_of(setup) else { return Ok(false) };
     let words = in_other_words(rng, words);
     let subject = Subject { label, sheet, setup: Some(setup) };
     let calls = Calls::new(setup);
-    Compare { subject, words, calls: &calls, rng, depth }.all()?;
+    let mut compare = Compare { subject, words, calls: &calls, rng, depth };
+    compare.all()?;
+    compare.register(met)?;
     Ok(true)
 }
 
@@ -116,15 +141,16 @@ impl Compare<'_> {
         for target in self.targets(count) {
             self.target(target, &sets, count)?;
         }
-        self.register()
+        Ok(())
     }
 
     /// The class register: an afternoon, and single calls.
-    fn register(&mut self) -> Outcome {
-        let (afternoon, single) = if self.depth.all { (30, 6) } else { (6, 1) };
+    fn register(&mut self, met: &mut Met) -> Outcome {
         if self.more() {
-            compare_afternoon(&self.subject, &self.words, self.calls, self.rng, afternoon)?;
-            compare_register_calls(&self.subject, &self.words, self.calls, self.rng, single)?;
+            let many = self.depth.register;
+            let (subject, words, calls) = (&self.subject, &self.words, self.calls);
+            compare_afternoon(subject, words, calls, self.rng, many, met)?;
+            compare_register_calls(subject, words, calls, self.rng, many / 5, met)?;
         }
         Ok(())
     }

@@ -5,6 +5,7 @@ use crate::compare::{Difference, Subject};
 use crate::program::Program;
 use crate::setups::{compare_setup, Depth};
 use crate::words::words_of;
+use brute::cases::registers::Met;
 use brute::cases::{probes, Rng, SheetCase, Told};
 use brute::report::portal_code;
 use brute::setup::Setup;
@@ -20,6 +21,7 @@ pub fn compare_sheet(
     rng: &mut Rng,
     depth: Depth,
     program: Option<&Program>,
+    met: &mut Met,
 ) -> Outcome {
     let read = sheet::read(&case.sheet);
     let subject = Subject { label: &case.label, sheet: Some(&case.sheet), setup: None };
@@ -38,7 +40,7 @@ pub fn compare_sheet(
         compare_report(case, program)?;
     }
     if let Ok(sheet) = &read {
-        compare_setup(&case.label, Some(&case.sheet), &sheet.setup, rng, depth)?;
+        compare_setup(&case.label, Some(&case.sheet), &sheet.setup, rng, depth, met)?;
     }
     Ok(())
 }

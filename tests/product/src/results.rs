@@ -141,13 +141,21 @@ results! {
 #[repr(C)]
 #[derive(Clone, Copy, Debug, Default, PartialEq, Eq)]
 pub struct Record {
+    /// Whose attempt it is.
     pub student: u64,
+    /// The item that is to be opened or locked.
     pub target: u64,
+    /// 0 for open, 1 for lock; a slice may have any other number.
     pub way: u64,
+    /// Sets of the list.
     pub right: u64,
+    /// Sets equal to an earlier one.
     pub repeated: u64,
+    /// Sets that do not open (lock) the target.
     pub shut: u64,
+    /// Sets of which a proper subset does.
     pub loose: u64,
+    /// Sets of the list that were not handed in.
     pub missing: u64,
 }
 
@@ -159,13 +167,6 @@ pub struct Registered {
     pub number: u64,
     /// How many records are used now.
     pub used: usize,
-}
-
-impl Record {
-    /// Full: nothing is repeated, shut, loose or missing.
-    pub fn full(self) -> bool {
-        self.repeated == 0 && self.shut == 0 && self.loose == 0 && self.missing == 0
-    }
 }
 
 impl Part {

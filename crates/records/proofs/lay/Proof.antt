@@ -1,26 +1,34 @@
-use mathlib.Core.Path.{sym, _∙_}
-use borrow.Author.Tests.{eq-eqb, ne-eqb}
+use mathlib.Core.Path.{_≡_}
+use mathlib.Core.Bool.{Bool, true, false, cond}
+use Prim.Native.Nat.{ℕ}
+use lib.Dec.{eqb}
 use borrow.Author.Needs.{needs}
+use Rattle.vertex_set.proofs.Cases.{byTest}
+use Rattle.records.specs.Records.{sameThree}
+use Rattle.records.specs.Inner.{turn, takesOf, onOf, layOf}
+use Rattle.records.specs.declared.Record.{Record}
+use Rattle.records.specs.declared.Task.{Task}
+use Rattle.records.specs.declared.Pass.{Pass}
 use Rattle.records.proofs.lay.Statement.{statement}
 use Rattle.records.proofs.lay.Tie as tie
 
+-- by cases: the record has its place already, it goes behind the used ones, it takes this place, or another stands here
+laid : (t : Task) (p : Pass) (r : Record) (i : ℕ) → turn i (cond (takesOf p r (t .row) i) (t .row) r) (onOf p (takesOf p r (t .row) i) i) ≡ layOf t p r i
+laid t p r i = byTest (p .found) (λ e. rw e) (λ e. byTest (eqb i (p .used)) (λ u. rw (e, u)) (λ u. byTest (sameThree r (t .row)) (λ s. rw (e, u, s)) (λ s. rw (e, u, s))))
+
+takes-requires : tie.Need-takes-requires
+takes-requires c κs = search needs
+
+choose-requires : tie.Need-choose-requires
+choose-requires c κs = search needs
+
+pass-on-requires : tie.Need-pass-on-requires
+pass-on-requires c κs = search needs
+
 returns : tie.Need-returns
-returns c = rw (c .if1 .taken)
-
-add-next : tie.Need-add-next
-add-next c = search needs
-
-returns-2 : tie.Need-returns-2
-returns-2 c = rw (c .before .before .if1 .left, eq-eqb _ _ (c .if2 .taken))
-
-same-requires : tie.Need-same-requires
-same-requires c κs = search needs
-
-returns-3 : tie.Need-returns-3
-returns-3 c = rw (c .before .before .before .before .if1 .left, ne-eqb _ _ (c .before .before .if2 .left), sym (c .before .same .ensures) ∙ c .if3 .taken)
-
-returns-4 : tie.Need-returns-4
-returns-4 c = rw (c .before .before .before .before .if1 .left, ne-eqb _ _ (c .before .before .if2 .left), sym (c .before .same .ensures) ∙ c .if3 .left)
+returns c =
+    let a = c .before .before .before .before .args in
+    rw (c .pass-on .ensures, c .before .choose .ensures, c .before .before .takes .ensures) (laid (a .t) (a .p) (a .r) (a .i))
 
 pub lay-spec : {M : Type 1} → statement M
-lay-spec = tie.close (tie.spec returns add-next returns-2 same-requires returns-3 returns-4)
+lay-spec = tie.close (tie.spec takes-requires choose-requires pass-on-requires returns)

@@ -5,6 +5,7 @@ use super::Rng;
 use crate::calls::Calls;
 use crate::register::{Attempt, Call, Record};
 use crate::setup::PLACES;
+use std::collections::BTreeMap;
 
 /// The students of an afternoon: few, so that they come again.
 const STUDENTS: [u64; 4] = [0, 7, 8, u64::MAX];
@@ -46,4 +47,86 @@ pub fn slice(rng: &mut Rng, calls: &Calls, places: usize) -> Vec<Record> {
         Record { student, target, way: *rng.pick(&ways), right, repeated, shut, loose, missing }
     };
     (0..places).map(|_| record(rng)).collect()
+}
+
+/// A slice for one call, of which each of the call's three stands in a record one time in two: so often
+/// the student has several records with others between them, and the three stand in more than one.
+pub fn slice_for(rng: &mut Rng, calls: &Calls, places: usize, call: &Call) -> Vec<Record> {
+    let mut records = slice(rng, calls, places);
+    for record in &mut records {
+        let (student, target, way) = match call {
+            Call::HandIn(attempt) => attempt.three(),
+            Call::Withdraw(student) => (*student, record.target, record.way),
+        };
+        if rng.chance(1, 2) {
+            record.student = student;
+        }
+        if rng.chance(1, 2) {
+            record.target = target;
+        }
+        if rng.chance(1, 2) {
+            record.way = way;
+        }
+    }
+    records
+}
+
+/// How often calls came to each outcome, by its name: a refusal's number, or what an accepted call did.
+/// A run holds it to the fewest of each, so that no generator comes to miss one unseen.
+#[derive(Debug, Default)]
+pub struct Met(BTreeMap<&'static str, usize>);
+
+impl Met {
+    /// Counts a call, which answered with this number on the slice and count as they were before it.
+    pub fn count(&mut self, calls: &Calls, before: &[Record], used: u64, call: &Call, number: u64) {
+        for name in outcomes(calls, before, used as usize, call, number) {
+            *self.0.entry(name).or_default() += 1;
+        }
+    }
+
+    /// The outcomes that were met less often than is asked for, with how often they were.
+    pub fn too_few(&self, fewest: &[(&'static str, usize)]) -> Vec<(&'static str, usize)> {
+        let met = fewest.iter().map(|&(name, many)| (name, self.of(name), many));
+        met.filter(|&(_, met, many)| met < many).map(|(name, met, _)| (name, met)).collect()
+    }
+
+    fn of(&self, name: &str) -> usize {
+        self.0.get(name).copied().unwrap_or_default()
+    }
+}
+
+/// What one call came to: some outcomes are a part of others, as the first of several that is replaced.
+fn outcomes(
+    calls: &Calls,
+    before: &[Record],
+    used: usize,
+    call: &Call,
+    number: u64,
+) -> Vec<&'static str> {
+    match (number, call) {
+        (12, _) => vec!["12"],
+        (13, _) => vec!["13"],
+        (25, Call::HandIn(_)) if !calls.well_formed() => vec!["25", "25 before 12"],
+        (25, _) => vec!["25"],
+        (26, _) => vec!["26"],
+        (27, _) => vec!["27"],
+        (_, Call::HandIn(attempt)) => {
+            let with_three = before[..used].iter().filter(|old| old.three() == attempt.three());
+            match with_three.count() {
+                0 => vec!["new"],
+                1 => vec!["replaced"],
+                _ => vec!["replaced", "the first of several replaced"],
+            }
+        }
+        (_, Call::Withdraw(student)) => {
+            let places: Vec<usize> =
+                (0..used).filter(|&place| before[place].student == *student).collect();
+            let next_to_each_other = places.windows(2).all(|pair| pair[0] + 1 == pair[1]);
+            if next_to_each_other {
+                vec!["withdrawn"]
+            } else {
+                vec!["withdrawn", "gaps closed"]
+            }
+        }
+    }
 }

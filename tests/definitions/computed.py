@@ -25,6 +25,8 @@ FIRST = {
     "forecasts": ["forecast-"],
     "cut_sets": ["cuts-"],
     "attackers": ["attacker-"],
+    "multisets": ["bag-"],
+    "multiset_scores": ["bags-"],
     "next_sets": ["next-"],
     "sheet_format/Names": ["name-", "line-"],
     "sheet_format": ["reads-alone", "reads-loop", "reads-pair", "refuses-", "passes-", "renders", "decimal-", "no-fields"],

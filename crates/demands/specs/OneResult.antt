@@ -12,6 +12,7 @@ use Rattle.forecasts.specs.Answers.{ForecastCall}
 use Rattle.quick_yes.specs.Answers.{QuickCall}
 use Rattle.cut_sets.specs.Answers.{CutsCall}
 use Rattle.next_sets.specs.Answers.{NextCall}
+use Rattle.multiset_scores.specs.Answers.{MultisetsCall, SameLists}
 use Rattle.setup.specs.Calls.{Same, SameList}
 use Rattle.demands.specs.OneAnswer.{SameWay}
 use Rattle.portal_setup.specs.Words.{setupIn}
@@ -51,6 +52,10 @@ pub record OneResultOnSetups (words : List ℕ) : Type 0 where
       → SameList n n′ f f′ x x′
   pub attackers : (target : ℕ) (kinds : List ℕ) → OneResult (AttackerCall (setupIn words) target kinds)
   pub next : (target last : ℕ) → OneResult (NextCall (setupIn words) target last)
+  pub bagScore : (target n n′ : ℕ) (f f′ a x x′ b y y′ : List ℕ) → length f ≡ length f′
+      → Told (λ number values. MultisetsCall (setupIn words) target number values a x b y) n f
+      → Told (λ number values. MultisetsCall (setupIn words) target number values a x′ b y′) n′ f′
+      → SameLists n n′ f f′ x x′ y y′
 
 -- The calls on a sheet, for every text.
 pub record OneResultOnSheets (text : List ℕ) : Type 0 where

@@ -5,8 +5,8 @@ ghost use Rattle.portal_reading.specs.Reading.{version, ReadingCall, Nam
 use portal_results::PortalPart;
 use portal_results::PortalReading;
 
-// Version 2.4.0.
-const VERSION: u64 = 20400;
+// Version 2.6.0.
+const VERSION: u64 = 20600;
 
 const SETUP_WORDS: usize = 1281;
 

@@ -4,8 +4,10 @@
 //! marks alone, `bench rows` that of the report with the most rows, `bench reports` those of reading
 //! and of reports, `bench forecast` that of forecasts,
 //! `bench next` that of next sets, `bench closing` that of closures, `bench opens` that of quick
-//! answers, `bench cuts` that of cut sets, and `bench intruders` that of kinds of intruder.
+//! answers, `bench cuts` that of cut sets, `bench intruders` that of kinds of intruder, and
+//! `bench bags` that of bag scores.
 
+mod bags;
 mod calls;
 mod chart;
 mod check;
@@ -84,8 +86,9 @@ fn main() -> ExitCode {
         ["opens"] => print_opens(),
         ["cuts"] => print_cuts(),
         ["intruders"] => print_intruders(),
+        ["bags"] => print_bags(),
         _ => {
-            eprintln!("usage: bench [quick | marking | rows | reports | forecast | next | closing | opens | cuts | intruders]");
+            eprintln!("usage: bench [quick | marking | rows | reports | forecast | next | closing | opens | cuts | intruders | bags]");
             return ExitCode::from(2);
         }
     }
@@ -117,6 +120,7 @@ fn run(rounds: &Rounds, folder: &str) {
     show(opens::quick_answers(&kinds, rounds, &mut targets));
     show(cuts::cut_sets(&kinds, rounds, &mut targets));
     show(intruders::scores(&kinds, rounds, &mut targets));
+    show(bags::bag_scores(&kinds, rounds, &mut targets));
     show(marking::marking(antichain(&kinds), rounds, &mut targets));
     let clingo = clingo::opening_lists(&kinds, &programs, rounds, &mut targets);
     clingo.into_iter().for_each(&mut show);
@@ -197,6 +201,13 @@ fn print_closing() {
 fn print_opens() {
     let mut targets = Vec::new();
     let grid = opens::quick_answers(&kinds::all(), &FULL, &mut targets);
+    let reasons = targets::reasons(&targets);
+    println!("{}\n{}\n{reasons}", grid.text(), targets::grid(&targets).text());
+}
+
+fn print_bags() {
+    let mut targets = Vec::new();
+    let grid = bags::bag_scores(&kinds::all(), &FULL, &mut targets);
     let reasons = targets::reasons(&targets);
     println!("{}\n{}\n{reasons}", grid.text(), targets::grid(&targets).text());
 }

@@ -12,10 +12,12 @@
 //! * [`forecast`] tells how long an opening list can be (02, point 10), [`kinds`] which kinds of
 //!   intruder could get in (02, point 1).
 //! * [`next`] shows an opening list one set at a time (02, point 9).
+//! * [`bags`] compares bags of values, and has the scores that keep their parts (02, point 6).
 //! * [`calls`] answers as the product's calls do: questions 12 to 17, and 21, in order, lent lists.
 //! * [`report`] prints the report's bytes and the portal's numbers.
 //! * [`cases`] makes the inputs on which the two programs are compared.
 
+pub mod bags;
 pub mod calls;
 pub mod cases;
 pub mod forecast;

@@ -3,7 +3,7 @@
  * stand in document 01 (a sheet, an item, a starting item, a colour, a set, the opening list, score and risk).
  *
  *   sheets     portal_score, portal_risk     one item's score or risk, as one number
- *              portal_read                   the sheet's setup, which all calls below ask
+ *              portal_read                   the sheet's setup, which the calls on setups ask
  *              portal_name                   an item's name
  *   setups     portal_check                  is this a setup?
  *              portal_closure, portal_lost   what a set opens, what the loss of a set takes away
@@ -14,11 +14,13 @@
  *              portal_lists                  the smallest sets that open an item, and the smallest losses that shut it
  *              portal_cut_sets               the smallest sets of starting items to harden so that no way in is left
  *              portal_next_opening           the next of the smallest sets that open an item, while the setup may change
+ *              portal_bag_score              an item's score as bags of start values, which keep their parts
  *              portal_setup_score, portal_setup_risk
  *              portal_mark_openings, portal_mark_lockouts
  *              portal_hand_in                a student's attempt, marked and kept in the class register
  *              portal_backdoor, portal_idle, portal_out_of_rank
  *   records    portal_withdraw               a student's records taken out of the class register
+ *   bags       portal_bag_at_most            is one bag of values at most another?
  *
  * Every call takes any input. It answers, or it refuses with exactly one number (enum portal_number), and its contract, which
  * is proved, says for every input what is returned and how every lent place ends (docs/INDEX.md leads from each call to it).
@@ -26,7 +28,8 @@
  * Results. A result is a struct of plain numbers. Its first field is `number`: 0 for an answer, else that of the refusal. The
  * other fields have the answer's values; a field that the answer has no value for is 0, so all of them are after a refusal.
  * (portal_reading's line is the exception that document 01 asks for: a refused sheet has a line. portal_registered's count is
- * that of document 02: it comes back from a refusal as it was given.)
+ * that of document 02: it comes back from a refusal as it was given.) portal_bag_at_most alone hands
+ * back a bool: it refuses nothing, and true is yes.
  *
  * Lent places. A slice is a pointer and the count of its places. A pointer may be null where the count is 0, and nowhere else.
  * It is aligned as its type is. Memory that a call may write to overlaps nothing else that the same call is given. A refused
@@ -55,9 +58,9 @@ extern "C" {
 
 /* ---- version ---- */
 
-/* 2.5.0 is 20500: the last two parts have two digits each. The first part changes where a call or a struct does, the second
+/* 2.6.0 is 20600: the last two parts have two digits each. The first part changes where a call or a struct does, the second
  * where one is new. */
-#define PORTAL_VERSION 20500
+#define PORTAL_VERSION 20600
 
 /* The version of the library. A program that was compiled with another one's header sees PORTAL_VERSION differ from it. */
 uint64_t portal_version(void);
@@ -68,8 +71,8 @@ uint64_t portal_version(void);
 #define PORTAL_NEVER (UINT64_C(1) << 62)
 
 /* Bytes of stack: for a call that asks all subsets of the starting or losable items, which scores, lists, next sets and findings
- * do; for one that marks a handed-in list, which portal_hand_in does; and for the others (portal_version, _read, _name, _check,
- * _closure, _lost, _way_in, _opens, _forecast, _kinds, _withdraw). */
+ * do, and portal_bag_score, which needs the most; for one that marks a handed-in list, which portal_hand_in does; and for the others
+ * (portal_version, _read, _name, _check, _closure, _lost, _way_in, _opens, _forecast, _kinds, _bag_at_most, _withdraw). */
 #define PORTAL_STACK ((size_t)256 * 1024)
 #define PORTAL_STACK_MARKS ((size_t)512 * 1024)
 #define PORTAL_STACK_SMALL ((size_t)128 * 1024)
@@ -151,6 +154,9 @@ static inline const char *portal_refusal_text(uint64_t number)
  * there are at most 3432. portal_forecast tells how many an opening list, or a list of cut sets, needs at most. */
 #define PORTAL_MAX_LIST 3432
 #define PORTAL_MAX_SETS (2 * PORTAL_MAX_LIST)
+
+/* The places that a bag has: its most values. */
+#define PORTAL_BAG_PLACES 14
 
 /* The six kinds of intruder, 0 to 5: location 0 for remote and 1 for local, skill 0 for none, 1 for some and 2 for expert. */
 #define PORTAL_KINDS 6
@@ -244,6 +250,12 @@ struct portal_next_opening {
     uint64_t number;
     uint64_t more;
     uint64_t set;
+};
+
+/* How many bags the score has. */
+struct portal_bag_score {
+    uint64_t number;
+    uint64_t bags;
 };
 
 /* Score and risk have a struct each: the papers never add or compare one with the other. PORTAL_NEVER is "never". */
@@ -415,6 +427,26 @@ struct portal_cut_sets portal_cut_sets(const uint64_t *setup, size_t words, uint
  * "no more" are the whole list. Refused with 12, 13, and 21 where `last` has an item that is not a starting one.
  */
 struct portal_next_opening portal_next_opening(const uint64_t *setup, size_t words, uint64_t target, uint64_t last);
+
+/*
+ * Is the first bag at most the other: can its values be paired, one to one, with values of the other that are at least as high? The other may
+ * have more values. A list of 0 to PORTAL_BAG_PLACES values, in any order and of any size, is a bag; a longer list is none, and the answer is no
+ * whatever stands against it. Both lists are only read, and may be the same memory. There is no refusal: true is yes, false is no.
+ */
+bool portal_bag_at_most(const uint64_t *bag, size_t values, const uint64_t *other, size_t other_values);
+
+/*
+ * The bag score of the target. Each set of its opening list gives the bag of its items' start values; the score has those bags to which no
+ * different one of them is at most, each one time, in the order of the first set that has them. Bag k stands from values[k * PORTAL_BAG_PLACES]
+ * on, highest value first, with 0 in the places that it does not use, and lengths[k] is the number of its values: 0 is a value too, so that a
+ * bag is told by its places and its length. No bag of a score is at most another of it. To compare bags of different scores, give
+ * portal_bag_at_most each bag's own length: its unused places would count as values of 0. Where nothing opens the target there is no bag, and
+ * bags is 0. The two lent lists must not overlap. Refused with 12, 13, and 15 exactly where there are more than value_places / PORTAL_BAG_PLACES
+ * bags or more than length_places: PORTAL_BAG_PLACES * PORTAL_MAX_LIST and PORTAL_MAX_LIST places are always enough, and so are as many bags'
+ * places as portal_forecast tells.
+ */
+struct portal_bag_score portal_bag_score(const uint64_t *setup, size_t words, uint64_t target, uint64_t *values, size_t value_places,
+                                         uint64_t *lengths, size_t length_places);
 
 /* The score of the target. Refused with 12, 13. */
 struct portal_setup_score portal_setup_score(const uint64_t *setup, size_t words, uint64_t target);

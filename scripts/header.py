@@ -3,7 +3,7 @@
 
 Every exported function of the portal's crates has its prototype, with the same names and the types that C has for them, in
 order; every struct that is handed back has its fields, here and in tests/product; the version, the places of a setup's words, the blank,
-the largest sheet and name, the longest list and the number of kinds are the sources'; the refusals' names and sentences are those of docs/TERMS.md and of man/portal.3; README.md and man/portal.3 name every call, and above
+the largest sheet and name, the longest list, the number of kinds and the places of a bag are the sources'; the refusals' names and sentences are those of docs/TERMS.md and of man/portal.3; README.md and man/portal.3 name every call, and above
 each prototype stands a comment. Else the exit status is 1.
 """
 import re
@@ -11,7 +11,7 @@ import sys
 from pathlib import Path
 
 ROOT = Path(__file__).resolve().parent.parent
-FEWEST = {"calls": 24, "structs": 17, "refusals": 21}
+FEWEST = {"calls": 26, "structs": 18, "refusals": 21}
 SLICES = {"&[u8]": "const uint8_t *", "&mut [u8]": "uint8_t *", "&[u64]": "const uint64_t *", "&mut [u64]": "uint64_t *",
           "&mut [Record]": "struct portal_record *"}
 SCALARS = {"u64": "uint64_t", "u8": "uint8_t", "bool": "bool", "usize": "size_t"}
@@ -136,6 +136,7 @@ faults += ["man/report.1 has another largest value"] * (f"0 to {largest:,}" not 
 ways = re.search(r"^const WAYS: \[u64; 15\] = \[(.*?)\];", read("crates/antichains/src/lib.rt"), re.M | re.S).group(1)
 faults += ["PORTAL_MAX_LIST is not the last number of WAYS"] * (macro(header, "PORTAL_MAX_LIST") != parts(ways)[-1])
 faults += ["PORTAL_KINDS is another number"] * (macro(header, "PORTAL_KINDS") != str(constant(read("crates/attackers/src/lib.rt"), "KINDS")))
+faults += ["PORTAL_BAG_PLACES is another number"] * (macro(header, "PORTAL_BAG_PLACES") != str(constant(read("crates/multisets/src/lib.rt"), "MOST_VALUES")))
 faults += ["PORTAL_SETUP_WORDS is another number"] * (macro(header, "PORTAL_SETUP_WORDS") != str(constant(reading, "SETUP_WORDS")))
 faults += ["PORTAL_VERSION is another number"] * (macro(header, "PORTAL_VERSION") != str(constant(reading, "VERSION")))
 faults += ["tests/product is for another version"] * (f"pub const VERSION: u64 = {constant(reading, 'VERSION')};" not in read("tests/product/src/lib.rs"))

@@ -303,6 +303,50 @@ static void try_cut_sets(void)
     expect("cut sets in no setup", portal_cut_sets(malformed, WORDS, 5, sets, 3).number, PORTAL_NO_SETUP);
 }
 
+static void try_bag_at_most(void)
+{
+    const uint64_t two[2] = { 1, 1 }, one[1] = { 2 }, low[2] = { 3, 0 }, high[1] = { 4 }, turned[2] = { 0, 4 };
+    const uint64_t long_one[15] = { 0 };
+    expect("two of 1 and one of 2", portal_bag_at_most(two, 2, one, 1), 0);
+    expect("one of 2 and two of 1", portal_bag_at_most(one, 1, two, 2), 0);
+    expect("0 is a value", portal_bag_at_most(low, 2, high, 1), 0);
+    expect("any order", portal_bag_at_most(low, 2, turned, 2), 1);
+    expect("itself", portal_bag_at_most(two, 2, two, 2), 1);
+    expect("nothing and nothing", portal_bag_at_most(NULL, 0, NULL, 0), 1);
+    expect("14 values", portal_bag_at_most(long_one, 14, long_one, 14), 1);
+    expect("15 values are no bag", portal_bag_at_most(NULL, 0, long_one, 15), 0);
+}
+
+static void try_bag_score(void)
+{
+    uint64_t values[2 * PORTAL_BAG_PLACES], lengths[2];
+    for (size_t i = 0; i < 2 * PORTAL_BAG_PLACES; i++)
+        values[i] = LENT;
+    lengths[0] = lengths[1] = LENT;
+    struct portal_bag_score r = portal_bag_score(setup, WORDS, ORDER_ITEM, values, PORTAL_BAG_PLACES - 1, lengths, 2);
+    expect("bag score, too few places", r.number, PORTAL_SHORT);
+    expect("bag score, too few places, no value", r.bags, 0);
+    expect("bag score, too few places, untouched", values[0], LENT);
+    expect("bag score, too few places, lengths untouched", lengths[0], LENT);
+    r = portal_bag_score(setup, WORDS, ORDER_ITEM, values, 2 * PORTAL_BAG_PLACES, NULL, 0);
+    expect("bag score, no lengths", r.number, PORTAL_SHORT);
+    expect("bag score, no lengths, untouched", values[0], LENT);
+    r = portal_bag_score(setup, WORDS, ORDER_ITEM, values, 2 * PORTAL_BAG_PLACES, lengths, 2);
+    expect("bag score", r.number, 0);
+    expect("one bag", r.bags, 1);
+    expect("its value", values[0], 1);
+    expect("a place not used", values[1], 0);
+    expect("its last place", values[PORTAL_BAG_PLACES - 1], 0);
+    expect("the place behind the bag", values[PORTAL_BAG_PLACES], LENT);
+    expect("its length", lengths[0], 1);
+    expect("the place behind the length", lengths[1], LENT);
+    r = portal_bag_score(alone, WORDS, 0, NULL, 0, NULL, 0);
+    expect("nothing opens it: no bag", r.number, 0);
+    expect("nothing opens it: none", r.bags, 0);
+    expect("bag score of no item", portal_bag_score(setup, WORDS, 5, values, 28, lengths, 2).number, PORTAL_NO_ITEM);
+    expect("bag score in no setup", portal_bag_score(malformed, WORDS, 5, values, 28, lengths, 2).number, PORTAL_NO_SETUP);
+}
+
 /* While the drawing changes: the edge by which mail opens order goes, and comes back. */
 static void try_next_opening(void)
 {
@@ -476,6 +520,8 @@ static const struct call {
     { "portal_lists", PORTAL_STACK, try_lists },
     { "portal_cut_sets", PORTAL_STACK, try_cut_sets },
     { "portal_next_opening", PORTAL_STACK, try_next_opening },
+    { "portal_bag_at_most", PORTAL_STACK_SMALL, try_bag_at_most },
+    { "portal_bag_score", PORTAL_STACK, try_bag_score },
     { "portal_setup_score", PORTAL_STACK, try_setup_score },
     { "portal_setup_risk", PORTAL_STACK, try_setup_risk },
     { "portal_mark_openings", PORTAL_STACK_MARKS, try_mark_openings },

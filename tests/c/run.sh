@@ -25,7 +25,7 @@ if command -v g++ > /dev/null; then
     examples+=("$out/example-c++")
 fi
 
-diff <(nm "$lib/libportal.a" | sed -n 's/.* T //p' | sort) <(sed -n 's/^\(uint64_t\|struct [a-z_]*\) \(portal_[a-z_]*\)(.*/\2/p' include/portal.h | sort) ||
+diff <(nm "$lib/libportal.a" | sed -n 's/.* T //p' | sort) <(sed -n 's/^\(uint64_t\|bool\|struct [a-z_]*\) \(portal_[a-z_]*\)(.*/\2/p' include/portal.h | sort) ||
     { echo "c client: the library has other names than the header" >&2; exit 1; }
 "$out/client"
 LD_LIBRARY_PATH=$lib "$out/client-shared"

@@ -4,7 +4,7 @@ import re
 
 HERE = pathlib.Path(__file__).resolve().parent
 ROOT = HERE.parents[1]
-KEYS = ["old", "new", "py-old", "py-new", "none", "seen"]
+KEYS = ["old", "new", "py-name", "py-old", "py-new", "none", "seen"]
 
 
 def read(path):

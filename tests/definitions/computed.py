@@ -25,6 +25,8 @@ FIRST = {
     "forecasts": ["forecast-"],
     "cut_sets": ["cuts-"],
     "attackers": ["attacker-"],
+    "multisets": ["bag-"],
+    "multiset_scores": ["bags-"],
     "next_sets": ["next-"],
     "records": ["record-"],
     "register": ["register-"],

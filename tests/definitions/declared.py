@@ -19,8 +19,8 @@ def module(text):
 
 
 def altered(block):
-    """definitions.py with the block's replacement, in the function of that name."""
-    name = block["name"]
+    """definitions.py with the block's replacement, in the function of that name, or of the name `py-name` where two crates have one of a name."""
+    name = block.get("py-name", block["name"])
     m = re.search(rf"^(?:def {re.escape(name)}\(.*|{re.escape(name)} = .*)\n(?:(?:[ #)].*)?\n)*", SOURCE, re.M)
     assert m, f"no {name} in definitions.py"
     old, new = (block[k].replace("⏎", "\n") for k in ("py-old", "py-new"))

@@ -1166,6 +1166,265 @@ def CutsCall(s, target, number, values, entry, exit):
     return malformed and noTarget and answers
 
 
+# ---- multisets/Multisets
+
+
+def Pairing(m, n):
+    """A function to places of n, tried on the places of m."""
+    return any(
+        all(to[i] < len(n) for i in range(len(m)))
+        and all(implies(lambda: to[i] == to[j], lambda: i == j) for i in range(len(m)) for j in range(len(m)))
+        and all(getD(m, i, 0) <= getD(n, to[i], 0) for i in range(len(m)))
+        for to in itertools.product(range(len(n) + 1), repeat=len(m))
+    )
+
+
+def BagAtMost(m, n):
+    first = len(m) <= 14
+    second = len(n) <= 14
+    return first and second and Pairing(m, n)
+
+
+def SameMultiset(m, n):
+    return all(times(m, t) == times(n, t) for t in range(9))
+
+
+# ---- multisets/Meaning
+
+
+def Fewer(m, n):
+    return all(atLeast(m, t) <= atLeast(n, t) for t in range(9))
+
+
+def PlaceByPlace(m, n):
+    long = len(m) <= len(n)
+    each = all(implies(lambda: i < len(m), lambda: getD(highestFirst(m), i, 0) <= getD(highestFirst(n), i, 0)) for i in range(5))
+    return long and each
+
+
+def Descending(l):
+    return all(implies(lambda: i + 1 < len(l), lambda: getD(l, i + 1, 0) <= getD(l, i, 0)) for i in range(5))
+
+
+def PairingCounts(lists):
+    return all(Iff(Pairing(m, n), Fewer(m, n)) for m in lists for n in lists)
+
+
+def PairingSorts(lists):
+    return all(Iff(Pairing(m, n), PlaceByPlace(m, n)) for m in lists for n in lists)
+
+
+def Reflexive(lists):
+    return all(Pairing(m, m) for m in lists)
+
+
+def Transitive(lists):
+    return all(implies(lambda: Pairing(k, m) and Pairing(m, n), lambda: Pairing(k, n)) for k in lists for m in lists for n in lists)
+
+
+def Antisymmetric(lists):
+    return all(implies(lambda: Pairing(m, n) and Pairing(n, m), lambda: SameMultiset(m, n)) for m in lists for n in lists)
+
+
+def OrderFree(lists):
+    return all(
+        implies(lambda: SameMultiset(m, m_) and SameMultiset(n, n_) and BagAtMost(m, n), lambda: BagAtMost(m_, n_))
+        for m in lists
+        for m_ in lists
+        for n in lists
+        for n_ in lists
+    )
+
+
+def OneAtMostAnswer(lists):
+    return all(
+        implies(lambda: Decides(BagAtMost(m, n), b) and Decides(BagAtMost(m, n), b_), lambda: b == b_)
+        for m in lists
+        for n in lists
+        for b in (True, False)
+        for b_ in (True, False)
+    )
+
+
+def Arranges(lists):
+    return all(Descending(highestFirst(m)) and SameMultiset(highestFirst(m), m) for m in lists)
+
+
+def OneArrangement(lists):
+    return all(Iff(SameMultiset(m, n), highestFirst(m) == highestFirst(n)) for m in lists for n in lists)
+
+
+def FourteenPlaces(lists):
+    return all(implies(lambda: len(m) <= 14, lambda: len(placesOf(m)) == 14) for m in lists)
+
+
+def WrittenApart(lists):
+    return all(
+        implies(lambda: len(m) <= 14 and len(n) <= 14 and len(m) == len(n) and placesOf(m) == placesOf(n), lambda: SameMultiset(m, n))
+        for m in lists
+        for n in lists
+    )
+
+
+# ---- multiset_scores/Scores
+
+
+def InBagScore(s, target, x):
+    is_ = MinimalSet(False, s, s.graph, target, x)
+    least = all(
+        implies(
+            lambda: MinimalSet(False, s, s.graph, target, y) and Pairing(multisetOf(s, y), multisetOf(s, x)),
+            lambda: SameMultiset(multisetOf(s, y), multisetOf(s, x)),
+        )
+        for y in world.sets
+    )
+    return is_ and least
+
+
+def FirstInScore(s, target, x):
+    score = InBagScore(s, target, x)
+    first = all(
+        implies(
+            lambda: MinimalSet(False, s, s.graph, target, y) and SameMultiset(multisetOf(s, y), multisetOf(s, x)),
+            lambda: x == y or Before(x, y),
+        )
+        for y in world.sets
+    )
+    return score and first
+
+
+def MultisetScore(s, target, l):
+    key = ("bags", mark(s), target, tuple(l))
+    if key not in cache:
+        cache[key] = ListsExactly(lambda x: FirstInScore(s, target, x), l)
+    return cache[key]
+
+
+def Covered(asked):
+    return all(
+        implies(
+            lambda: WellFormed(s) and MultisetScore(s, target, l) and TargetSet(False, s, s.graph, target, y),
+            lambda: any(Listed(l, x) and Pairing(multisetOf(s, x), multisetOf(s, y)) for x in world.sets),
+        )
+        for s, target, l in asked
+        for y in world.sets
+    )
+
+
+def EachListed(asked):
+    return all(
+        implies(
+            lambda: WellFormed(s) and MultisetScore(s, target, l) and InBagScore(s, target, x),
+            lambda: any(Listed(l, z) and SameMultiset(multisetOf(s, z), multisetOf(s, x)) for z in world.sets),
+        )
+        for s, target, l in asked
+        for x in world.sets
+    )
+
+
+def BagsApart(asked):
+    return all(
+        implies(
+            lambda: MultisetScore(s, target, l) and Listed(l, x) and Listed(l, y) and Pairing(multisetOf(s, x), multisetOf(s, y)),
+            lambda: x == y,
+        )
+        for s, target, l in asked
+        for x in world.sets
+        for y in world.sets
+    )
+
+
+def AreBags(asked):
+    return all(
+        implies(lambda: WellFormed(s) and MinimalSet(False, s, s.graph, target, x), lambda: len(multisetOf(s, x)) <= 14)
+        for s, target in asked
+        for x in world.sets
+    )
+
+
+def NoLonger(asked):
+    return all(
+        implies(lambda: MultisetScore(s, target, l) and Base(False, s, s.graph, target, base), lambda: len(l) <= len(base))
+        for s, target, l, base in asked
+    )
+
+
+def LongestScore(asked):
+    return all(implies(lambda: WellFormed(s) and MultisetScore(s, target, l), lambda: len(l) <= 3432) for s, target, l in asked)
+
+
+def ForecastEnough(asked):
+    return all(
+        implies(lambda: WellFormed(s) and MultisetScore(s, target, l) and Forecast(s, target, counted, n), lambda: len(l) <= n)
+        for s, target, counted, n, l in asked
+    )
+
+
+def BagScoreAtMost(s, l, k):
+    return all(
+        implies(lambda: Listed(k, y), lambda: any(Listed(l, x) and Pairing(multisetOf(s, x), multisetOf(s, y)) for x in world.sets)) for y in world.sets
+    )
+
+
+def BagsSound(asked):
+    return all(
+        implies(
+            lambda: WellFormed(s)
+            and MultisetScore(s, a, l)
+            and MultisetScore(s, b, k)
+            and all(implies(lambda: TargetSet(False, s, s.graph, b, x), lambda: TargetSet(False, s, s.graph, a, x)) for x in world.sets),
+            lambda: BagScoreAtMost(s, l, k),
+        )
+        for s, a, b, l, k in asked
+    )
+
+
+# ---- multiset_scores/Answers
+
+
+def MultisetsWritten(s, l, number, values, places, places_, lengths, lengths_):
+    room = implies(
+        lambda: 14 * len(l) <= len(places) and len(l) <= len(lengths),
+        lambda: number == 0 and values == [len(l)] and places_ == written(allPlaces(s, l), places) and lengths_ == written(allLengths(s, l), lengths),
+    )
+    short = implies(
+        lambda: len(places) < 14 * len(l) or len(lengths) < len(l),
+        lambda: Refuses(15, number, values) and Untouched(places, places_, lengths, lengths_),
+    )
+    return room and short
+
+
+def MultisetsCall(s, target, number, values, places, places_, lengths, lengths_):
+    kept_ = lambda: Untouched(places, places_, lengths, lengths_)
+    malformed = implies(lambda: not WellFormed(s), lambda: Refuses(12, number, values) and kept_())
+    noTarget = implies(lambda: WellFormed(s) and s.count <= target, lambda: Refuses(13, number, values) and kept_())
+    answers = implies(
+        lambda: WellFormed(s) and target < s.count,
+        lambda: any(
+            MultisetsWritten(s, l, number, values, places, places_, lengths, lengths_) and MultisetScore(s, target, l) for l in world.lists
+        ),
+    )
+    return malformed and noTarget and answers
+
+
+def SameLists(n, n_, v, v_, x, x_, y, y_):
+    answer = Same(n, n_, v, v_)
+    first = x == x_
+    second = y == y_
+    return answer and first and second
+
+
+def OneMultisetsAnswer(s, target, a, b, answers):
+    return all(
+        implies(
+            lambda: MultisetsCall(s, target, n, v, a, x, b, y) and MultisetsCall(s, target, n_, v_, a, x_, b, y_),
+            lambda: SameLists(n, n_, v, v_, x, x_, y, y_),
+        )
+        for n, v, x, y in answers
+        for n_, v_, x_, y_ in answers
+    )
+
+
 # ---- next_sets/Next
 
 
@@ -1781,6 +2040,22 @@ def Yielded(s, texts):
     return any(readSheet(text) == accepted(s) for text in texts)
 
 
+def SettledBags(bag, above, answer):
+    meets = Decides(BagAtMost(bag, above), answer)
+    only = all(implies(lambda: Decides(BagAtMost(bag, above), b), lambda: b == answer) for b in (True, False))
+    return meets and only
+
+
+def SettledBagScore(s, target, number, values, parts, parts_, lengths, lengths_, answers):
+    outcome = Outcome([12, 13, 15], number, values, [parts, lengths], [parts_, lengths_])
+    meets = MultisetsCall(s, target, number, values, parts, parts_, lengths, lengths_)
+    only = all(
+        implies(lambda: MultisetsCall(s, target, n, v, parts, x, lengths, y), lambda: SameLists(n, number, v, values, x, parts_, y, lengths_))
+        for n, v, x, y in answers
+    )
+    return outcome and meets and only
+
+
 def SettledQuestion12(s, answer, texts):
     meets = Decides(Yielded(s, texts), answer)
     only = all(implies(lambda: Decides(Yielded(s, texts), b), lambda: b == answer) for b in (True, False))
@@ -1898,7 +2173,7 @@ def SettledWithdrawals(asked, entry, answers):
 # ---- demands/Demands: each call's answer in `r` is its number and its values; `among` has the other answers, texts and rows that are looked at
 
 
-def Demand1(text, item, s, set_, target, other, opened, locked, kinds, vertices, vertices_, colours, colours_, list_, exit, harden, harden_, r, among):
+def Demand1(text, item, s, set_, target, other, opened, locked, kinds, vertices, vertices_, colours, colours_, list_, exit, harden, harden_, parts, parts_, lengths, lengths_, r, among):
     both = among.answers
     closure = Settled([12, 14], lambda n, v: ClosureCall(s, set_, n, v), *r.closure, both)
     lost = Settled([12, 14], lambda n, v: LostCall(s, set_, n, v), *r.lost, both)
@@ -1922,13 +2197,15 @@ def Demand1(text, item, s, set_, target, other, opened, locked, kinds, vertices,
     next_ = Settled([12, 13, 21], lambda n, v: NextCall(s, target, set_, n, v), *r.next, both)
     handIn = SettledHandIns(*among.handIns)
     withdraw = SettledWithdrawals(*among.withdrawals)
+    bagAtMost = SettledBags(opened, locked, r.bagAtMost)
+    bagScore = SettledBagScore(s, target, *r.bagScore, parts, parts_, lengths, lengths_, among.bags)
     sets = closure and lost and way and quick
     lists = bases and score and risk and openings and lockouts
-    ahead = forecast and next_
+    ahead = forecast and next_ and bagAtMost and bagScore
     return sets and lists and backdoor and idle and pair and formed and reading and portalScore and portalRisk and ahead and cuts and attackers and handIn and withdraw
 
 
-def Demand2(text, item, s, set_, target, other, opened, locked, kinds, vertices, vertices_, colours, colours_, list_, exit, harden, harden_, r, among):
+def Demand2(text, item, s, set_, target, other, opened, locked, kinds, vertices, vertices_, colours, colours_, list_, exit, harden, harden_, parts, parts_, lengths, lengths_, r, among):
     closure = ClosureCall(s, set_, *r.closure)
     lost = LostCall(s, set_, *r.lost)
     way = WayCall(s, target, set_, *r.way, vertices, vertices_, colours, colours_)
@@ -1951,9 +2228,11 @@ def Demand2(text, item, s, set_, target, other, opened, locked, kinds, vertices,
     cuts = CutsCall(s, target, *r.cuts, harden, harden_)
     next_ = NextCall(s, target, set_, *r.next)
     register = RegisterLaw(*among.afternoons)
+    bagAtMost = Decides(BagAtMost(opened, locked), r.bagAtMost)
+    bagScore = MultisetsCall(s, target, *r.bagScore, parts, parts_, lengths, lengths_)
     sets = closure and lost and way and quick
     lists = bases and score and risk and openings and lockouts
-    ahead = forecast and next_
+    ahead = forecast and next_ and bagAtMost and bagScore
     return sets and lists and backdoor and idle and pair and formed and reading and asked and portalScore and portalRisk and ahead and cuts and attackers and register
 
 
@@ -2145,7 +2424,7 @@ def OneResult(Call, results, candidates):
     )
 
 
-def OneResultOnSetups(words, set_, target, other, sets, kinds, a, b, numbers, results, values, ways, lists, cut_lists, entry, registers):
+def OneResultOnSetups(words, set_, target, other, sets, kinds, a, b, numbers, results, values, ways, lists, cut_lists, entry, registers, bag_lists):
     s = setupIn(words)
     check = all(implies(lambda: CheckCall(s, r) and CheckCall(s, r_), lambda: r == r_) for r in numbers for r_ in numbers)
     closure = OneResult(lambda n, v: ClosureCall(s, set_, n, v), results, values)
@@ -2193,7 +2472,17 @@ def OneResultOnSetups(words, set_, target, other, sets, kinds, a, b, numbers, re
     next_ = OneResult(lambda n, v: NextCall(s, target, set_, n, v), results, values)
     met = [(c, x) for c, x in registers if HandInCall(s, 1, 7, target, False, sets, c, entry, x)]
     handIn = all(SameCall(c, d, x, y) for c, x in met for d, y in met)
-    return all((check, closure, lost, wayIn, lists_, score, risk, openings, lockouts, backdoor, idle, outOfRank, forecast, opens, cuts, attackers, next_, handIn))
+    bags = all(
+        implies(
+            lambda: len(f) == len(f_)
+            and Told(lambda n, v: MultisetsCall(s, target, n, v, [9] * 14, x, [9], y), n, f, values)
+            and Told(lambda n, v: MultisetsCall(s, target, n, v, [9] * 14, x_, [9], y_), n_, f_, values),
+            lambda: SameLists(n, n_, f, f_, x, x_, y, y_),
+        )
+        for n, f, x, y in bag_lists
+        for n_, f_, x_, y_ in bag_lists
+    )
+    return all((check, closure, lost, wayIn, lists_, score, risk, openings, lockouts, backdoor, idle, outOfRank, forecast, opens, cuts, attackers, next_, handIn, bags))
 
 
 def OneResultOnSheets(text, item, entry, readings, parts):

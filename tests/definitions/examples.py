@@ -36,6 +36,9 @@ mixed, other = read(MIXED), read(MIXED + ["phone finger 1 0"])
 # the same recovery beside a password that can be lost: of use, though the marked edge alone would make it idle
 useful = read([H1, "password c 1 2 0", *MIXED[2:6], H2, "password mail 0 0", *MIXED[8:]])
 MAIL, ORDER = 3, 4
+# two of 1, or one of 2, of which there are two, or one of 3: the bags {2}, {2}, {3} and {1, 1}
+BAGS = [H1, "p c 1 - 0", "q c 1 - 0", "k c 2 9 0", "r c 2 - 0", "u c 3 - 0", "t a - - 0", "", H2, "p t 0 0", "q t 0 0", "k t 1 0", "r t 2 0", "u t 3 0"]
+bags = read(BAGS)
 
 
 # Attempts at order: both opening sets, one of them with a loose one, none; the lockout sets. A student of the same number at another target, or way.
@@ -58,6 +61,7 @@ def worlds(D):
         "far": D.World([0, 1, 2, 3, 4, 5, 6, 7, 62, 63, 64, 65], range(10), range(16), []),
         "rows": D.World(range(8), range(9), range(16), []),
         "bench": D.World(range(6), range(3), range(64), lists_over([1, 2, 3, 5, 6, 7]), RECORDS, ATTEMPTS),
+        "bags": D.World(range(7), range(5), range(64), lists_over([3, 4, 8, 16])),
         "ring": D.World(range(6), range(2), range(16), [[5, 6, 9, 10], [5, 6, 10, 9], [5, 6, 9], [5, 6, 9, 10, 12]]),
         "one": D.World(range(3), range(3), range(8), lists_over([0, 1, 2, 3])),
         "sums": D.World(range(16), range(2), [0, 1, 2**13, 2**14 - 1, 2**15 - 1], []),
@@ -701,6 +705,96 @@ def of_few_cuts(D):
     ]
 
 
+def of_bags(D):
+    """Document 003's example 10 and more, and the theorems over all lists of up to three small values."""
+    lists = [list(l) for n in range(3) for l in itertools.product(range(3), repeat=n)] + [[1, 1, 1], [0, 1, 2], [2, 1, 0]]
+    few = [l for l in lists if l.count(0) < 2]
+    return [
+        ("pairing: {1, 1} and {1, 2}", lambda: D.Pairing([1, 1], [1, 2]), True),
+        ("pairing: {1, 2} and {1, 1, 2}", lambda: D.Pairing([1, 2], [1, 1, 2]), True),
+        ("pairing: any order", lambda: D.Pairing([1, 2], [2, 1]), True),
+        ("not pairing: {1, 2} and {1, 1, 1}", lambda: D.Pairing([1, 2], [1, 1, 1]), False),
+        ("not pairing: {1, 1, 1} and {1, 2}", lambda: D.Pairing([1, 1, 1], [1, 2]), False),
+        ("not pairing: two partners in one", lambda: D.Pairing([1, 1], [2]), False),
+        ("not pairing: 0 is a value", lambda: D.Pairing([3, 0], [4]), False),
+        ("pairing: nothing", lambda: D.Pairing([], []), True),
+        ("at most: bags", lambda: D.BagAtMost([1], [1, 2]), True),
+        ("not at most: 15 there", lambda: D.BagAtMost([], [5] * 15), False),
+        ("not at most: 15 here", lambda: D.BagAtMost([5] * 15, []), False),
+        ("same multiset: turned", lambda: D.SameMultiset([1, 2, 1], [2, 1, 1]), True),
+        ("not same multiset: one more", lambda: D.SameMultiset([1, 2], [1, 1, 2]), False),
+        ("fewer: {1} and {2}", lambda: D.Fewer([1], [2]), True),
+        ("not fewer: {2} and {1, 1}", lambda: D.Fewer([2], [1, 1]), False),
+        ("place by place: {2, 1} and {1, 3, 0}", lambda: D.PlaceByPlace([2, 1], [1, 3, 0]), True),
+        ("not place by place: more values", lambda: D.PlaceByPlace([1, 0], [1]), False),
+        ("descending", lambda: D.Descending([3, 1, 1, 0]), True),
+        ("not descending", lambda: D.Descending([1, 3]), False),
+        ("pairing counts", lambda: D.PairingCounts(lists), True),
+        ("pairing sorts", lambda: D.PairingSorts(lists), True),
+        ("reflexive", lambda: D.Reflexive(lists), True),
+        ("transitive", lambda: D.Transitive(few), True),
+        ("antisymmetric", lambda: D.Antisymmetric(lists), True),
+        ("order free", lambda: D.OrderFree([[], [0], [1], [0, 1], [1, 0], [1, 1], [5] * 15]), True),
+        ("one at most answer", lambda: D.OneAtMostAnswer(few), True),
+        ("arranges", lambda: D.Arranges(lists), True),
+        ("one arrangement", lambda: D.OneArrangement(lists), True),
+        ("fourteen places", lambda: D.FourteenPlaces(lists + [[5] * 14, [5] * 15]), True),
+        ("written apart", lambda: D.WrittenApart(lists), True),
+    ]
+
+
+def of_bag_scores(D):
+    """The bag score of t: {2}, which two sets have, and {1, 1}; {3} is above {2}."""
+    t, call = 5, lambda *a, s=bags, target=5: D.MultisetsCall(s, target, *a)
+    rows = [2] + [0] * 13 + [1, 1] + [0] * 12
+    lent, room = [9] * 29, [7] * 3
+    asked = [(bags, t, l) for l in ([4, 3], [8, 3], [3, 4], [4, 8, 3], [4], [])]
+    answers = [(0, [2], rows + [9], [1, 2, 7]), (0, [2], rows + [9], [2, 1, 7]), (0, [3], rows + [9], [1, 2, 7]), (15, [], lent, room), (13, [], lent, room)]
+    short = [9] * 27
+    return [
+        ("in score: two of 1", lambda: D.InBagScore(bags, t, 3), True),
+        ("in score: the second of 2", lambda: D.InBagScore(bags, t, 8), True),
+        ("not in score: 3", lambda: D.InBagScore(bags, t, 16), False),
+        ("not in score: no minimal set", lambda: D.InBagScore(bags, t, 12), False),
+        ("first in score: the first of 2", lambda: D.FirstInScore(bags, t, 4), True),
+        ("not first in score: the second of 2", lambda: D.FirstInScore(bags, t, 8), False),
+        ("bag score: t", lambda: D.MultisetScore(bags, t, [4, 3]), True),
+        ("not bag score: the second of 2", lambda: D.MultisetScore(bags, t, [8, 3]), False),
+        ("not bag score: one missing", lambda: D.MultisetScore(bags, t, [4]), False),
+        ("covered", lambda: D.Covered(asked), True),
+        ("each listed", lambda: D.EachListed(asked), True),
+        ("bags apart", lambda: D.BagsApart(asked), True),
+        ("are bags", lambda: D.AreBags([(bags, t)]), True),
+        ("bags no longer", lambda: D.NoLonger([(bags, t, [4, 3], [4, 8, 16, 3])]), True),
+        ("longest score", lambda: D.LongestScore(asked), True),
+        ("forecast enough for bags", lambda: D.ForecastEnough([(bags, t, 31, 10, [4, 3])]), True),
+        ("score at most: more bags", lambda: D.BagScoreAtMost(bags, [4, 3], [16]), True),
+        ("not score at most: none", lambda: D.BagScoreAtMost(bags, [], [16]), False),
+        ("sound", lambda: D.BagsSound([(bags, t, b, [4, 3], [x]) for b, x in ((2, 4), (3, 8), (4, 16), (0, 1))]), True),
+        ("call: bags of t", lambda: call(0, [2], lent, rows + [9], room, [1, 2, 7]), True),
+        ("not call: lengths of the other", lambda: call(0, [2], lent, rows + [9], room, [2, 1, 7]), False),
+        ("call: bags, 15 by the places", lambda: call(15, [], short, short, room, room), True),
+        ("call: bags, 15 by the lengths", lambda: call(15, [], lent, lent, [7], [7]), True),
+        ("not call: bags, an answer where the lengths have no room", lambda: call(0, [2], lent, rows + [9], [7], [1]), False),
+        ("not call: bags, 15 by the lengths and a place changed", lambda: call(15, [], lent, rows + [9], [7], [7]), False),
+        ("not call: bags, 15 and a place changed", lambda: call(15, [], short, [1] + short[1:], room, room), False),
+        ("not call: bags, 15 and a length changed", lambda: call(15, [], short, short, room, [1, 7, 7]), False),
+        ("call: bags, 13", lambda: call(13, [], lent, lent, room, room, target=6), True),
+        ("call: bags, 12", lambda: call(12, [], lent, lent, room, room, s=EMPTY), True),
+        ("not call: bags, 13 for 12", lambda: call(13, [], lent, lent, room, room, s=EMPTY), False),
+        ("same lists: others", lambda: D.SameLists(0, 0, [2], [2], rows, rows, [1], [1]), True),
+        ("not same lists: places", lambda: D.SameLists(0, 0, [2], [2], rows, lent, [1], [1]), False),
+        ("not same lists: lengths", lambda: D.SameLists(0, 0, [2], [2], rows, rows, [1], [2]), False),
+        ("not same lists: number", lambda: D.SameLists(0, 1, [2], [2], rows, rows, [1], [1]), False),
+        ("one answer: bags of t", lambda: D.OneMultisetsAnswer(bags, t, lent, room, answers), True),
+        ("settled: bags of t", lambda: D.SettledBagScore(bags, t, 0, [2], lent, rows + [9], room, [1, 2, 7], answers), True),
+        ("settled: bags of t, 15", lambda: D.SettledBagScore(bags, t, 15, [], short, short, room, room, [(15, [], short, room), (15, [], lent, room), (13, [], short, room)]), True),
+        ("settled: {1} at most {1, 2}", lambda: D.SettledBags([1], [1, 2], True), True),
+        ("not settled: {1, 1} at most {2}", lambda: D.SettledBags([1, 1], [2], True), False),
+        ("settled: {1, 1} not at most {2}", lambda: D.SettledBags([1, 1], [2], False), True),
+    ]
+
+
 def of_next_sets(D):
     """Order's opening list, {mailpw} and {ordpw, token}, shown set by set; `drawn` has lost the edge from mail, and with it the first set."""
     drawn = bench._replace(graph=with_row(bench.graph, ORDER, 1, 0), recovery=with_row(bench.recovery, ORDER, 1, 0))
@@ -1032,7 +1126,9 @@ def of_results(D):
     ways = [(0, [1, 2], [3, 4], [0, 1]), (0, [1, 2], [3, 4], lent), (0, [0, 0], lent, lent), (15, [0, 0], lent, lent), (13, [0, 0], lent, lent)]
     lists = [(0, [2, 2], [2, 5, 3, 6]), (0, [2, 2], [5, 2, 3, 6]), (0, [0, 0], out), (15, [0, 0], out)]
     cuts = [(0, [2], [3, 6]), (0, [2], [6, 3]), (0, [0], lent), (15, [0], lent)]
-    handed = (wordsOf(bench), 2, ORDER, MAIL, [2, 2, 6, 4], APART, lent, out, (0, 12), results, values, ways, lists, cuts, [R_ANY, R_ANY], REGISTERS)
+    one_bag = [1] + [0] * 13
+    scores = [(0, [1], one_bag, [1]), (0, [1], one_bag, [2]), (15, [0], [9] * 14, [9]), (0, [2], one_bag, [1])]
+    handed = (wordsOf(bench), 2, ORDER, MAIL, [2, 2, 6, 4], APART, lent, out, (0, 12), results, values, ways, lists, cuts, [R_ANY, R_ANY], REGISTERS, scores)
     readings = [(n, l, x) for n in (0, 15) for l in (0, 1) for x in ([9] * 1281, wordsOf(bench))]
     parts = [(n, p, k) for n in (0, 13) for p in (0, 69, 84) for k in (0, 4, 5)]
     return [
@@ -1096,9 +1192,9 @@ def of_demands(D):
 
 
 Answers = namedtuple(
-    "Answers", "closure lost way bases score risk openings lockouts backdoor idle pair formed reading portalScore portalRisk forecast quick cuts attackers next"
+    "Answers", "closure lost way bases score risk openings lockouts backdoor idle pair formed reading portalScore portalRisk forecast quick cuts attackers next bagAtMost bagScore"
 )
-Among = namedtuple("Among", "answers ways lists cuts texts docs readings numbers handIns withdrawals afternoons")
+Among = namedtuple("Among", "answers ways lists cuts bags texts docs readings numbers handIns withdrawals afternoons")
 
 
 def of_both_demands(D):
@@ -1106,11 +1202,11 @@ def of_both_demands(D):
     sheet, five, lent, out = text(BENCH), REFUSED["refused 5"][0], [9, 9], LENT[:4]
     yes = Answers(
         *[(0, [26, 3]), (0, [10]), (0, [1, 2]), (0, [2, 2]), (0, [1]), (0, [3]), (0, [1, 0, 0, 0, 1]), (0, [2, 0, 0, 0, 0])],
-        *[(0, [1]), (0, [0]), (0, [1]), True, D.accepted(bench), 1, 3, (0, [3]), (0, [1, 26]), (0, [2]), (0, [20]), (0, [1, 5])],
+        *[(0, [1]), (0, [0]), (0, [1]), True, D.accepted(bench), 1, 3, (0, [3]), (0, [1, 26]), (0, [2]), (0, [20]), (0, [1, 5]), True, (0, [1])],
     )
-    outside = Answers((14, []), (14, []), *[(13, [])] * 9, True, D.refused(5, 2), never + 5, never + 5, (13, []), (13, []), (13, []), (13, []), (13, []))
+    outside = Answers((14, []), (14, []), *[(13, [])] * 9, True, D.refused(5, 2), never + 5, never + 5, (13, []), (13, []), (13, []), (13, []), (13, []), True, (13, []))
     set_outside = yes._replace(closure=(14, []), lost=(14, []), way=(14, []), quick=(14, []), portalRisk=1, next=(21, []))
-    malformed = yes._replace(**{n: (12, []) for n in (*Answers._fields[:11], "forecast", "quick", "cuts", "attackers", "next")}, formed=False)
+    malformed = yes._replace(**{n: (12, []) for n in (*Answers._fields[:11], "forecast", "quick", "cuts", "attackers", "next", "bagScore")}, formed=False)
     answers = [(0, v) for v in ([0], [1], [3], [10], [0, 1], [26, 2], [26, 3], [1, 26], [0, 26], [1, 0, 0, 0, 1], [2, 0, 0, 0, 0], [20], [1, 2], [1, 5])] + [(n, []) for n in (0, 12, 13, 14, 21)]
     ways = [(0, [1, 2], [3, 4], [0, 1]), (0, [1, 2], [3, 4], lent)] + [(n, v, lent, lent) for n, v in answers + [(15, [])]]
     lists = [(0, [2, 2], [2, 5, 3, 6]), (0, [2, 2], out)] + [(n, v, out) for n, v in answers + [(15, [])]]
@@ -1118,10 +1214,13 @@ def of_both_demands(D):
     cuts = [(0, [2], [3, 6]), (0, [2], [6, 3]), (0, [2], lent)] + [(n, v, lent) for n, v in answers + [(15, [])]]
     hand_in, day = (bench, 1, 7, ORDER, False, (2, 6)), [afternoon(*DAY)]
     registers = [(hand_in, [R_BOTH, R_ANY], REGISTERS), ((1, 7), [R_ONE, R_ANY], REGISTERS), (bench, SLICE, day)]
-    among = Among(answers, ways, lists, cuts, [sheet, render(DOC)], [BENCH_DOC, DOC], readings, [0, 1, 3, 13, never, never + 5, never + 13], *registers)
+    one_bag = [1] + [0] * 13
+    scores = [(0, [1], one_bag, [1]), (0, [1], one_bag, [9]), (0, [2], one_bag, [1])] + [(n, v, [9] * 14, [9]) for n, v in answers + [(15, [])]]
+    among = Among(answers, ways, lists, cuts, scores, [sheet, render(DOC)], [BENCH_DOC, DOC], readings, [0, 1, 3, 13, never, never + 5, never + 13], *registers)
     asked = lambda t, i, s, set_, v, w: [t, i, s, set_, v, w, [2], [3, 6], APART, lent]
-    listed = [out, [2, 5, 3, 6], lent, [3, 6]]
-    untouched, no_way, both = [lent, lent, lent, out, out, lent, lent], [lent, lent, lent, *listed], [[3, 4], lent, [0, 1], *listed]
+    listed = [out, [2, 5, 3, 6], lent, [3, 6], [9] * 14, one_bag, [9], [1]]
+    kept = [[9] * 14, [9] * 14, [9], [9]]
+    untouched, no_way, both = [lent, lent, lent, out, out, lent, lent, *kept], [lent, lent, lent, *listed], [[3, 4], lent, [0, 1], *listed]
     order = asked(sheet, ORDER, bench, 2, ORDER, MAIL) + both
     inputs = [
         ("order from mailpw", order, yes, True),
@@ -1137,6 +1236,8 @@ def of_both_demands(D):
         ("no to what mailpw opens", order, yes._replace(quick=(0, [0, 26])), False),
         ("one cut set too few", order, yes._replace(cuts=(0, [1])), False),
         ("the first set for the next", order, yes._replace(next=(0, [1, 2])), False),
+        ("no to {2} at most {3, 6}", order, yes._replace(bagAtMost=False), False),
+        ("one bag too many", order, yes._replace(bagScore=(0, [2])), False),
     ]
     return [
         (f"{'' if ok else 'not '}demand {n}: {name}", lambda f=f, a=a, r=r: f(*a, r, among), ok)
@@ -1356,6 +1457,7 @@ GROUPS = {
     "rows": [of_valid_rows, of_rows, of_stated, of_meaning, of_refusals],
     "spare": [of_spare],
     "ring": [of_ring],
+    "bags": [of_bags, of_bag_scores],
 }
 
 

@@ -155,6 +155,41 @@ def sumOf(loss, s, x):
     return sum(x // 2**v % 2 * pointsAt(loss, s, v) for v in range(64))
 
 
+# ---- multisets/Multisets, multisets/Meaning, multiset_scores/Scores
+
+
+def times(l, t):
+    return l.count(t)
+
+
+def atLeast(l, t):
+    return sum(t <= x for x in l)
+
+
+def valuesOver(value, s):
+    return [value(v) for v in reversed(range(64)) if s // 2**v % 2]
+
+
+def highestFirst(l):
+    return sorted(l, reverse=True)
+
+
+def placesOf(m):
+    return highestFirst(m) + [0] * (14 - len(m))
+
+
+def multisetOf(s, x):
+    return valuesOver(lambda v: pointsAt(False, s, v), x)
+
+
+def allPlaces(s, l):
+    return [value for x in l for value in placesOf(multisetOf(s, x))]
+
+
+def allLengths(s, l):
+    return [len(multisetOf(s, x)) for x in l]
+
+
 # ---- sheet_format
 
 

@@ -20,6 +20,7 @@ bases/Base bases/Score bases/Marks
 access/Answers quick_yes/Answers answers/Answers
 antichains/Antichains forecasts/Forecast forecasts/Answers cut_sets/Cuts cut_sets/Answers
 attackers/Attackers attackers/Answers
+multisets/Multisets multisets/Meaning multiset_scores/Scores multiset_scores/Answers
 next_sets/Next next_sets/Answers next_sets/Walks
 records/Records register/Calls register/Afternoon
 sheet_format/Text sheet_format/Fields sheet_format/Rows sheet_format/Stated sheet_format/Questions sheet_format/Read sheet_format/Names
@@ -32,7 +33,7 @@ worked_examples/Sheets worked_examples/Table
 """.split()
 
 # Crates whose types the definitions use, and types of theirs that no definition uses.
-TYPES = "vertex_set setup scores access quick_yes answers forecasts cut_sets attackers next_sets records sheet_format findings report_facts report_writer demands".split()
+TYPES = "vertex_set setup scores access quick_yes answers forecasts cut_sets attackers multiset_scores next_sets records sheet_format findings report_facts report_writer demands".split()
 UNUSED = {"Step", "Names", "Task", "Pass", "Turn"}
 
 

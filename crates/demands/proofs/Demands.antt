@@ -9,12 +9,12 @@ use Rattle.findings.proofs.Unique.{backdoor-unique, ineffective-unique, inconsi
 use Rattle.demands.specs.declared.Answers.{Answers}
 use Rattle.demands.specs.Demands.{Demand1, Demand2}
 use Rattle.demands.proofs.Register.{hand-in-demands, withdraw-demands}
-use Rattle.demands.proofs.Outcomes.{settled-closure, settled-lost, settled-score, settled-marks, settled-finding, settled-forecast, settled-quick, settled-attackers, settled-next, settled-lists, settled-cuts, settled-way, settled-question-12}
+use Rattle.demands.proofs.Outcomes.{settled-closure, settled-lost, settled-score, settled-marks, settled-finding, settled-forecast, settled-quick, settled-attackers, settled-next, settled-lists, settled-cuts, settled-way, settled-question-12, settled-bags, settled-bag-score}
 use Rattle.demands.proofs.Sheets.{settled-reading, settled-portal}
 
-pub one-of-two : {text : List ℕ} {item : ℕ} {s : Setup} {set target other : ℕ} {opened locked kinds vertices vertices′ colours colours′ list list′ harden harden′ : List ℕ} {r : Answers}
-    → Demand2 text item s set target other opened locked kinds vertices vertices′ colours colours′ list list′ harden harden′ r
-    → Demand1 text item s set target other opened locked kinds vertices vertices′ colours colours′ list list′ harden harden′ r
+pub one-of-two : {text : List ℕ} {item : ℕ} {s : Setup} {set target other : ℕ} {opened locked kinds vertices vertices′ colours colours′ list list′ harden harden′ parts parts′ lengths lengths′ : List ℕ} {r : Answers}
+    → Demand2 text item s set target other opened locked kinds vertices vertices′ colours colours′ list list′ harden harden′ parts parts′ lengths lengths′ r
+    → Demand1 text item s set target other opened locked kinds vertices vertices′ colours colours′ list list′ harden harden′ parts parts′ lengths lengths′ r
 one-of-two {text = text} {item = item} {s = s} {set = set} {target = target} {other = other} {opened = opened} {locked = locked} {kinds = kinds} {r = r} d =
     record {
       closure = settled-closure s _ _ set (d .closure);
@@ -39,4 +39,6 @@ one-of-two {text = text} {item = item} {s = s} {set = set} {target = target} {ot
       next = settled-next s _ _ target set (d .next);
       handIn = hand-in-demands;
       withdraw = withdraw-demands;
+      bagAtMost = settled-bags opened locked (r .bags .compared) (d .bagAtMost);
+      bagScore = settled-bag-score s target _ _ _ _ _ _ (d .bagScore);
     }

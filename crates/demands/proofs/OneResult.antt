@@ -14,6 +14,7 @@ use Rattle.attackers.proofs.Unique.{one-attacker-answer}
 use Rattle.forecasts.proofs.Unique.{one-forecast-answer}
 use Rattle.quick_yes.proofs.Unique.{one-quick-answer}
 use Rattle.next_sets.proofs.Unique.{one-next-answer}
+use Rattle.multiset_scores.proofs.Unique.{one-multisets-answer}
 use Rattle.setup.specs.Calls.{Same}
 use Rattle.demands.proofs.Register.{one-hand-in-answer}
 use Rattle.demands.proofs.OneAnswer.{one-closure-answer, one-lost-answer, one-way-answer, one-bases-answer, one-cuts-answer, one-score-answer, one-marks-answer}
@@ -67,6 +68,9 @@ one-result-on-setups words =
       attackers = λ target kinds. one-result _ (one-attacker-answer s target kinds);
       next = λ target last. one-result _ (one-next-answer s target last);
       handIn = one-hand-in-answer s;
+      bagScore =
+          λ target n n′ f f′ a x x′ b y y′ e t t′. let d = one-multisets-answer s target n n′ (t .values) (t′ .values) a x x′ b y y′ (t .call) (t′ .call) in
+          record { answer = same-fields e t t′ (d .answer); first = d .first; second = d .second };
     }
 
 -- ---- the calls on a sheet

@@ -6,7 +6,7 @@ use mathlib.Core.Bool.{Bool}
 use mathlib.Core.HLevel.{Stable, dec→stable}
 use mathlib.Core.List.{List, [], _∷_, _++_, List-discrete}
 use mathlib.Core.Logic.{inl, inr, ⊎-elim}
-use Prim.Native.Nat.{ℕ}
+use Prim.Native.Nat.{ℕ, _*_}
 use native.Mathlib.Decide.{ℕ-discrete}
 use native.Mathlib.Omega.{arith}
 use lib.ListN.{length}
@@ -34,9 +34,13 @@ use Rattle.quick_yes.proofs.Unique.{one-quick-answer}
 use Rattle.next_sets.specs.Next.{OfInitial}
 use Rattle.next_sets.specs.Answers.{NextCall}
 use Rattle.next_sets.proofs.Unique.{one-next-answer}
+use Rattle.multisets.specs.Multisets.{AtMost}
+use Rattle.multisets.proofs.Meaning.{one-at-most-answer}
+use Rattle.multiset_scores.specs.Answers.{MultisetsWritten, MultisetsCall}
+use Rattle.multiset_scores.proofs.Unique.{one-multisets-answer}
 use Rattle.demands.proofs.Stable.{stable-number, by-cases}
 use Rattle.demands.proofs.OneAnswer.{by-target, one-closure-answer, one-lost-answer, one-way-answer, one-bases-answer, one-cuts-answer, one-score-answer, one-marks-answer}
-use Rattle.demands.specs.Outcomes.{Outcome, Settled, SettledWay, SettledList, Yielded, SettledQuestion12}
+use Rattle.demands.specs.Outcomes.{Outcome, Settled, SettledWay, SettledList, SettledBags, SettledBagScore, Yielded, SettledQuestion12}
 
 listed-dec : (l : List ℕ) (x : ℕ) → Dec (Listed l x)
 listed-dec [] x = no (λ h. h)
@@ -230,6 +234,24 @@ module _ (s : Setup) (target n : ℕ) (v : List ℕ) where
           last : Listed (12 ∷ 13 ∷ 14 ∷ 15 ∷ []) 15
           last = inr (inr (inr (inl refl)))
 
+  pub settled-bag-score : (a x b y : List ℕ) → MultisetsCall s target n v a x b y → SettledBagScore s target n v a x b y
+  settled-bag-score a x b y c =
+      record {
+        outcome = by-target s target (outcome-stable v) (λ m. kept (inl refl) (c .malformed m)) (λ w o. kept (inr (inl refl)) (c .noTarget w o))
+            (λ w l. let p = c .answers w l in written (p .0) (p .2));
+        meets = c;
+        only = λ n′ v′ x′ y′ d. one-multisets-answer s target n′ n v′ v a x′ x b y′ y d c;
+      }
+    where
+      kept : {q : ℕ} → Listed (12 ∷ 13 ∷ 15 ∷ []) q → Refuses q n v × Untouched a x b y → Outcome (12 ∷ 13 ∷ 15 ∷ []) n v (a ∷ b ∷ []) (x ∷ y ∷ [])
+      kept h r = refused h (rw (r .1 .first, r .1 .second) refl) (r .0)
+
+      written : (l : List ℕ) → MultisetsWritten s l n v a x b y → Outcome (12 ∷ 13 ∷ 15 ∷ []) n v (a ∷ b ∷ []) (x ∷ y ∷ [])
+      written l w =
+          ⊎-elim (λ h. kept (inr (inr (inl refl))) (w .short (inl h)))
+          (λ h. ⊎-elim (λ k. kept (inr (inr (inl refl))) (w .short (inr k))) (λ k. let p = w .room h k in answered (p .0) (p .1)) (less-or (length b) (length l)))
+          (less-or (length a) (14 * length l))
+
 -- ---- question 12
 
 pub yielded : (s : Setup) (answer : Bool) → Decides (WellFormed s) answer → Decides (Yielded s) answer
@@ -237,3 +259,8 @@ yielded s answer d = decide-iff (question-12 s) d
 
 pub settled-question-12 : (s : Setup) (answer : Bool) → Decides (Yielded s) answer → SettledQuestion12 s answer
 settled-question-12 s answer d = record { meets = d; only = λ b e. decided-once b answer e d }
+
+-- ---- two bags compared
+
+pub settled-bags : (bag above : List ℕ) (answer : Bool) → Decides (AtMost bag above) answer → SettledBags bag above answer
+settled-bags bag above answer d = record { meets = d; only = λ b e. one-at-most-answer bag above b answer e d }

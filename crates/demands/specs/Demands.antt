@@ -16,17 +16,19 @@ use Rattle.quick_yes.specs.Answers.{quickNumber, quickValues, QuickCall}
 use Rattle.cut_sets.specs.Answers.{cutsNumber, cutsValues, CutsCall}
 use Rattle.next_sets.specs.Answers.{nextNumber, nextValues, NextCall}
 use Rattle.register.specs.Afternoon.{RegisterLaw}
+use Rattle.multisets.specs.Multisets.{AtMost}
+use Rattle.multiset_scores.specs.Answers.{multisetNumber, multisetValues, MultisetsCall}
 use Rattle.sheet_format.specs.Read.{readSheet}
 use Rattle.portal.specs.Portal.{PortalCall}
 use Rattle.demands.specs.declared.Answers.{Answers}
 use Rattle.demands.specs.Register.{SettledHandIns, SettledWithdrawals}
-use Rattle.demands.specs.Outcomes.{Settled, SettledWay, SettledList, Yielded, SettledQuestion12}
+use Rattle.demands.specs.Outcomes.{Settled, SettledWay, SettledList, SettledBags, SettledBagScore, Yielded, SettledQuestion12}
 use Rattle.demands.specs.Sheets.{Reads, SettledReading, SettledPortal}
 
 -- Demand 1: to every input each call gives its answer or exactly one refusal, with every lent place as it was; and its contract leaves no second
 -- answer. Lent lists stand as they were and, with ′, as they are afterwards.
 pub record Demand1 (text : List ℕ) (item : ℕ) (s : Setup) (set target other : ℕ) (opened locked kinds : List ℕ)
-    (vertices vertices′ colours colours′ list list′ harden harden′ : List ℕ) (r : Answers) : Type 0 where
+    (vertices vertices′ colours colours′ list list′ harden harden′ parts parts′ lengths lengths′ : List ℕ) (r : Answers) : Type 0 where
   -- closure and lost set: 12, 14
   pub closure : Settled (12 ∷ 14 ∷ []) (ClosureCall s set) (closureNumber (r .sets .closure)) (closureValues (r .sets .closure))
   pub lost : Settled (12 ∷ 14 ∷ []) (LostCall s set) (lostNumber (r .sets .lost)) (lostValues (r .sets .lost))
@@ -59,11 +61,14 @@ pub record Demand1 (text : List ℕ) (item : ℕ) (s : Setup) (set target other 
   -- the class register, for every answer that a call may give: 25, 12, 13, 26; 25, 27
   pub handIn : SettledHandIns
   pub withdraw : SettledWithdrawals
+  -- one list at most another as bags: yes or no, here of the two handed-in lists; the bag score: 12, 13, 15
+  pub bagAtMost : SettledBags opened locked (r .bags .compared)
+  pub bagScore : SettledBagScore s target (multisetNumber (r .bags .score)) (multisetValues (r .bags .score)) parts parts′ lengths lengths′
 
 -- Demand 2: every answer is the one of the paper's definitions, by the calls' own contracts; a sheet is accepted exactly where it has the paper's
 -- form, and yields the setup that its rows state.
 pub record Demand2 (text : List ℕ) (item : ℕ) (s : Setup) (set target other : ℕ) (opened locked kinds : List ℕ)
-    (vertices vertices′ colours colours′ list list′ harden harden′ : List ℕ) (r : Answers) : Type 0 where
+    (vertices vertices′ colours colours′ list list′ harden harden′ parts parts′ lengths lengths′ : List ℕ) (r : Answers) : Type 0 where
   -- all items with a derivation from the set, and the number of passes that lead there; all with a loss derivation
   pub closure : ClosureCall s set (closureNumber (r .sets .closure)) (closureValues (r .sets .closure))
   pub lost : LostCall s set (lostNumber (r .sets .lost)) (lostValues (r .sets .lost))
@@ -100,3 +105,7 @@ pub record Demand2 (text : List ℕ) (item : ℕ) (s : Setup) (set target other 
   pub next : NextCall s target set (nextNumber (r .next)) (nextValues (r .next))
   -- after every list of calls on the class register, its records are those of the latest accepted attempts
   pub register : RegisterLaw
+  -- whether both lists have at most 14 values, and those of the one can be paired, one to one, with values of the other that are at least as high
+  pub bagAtMost : Decides (AtMost opened locked) (r .bags .compared)
+  -- the bags of start values over the opening list to which no different one is at most, each once
+  pub bagScore : MultisetsCall s target (multisetNumber (r .bags .score)) (multisetValues (r .bags .score)) parts parts′ lengths lengths′

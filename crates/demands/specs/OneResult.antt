@@ -15,6 +15,7 @@ use Rattle.next_sets.specs.Answers.{NextCall}
 use Rattle.records.specs.declared.Record.{Record}
 use Rattle.records.specs.declared.Registered.{Registered}
 use Rattle.register.specs.Calls.{HandInCall}
+use Rattle.multiset_scores.specs.Answers.{MultisetsCall, SameLists}
 use Rattle.setup.specs.Calls.{Same, SameList}
 use Rattle.demands.specs.OneAnswer.{SameWay}
 use Rattle.demands.specs.Register.{SameCall}
@@ -57,6 +58,10 @@ pub record OneResultOnSetups (words : List ℕ) : Type 0 where
   pub next : (target last : ℕ) → OneResult (NextCall (setupIn words) target last)
   pub handIn : (used student target : ℕ) (lock : Bool) (sets : List ℕ) (a b : Registered) (entry exit other : List Record)
       → HandInCall (setupIn words) used student target lock sets a entry exit → HandInCall (setupIn words) used student target lock sets b entry other → SameCall a b exit other
+  pub bagScore : (target n n′ : ℕ) (f f′ a x x′ b y y′ : List ℕ) → length f ≡ length f′
+      → Told (λ number values. MultisetsCall (setupIn words) target number values a x b y) n f
+      → Told (λ number values. MultisetsCall (setupIn words) target number values a x′ b y′) n′ f′
+      → SameLists n n′ f f′ x x′ y y′
 
 -- The calls on a sheet, for every text.
 pub record OneResultOnSheets (text : List ℕ) : Type 0 where

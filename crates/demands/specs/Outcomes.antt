@@ -10,6 +10,8 @@ use Rattle.setup.specs.declared.Setup.{Setup}
 use Rattle.setup.specs.Calls.{Same, SameList}
 use Rattle.sheet_format.specs.Read.{accepted, readSheet}
 use Rattle.access.specs.Answers.{WayCall}
+use Rattle.multisets.specs.Multisets.{AtMost}
+use Rattle.multiset_scores.specs.Answers.{MultisetsCall, SameLists}
 use Rattle.demands.specs.OneAnswer.{SameWay}
 
 -- An answer: number 0, with its values.
@@ -44,6 +46,17 @@ pub record SettledList (Call : ℕ → List ℕ → List ℕ → Type 0) (number
   pub outcome : Outcome (12 ∷ 13 ∷ 15 ∷ []) number values (entry ∷ []) (exit ∷ [])
   pub meets : Call number values exit
   pub only : (n : ℕ) (v x : List ℕ) → Call n v x → SameList n number v values x exit
+
+-- The comparison of two bags is yes or no, one of them, and no refusal.
+pub record SettledBags (bag above : List ℕ) (answer : Bool) : Type 0 where
+  pub meets : Decides (AtMost bag above) answer
+  pub only : (b : Bool) → Decides (AtMost bag above) b → b ≡ answer
+
+-- The bag score, with its two lent lists, has an outcome that meets its contract, and no second one: 12, 13, 15.
+pub record SettledBagScore (s : Setup) (target number : ℕ) (values parts parts′ lengths lengths′ : List ℕ) : Type 0 where
+  pub outcome : Outcome (12 ∷ 13 ∷ 15 ∷ []) number values (parts ∷ lengths ∷ []) (parts′ ∷ lengths′ ∷ [])
+  pub meets : MultisetsCall s target number values parts parts′ lengths lengths′
+  pub only : (n : ℕ) (v x y : List ℕ) → MultisetsCall s target n v parts x lengths y → SameLists n number v values x parts′ y lengths′
 
 -- Question 12: some accepted sheet yields the setup.
 abbrev pub Yielded : Setup → Type 0

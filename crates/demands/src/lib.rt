@@ -8,6 +8,8 @@ ghost use mathlib.Core.Bool.{true, false};
 ghost use Rattle.vertex_set.specs.Set.{Decides};
 ghost use Rattle.access.specs.Answers.{closureNumber, closureValues, ClosureCall, lostNumber, lostValues, LostCall, wayNumber, wayValues, WayCall};
 ghost use Rattle.quick_yes.specs.Answers.{quickNumber, quickValues, QuickCall};
+ghost use Rattle.multisets.specs.Multisets.{AtMost};
+ghost use Rattle.multiset_scores.specs.Answers.{multisetNumber, multisetValues, MultisetsCall};
 ghost use Rattle.findings.specs.Answers.{findingNumber, findingValues, BackdoorCall, IneffectiveCall, InconsistentCall};
 ghost use Rattle.sheet_format.specs.Read.{readSheet};
 ghost use Rattle.portal.specs.Portal.{PortalCall};
@@ -23,6 +25,7 @@ use attackers::AttackerAnswer;
 use cut_sets::CutsAnswer;
 use findings::FindingAnswer;
 use forecasts::ForecastAnswer;
+use multiset_scores::MultisetAnswer;
 use next_sets::NextAnswer;
 use quick_yes::QuickAnswer;
 use records::Record;
@@ -52,6 +55,12 @@ pub struct SheetAnswers {
     pub risk: u64,
 }
 
+// Whether one list is at most another as bags, and the bag score.
+pub struct BagAnswers {
+    pub compared: bool,
+    pub score: MultisetAnswer,
+}
+
 // What the calls answer, all on one input. An item's name is not here: it is a part of the sheet,
 // which `demands_of_name` hands back.
 pub struct Answers {
@@ -63,6 +72,7 @@ pub struct Answers {
     pub cuts: CutsAnswer,
     pub attackers: AttackerAnswer,
     pub next: NextAnswer,
+    pub bags: BagAnswers,
 }
 
 // Asks for closure, lost set, way in and quick yes.
@@ -126,6 +136,23 @@ fn ask_sheet(sheet: &[u8], item: u64) -> SheetAnswers
     }
 }
 
+// Asks whether the one list is at most the other as bags, and for the bag score.
+fn ask_bags(
+    s: Setup,
+    target: usize,
+    bag: &[u64],
+    above: &[u64],
+    parts: &mut [u64],
+    lengths: &mut [u64],
+) -> BagAnswers
+    ensures compared { λ r. ⌜ Decides (AtMost (now (bag .entry)) (now (above .entry))) (r .compared) ⌝ }
+    ensures score { λ r. ⌜ MultisetsCall s target (multisetNumber (r .score)) (multisetValues (r .score)) (now (parts .entry)) (now (parts .exit)) (now (lengths .entry)) (now (lengths .exit)) ⌝ }
+{
+    let compared = multisets::multiset_at_most(bag, above);
+    let score = multiset_scores::multiset_score(s, target, parts, lengths);
+    BagAnswers { compared, score }
+}
+
 // Demand 2, about the code: whatever the calls answer together is as the demand states.
 pub fn demand_two(
     sheet: &[u8],
@@ -141,8 +168,10 @@ pub fn demand_two(
     colours: &mut [u8],
     list: &mut [u64],
     harden: &mut [u64],
+    parts: &mut [u64],
+    lengths: &mut [u64],
 ) -> Answers
-    ensures { λ r. ⌜ Demand2 (now (sheet .entry)) item s (set .0) target other (now (opened .entry)) (now (locked .entry)) (now (kinds .entry)) (now (vertices .entry)) (now (vertices .exit)) (now (colours .entry)) (now (colours .exit)) (now (list .entry)) (now (list .exit)) (now (harden .entry)) (now (harden .exit)) r ⌝ }
+    ensures { λ r. ⌜ Demand2 (now (sheet .entry)) item s (set .0) target other (now (opened .entry)) (now (locked .entry)) (now (kinds .entry)) (now (vertices .entry)) (now (vertices .exit)) (now (colours .entry)) (now (colours .exit)) (now (list .entry)) (now (list .exit)) (now (harden .entry)) (now (harden .exit)) (now (parts .entry)) (now (parts .exit)) (now (lengths .entry)) (now (lengths .exit)) r ⌝ }
 {
     let sets = ask_sets(s, set, target, vertices, colours);
     let lists = answers::demand_three(s, target, list, opened, locked);
@@ -152,6 +181,7 @@ pub fn demand_two(
     let cuts = cut_sets::smallest_cuts(s, target, harden);
     let attackers = attackers::attacker_score(s, target, kinds);
     let next = next_sets::next_access_set(s, target, set);
+    let bags = ask_bags(s, target, opened, locked, parts, lengths);
     Answers {
         sets,
         lists,
@@ -161,6 +191,7 @@ pub fn demand_two(
         cuts,
         attackers,
         next,
+        bags,
     }
 }
 
@@ -180,8 +211,10 @@ pub fn demand_one(
     colours: &mut [u8],
     list: &mut [u64],
     harden: &mut [u64],
+    parts: &mut [u64],
+    lengths: &mut [u64],
 ) -> Answers
-    ensures { λ r. ⌜ Demand1 (now (sheet .entry)) item s (set .0) target other (now (opened .entry)) (now (locked .entry)) (now (kinds .entry)) (now (vertices .entry)) (now (vertices .exit)) (now (colours .entry)) (now (colours .exit)) (now (list .entry)) (now (list .exit)) (now (harden .entry)) (now (harden .exit)) r ⌝ }
+    ensures { λ r. ⌜ Demand1 (now (sheet .entry)) item s (set .0) target other (now (opened .entry)) (now (locked .entry)) (now (kinds .entry)) (now (vertices .entry)) (now (vertices .exit)) (now (colours .entry)) (now (colours .exit)) (now (list .entry)) (now (list .exit)) (now (harden .entry)) (now (harden .exit)) (now (parts .entry)) (now (parts .exit)) (now (lengths .entry)) (now (lengths .exit)) r ⌝ }
 {
     demand_two(
         sheet,
@@ -197,6 +230,8 @@ pub fn demand_one(
         colours,
         list,
         harden,
+        parts,
+        lengths,
     )
 }
 

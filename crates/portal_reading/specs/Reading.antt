@@ -8,9 +8,9 @@ use Rattle.sheet_format.specs.Names.{nameOf, nameStart}
 use Rattle.setup.specs.Calls.{written}
 use Rattle.portal_setup.specs.Words.{setupIn, wordsOf}
 
--- 20500 for version 2.5.0 of the calls, two digits for each of the last two parts.
+-- 20600 for version 2.6.0 of the calls, two digits for each of the last two parts.
 abbrev pub version : ℕ
-version = 20500
+version = 20600
 
 -- The sheet's own number and line, and its setup's words at the front of the lent buffer. With fewer than 1281 places no word is written,
 -- and an accepted sheet gets 15.

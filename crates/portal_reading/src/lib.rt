@@ -5,8 +5,8 @@ ghost use Rattle.portal_reading.specs.Reading.{version, ReadingCall, Nam
 use portal_results::PortalPart;
 use portal_results::PortalReading;
 
-// Version 2.5.0.
-const VERSION: u64 = 20500;
+// Version 2.6.0.
+const VERSION: u64 = 20600;
 
 const SETUP_WORDS: usize = 1281;
 

@@ -11,3 +11,5 @@ pub mod Settled
 pub mod Table
 pub mod CutSets
 pub mod CutSetsExcluded
+pub mod Multisets
+pub mod MultisetsExcluded

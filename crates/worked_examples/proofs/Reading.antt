@@ -18,7 +18,7 @@ p & q = (p, q)
 
 pub all-read : AllRead
 unfolding grow linesOf fieldsOf isEmpty sameText all isDigit isNameByte isName isNumber valueBehind numberOf isNumberTo isKind kindOf isValue fieldValue firstHeader secondHeader startCount lossCount numberIn verticesOf emptyGraph withEdge withEdges recoveryRows setupOf question1 isTextByte endsInLF question2 question3 question10 noneEmpty question4 question5Item question5Edge itemOf edgeOf isKnown question6 question8 sameEdge isRepeated question9 question7Item question7Edge itemQuestions edgeQuestions questionsOf behind firstNo question11 unless readLines readSheet
-all-read = refl & refl & refl & refl & refl & refl & refl & refl & refl & refl & refl & tt
+all-read = refl & refl & refl & refl & refl & refl & refl & refl & refl & refl & refl & refl & refl & refl & refl & refl & tt
 
 -- the refused ones: the number, and the line
 pub all-refused : AllRefused

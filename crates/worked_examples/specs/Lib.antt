@@ -5,3 +5,4 @@ pub mod NextSets
 pub mod Sheets
 pub mod Table
 pub mod CutSets
+pub mod Multisets

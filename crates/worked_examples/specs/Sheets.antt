@@ -417,10 +417,206 @@ accMail = 6
 abbrev pub accShop : ℕ
 accShop = 7
 
+-- ---- document 003's figure 6, two passwords of 1 or a device of 2, and an account that either opens; a 4, or a 3 with a 0
+
+abbrev pub figure6 : Sheet
+figure6 =
+    record {
+      lines =
+          "name kind start loss rank"
+          ∷ "pwd_a c 1 - 0"
+          ∷ "pwd_b c 1 - 0"
+          ∷ "device c 2 - 0"
+          ∷ "acc_a a - - 0"
+          ∷ "acc_b a - - 0"
+          ∷ "either a - - 0"
+          ∷ ""
+          ∷ "from to colour rec"
+          ∷ "pwd_a acc_a 0 0"
+          ∷ "pwd_b acc_a 0 0"
+          ∷ "device acc_b 0 0"
+          ∷ "acc_a either 0 0"
+          ∷ "acc_b either 1 0"
+          ∷ [];
+      setup = record {
+        count = 6;
+        vertices = places
+            (record { kind = Credential; start = Of 1; loss = Blank; rank = 0 }
+            ∷ record { kind = Credential; start = Of 1; loss = Blank; rank = 0 }
+            ∷ record { kind = Credential; start = Of 2; loss = Blank; rank = 0 }
+            ∷ record { kind = Account; start = Blank; loss = Blank; rank = 0 }
+            ∷ record { kind = Account; start = Blank; loss = Blank; rank = 0 }
+            ∷ record { kind = Account; start = Blank; loss = Blank; rank = 0 }
+            ∷ []);
+        graph = graph ([] ∷ [] ∷ [] ∷ (3 ∷ []) ∷ (4 ∷ []) ∷ (8 ∷ 16 ∷ []) ∷ []);
+        recovery = graph [];
+      };
+    }
+
+abbrev pub pwdA : ℕ
+pwdA = 0
+
+abbrev pub pwdB : ℕ
+pwdB = 1
+
+abbrev pub deviceB : ℕ
+deviceB = 2
+
+abbrev pub accA : ℕ
+accA = 3
+
+abbrev pub accB : ℕ
+accB = 4
+
+abbrev pub either : ℕ
+either = 5
+
+abbrev pub zeroed : Sheet
+zeroed =
+    record {
+      lines =
+          "name kind start loss rank"
+          ∷ "four c 4 - 0"
+          ∷ "three c 3 - 0"
+          ∷ "zero c 0 - 0"
+          ∷ "low c 3 - 0"
+          ∷ "nil c 0 - 0"
+          ∷ "t a - - 0"
+          ∷ ""
+          ∷ "from to colour rec"
+          ∷ "four t 0 0"
+          ∷ "three t 1 0"
+          ∷ "zero t 1 0"
+          ∷ "nil t 2 0"
+          ∷ "low t 2 0"
+          ∷ [];
+      setup = record {
+        count = 6;
+        vertices = places
+            (record { kind = Credential; start = Of 4; loss = Blank; rank = 0 }
+            ∷ record { kind = Credential; start = Of 3; loss = Blank; rank = 0 }
+            ∷ record { kind = Credential; start = Of 0; loss = Blank; rank = 0 }
+            ∷ record { kind = Credential; start = Of 3; loss = Blank; rank = 0 }
+            ∷ record { kind = Credential; start = Of 0; loss = Blank; rank = 0 }
+            ∷ record { kind = Account; start = Blank; loss = Blank; rank = 0 }
+            ∷ []);
+        graph = graph ([] ∷ [] ∷ [] ∷ [] ∷ [] ∷ (1 ∷ 6 ∷ 24 ∷ []) ∷ []);
+        recovery = graph [];
+      };
+    }
+
+-- Three pairs of items into t; the first and the last have the same values.
+abbrev pub outer : Sheet
+outer =
+    record {
+      lines =
+          "name kind start loss rank"
+          ∷ "a c 5 - 0"
+          ∷ "b c 1 - 0"
+          ∷ "c c 3 - 0"
+          ∷ "d c 3 - 0"
+          ∷ "e c 5 - 0"
+          ∷ "f c 1 - 0"
+          ∷ "t a - - 0"
+          ∷ ""
+          ∷ "from to colour rec"
+          ∷ "a t 0 0"
+          ∷ "b t 0 0"
+          ∷ "c t 1 0"
+          ∷ "d t 1 0"
+          ∷ "e t 2 0"
+          ∷ "f t 2 0"
+          ∷ [];
+      setup = record {
+        count = 7;
+        vertices = places
+            (record { kind = Credential; start = Of 5; loss = Blank; rank = 0 }
+            ∷ record { kind = Credential; start = Of 1; loss = Blank; rank = 0 }
+            ∷ record { kind = Credential; start = Of 3; loss = Blank; rank = 0 }
+            ∷ record { kind = Credential; start = Of 3; loss = Blank; rank = 0 }
+            ∷ record { kind = Credential; start = Of 5; loss = Blank; rank = 0 }
+            ∷ record { kind = Credential; start = Of 1; loss = Blank; rank = 0 }
+            ∷ record { kind = Account; start = Blank; loss = Blank; rank = 0 }
+            ∷ []);
+        graph = graph ([] ∷ [] ∷ [] ∷ [] ∷ [] ∷ [] ∷ (3 ∷ 12 ∷ 48 ∷ []) ∷ []);
+        recovery = graph [];
+      };
+    }
+
+-- Three pairs of items into t; the second has other values than the first and the last, and the highest.
+abbrev pub inner : Sheet
+inner =
+    record {
+      lines =
+          "name kind start loss rank"
+          ∷ "a c 3 - 0"
+          ∷ "b c 3 - 0"
+          ∷ "c c 5 - 0"
+          ∷ "d c 1 - 0"
+          ∷ "e c 3 - 0"
+          ∷ "f c 3 - 0"
+          ∷ "t a - - 0"
+          ∷ ""
+          ∷ "from to colour rec"
+          ∷ "a t 0 0"
+          ∷ "b t 0 0"
+          ∷ "c t 1 0"
+          ∷ "d t 1 0"
+          ∷ "e t 2 0"
+          ∷ "f t 2 0"
+          ∷ [];
+      setup = record {
+        count = 7;
+        vertices = places
+            (record { kind = Credential; start = Of 3; loss = Blank; rank = 0 }
+            ∷ record { kind = Credential; start = Of 3; loss = Blank; rank = 0 }
+            ∷ record { kind = Credential; start = Of 5; loss = Blank; rank = 0 }
+            ∷ record { kind = Credential; start = Of 1; loss = Blank; rank = 0 }
+            ∷ record { kind = Credential; start = Of 3; loss = Blank; rank = 0 }
+            ∷ record { kind = Credential; start = Of 3; loss = Blank; rank = 0 }
+            ∷ record { kind = Account; start = Blank; loss = Blank; rank = 0 }
+            ∷ []);
+        graph = graph ([] ∷ [] ∷ [] ∷ [] ∷ [] ∷ [] ∷ (3 ∷ 12 ∷ 48 ∷ []) ∷ []);
+        recovery = graph [];
+      };
+    }
+
+-- Two pairs of items into t, of which the second has the lower values.
+abbrev pub later : Sheet
+later =
+    record {
+      lines =
+          "name kind start loss rank"
+          ∷ "a c 5 - 0"
+          ∷ "b c 5 - 0"
+          ∷ "c c 1 - 0"
+          ∷ "d c 1 - 0"
+          ∷ "t a - - 0"
+          ∷ ""
+          ∷ "from to colour rec"
+          ∷ "a t 0 0"
+          ∷ "b t 0 0"
+          ∷ "c t 1 0"
+          ∷ "d t 1 0"
+          ∷ [];
+      setup = record {
+        count = 5;
+        vertices = places
+            (record { kind = Credential; start = Of 5; loss = Blank; rank = 0 }
+            ∷ record { kind = Credential; start = Of 5; loss = Blank; rank = 0 }
+            ∷ record { kind = Credential; start = Of 1; loss = Blank; rank = 0 }
+            ∷ record { kind = Credential; start = Of 1; loss = Blank; rank = 0 }
+            ∷ record { kind = Account; start = Blank; loss = Blank; rank = 0 }
+            ∷ []);
+        graph = graph ([] ∷ [] ∷ [] ∷ [] ∷ (3 ∷ 12 ∷ []) ∷ []);
+        recovery = graph [];
+      };
+    }
+
 -- ---- all of them
 
 abbrev pub sheets : List Sheet
-sheets = bench ∷ ring ∷ alone ∷ closed ∷ loop ∷ pair ∷ spare ∷ full ∷ halves ∷ relay ∷ figure1 ∷ []
+sheets = bench ∷ ring ∷ alone ∷ closed ∷ loop ∷ pair ∷ spare ∷ full ∷ halves ∷ relay ∷ figure1 ∷ figure6 ∷ zeroed ∷ outer ∷ inner ∷ later ∷ []
 
 -- Each text is accepted, and yields the setup that stands beside it.
 abbrev pub AllRead : Type 0

@@ -1,2 +1,3 @@
 // Document 01's bench examples B1 to B12, one table in specs/ and one theorem in proofs/, and the
-// forecasts and quick answers and the kinds of attacker and the lists shown set by set likewise. There is no code here.
+// forecasts, quick answers, kinds of attacker, lists shown set by set, cut sets and multisets likewise.
+// There is no code here.

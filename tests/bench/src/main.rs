@@ -5,8 +5,10 @@
 //! and of reports, `bench forecast` that of forecasts,
 //! `bench next` that of next sets, `bench closing` that of closures, `bench opens` that of quick
 //! answers, `bench cuts` that of cut sets, `bench intruders` that of kinds of intruder, and `bench
-//! register` that of the class register.
+//! register` that of the class register, and
+//! `bench bags` that of bag scores.
 
+mod bags;
 mod calls;
 mod chart;
 mod check;
@@ -87,8 +89,9 @@ fn main() -> ExitCode {
         ["cuts"] => print_cuts(),
         ["intruders"] => print_intruders(),
         ["register"] => print_register(),
+        ["bags"] => print_bags(),
         _ => {
-            eprintln!("usage: bench [quick | marking | rows | reports | forecast | next | closing | opens | cuts | intruders | register]");
+            eprintln!("usage: bench [quick | marking | rows | reports | forecast | next | closing | opens | cuts | intruders | register | bags]");
             return ExitCode::from(2);
         }
     }
@@ -120,6 +123,7 @@ fn run(rounds: &Rounds, folder: &str) {
     show(opens::quick_answers(&kinds, rounds, &mut targets));
     show(cuts::cut_sets(&kinds, rounds, &mut targets));
     show(intruders::scores(&kinds, rounds, &mut targets));
+    show(bags::bag_scores(&kinds, rounds, &mut targets));
     show(marking::marking(antichain(&kinds), rounds, &mut targets));
     show(register::register(&kinds, rounds, &mut targets));
     let clingo = clingo::opening_lists(&kinds, &programs, rounds, &mut targets);
@@ -201,6 +205,13 @@ fn print_closing() {
 fn print_opens() {
     let mut targets = Vec::new();
     let grid = opens::quick_answers(&kinds::all(), &FULL, &mut targets);
+    let reasons = targets::reasons(&targets);
+    println!("{}\n{}\n{reasons}", grid.text(), targets::grid(&targets).text());
+}
+
+fn print_bags() {
+    let mut targets = Vec::new();
+    let grid = bags::bag_scores(&kinds::all(), &FULL, &mut targets);
     let reasons = targets::reasons(&targets);
     println!("{}\n{}\n{reasons}", grid.text(), targets::grid(&targets).text());
 }

@@ -14,6 +14,13 @@ pub fn cut_sets(words: &[u64], target: usize, out: &mut [u64]) -> usize {
     cuts.count as usize
 }
 
+/// The bag score to two lent lists, and the number of bags.
+pub fn bag_score(words: &[u64], target: usize, lent: (&mut [u64], &mut [u64])) -> usize {
+    let score = product::bag_score(words, target as u64, lent.0, lent.1);
+    answered(score.number);
+    score.bags as usize
+}
+
 /// A vertex's score or, with loss, its risk.
 pub fn score(words: &[u64], target: usize, loss: bool) -> u64 {
     let (number, value) = if loss {

@@ -1,6 +1,7 @@
 //! The calls on a setup, as the product answers them: questions 12 to 17 (and 21) in their order,
 //! and lent lists that a refusal leaves as they were.
 
+use crate::bags;
 use crate::forecast;
 use crate::graph;
 use crate::kinds;
@@ -164,6 +165,12 @@ impl Calls {
         self.ask_12()?;
         let target = self.ask_13(target)?;
         Ok(self.openings().cuts(target))
+    }
+
+    /// The bags of the score (02, point 6), each with its highest value first. 12, 13.
+    pub fn bag_score(&self, target: u64) -> Result<Vec<Vec<u64>>, u8> {
+        let list = self.opening_list(target)?;
+        Ok(bags::score(list, |item| self.setup.places[item].start.expect("a starting item")))
     }
 
     /// The first set of the opening list after the last one shown; `None` is "no more" (02, point

@@ -13,10 +13,12 @@
 //!   intruder could get in (02, point 1).
 //! * [`next`] shows an opening list one set at a time (02, point 9).
 //! * [`register`] works the class register out from the log of its calls (02, point 12).
+//! * [`bags`] compares bags of values, and has the scores that keep their parts (02, point 6).
 //! * [`calls`] answers as the product's calls do: questions 12 to 17, and 21, in order, lent lists.
 //! * [`report`] prints the report's bytes and the portal's numbers.
 //! * [`cases`] makes the inputs on which the two programs are compared.
 
+pub mod bags;
 pub mod calls;
 pub mod cases;
 pub mod forecast;

@@ -3,6 +3,7 @@
 //! `harness gate` compares a fixed part. `harness fuzz SEED SECONDS` goes on for as long as it is
 //! told. The first difference is printed with its input, and the exit status is 1.
 
+mod bags;
 mod compare;
 mod intruders;
 mod long_lists;

@@ -1,5 +1,6 @@
 //! What is compared: the gate's fixed part, and rounds of a seed for as long as one likes.
 
+use crate::bags::{compare_bag_scores, compare_bags, compare_known_bags};
 use crate::compare::Difference;
 use crate::intruders::compare_known_kinds;
 use crate::long_lists::compare_long_lists;
@@ -11,8 +12,8 @@ use crate::walks::{compare_next_cases, compare_walks};
 use brute::cases::draft::sheet_of_setup;
 use brute::cases::registers::Met;
 use brute::cases::{
-    bounds, buffers, cuts, damaged, forecasts, intruders, noise, random, readings, setups, tiny,
-    Rng, SetupCase, SheetCase,
+    bags, bounds, buffers, cuts, damaged, forecasts, intruders, noise, random, readings, setups,
+    tiny, Rng, SetupCase, SheetCase,
 };
 use std::fmt;
 use std::time::{Duration, Instant};
@@ -105,6 +106,11 @@ impl Run {
         compare_known_passes()?;
         compare_known_kinds()?;
         compare_next_cases()?;
+        compare_known_bags()?;
+        let pairs = compare_bags(&mut self.rng, 20_000)?;
+        assert!(pairs.enough(), "too few pairs of bags: {pairs:?}");
+        let scores = compare_bag_scores(&mut self.rng, 600)?;
+        assert!(scores.enough(), "too few bag scores: {scores:?}");
         let walked = compare_walks(&mut self.rng, 600)?;
         assert!(walked.shown >= SHOWN && walked.left >= LEFT, "too little was walked: {walked:?}");
         for case in bounds::bounds() {
@@ -124,7 +130,8 @@ impl Run {
         }
         let forecasts = forecasts::forecasts().into_iter().map(|case| case.case);
         let cuts = cuts::cuts().into_iter().map(|case| case.case);
-        for case in forecasts.chain(cuts).chain(intruders::sheets()) {
+        let bags = bags::bags().into_iter().map(|case| case.case);
+        for case in forecasts.chain(cuts).chain(bags).chain(intruders::sheets()) {
             self.counts.texts += 1;
             self.sheet(&case, FULL, false)?;
         }
@@ -169,6 +176,8 @@ impl Run {
     }
 
     fn round(&mut self) -> Outcome {
+        compare_bags(&mut self.rng, 2_000)?;
+        compare_bag_scores(&mut self.rng, 20)?;
         for _ in 0..400 {
             let family = *self.rng.pick(tiny::FAMILIES);
             let case = family.case(self.rng.number() % family.count());

@@ -1,9 +1,11 @@
 //! All calls on a setup that is given as plain numbers.
 
+use crate::bags::compare_written;
 use crate::compare::{told, Difference, Subject};
 use crate::register::{compare_afternoon, compare_register_calls};
 use crate::walks::values;
 use crate::words::words_of;
+use brute::bags;
 use brute::calls::{Calls, Way};
 use brute::cases::registers::Met;
 use brute::cases::{probes, Rng};
@@ -183,6 +185,7 @@ impl Compare<'_> {
     fn target(&mut self, target: u64, sets: &[u64], count: u64) -> Outcome {
         self.lists(target)?;
         self.cut_sets(target)?;
+        self.bag_score(target)?;
         self.forecast(target)?;
         self.kinds(target)?;
         self.next_openings(target, sets)?;
@@ -401,6 +404,26 @@ impl Compare<'_> {
                 let meeting = (table.meeting(list), table.meeting(cuts));
                 self.subject.same(named, meeting, (cuts.to_vec(), list.to_vec()))?;
             }
+        }
+        Ok(())
+    }
+
+    /// The bag score, to two lent lists around the lengths that they need.
+    fn bag_score(&mut self, target: u64) -> Outcome {
+        let score = self.calls.bag_score(target);
+        let many = score.as_ref().map_or(0, Vec::len);
+        let (values, short) = (bags::MOST * many, many.saturating_sub(1));
+        let pairs = [
+            (values, many),
+            (values.saturating_sub(1), many),
+            (values + 13, short),
+            (bags::MOST * short, many),
+            (self.rng.below(values + 30), self.rng.below(many + 3)),
+        ];
+        let exact = (values + self.rng.below(2), many + self.rng.below(2));
+        for (values, lengths) in [exact, *self.rng.pick(&pairs)] {
+            let lent = (probes::lent_sets(self.rng, values), probes::lent_sets(self.rng, lengths));
+            compare_written(&self.subject, &self.words, target, &score, lent)?;
         }
         Ok(())
     }

@@ -13,8 +13,8 @@
 mod results;
 
 pub use results::{
-    Closure, CutSets, Finding, Forecast, Kinds, Lists, Marks, NextOpening, Part, Quick, Reading,
-    Record, Refusal, Registered, Set, SetupRisk, SetupScore, Way,
+    BagScore, Closure, CutSets, Finding, Forecast, Kinds, Lists, Marks, NextOpening, Part, Quick,
+    Reading, Record, Refusal, Registered, Set, SetupRisk, SetupScore, Way,
 };
 
 /// How many words a setup has.
@@ -24,7 +24,7 @@ pub const BLANK: u64 = u64::MAX;
 /// "Never": the score of an item that no set opens, the risk of one that no loss shuts.
 pub const NEVER: u64 = 1 << 62;
 /// The version of the header that this crate was written for.
-pub const VERSION: u64 = 20500;
+pub const VERSION: u64 = 20600;
 
 mod linked {
     use super::*;
@@ -77,6 +77,21 @@ mod linked {
             target: u64,
             last: u64,
         ) -> NextOpening;
+        pub fn portal_bag_at_most(
+            bag: *const u64,
+            values: usize,
+            other: *const u64,
+            other_values: usize,
+        ) -> bool;
+        pub fn portal_bag_score(
+            setup: *const u64,
+            words: usize,
+            target: u64,
+            values: *mut u64,
+            value_places: usize,
+            lengths: *mut u64,
+            length_places: usize,
+        ) -> BagScore;
         pub fn portal_setup_score(setup: *const u64, words: usize, target: u64) -> SetupScore;
         pub fn portal_setup_risk(setup: *const u64, words: usize, target: u64) -> SetupRisk;
         pub fn portal_mark_openings(
@@ -213,6 +228,26 @@ pub fn cut_sets(setup: &[u64], target: u64, sets: &mut [u64]) -> CutSets {
 /// The first set of a target's opening list after the last one shown, 0 at the beginning. 12, 13, 21.
 pub fn next_opening(setup: &[u64], target: u64, last: u64) -> NextOpening {
     unsafe { linked::portal_next_opening(setup.as_ptr(), setup.len(), target, last) }
+}
+
+/// Are both lists bags, and is the one at most the other?
+pub fn bag_at_most(bag: &[u64], other: &[u64]) -> bool {
+    unsafe { linked::portal_bag_at_most(bag.as_ptr(), bag.len(), other.as_ptr(), other.len()) }
+}
+
+/// A target's bag score: 14 places for each bag, and the number of its values. 12, 13, 15.
+pub fn bag_score(setup: &[u64], target: u64, values: &mut [u64], lengths: &mut [u64]) -> BagScore {
+    unsafe {
+        linked::portal_bag_score(
+            setup.as_ptr(),
+            setup.len(),
+            target,
+            values.as_mut_ptr(),
+            values.len(),
+            lengths.as_mut_ptr(),
+            lengths.len(),
+        )
+    }
 }
 
 /// A target's score. 12, 13.

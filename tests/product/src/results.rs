@@ -100,6 +100,11 @@ results! {
         /// How many there are.
         count,
     }
+    /// A target's score as bags.
+    BagScore {
+        /// How many bags.
+        bags,
+    }
     /// The next set of a target's opening list.
     NextOpening {
         /// 1 where a set is shown, and 0 for "no more".

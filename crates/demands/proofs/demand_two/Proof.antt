@@ -27,44 +27,57 @@ attacker-score-requires c κs = search needs
 next-access-set-requires : tie.Need-next-access-set-requires
 next-access-set-requires c κs = search needs
 
--- the first call lies too far back for `search`
+ask-bags-requires : tie.Need-ask-bags-requires
+ask-bags-requires c κs = search needs
+
+-- Most calls lie too far back for `search`: this is the last of them but one, from which the others are counted.
+abbrev next-set : tie.After-slice-known12 → tie.After-next-access-set
+next-set c = c .before .before .before .before .before .before .before
+
+abbrev forecast : tie.After-slice-known12 → tie.After-forecast-base
+forecast c = next-set c .before .before .before .before .before .before
+
+abbrev three : tie.After-slice-known12 → tie.After-demand-three
+three c = forecast c .before .before .before .before .before
+
+abbrev sets : tie.After-slice-known12 → tie.After-ask-sets
+sets c = three c .before .before .before .before .before .before
+
 same-length : tie.Need-same-length
-same-length c =
-    let n = c .before .before .before .before .before .before in
-    let l = n .before .before .before .before .before in
-    let kept = l .before .before .before .before .before .before .ask-sets .kept .1 .1 .1 .0 in
-    search needs
+same-length c = let kept = sets c .ask-sets .kept .1 .1 .1 .0 in search needs
 
 same-length-2 : tie.Need-same-length-2
-same-length-2 c =
-    let n = c .before .before .before .before .before .before in
-    let l = n .before .before .before .before .before in
-    let kept = l .before .before .before .before .before .before .ask-sets .kept .1 .1 .1 .1 .0 in
-    search needs
+same-length-2 c = let kept = sets c .ask-sets .kept .1 .1 .1 .1 .0 in search needs
 
 same-length-3 : tie.Need-same-length-3
-same-length-3 c = search needs
+same-length-3 c = let kept = three c .demand-three .kept .1 .1 .0 in search needs
 
 same-length-4 : tie.Need-same-length-4
-same-length-4 c = search needs
+same-length-4 c = let kept = next-set c .before .before .before .before .smallest-cuts .kept .1 .1 .0 in search needs
+
+same-length-5 : tie.Need-same-length-5
+same-length-5 c = search needs
+
+same-length-6 : tie.Need-same-length-6
+same-length-6 c = search needs
 
 returns : tie.Need-returns
 returns c =
-    let a = c .before in
+    let b = c .before .before .before .before in
+    let x = next-set c in
+    let a = x .before in
     let k = a .before .before .before in
-    let n = k .before .before in
+    let n = forecast c in
     let t = n .before in
     let f = t .before in
-    let l = f .before .before .before in
-    let s = l .before .before .before .before .before .before in
-    let sets = s .ask-sets .ensures in
-    let lists = l .demand-three .ensures in
+    let asked = sets c .ask-sets .ensures in
+    let lists = three c .demand-three .ensures in
     let findings = f .ask-findings .ensures in
     let sheet = t .ask-sheet .ensures in
     record {
-      closure = sets .0;
-      lost = sets .1 .0;
-      way = sets .1 .1 .0;
+      closure = asked .0;
+      lost = asked .1 .0;
+      way = asked .1 .1 .0;
       bases = lists .lists;
       score = lists .security;
       risk = lists .recoverability;
@@ -79,11 +92,13 @@ returns c =
       portalScore = sheet .1 .1 .0;
       portalRisk = sheet .1 .1 .1;
       forecast = n .forecast-base .ensures;
-      quick = sets .1 .1 .1;
+      quick = asked .1 .1 .1;
       cuts = k .smallest-cuts .ensures;
       attackers = a .attacker-score .ensures;
-      next = c .next-access-set .ensures;
+      next = x .next-access-set .ensures;
       register = register-law;
+      bagAtMost = b .ask-bags .ensures .0;
+      bagScore = b .ask-bags .ensures .1;
     }
 
 pub demand-two-spec : {M : Type 1} → statement M
@@ -98,8 +113,11 @@ demand-two-spec =
     smallest-cuts-requires
     attacker-score-requires
     next-access-set-requires
+    ask-bags-requires
     same-length
     same-length-2
     same-length-3
     same-length-4
+    same-length-5
+    same-length-6
     returns)

@@ -1,6 +1,7 @@
 //! The inputs on which the proved code is compared with this crate. Every generator takes its
 //! seed or its index from the caller, so the same numbers give the same cases.
 
+pub mod bags;
 pub mod bounds;
 pub mod buffers;
 pub mod chains;

@@ -1,6 +1,7 @@
 //! Tests of the brute force itself: against the documents' examples, against slower ways to
 //! say the same, and against what the makers of cases know.
 
+mod bags;
 mod cuts;
 mod examples;
 mod forecasts;

@@ -1,0 +1,4 @@
+pub mod Lists
+pub mod Dropping
+pub mod Front
+pub mod Keeping

@@ -1,0 +1,57 @@
+-- Inner: keys. A key tells of a set how many of its values are at or above each of seven thresholds; it has 8 bits for each of these counts, so that
+-- two sets are compared at all seven by one subtraction. Nothing of this has to be believed: no contract of an offered call cites it.
+use mathlib.Core.Path.{_≡_}
+use mathlib.Core.Bool.{Bool, true, _&&_}
+use mathlib.Core.List.{List, [], _∷_, map}
+use Prim.Native.Nat.{ℕ, zero, suc, _+_, _*_, _/_, _%_, _≤_, _<_}
+use lib.Dec.{leb}
+use lib.ListN.{length, getD}
+use Rattle.vertex_set.specs.Order.{sumOver}
+use Rattle.multisets.specs.Meaning.{isHigh}
+
+-- The numbers of a list, 8 bits for each, the first in the lowest.
+abbrev pub packed : List ℕ → ℕ
+packed [] = 0
+packed (c ∷ l) = c + 256 * packed l
+
+-- Is each of the n lowest lanes of a at most that of b?
+abbrev pub lanesLe : ℕ → ℕ → ℕ → Bool
+lanesLe zero a b = true
+lanesLe (suc n) a b = leb (a % 256) (b % 256) && lanesLe n (a / 256) (b / 256)
+
+-- a has n lanes, and each has its highest bit free.
+abbrev pub SmallLanes : ℕ → ℕ → Type 0
+SmallLanes zero a = a ≡ 0
+SmallLanes (suc n) a = (a % 256 < 128) × SmallLanes n (a / 256)
+
+-- The highest bits of n lanes.
+abbrev pub guards : ℕ → ℕ
+guards zero = 0
+guards (suc n) = 128 + 256 * guards n
+
+-- a is a key: seven lanes, whose highest bits are free.
+unfoldable pub Key : ℕ → Type 0
+Key a = SmallLanes 7 a
+
+-- Is each lane of the key a at most that of the key b?
+unfoldable pub keyLe : ℕ → ℕ → Bool
+keyLe a b = lanesLe 7 a b
+
+-- For each of the thresholds, 1 where the value is at or above it, else 0.
+abbrev pub marksOf : List ℕ → ℕ → List ℕ
+marksOf thresholds value = map (λ (t : ℕ). isHigh t value) thresholds
+
+-- The columns have for each vertex the key of its value alone.
+pub record Columns (values thresholds columns : List ℕ) : Type 0 where
+  pub long : length columns ≡ 64
+  pub few : length thresholds ≤ 7
+  pub each : (v : ℕ) → v < 64 → getD columns v 0 ≡ packed (marksOf thresholds (getD values v 0))
+
+-- No column is too large for sums of 64 of them.
+pub record SmallColumns (columns : List ℕ) : Type 0 where
+  pub long : length columns ≡ 64
+  pub each : (v : ℕ) → getD columns v 0 ≤ guards 7
+
+-- The key of a set: the sum of its vertices' columns.
+abbrev pub keyOf : List ℕ → ℕ → ℕ
+keyOf columns x = sumOver (λ (v : ℕ). getD columns v 0) x

@@ -1,0 +1,63 @@
+-- What the inner functions ask and answer. Nothing of this has to be believed: the contract of the call does not cite it.
+use mathlib.Core.Path.{_≡_}
+use mathlib.Core.List.{List}
+use mathlib.Core.Bool.{false}
+use Prim.Native.Nat.{ℕ, _^_, _≤_, _<_}
+use lib.Count.{ones}
+use lib.ListN.{length, getD, take}
+use Rattle.vertex_set.specs.Set.{Within}
+use Rattle.vertex_set.specs.Order.{Listed, Before}
+use Rattle.vertex_set.proofs.Sorted.{Sorted}
+use Rattle.setup.specs.declared.Setup.{Setup}
+use Rattle.setup.specs.Setup.{ChosenSet}
+use Rattle.formed.specs.WellFormed.{WellFormed}
+use Rattle.bases.specs.Score.{Values}
+use Rattle.multisets.specs.Multisets.{Pairing, valuesOver}
+use Rattle.multiset_fronts.specs.Inner.{mostSets, Front}
+use Rattle.multiset_scores.specs.Scores.{multisetOf, MultisetScore}
+use Rattle.multiset_scores.specs.Answers.{MultisetsWritten}
+
+-- Questions 12 and 13 have been asked.
+pub record Asked (s : Setup) (target : ℕ) : Type 0 where
+  pub formed : WellFormed s
+  pub vertex : target < s .count
+
+-- What finding the lowest sets asks for.
+pub record CanFind (s : Setup) (target initial : ℕ) (points kept : List ℕ) : Type 0 where
+  pub asked : Asked s target
+  pub isChosen : ChosenSet false s initial
+  pub values : Values false s points
+  pub room : length kept ≡ mostSets
+
+-- One set's multiset is at most another's, by the values of a list.
+abbrev pub ValuesLe : List ℕ → ℕ → ℕ → Type 0
+ValuesLe points x y = Pairing (valuesOver (λ (v : ℕ). getD points v 0) x) (valuesOver (λ (v : ℕ). getD points v 0) y)
+
+-- One set's multiset is at most another's, by the start values of a setup.
+abbrev pub MultisetLe : Setup → ℕ → ℕ → Type 0
+MultisetLe s x y = Pairing (multisetOf s x) (multisetOf s y)
+
+-- What comparing the first n sets asks for.
+pub record CanCompare (list : List ℕ) (n initial : ℕ) (kept : List ℕ) : Type 0 where
+  pub sets : n ≤ length list
+  pub room : n ≤ length kept
+  pub most : n ≤ mostSets
+  pub few : ones initial ≤ 14
+  pub ordered : Sorted Before (take n list)
+
+-- Where the first n sets have only initial vertices, the first r of `kept` are the lowest of them.
+pub record ComparedLowest (list : List ℕ) (n initial : ℕ) (points kept : List ℕ) (r : ℕ) : Type 0 where
+  pub most : r ≤ n
+  pub front : ((x : ℕ) → Listed (take n list) x → Within x initial) → Front (ValuesLe points) (take n list) (take r kept)
+
+-- The first n sets of `kept` are those of the score.
+pub record ScoreFound (s : Setup) (target : ℕ) (kept : List ℕ) (n : ℕ) : Type 0 where
+  pub long : length kept ≡ mostSets
+  pub most : n ≤ mostSets
+  pub few : (x : ℕ) → Listed (take n kept) x → (x < 2 ^ 64) × (ones x ≤ 14)
+  pub score : MultisetScore s target (take n kept)
+
+pub record ScoreTaken (s : Setup) (target number : ℕ) (values places places′ lengths lengths′ : List ℕ) : Type 0 where
+  pub sets : List ℕ
+  pub isScore : MultisetScore s target sets
+  pub isWritten : MultisetsWritten s sets number values places places′ lengths lengths′

@@ -1,0 +1,93 @@
+// Scores that keep their parts: of the multisets of start values that the sets of an access base have,
+// those to which no different one is at most (document 02, point 6: the bag score).
+ghost use Rattle.multiset_scores.specs.Answers.{multisetNumber, multisetValues, MultisetsCall};
+ghost use Rattle.multiset_scores.specs.Inner.{Asked, CanCompare, ComparedLowest, CanFind, ScoreFound, ScoreTaken};
+use families::WORDS;
+use multiset_fronts::MOST_SETS;
+use multisets::MOST_VALUES;
+use setup::Setup;
+use vertex_set::VertexSet;
+
+pub enum MultisetAnswer {
+    Multisets(usize),
+    Refused(u64),
+}
+
+// Writes the lowest of the sets to the front of `kept`: they are compared at the values of all initial
+// vertices, seven in each key.
+fn lowest_of(
+    list: &[u64],
+    n: usize,
+    initial: VertexSet,
+    points: [u64; 64],
+    kept: &mut [u64],
+) -> usize
+    requires { ⌜ CanCompare (now list) n (initial .0) (now kept) ⌝ }
+    ensures { λ r. ⌜ ComparedLowest (now (list .entry)) n (initial .0) points (now (kept .exit)) r ⌝ }
+{
+    let thresholds = sums::weights_of(initial, points);
+    let mut first = [0u64; 64];
+    let mut second = [0u64; 64];
+    multiset_keys::fill_columns(points, &thresholds[0..7], &mut first);
+    multiset_keys::fill_columns(points, &thresholds[7..14], &mut second);
+    multiset_fronts::keep_lowest(list, n, &first, &second, kept)
+}
+
+// Writes the sets of the target's score to the front of `kept`, and gives their count: the sets of the
+// access base are listed in order, and the lowest of them kept.
+fn find_score(
+    s: Setup,
+    target: usize,
+    initial: VertexSet,
+    points: [u64; 64],
+    kept: &mut [u64],
+) -> usize
+    requires { ⌜ CanFind s target (initial .0) points (now kept) ⌝ }
+    ensures { λ r. ⌜ ScoreFound s target (now (kept .exit)) r ⌝ }
+{
+    let graph = s.graph;
+    let mut base = [0u64; WORDS];
+    let _ = bases::base_family(s, graph, false, target, initial, &mut base);
+    let mut list = [0u64; MOST_SETS];
+    let n = family_lists::write_sets(&base, initial, &mut list);
+    lowest_of(&list, n, initial, points, kept)
+}
+
+// The score of a target of a well-formed setup. Its number of multisets is known before a place is
+// written, so that lent lists of which one is too short stay as they were.
+fn write_score(s: Setup, target: usize, places: &mut [u64], lengths: &mut [u64]) -> MultisetAnswer
+    requires { ⌜ Asked s target ⌝ }
+    ensures { λ r. ⌜ ScoreTaken s target (multisetNumber r) (multisetValues r) (now (places .entry)) (now (places .exit)) (now (lengths .entry)) (now (lengths .exit)) ⌝ }
+{
+    let initial = setup::chosen(s, false);
+    let points = bases::values_of(s, false);
+    let mut kept = [0u64; MOST_SETS];
+    let n = find_score(s, target, initial, points, &mut kept);
+    if lengths.len() < n {
+        return MultisetAnswer::Refused(15);
+    }
+    if places.len() < MOST_VALUES * n {
+        return MultisetAnswer::Refused(15);
+    }
+    let _ = multiset_rows::write_rows(&kept, n, points, places);
+    let count = multiset_rows::write_lengths(&kept, n, lengths);
+    MultisetAnswer::Multisets(count)
+}
+
+// The target's score, each multiset in 14 places of the one lent list, its length in the other.
+pub fn multiset_score(
+    s: Setup,
+    target: usize,
+    places: &mut [u64],
+    lengths: &mut [u64],
+) -> MultisetAnswer
+    ensures { λ r. ⌜ MultisetsCall s target (multisetNumber r) (multisetValues r) (now (places .entry)) (now (places .exit)) (now (lengths .entry)) (now (lengths .exit)) ⌝ }
+{
+    if formed::well_formed(s) {
+        if target < s.count {
+            return write_score(s, target, places, lengths);
+        }
+        return MultisetAnswer::Refused(13);
+    }
+    MultisetAnswer::Refused(12)
+}

@@ -1,0 +1,3 @@
+pub mod Multisets
+pub mod Meaning
+pub mod Inner

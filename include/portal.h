@@ -15,6 +15,8 @@
  *              portal_cut_sets               the smallest sets of starting items to harden so that no way in is left
  *              portal_next_opening           the next of the smallest sets that open an item, while the setup may change
  *              portal_bag_score              an item's score as bags of start values, which keep their parts
+ *              portal_take_in, portal_take_out, portal_add_edge, portal_remove_edge
+ *                                            the setup redrawn in its buffer: what is held, and the edges
  *              portal_setup_score, portal_setup_risk
  *              portal_mark_openings, portal_mark_lockouts
  *              portal_hand_in                a student's attempt, marked and kept in the class register
@@ -35,6 +37,7 @@
  * It is aligned as its type is. Memory that a call may write to overlaps nothing else that the same call is given. A refused
  * call changes no place that it was lent; an answered one leaves the places behind the written ones as they were.
  * (portal_read is the exception that document 01 asks for: a refused sheet gives a setup of 0 items.) A bool is 0 or 1, as C makes it.
+ * portal_read and the four calls that redraw a setup write to its buffer; all others leave it.
  *
  * Threads. No call keeps anything: there is no state, no heap and no lock, so threads may call at the same time, as long as
  * none writes to what another one uses. No call reads or changes errno, a signal or the floating point environment.
@@ -58,9 +61,9 @@ extern "C" {
 
 /* ---- version ---- */
 
-/* 2.6.0 is 20600: the last two parts have two digits each. The first part changes where a call or a struct does, the second
+/* 3.0.0 is 30000: the last two parts have two digits each. The first part changes where a call or a struct does, the second
  * where one is new. */
-#define PORTAL_VERSION 20600
+#define PORTAL_VERSION 30000
 
 /* The version of the library. A program that was compiled with another one's header sees PORTAL_VERSION differ from it. */
 uint64_t portal_version(void);
@@ -70,9 +73,10 @@ uint64_t portal_version(void);
 /* The score of an item that no set opens, and the risk of an item that no loss shuts: "never", above every number. */
 #define PORTAL_NEVER (UINT64_C(1) << 62)
 
-/* Bytes of stack: for a call that asks all subsets of the starting or losable items, which scores, lists, next sets and findings
- * do, and portal_bag_score, which needs the most; for one that marks a handed-in list, which portal_hand_in does; and for the others
- * (portal_version, _read, _name, _check, _closure, _lost, _way_in, _opens, _forecast, _kinds, _bag_at_most, _withdraw). */
+/* Bytes of stack: for a call that asks all subsets of the starting or losable items, which scores, lists, cut sets, the next
+ * opening set and findings do, and portal_bag_score, which needs the most; for one that marks a handed-in list, which
+ * portal_hand_in does; and for the others (portal_version, _read, _name, _check, _closure, _lost, _way_in, _opens, _forecast,
+ * _kinds, _bag_at_most, _take_in, _take_out, _add_edge, _remove_edge, _withdraw). */
 #define PORTAL_STACK ((size_t)256 * 1024)
 #define PORTAL_STACK_MARKS ((size_t)512 * 1024)
 #define PORTAL_STACK_SMALL ((size_t)128 * 1024)
@@ -99,6 +103,9 @@ enum portal_number {
     PORTAL_SHORT = 15,
     PORTAL_KINDS_LENGTH = 16,
     PORTAL_NO_KIND = 17,
+    PORTAL_NO_COLOUR = 18,
+    PORTAL_EDGE_THERE = 19,
+    PORTAL_NO_EDGE = 20,
     PORTAL_STRANGER = 21,
     /* of a call on the class register */
     PORTAL_OVERFULL = 25,
@@ -117,17 +124,20 @@ static inline const char *portal_refusal_text(uint64_t number)
     case PORTAL_FIELDS: return "the row has not five fields (an item) or four (an edge), or one of them is empty";
     case PORTAL_FORM: return "a field of the row is not in its form or range";
     case PORTAL_NAME_USED: return "the item's name is used by a row above";
-    case PORTAL_BOUND: return "with this row there are more than 64 items, 256 edges, 14 starting items or 14 losable items";
+    case PORTAL_BOUND: return "with this row, or this edge, there are more than 64 items, 256 edges, 14 starting items or 14 losable items";
     case PORTAL_NAME_UNKNOWN: return "the edge names an item that has no row";
     case PORTAL_EDGE_TWICE: return "an earlier row has the same from, to and colour";
     case PORTAL_NO_ROWS: return "no item row has come before the empty line";
     case PORTAL_NO_EDGE_PART: return "the text is over, and the second header has not come";
-    case PORTAL_NO_SETUP: return "the setup is none that an accepted sheet yields";
+    case PORTAL_NO_SETUP: return "the setup is none that an accepted sheet and a list of calls reach";
     case PORTAL_NO_ITEM: return "an item number is not below the item count";
     case PORTAL_OUTSIDE: return "the set has items that are not in the setup";
     case PORTAL_SHORT: return "a lent list is too short for what must be written";
     case PORTAL_KINDS_LENGTH: return "the list of kinds has not one entry for each item";
     case PORTAL_NO_KIND: return "the entry of a starting item is none of the six kinds";
+    case PORTAL_NO_COLOUR: return "the colour is above 7";
+    case PORTAL_EDGE_THERE: return "the edge to add is there, with one mark or the other";
+    case PORTAL_NO_EDGE: return "the edge to remove is not there";
     case PORTAL_STRANGER: return "the last set shown has an item that is not a starting one";
     case PORTAL_OVERFULL: return "the used count is above the slice's length";
     case PORTAL_ALL_USED: return "a new record is needed, and all are used";
@@ -141,9 +151,10 @@ static inline const char *portal_refusal_text(uint64_t number)
 /*
  * A setup is a buffer of PORTAL_SETUP_WORDS numbers, which portal_read writes and which may be made by hand too. Items count
  * from 0. A set is a number: the sum of 2^i over its items. A word that a shorter buffer does not have counts as 0, and words
- * behind the last one are not looked at, so that every buffer says something; portal_check tells whether that is a setup.
+ * behind the last one are not looked at, so that every buffer says something; portal_check tells whether that is a setup. A buffer of
+ * the 1281 words that setups had before version 3 says a setup that holds nothing.
  */
-#define PORTAL_SETUP_WORDS 1281
+#define PORTAL_SETUP_WORDS 1283
 #define PORTAL_MAX_ITEMS 64
 #define PORTAL_COLOURS 8
 #define PORTAL_MAX_SHEET 16384
@@ -176,6 +187,11 @@ static inline const char *portal_refusal_text(uint64_t number)
 /* Those of them whose edge is a recovery edge. Without recovery, a colour into an item is left out whole if any of its edges
  * is one; the item's other colours stay. */
 #define PORTAL_RECOVERY(v, c) (769 + 8 * (v) + (c))
+/* The items that are held, and those that they open. The calls that redraw a setup keep the two together, and portal_read writes 0 for
+ * both; in a setup in which the second is anything else than what the first opens, every call answers 12. No call but these four heeds
+ * what is held: the others ask the sets that they are given. */
+#define PORTAL_HELD 1281
+#define PORTAL_OPENED 1282
 /* "-": no value. A place behind the last item has kind 0, PORTAL_BLANK twice, rank 0 and empty rows. */
 #define PORTAL_BLANK UINT64_MAX
 
@@ -353,8 +369,33 @@ struct portal_part portal_name(const uint8_t *sheet, size_t length, uint64_t ite
 
 /* ---- calls on a setup ---- */
 
-/* Question 12 by itself: 0 where the setup is one that some accepted sheet yields, and 12 where it is not. */
+/* Question 12 by itself: 0 where the setup is one that an accepted sheet and a list of the four calls below reach, and 12 where it is
+ * not. */
 uint64_t portal_check(const uint64_t *setup, size_t words);
+
+/*
+ * The four calls that redraw a setup, in its buffer. After each the opened set is what the held set opens in the edges that are left.
+ * They return 0, or the number of the refusal; a refused call leaves every word. An accepted one writes the setup to the first
+ * PORTAL_SETUP_WORDS words, 1 for the kind of an account, whatever number said so; with fewer words it is refused with 15, which is
+ * asked last.
+ *
+ * Takes an item into the held set; any item may be held. Refused with 12, 13, 15. One that is held already stays so, and the answer is 0.
+ */
+uint64_t portal_take_in(uint64_t *setup, size_t words, uint64_t item);
+
+/* Takes an item out of the held set. Refused with 12, 13, 15. One that is not held is no fault: the answer is 0. The item stays open where
+ * what else is held opens it. */
+uint64_t portal_take_out(uint64_t *setup, size_t words, uint64_t item);
+
+/*
+ * Adds an edge: `recovery` is 0 for no recovery edge, and any other number for one. An edge more in a colour that has others makes that colour
+ * harder, so that items can shut. Refused with 12, 13 (either end), 18, 19 (it is there, with one mark or the other), 7 (there are 256), 15.
+ */
+uint64_t portal_add_edge(uint64_t *setup, size_t words, uint64_t from, uint64_t to, uint64_t colour, uint64_t recovery);
+
+/* Removes an edge, whether it is a recovery edge or not; items can shut by it, and open. Refused with 12, 13 (either end), 18, 20 (it is not
+ * there), 15. */
+uint64_t portal_remove_edge(uint64_t *setup, size_t words, uint64_t from, uint64_t to, uint64_t colour);
 
 /*
  * The closure: all items that the set opens, those in it too. A pass adds together all items that the set at its beginning

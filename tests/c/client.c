@@ -122,6 +122,7 @@ static void try_read(void)
     expect("order's recovery", words[PORTAL_RECOVERY(4, 1)], MAIL);
     expect("no more recovery", words[PORTAL_RECOVERY(4, 0)], 0);
     expect("a place not in use", words[PORTAL_LOSS(63)], PORTAL_BLANK);
+    expect("nothing is held, nothing opened", words[PORTAL_HELD] + words[PORTAL_OPENED], 0);
     expect("the word behind", words[WORDS], LENT);
 
     words[0] = LENT;
@@ -347,7 +348,7 @@ static void try_bag_score(void)
     expect("bag score in no setup", portal_bag_score(malformed, WORDS, 5, values, 28, lengths, 2).number, PORTAL_NO_SETUP);
 }
 
-/* While the drawing changes: the edge by which mail opens order goes, and comes back. */
+/* While the drawing changes: the edge by which mail opens order goes. */
 static void try_next_opening(void)
 {
     uint64_t drawn[WORDS];
@@ -359,7 +360,7 @@ static void try_next_opening(void)
     expect("the second opening", portal_next_opening(drawn, WORDS, ORDER_ITEM, r.set).set, ORDPW + TOKEN);
     r = portal_next_opening(drawn, WORDS, ORDER_ITEM, ORDPW + TOKEN);
     expect("no more", r.number + r.more + r.set, 0);
-    drawn[PORTAL_ROW(ORDER_ITEM, 1)] = drawn[PORTAL_RECOVERY(ORDER_ITEM, 1)] = 0;
+    expect("the edge goes", portal_remove_edge(drawn, WORDS, MAIL_ITEM, ORDER_ITEM, 1), 0);
     expect("the first opening, redrawn", portal_next_opening(drawn, WORDS, ORDER_ITEM, 0).set, ORDPW + TOKEN);
     expect("after one that has left the list", portal_next_opening(drawn, WORDS, ORDER_ITEM, MAILPW).set, ORDPW + TOKEN);
     expect("after one that never was in it", portal_next_opening(setup, WORDS, ORDER_ITEM, TOKEN).set, ORDPW + TOKEN);
@@ -370,6 +371,196 @@ static void try_next_opening(void)
     expect("after an item beyond the count", portal_next_opening(setup, WORDS, ORDER_ITEM, UINT64_MAX).number, PORTAL_STRANGER);
     expect("next opening of no item", portal_next_opening(setup, WORDS, 5, MAIL).number, PORTAL_NO_ITEM);
     expect("next opening in no setup", portal_next_opening(malformed, WORDS, 5, MAIL).number, PORTAL_NO_SETUP);
+}
+
+/* ---- a setup that lives */
+
+/* A call is refused with its number, and the buffer has every word that it had. */
+static void refused(const char *what, const uint64_t before[WORDS], const uint64_t drawn[WORDS], uint64_t got, uint64_t wanted)
+{
+    expect(what, got, wanted);
+    expect(what, (uint64_t)memcmp(before, drawn, WORDS * sizeof drawn[0]), 0);
+}
+
+/* A call is answered, and then this is held and this opened. */
+static void lives(const char *what, const uint64_t drawn[WORDS], uint64_t got, uint64_t held, uint64_t opened)
+{
+    expect(what, got, 0);
+    expect(what, drawn[PORTAL_HELD], held);
+    expect(what, drawn[PORTAL_OPENED], opened);
+    expect(what, portal_check(drawn, WORDS), 0);
+}
+
+/* SHEET's setup with something held that opens more than stands there. */
+static void make_stale(uint64_t words[WORDS])
+{
+    memcpy(words, setup, WORDS * sizeof words[0]);
+    words[PORTAL_HELD] = MAILPW;
+    words[PORTAL_OPENED] = MAILPW + MAIL;
+}
+
+/* A freshly read setup holds nothing; and an older, shorter buffer is one in which nothing is held. */
+static void try_take_in(void)
+{
+    uint64_t drawn[WORDS + 1], before[WORDS];
+    memcpy(drawn, setup, sizeof setup);
+    drawn[WORDS] = LENT;
+    lives("nothing is held after reading", drawn, 0, 0, 0);
+    lives("the token in", drawn, portal_take_in(drawn, WORDS + 1, 2), TOKEN, TOKEN);
+    lives("the mail password in", drawn, portal_take_in(drawn, WORDS, 1), TOKEN + MAILPW, TOKEN + MAILPW + MAIL + ORDER);
+    memcpy(before, drawn, sizeof before);
+    lives("a held item in", drawn, portal_take_in(drawn, WORDS, 1), TOKEN + MAILPW, TOKEN + MAILPW + MAIL + ORDER);
+    expect("a held item in changes nothing", (uint64_t)memcmp(before, drawn, sizeof before), 0);
+    refused("no item in", before, drawn, portal_take_in(drawn, WORDS, 5), PORTAL_NO_ITEM);
+    refused("no item in, far off", before, drawn, portal_take_in(drawn, WORDS, UINT64_MAX), PORTAL_NO_ITEM);
+    refused("too short for what is opened", before, drawn, portal_take_in(drawn, PORTAL_OPENED, 0), PORTAL_NO_SETUP);
+    lives("an opened item in", drawn, portal_take_in(drawn, WORDS, MAIL_ITEM), TOKEN + MAILPW + MAIL, TOKEN + MAILPW + MAIL + ORDER);
+    expect("the word behind a setup that lives", drawn[WORDS], LENT);
+
+    memcpy(drawn, setup, sizeof setup);
+    memcpy(before, setup, sizeof setup);
+    expect("an older buffer", portal_check(drawn, PORTAL_HELD), 0);
+    refused("no room to hold", before, drawn, portal_take_in(drawn, PORTAL_HELD, 1), PORTAL_SHORT);
+    refused("no room to open", before, drawn, portal_take_in(drawn, PORTAL_OPENED, 1), PORTAL_SHORT);
+    refused("no room, and no item", before, drawn, portal_take_in(drawn, PORTAL_HELD, 5), PORTAL_NO_ITEM);
+    expect("no words to hold in", portal_take_in(NULL, 0, 0), PORTAL_NO_SETUP);
+}
+
+static void try_take_out(void)
+{
+    uint64_t drawn[WORDS], before[WORDS];
+    memcpy(drawn, setup, sizeof setup);
+    lives("one not held out", drawn, portal_take_out(drawn, WORDS, 0), 0, 0);
+    lives("the mail password in", drawn, portal_take_in(drawn, WORDS, 1), MAILPW, MAILPW + MAIL + ORDER);
+    lives("mail in, which is open", drawn, portal_take_in(drawn, WORDS, MAIL_ITEM), MAILPW + MAIL, MAILPW + MAIL + ORDER);
+    lives("mail out, which the password opens", drawn, portal_take_out(drawn, WORDS, MAIL_ITEM), MAILPW, MAILPW + MAIL + ORDER);
+    memcpy(before, drawn, sizeof before);
+    refused("no item out", before, drawn, portal_take_out(drawn, WORDS, 5), PORTAL_NO_ITEM);
+    lives("the mail password out", drawn, portal_take_out(drawn, WORDS, 1), 0, 0);
+    memcpy(before, drawn, sizeof before);
+    refused("no room to take out", before, drawn, portal_take_out(drawn, PORTAL_OPENED, 1), PORTAL_SHORT);
+    lives("a ring as read", ring, 0, 0, 0);
+    memcpy(drawn, ring, sizeof ring);
+    lives("it opens the other", drawn, portal_take_in(drawn, WORDS, 0), 1, 3);
+    lives("and they don't hold each other", drawn, portal_take_out(drawn, WORDS, 0), 0, 0);
+}
+
+/* An afternoon: opening is not monotone in the edges. An edge more may shut, and an edge less may open. */
+static void try_add_edge(void)
+{
+    uint64_t drawn[WORDS], before[WORDS];
+    memcpy(drawn, setup, sizeof setup);
+    lives("the mail password in", drawn, portal_take_in(drawn, WORDS, 1), MAILPW, MAILPW + MAIL + ORDER);
+    lives("mail needs the token too", drawn, portal_add_edge(drawn, WORDS, 2, MAIL_ITEM, 0, 0), MAILPW, MAILPW);
+    expect("the row has both", drawn[PORTAL_ROW(MAIL_ITEM, 0)], MAILPW + TOKEN);
+    expect("neither is marked", drawn[PORTAL_RECOVERY(MAIL_ITEM, 0)], 0);
+    lives("another way, by recovery", drawn, portal_add_edge(drawn, WORDS, 1, MAIL_ITEM, 7, 1), MAILPW, MAILPW + MAIL + ORDER);
+    expect("its mark", drawn[PORTAL_RECOVERY(MAIL_ITEM, 7)], MAILPW);
+    lives("any number is a yes", drawn, portal_add_edge(drawn, WORDS, 0, MAIL_ITEM, 6, UINT64_C(1) << 63), MAILPW, MAILPW + MAIL + ORDER);
+    expect("the mark of any number", drawn[PORTAL_RECOVERY(MAIL_ITEM, 6)], ORDPW);
+    memcpy(before, drawn, sizeof before);
+    refused("from no item", before, drawn, portal_add_edge(drawn, WORDS, 5, 0, 8, 0), PORTAL_NO_ITEM);
+    refused("to no item", before, drawn, portal_add_edge(drawn, WORDS, 0, 5, 8, 0), PORTAL_NO_ITEM);
+    refused("colour 8", before, drawn, portal_add_edge(drawn, WORDS, 2, MAIL_ITEM, 8, 0), PORTAL_NO_COLOUR);
+    refused("a colour far off", before, drawn, portal_add_edge(drawn, WORDS, 2, MAIL_ITEM, UINT64_MAX, 0), PORTAL_NO_COLOUR);
+    refused("there already", before, drawn, portal_add_edge(drawn, WORDS, 2, MAIL_ITEM, 0, 0), PORTAL_EDGE_THERE);
+    refused("there without a mark", before, drawn, portal_add_edge(drawn, WORDS, 2, MAIL_ITEM, 0, 1), PORTAL_EDGE_THERE);
+    refused("there with a mark", before, drawn, portal_add_edge(drawn, WORDS, 1, MAIL_ITEM, 7, 0), PORTAL_EDGE_THERE);
+    make_stale(drawn);
+    memcpy(before, drawn, sizeof before);
+    refused("no setup to draw in, left stale", before, drawn, portal_add_edge(drawn, WORDS, 5, 5, 8, 0), PORTAL_NO_SETUP);
+}
+
+/* Until the drawing is full: 21 items have room for 441 edges of one colour. */
+static void try_full_drawing(void)
+{
+    static const char TWENTY_ONE[] =
+        "name kind start loss rank\na a - - 0\nb a - - 0\nc a - - 0\nd a - - 0\ne a - - 0\nf a - - 0\ng a - - 0\n"
+        "h a - - 0\ni a - - 0\nj a - - 0\nk a - - 0\nl a - - 0\nm a - - 0\nn a - - 0\no a - - 0\np a - - 0\nq a - - 0\n"
+        "r a - - 0\ns a - - 0\nt a - - 0\nu a - - 0\n\nfrom to colour rec\n";
+    uint64_t drawn[WORDS], before[WORDS];
+    expect("21 items", portal_read(bytes(TWENTY_ONE), strlen(TWENTY_ONE), drawn, WORDS).number, 0);
+    for (uint64_t i = 0; i < 256; i++)
+        expect("one of 256 edges", portal_add_edge(drawn, WORDS, i % 21, i / 21, 5, i % 2), 0);
+    memcpy(before, drawn, sizeof before);
+    refused("the 257th edge", before, drawn, portal_add_edge(drawn, WORDS, 20, 20, 5, 0), PORTAL_BOUND);
+    refused("one that is there, in a full drawing", before, drawn, portal_add_edge(drawn, WORDS, 0, 0, 5, 1), PORTAL_EDGE_THERE);
+    refused("no colour, in a full drawing", before, drawn, portal_add_edge(drawn, WORDS, 20, 20, 8, 0), PORTAL_NO_COLOUR);
+    expect("room again", portal_remove_edge(drawn, WORDS, 0, 0, 5), 0);
+    expect("the 256th edge", portal_add_edge(drawn, WORDS, 20, 20, 5, 0), 0);
+}
+
+static void try_remove_edge(void)
+{
+    uint64_t drawn[WORDS], before[WORDS];
+    memcpy(drawn, setup, sizeof setup);
+    lives("the order password in", drawn, portal_take_in(drawn, WORDS, 0), ORDPW, ORDPW);
+    memcpy(before, drawn, sizeof before);
+    refused("another colour", before, drawn, portal_remove_edge(drawn, WORDS, 2, ORDER_ITEM, 1), PORTAL_NO_EDGE);
+    refused("the other way round", before, drawn, portal_remove_edge(drawn, WORDS, ORDER_ITEM, 2, 0), PORTAL_NO_EDGE);
+    refused("colour 8 of no edge", before, drawn, portal_remove_edge(drawn, WORDS, 2, ORDER_ITEM, 8), PORTAL_NO_COLOUR);
+    refused("from no item", before, drawn, portal_remove_edge(drawn, WORDS, 64, ORDER_ITEM, 0), PORTAL_NO_ITEM);
+    refused("to no item", before, drawn, portal_remove_edge(drawn, WORDS, 2, 64, 0), PORTAL_NO_ITEM);
+    lives("the token is needed no more", drawn, portal_remove_edge(drawn, WORDS, 2, ORDER_ITEM, 0), ORDPW, ORDPW + ORDER);
+    lives("and nothing is a way", drawn, portal_remove_edge(drawn, WORDS, 0, ORDER_ITEM, 0), ORDPW, ORDPW);
+    lives("the marked edge goes", drawn, portal_remove_edge(drawn, WORDS, MAIL_ITEM, ORDER_ITEM, 1), ORDPW, ORDPW);
+    expect("with its mark", drawn[PORTAL_ROW(ORDER_ITEM, 1)] + drawn[PORTAL_RECOVERY(ORDER_ITEM, 1)], 0);
+    lives("and comes back without it", drawn, portal_add_edge(drawn, WORDS, MAIL_ITEM, ORDER_ITEM, 1, 0), ORDPW, ORDPW);
+    memcpy(drawn, setup, sizeof setup);
+    refused("no room to remove", setup, drawn, portal_remove_edge(drawn, PORTAL_OPENED, 2, ORDER_ITEM, 0), PORTAL_SHORT);
+    refused("no room, and no edge", setup, drawn, portal_remove_edge(drawn, PORTAL_OPENED, 2, ORDER_ITEM, 1), PORTAL_NO_EDGE);
+}
+
+/* The other calls refuse a stale setup, and pay no heed to what is held in one that isn't. */
+static void try_held(void)
+{
+    uint64_t stale[WORDS], held[WORDS], sets[4];
+    uint8_t items[1], colours[1], list[5] = { 0, 0, 0, 0, 0 };
+    memcpy(stale, ring, sizeof ring);
+    stale[PORTAL_OPENED] = 3;
+    expect("a ring that holds itself up", portal_check(stale, WORDS), PORTAL_NO_SETUP);
+    memcpy(stale, setup, sizeof setup);
+    stale[PORTAL_HELD] = stale[PORTAL_OPENED] = ORDER << 1;
+    expect("held, the item behind the last", portal_check(stale, WORDS), PORTAL_NO_SETUP);
+    stale[PORTAL_OPENED] = 0;
+    expect("held, the item behind the last, not opened", portal_check(stale, WORDS), PORTAL_NO_SETUP);
+    make_stale(stale);
+    expect("check", portal_check(stale, WORDS), PORTAL_NO_SETUP);
+    expect("closure", portal_closure(stale, WORDS, 0).number, PORTAL_NO_SETUP);
+    expect("lost", portal_lost(stale, WORDS, 0).number, PORTAL_NO_SETUP);
+    expect("way in", portal_way_in(stale, WORDS, 0, 1, items, 1, colours, 1).number, PORTAL_NO_SETUP);
+    expect("opens", portal_opens(stale, WORDS, 0, 1).number, PORTAL_NO_SETUP);
+    expect("forecast", portal_forecast(stale, WORDS, 0).number, PORTAL_NO_SETUP);
+    expect("kinds", portal_kinds(stale, WORDS, 0, list, 5).number, PORTAL_NO_SETUP);
+    expect("lists", portal_lists(stale, WORDS, 0, sets, 4).number, PORTAL_NO_SETUP);
+    expect("cut sets", portal_cut_sets(stale, WORDS, 0, sets, 4).number, PORTAL_NO_SETUP);
+    expect("next opening", portal_next_opening(stale, WORDS, 0, 0).number, PORTAL_NO_SETUP);
+    expect("score", portal_setup_score(stale, WORDS, 0).number, PORTAL_NO_SETUP);
+    expect("risk", portal_setup_risk(stale, WORDS, 0).number, PORTAL_NO_SETUP);
+    expect("marks", portal_mark_openings(stale, WORDS, 0, NULL, 0).number, PORTAL_NO_SETUP);
+    expect("marks", portal_mark_lockouts(stale, WORDS, 0, NULL, 0).number, PORTAL_NO_SETUP);
+    expect("backdoor", portal_backdoor(stale, WORDS, 0).number, PORTAL_NO_SETUP);
+    expect("idle", portal_idle(stale, WORDS, 0).number, PORTAL_NO_SETUP);
+    expect("out of rank", portal_out_of_rank(stale, WORDS, 0, 0).number, PORTAL_NO_SETUP);
+    expect("take in", portal_take_in(stale, WORDS, 0), PORTAL_NO_SETUP);
+    expect("take out", portal_take_out(stale, WORDS, 0), PORTAL_NO_SETUP);
+    expect("add", portal_add_edge(stale, WORDS, 0, 0, 0, 0), PORTAL_NO_SETUP);
+    expect("remove", portal_remove_edge(stale, WORDS, 1, 3, 0), PORTAL_NO_SETUP);
+
+    memcpy(held, setup, sizeof setup);
+    expect("all in", portal_take_in(held, WORDS, 0) + portal_take_in(held, WORDS, 1) + portal_take_in(held, WORDS, 2), 0);
+    expect("a score, with all held", portal_setup_score(held, WORDS, ORDER_ITEM).score, 1);
+    expect("a closure, with all held", portal_closure(held, WORDS, TOKEN).set, TOKEN);
+    expect("lists, with all held", portal_lists(held, WORDS, ORDER_ITEM, sets, 4).openings, 2);
+    expect("the first opening, with all held", sets[0], MAILPW);
+    expect("a quick no, with all held", portal_opens(held, WORDS, ORDER_ITEM, TOKEN).opens, 0);
+
+    memcpy(held, setup, sizeof setup);
+    expect("a way by recovery alone", portal_remove_edge(held, WORDS, 2, ORDER_ITEM, 0) + portal_remove_edge(held, WORDS, 0, ORDER_ITEM, 0), 0);
+    expect("recovery is a backdoor still", portal_backdoor(held, WORDS, ORDER_ITEM).yes, 1);
+    expect("the marked edge goes", portal_remove_edge(held, WORDS, MAIL_ITEM, ORDER_ITEM, 1), 0);
+    expect("and comes back without its mark", portal_add_edge(held, WORDS, MAIL_ITEM, ORDER_ITEM, 1, 0), 0);
+    expect("recovery is no backdoor", portal_backdoor(held, WORDS, ORDER_ITEM).yes, 0);
 }
 
 static void try_setup_score(void)
@@ -522,6 +713,12 @@ static const struct call {
     { "portal_next_opening", PORTAL_STACK, try_next_opening },
     { "portal_bag_at_most", PORTAL_STACK_SMALL, try_bag_at_most },
     { "portal_bag_score", PORTAL_STACK, try_bag_score },
+    { "portal_take_in", PORTAL_STACK_SMALL, try_take_in },
+    { "portal_take_out", PORTAL_STACK_SMALL, try_take_out },
+    { "portal_add_edge", PORTAL_STACK_SMALL, try_add_edge },
+    { "portal_add_edge, a full drawing", PORTAL_STACK_SMALL, try_full_drawing },
+    { "portal_remove_edge", PORTAL_STACK_SMALL, try_remove_edge },
+    { "a setup that lives, to every call", PORTAL_STACK_MARKS, try_held },
     { "portal_setup_score", PORTAL_STACK, try_setup_score },
     { "portal_setup_risk", PORTAL_STACK, try_setup_risk },
     { "portal_mark_openings", PORTAL_STACK_MARKS, try_mark_openings },
@@ -618,10 +815,10 @@ int main(int argc, char **argv)
         id[i] = begin(PORTAL_STACK_MARKS, run_all, NULL);
     for (int i = 0; i < THREADS; i++)
         pthread_join(id[i], NULL);
-    for (uint64_t number = 0; number <= PORTAL_NO_KIND; number++)
-        expect("a sentence", strcmp(portal_refusal_text(number), portal_refusal_text(PORTAL_NO_KIND + 1)) != 0, 1);
+    for (uint64_t number = 0; number <= PORTAL_STRANGER; number++)
+        expect("a sentence", strcmp(portal_refusal_text(number), portal_refusal_text(UINT64_MAX)) != 0, 1);
     if (faults)
         return 1;
-    printf("c client: %d calls, all well\n", COUNT);
+    printf("c client: %d rounds of calls, all well\n", COUNT);
     return 0;
 }

@@ -193,8 +193,143 @@ def WellFormed(s):
             and edgeCount(s.graph) <= 256
             and chosenCount(False, s) <= 14
             and chosenCount(True, s) <= 14
+            and Inside(s, s.held)
+            and AccessFrom(s.graph, s.held, s.opened)
         )
     return cache[key]
+
+
+# ---- living/Calls: a call is a named tuple, and a drawing has three predicates
+
+TakeIn = namedtuple("TakeIn", "v")
+TakeOut = namedtuple("TakeOut", "v")
+AddEdge = namedtuple("AddEdge", "source to colour mark")
+RemoveEdge = namedtuple("RemoveEdge", "source to colour")
+Drawing = namedtuple("Drawing", "Edges Marks Held")
+
+
+def drawingOf(s):
+    return Drawing(
+        Edges=lambda f, v, c: Edge(s.graph, f, v, c),
+        Marks=lambda f, v, c: Edge(s.recovery, f, v, c),
+        Held=lambda v: Member(s.held, v),
+    )
+
+
+def IsEdge(f, v, c, f_, v_, c_):
+    source = f_ == f
+    to = v_ == v
+    colour = c_ == c
+    return source and to and colour
+
+
+def after(call, d):
+    if isinstance(call, TakeIn):
+        return d._replace(Held=With(d.Held, call.v))
+    if isinstance(call, TakeOut):
+        return d._replace(Held=lambda i: d.Held(i) and i != call.v)
+    f, v, c = call.source, call.to, call.colour
+    if isinstance(call, AddEdge):
+        return d._replace(
+            Edges=lambda *e: d.Edges(*e) or IsEdge(f, v, c, *e),
+            Marks=lambda *e: d.Marks(*e) or (IsEdge(f, v, c, *e) and call.mark == True),
+        )
+    return d._replace(
+        Edges=lambda *e: d.Edges(*e) and not IsEdge(f, v, c, *e),
+        Marks=lambda *e: d.Marks(*e) and not IsEdge(f, v, c, *e),
+    )
+
+
+def Redrawn(s, d, t):
+    count = t.count == s.count
+    vertices = t.vertices == s.vertices
+    shaped = Shaped(t)
+    edges_ = all(Iff(Edge(t.graph, *e), d.Edges(*e)) for e in edges())
+    marks = all(Iff(Edge(t.recovery, *e), d.Marks(*e)) for e in edges())
+    held = all(Iff(Member(t.held, v), d.Held(v)) for v in world.vertices)
+    opened = AccessFrom(t.graph, t.held, t.opened)
+    return count and vertices and shaped and edges_ and marks and held and opened
+
+
+def Back(q, s, number, t):
+    numbered = number == q
+    untouched = t == s
+    return numbered and untouched
+
+
+def Done(call, s, number, t):
+    numbered = number == 0
+    redrawn = Redrawn(s, after(call, drawingOf(s)), t)
+    return numbered and redrawn
+
+
+def HoldCall(call, v, s, number, t):
+    malformed = implies(lambda: not WellFormed(s), lambda: Back(12, s, number, t))
+    noVertex = implies(lambda: WellFormed(s) and s.count <= v, lambda: Back(13, s, number, t))
+    done = implies(lambda: WellFormed(s) and v < s.count, lambda: Done(call, s, number, t))
+    return malformed and noVertex and done
+
+
+def Placed(s, f, v, c):
+    source = f < s.count
+    to = v < s.count
+    colour = c <= 7
+    return source and to and colour
+
+
+def AddCall(f, v, c, m, s, number, t):
+    malformed = implies(lambda: not WellFormed(s), lambda: Back(12, s, number, t))
+    noVertex = implies(lambda: WellFormed(s) and (s.count <= f or s.count <= v), lambda: Back(13, s, number, t))
+    noColour = implies(lambda: WellFormed(s) and f < s.count and v < s.count and 7 < c, lambda: Back(18, s, number, t))
+    placed = lambda: WellFormed(s) and Placed(s, f, v, c)
+    there = implies(lambda: placed() and Edge(s.graph, f, v, c), lambda: Back(19, s, number, t))
+    full = implies(lambda: placed() and not Edge(s.graph, f, v, c) and 256 <= edgeCount(s.graph), lambda: Back(7, s, number, t))
+    done = implies(
+        lambda: placed() and not Edge(s.graph, f, v, c) and edgeCount(s.graph) < 256, lambda: Done(AddEdge(f, v, c, m), s, number, t)
+    )
+    return malformed and noVertex and noColour and there and full and done
+
+
+def RemoveCall(f, v, c, s, number, t):
+    malformed = implies(lambda: not WellFormed(s), lambda: Back(12, s, number, t))
+    noVertex = implies(lambda: WellFormed(s) and (s.count <= f or s.count <= v), lambda: Back(13, s, number, t))
+    noColour = implies(lambda: WellFormed(s) and f < s.count and v < s.count and 7 < c, lambda: Back(18, s, number, t))
+    placed = lambda: WellFormed(s) and Placed(s, f, v, c)
+    missing = implies(lambda: placed() and not Edge(s.graph, f, v, c), lambda: Back(20, s, number, t))
+    done = implies(lambda: placed() and Edge(s.graph, f, v, c), lambda: Done(RemoveEdge(f, v, c), s, number, t))
+    return malformed and noVertex and noColour and missing and done
+
+
+def CallOf(call, s, number, t):
+    if isinstance(call, TakeIn):
+        return HoldCall(TakeIn(call.v), call.v, s, number, t)
+    if isinstance(call, TakeOut):
+        return HoldCall(TakeOut(call.v), call.v, s, number, t)
+    if isinstance(call, AddEdge):
+        return AddCall(call.source, call.to, call.colour, call.mark, s, number, t)
+    return RemoveCall(call.source, call.to, call.colour, s, number, t)
+
+
+def OneLivingAnswer(call, s, answers):
+    return all(
+        implies(lambda: CallOf(call, s, n, t) and CallOf(call, s, n_, t_), lambda: n == n_ and t == t_) for n, t in answers for n_, t_ in answers
+    )
+
+
+def NothingChanges(setups, answers):
+    takeIn = all(
+        implies(lambda: WellFormed(s) and Member(s.held, v) and CallOf(TakeIn(v), s, n, t), lambda: n == 0 and t == s)
+        for s in setups
+        for v in world.vertices
+        for n, t in answers
+    )
+    takeOut = all(
+        implies(lambda: WellFormed(s) and v < s.count and not Member(s.held, v) and CallOf(TakeOut(v), s, n, t), lambda: n == 0 and t == s)
+        for s in setups
+        for v in world.vertices
+        for n, t in answers
+    )
+    return takeIn and takeOut
 
 
 # ---- setup/Calls
@@ -1639,7 +1774,9 @@ def Stated(d, s):
         for v in world.vertices
         for c in world.colours
     )
-    return shaped and count and items and edges and recovery and unused and emptyRows
+    unheld = s.held == 0
+    unopened = s.opened == 0
+    return shaped and count and items and edges and recovery and unused and emptyRows and unheld and unopened
 
 
 def StatedByRows(docs):
@@ -1764,8 +1901,87 @@ def AcceptedOrRefused(texts, numbers, lines):
     return either and never_
 
 
-def Question12(setups, texts):
-    return all(Iff(WellFormed(s), any(readSheet(text) == accepted(s) for text in texts)) for s in setups)
+def FreshHoldsNothing(texts):
+    held = all(readSheet(text).setup.held == 0 for text in texts)
+    opened = all(readSheet(text).setup.opened == 0 for text in texts)
+    return held and opened
+
+
+def Question12Sheets(setups, texts):
+    return all(Iff(WellFormed(s) and s.held == 0, any(readSheet(text) == accepted(s) for text in texts)) for s in setups)
+
+
+# ---- histories/Histories: the setups on the way are among those that are handed in, and so are texts, calls and numbers
+
+
+def Ran(s, calls, numbers, end, setups):
+    if not calls or not numbers:
+        return not calls and not numbers and s == end
+    return any(CallOf(calls[0], s, numbers[0], t) and Ran(t, calls[1:], numbers[1:], end, setups) for t in setups)
+
+
+def leftBy(calls, numbers, d):
+    if not calls or not numbers:
+        return d
+    if numbers[0] == 0:
+        return leftBy(calls[1:], numbers[1:], after(calls[0], d))
+    return leftBy(calls[1:], numbers[1:], d)
+
+
+def OpenedAlways(runs, ends):
+    return all(
+        implies(lambda: readSheet(text) == accepted(fresh) and Ran(fresh, calls, numbers, s, setups), lambda: Redrawn(fresh, leftBy(calls, numbers, drawingOf(fresh)), s))
+        for text, calls, numbers, setups in runs
+        for fresh in [readSheet(text).setup]
+        for s in ends
+    )
+
+
+def Reached(s, runs):
+    return any(
+        readSheet(text) == accepted(fresh) and Ran(fresh, calls, numbers, s, setups)
+        for text, calls, numbers, setups in runs
+        for fresh in [readSheet(text).setup]
+    )
+
+
+def Question12(setups, runs):
+    return all(Iff(WellFormed(s), Reached(s, runs)) for s in setups)
+
+
+# ---- histories/NoHeed: the calls' answers are among those that are handed in
+
+
+def OnlyHolding(s, t):
+    first = WellFormed(s)
+    second = WellFormed(t)
+    drawn = s.count == t.count and s.vertices == t.vertices and s.graph == t.graph and s.recovery == t.recovery
+    return first and second and drawn
+
+
+def SameAnswers(s, t, target, set_, among):
+    too = lambda Call, answers: all(implies(lambda: Call(s, *a), lambda: Call(t, *a)) for a in answers)
+    closure = too(lambda x, n, v: ClosureCall(x, set_, n, v), among)
+    lost = too(lambda x, n, v: LostCall(x, set_, n, v), among)
+    way = too(lambda x, n, v: WayCall(x, target, set_, n, v, [], [], [], []), among)
+    quick = too(lambda x, n, v: QuickCall(x, target, set_, n, v), among)
+    bases = too(lambda x, n, v: BasesCall(x, target, n, v, [], []), among)
+    score = all(too(lambda x, n, v: ScoreCall(loss, x, target, n, v), among) for loss in (False, True))
+    marks = all(too(lambda x, n, v: MarksCall(loss, x, target, [2], n, v), among) for loss in (False, True))
+    backdoor = too(lambda x, n, v: BackdoorCall(x, target, n, v), among)
+    idle = too(lambda x, n, v: IneffectiveCall(x, target, n, v), among)
+    pair = too(lambda x, n, v: InconsistentCall(x, target, 0, n, v), among)
+    forecast = too(lambda x, n, v: ForecastCall(x, target, n, v), among)
+    next_ = too(lambda x, n, v: NextCall(x, target, set_, n, v), among)
+    cuts = too(lambda x, n, v: CutsCall(x, target, n, v, [], []), among)
+    attackers = too(lambda x, n, v: AttackerCall(x, target, [0] * 5, n, v), among)
+    multisets = too(lambda x, n, v: MultisetsCall(x, target, n, v, [], [], [], []), among)
+    lists = way and quick and bases and score and marks and forecast and next_ and cuts and attackers and multisets
+    return closure and lost and lists and backdoor and idle and pair
+
+
+def NoHeed(setups, target, set_, among):
+    return all(implies(lambda: OnlyHolding(s, t), lambda: SameAnswers(s, t, target, set_, among)) for s in setups for t in setups)
 
 
 # ---- sheet_format/Names
@@ -2036,8 +2252,10 @@ def SettledList(Call, number, values, entry, exit, answers):
     return outcome and meets and only
 
 
-def Yielded(s, texts):
-    return any(readSheet(text) == accepted(s) for text in texts)
+def SettledQuestion12(s, answer, runs):
+    meets = Decides(Reached(s, runs), answer)
+    only = all(implies(lambda: Decides(Reached(s, runs), b), lambda: b == answer) for b in (True, False))
+    return meets and only
 
 
 def SettledBags(bag, above, answer):
@@ -2056,10 +2274,44 @@ def SettledBagScore(s, target, number, values, parts, parts_, lengths, lengths_,
     return outcome and meets and only
 
 
-def SettledQuestion12(s, answer, texts):
-    meets = Decides(Yielded(s, texts), answer)
-    only = all(implies(lambda: Decides(Yielded(s, texts), b), lambda: b == answer) for b in (True, False))
-    return meets and only
+# ---- demands/Living
+
+
+def refusals(call):
+    if isinstance(call, (TakeIn, TakeOut)):
+        return [12, 13]
+    if isinstance(call, AddEdge):
+        return [12, 13, 18, 19, 7]
+    return [12, 13, 18, 20]
+
+
+def RefusedBack(call, s, number, t):
+    listed = Listed(refusals(call), number)
+    kept = t == s
+    return listed and kept
+
+
+def SettledCall(call, s, number, t, answers):
+    outcome = number == 0 or RefusedBack(call, s, number, t)
+    meets = CallOf(call, s, number, t)
+    only = all(implies(lambda: CallOf(call, s, n, u), lambda: n == number and u == t) for n, u in answers)
+    return outcome and meets and only
+
+
+def LivingDemand1(s, item, source, to, colour, mark, r, answers):
+    takenIn = SettledCall(TakeIn(item), s, *r[0], answers)
+    takenOut = SettledCall(TakeOut(item), s, *r[1], answers)
+    added = SettledCall(AddEdge(source, to, colour, mark), s, *r[2], answers)
+    removed = SettledCall(RemoveEdge(source, to, colour), s, *r[3], answers)
+    return takenIn and takenOut and added and removed
+
+
+def LivingDemand2(s, item, source, to, colour, mark, r):
+    takenIn = CallOf(TakeIn(item), s, *r[0])
+    takenOut = CallOf(TakeOut(item), s, *r[1])
+    added = CallOf(AddEdge(source, to, colour, mark), s, *r[2])
+    removed = CallOf(RemoveEdge(source, to, colour), s, *r[3])
+    return takenIn and takenOut and added and removed
 
 
 # ---- demands/Sheets
@@ -2217,7 +2469,7 @@ def Demand2(text, item, s, set_, target, other, opened, locked, kinds, vertices,
     backdoor = BackdoorCall(s, target, *r.backdoor)
     idle = IneffectiveCall(s, target, *r.idle)
     pair = InconsistentCall(s, target, other, *r.pair)
-    formed = Decides(Yielded(s, among.texts), r.formed)
+    formed = Decides(Reached(s, among.texts), r.formed)
     reading = Reads(text, r.reading, among.docs)
     asked = r.reading == readSheet(text)
     portalScore = PortalCall(False, text, item, r.portalScore)
@@ -2376,11 +2628,11 @@ def Told(Call, number, fields, candidates):
 
 def ReadingCall(text, number, line, entry, exit):
     refused_ = implies(lambda: readSheet(text).number != 0, lambda: number == readSheet(text).number)
-    short = implies(lambda: readSheet(text).number == 0 and len(entry) < 1281, lambda: number == 15)
-    accepted_ = implies(lambda: readSheet(text).number == 0 and 1281 <= len(entry), lambda: number == 0)
+    short = implies(lambda: readSheet(text).number == 0 and len(entry) < 1283, lambda: number == 15)
+    accepted_ = implies(lambda: readSheet(text).number == 0 and 1283 <= len(entry), lambda: number == 0)
     lined = line == readSheet(text).line
-    room = implies(lambda: 1281 <= len(entry), lambda: exit == written(wordsOf(readSheet(text).setup), entry))
-    untouched = implies(lambda: len(entry) < 1281, lambda: exit == entry)
+    room = implies(lambda: 1283 <= len(entry), lambda: exit == written(wordsOf(readSheet(text).setup), entry))
+    untouched = implies(lambda: len(entry) < 1283, lambda: exit == entry)
     return refused_ and short and accepted_ and lined and room and untouched
 
 
@@ -2396,7 +2648,7 @@ def NameCall(text, item, number, start, size):
 
 def SaysSetup(texts, numbers, lines, entry, exits):
     return all(
-        implies(lambda: ReadingCall(text, number, line, entry, exit) and 1281 <= len(entry), lambda: setupIn(exit) == readSheet(text).setup)
+        implies(lambda: ReadingCall(text, number, line, entry, exit) and 1283 <= len(entry), lambda: setupIn(exit) == readSheet(text).setup)
         for text in texts
         for number in numbers
         for line in lines
@@ -2413,6 +2665,35 @@ def CheckCall(s, r):
     return yes and no
 
 
+# ---- portal_living/Living: the setups that a call may answer are among those that are handed in
+
+
+def PutBack(n, t, number, entry, exit):
+    refused_ = implies(lambda: n != 0, lambda: number == n and exit == entry)
+    short = implies(lambda: n == 0 and len(entry) < 1283, lambda: number == 15 and exit == entry)
+    room = implies(lambda: n == 0 and 1283 <= len(entry), lambda: number == 0 and exit == written(wordsOf(t), entry))
+    return refused_ and short and room
+
+
+def LivingCall(call, number, entry, exit, answers):
+    return any(CallOf(call, setupIn(entry), n, t) and PutBack(n, t, number, entry, exit) for n, t in answers)
+
+
+def SaysRedrawn(calls, entry, exits, answers):
+    return all(
+        implies(lambda: LivingCall(call, 0, entry, exit, answers), lambda: CallOf(call, setupIn(entry), 0, setupIn(exit))) for call in calls for exit in exits
+    )
+
+
+def OneLivingResult(calls, entry, results, answers):
+    return all(
+        implies(lambda: LivingCall(call, n, entry, x, answers) and LivingCall(call, n_, entry, x_, answers), lambda: n == n_ and x == x_)
+        for call in calls
+        for n, x in results
+        for n_, x_ in results
+    )
+
+
 # ---- demands/OneResult: of all pairs of the results that are handed to them
 
 
@@ -2424,7 +2705,7 @@ def OneResult(Call, results, candidates):
     )
 
 
-def OneResultOnSetups(words, set_, target, other, sets, kinds, a, b, numbers, results, values, ways, lists, cut_lists, entry, registers, bag_lists):
+def OneResultOnSetups(words, set_, target, other, sets, kinds, a, b, numbers, results, values, ways, lists, cut_lists, entry, registers, bag_lists, redrawn, setups):
     s = setupIn(words)
     check = all(implies(lambda: CheckCall(s, r) and CheckCall(s, r_), lambda: r == r_) for r in numbers for r_ in numbers)
     closure = OneResult(lambda n, v: ClosureCall(s, set_, n, v), results, values)
@@ -2482,7 +2763,14 @@ def OneResultOnSetups(words, set_, target, other, sets, kinds, a, b, numbers, re
         for n, f, x, y in bag_lists
         for n_, f_, x_, y_ in bag_lists
     )
-    return all((check, closure, lost, wayIn, lists_, score, risk, openings, lockouts, backdoor, idle, outOfRank, forecast, opens, cuts, attackers, next_, handIn, bags))
+    living = all(
+        implies(lambda: LivingCall(c, n, words, x, setups) and LivingCall(c, n_, words, x_, setups), lambda: n == n_ and x == x_)
+        for c in [TakeIn(target)]
+        for n, x in redrawn
+        for n_, x_ in redrawn
+    )
+    told = (check, closure, lost, wayIn, lists_, score, risk, openings, lockouts, backdoor, idle, outOfRank, forecast, opens, cuts, attackers, next_, handIn, bags)
+    return all(told) and living
 
 
 def OneResultOnSheets(text, item, entry, readings, parts):

@@ -77,6 +77,13 @@ def with_row(g, v, c, n):
     return Graph(tuple(rows))
 
 
+# document 01's sheet with the mail password held; then with the order password needed beside it for mail, which shuts mail and order
+TAKEN = bench._replace(held=2, opened=26)
+TRAPPED = TAKEN._replace(graph=with_row(bench.graph, MAIL, 0, 3), opened=2)
+# a recovery edge less, and one item more held
+LESS = bench._replace(graph=with_row(bench.graph, ORDER, 1, 0), recovery=with_row(bench.recovery, ORDER, 1, 0))
+
+
 def with_vertex(s, v, x):
     return s._replace(vertices=s.vertices[:v] + (x,) + s.vertices[v + 1:])
 
@@ -978,6 +985,118 @@ def of_register(D):
     ]
 
 
+def of_living(D):
+    """Document 01's sheet, redrawn call by call."""
+    marked = TRAPPED._replace(recovery=with_row(bench.recovery, MAIL, 0, 1))
+    both = bench._replace(held=10, opened=26)
+    stale, kept = TAKEN._replace(opened=2), TAKEN._replace(graph=TRAPPED.graph)
+    left = LESS._replace(recovery=bench.recovery)
+    full = all_items(0)._replace(graph=Graph(tuple(Rows(((15 if v < 64 else 0,) + (0,) * 7)) for v in range(64))))
+    IN, ADD, OFF = D.TakeIn(1), D.AddEdge(0, MAIL, 0, False), D.RemoveEdge(MAIL, ORDER, 1)
+    setups = [bench, TAKEN, TRAPPED, both, stale, kept, LESS, left, marked]
+    answers = [(n, t) for n in (0, 12, 13) for t in (bench, TAKEN, stale, both)]
+    runs = [(text(BENCH), calls, numbers, setups) for calls, numbers in (([], []), ([IN], [0]), ([IN, ADD], [0, 0]), ([IN, ADD, ADD], [0, 0, 19]), ([OFF], [0]), ([IN, D.TakeIn(MAIL)], [0, 0]))]
+    runs += [(text(BENCH), [IN, D.AddEdge(0, MAIL, 0, True)], [0, 0], setups)]
+    words = wordsOf(bench)
+    long = words + [7]
+    four = [(0, TAKEN), (0, bench), (19, bench), (20, bench)]
+    return [
+        ("holds: the mail password", lambda: D.WellFormed(TAKEN), True),
+        ("not well formed: held beyond the count", lambda: D.WellFormed(bench._replace(held=32, opened=32)), False),
+        ("not well formed: stale", lambda: D.WellFormed(stale), False),
+        ("not well formed: closed, and not opened", lambda: D.WellFormed(bench._replace(opened=24)), False),
+        ("drawing: an edge", lambda: D.drawingOf(bench).Edges(1, MAIL, 0) and not D.drawingOf(bench).Marks(1, MAIL, 0), True),
+        ("drawing: a mark", lambda: D.drawingOf(bench).Marks(MAIL, ORDER, 1), True),
+        ("drawing: held", lambda: D.drawingOf(TAKEN).Held(1) and not D.drawingOf(TAKEN).Held(3), True),
+        ("is edge", lambda: D.IsEdge(1, 2, 3, 1, 2, 3), True),
+        ("not edge: another end", lambda: D.IsEdge(1, 2, 3, 1, 1, 3), False),
+        ("not edge: another beginning", lambda: D.IsEdge(1, 2, 3, 2, 2, 3), False),
+        ("not edge: another colour", lambda: D.IsEdge(1, 2, 3, 1, 2, 2), False),
+        ("take in: the mail password", lambda: D.CallOf(IN, bench, 0, TAKEN), True),
+        ("not take in: and opens nothing", lambda: D.CallOf(IN, bench, 0, stale), False),
+        ("not take in: and what it opens held", lambda: D.CallOf(IN, bench, 0, bench._replace(held=26, opened=26)), False),
+        ("take in: mail, which is open", lambda: D.CallOf(D.TakeIn(MAIL), TAKEN, 0, both), True),
+        ("take out: the mail password, and mail stays", lambda: D.CallOf(D.TakeOut(1), both, 0, bench._replace(held=8, opened=24)), True),
+        ("take out: the only one", lambda: D.CallOf(D.TakeOut(1), TAKEN, 0, bench), True),
+        ("not take out: stays open", lambda: D.CallOf(D.TakeOut(1), TAKEN, 0, TAKEN), False),
+        ("take in: 13", lambda: D.CallOf(D.TakeIn(5), bench, 13, bench), True),
+        ("not take in: 13 for the last item", lambda: D.CallOf(D.TakeIn(4), bench, 13, bench), False),
+        ("not take in: 13, and another setup", lambda: D.CallOf(D.TakeIn(5), bench, 13, TAKEN), False),
+        ("take in: 12, and untouched", lambda: D.CallOf(IN, stale, 12, stale), True),
+        ("not take in: 12, and tidied", lambda: D.CallOf(IN, stale, 12, TAKEN), False),
+        ("take out: 12", lambda: D.CallOf(D.TakeOut(1), stale, 12, stale), True),
+        ("add: the trap", lambda: D.CallOf(ADD, TAKEN, 0, TRAPPED), True),
+        ("not add: goes on from what is open", lambda: D.CallOf(ADD, TAKEN, 0, kept), False),
+        ("not add: marked", lambda: D.CallOf(ADD, TAKEN, 0, marked), False),
+        ("add: marked", lambda: D.CallOf(D.AddEdge(0, MAIL, 0, True), TAKEN, 0, marked), True),
+        ("add: 12", lambda: D.CallOf(ADD, stale, 12, stale), True),
+        ("add: 13 of the first end", lambda: D.CallOf(D.AddEdge(5, MAIL, 0, False), bench, 13, bench), True),
+        ("add: 13 of the second end", lambda: D.CallOf(D.AddEdge(MAIL, 5, 0, False), bench, 13, bench), True),
+        ("add: 13 before 18", lambda: D.CallOf(D.AddEdge(MAIL, 5, 8, False), bench, 13, bench), True),
+        ("add: 18", lambda: D.CallOf(D.AddEdge(0, MAIL, 8, False), bench, 18, bench), True),
+        ("not add: 18 for colour 7", lambda: D.CallOf(D.AddEdge(0, MAIL, 7, False), bench, 18, bench), False),
+        ("add: 19 with the other mark", lambda: D.CallOf(D.AddEdge(1, MAIL, 0, True), bench, 19, bench), True),
+        ("not add: 20 for 19", lambda: D.CallOf(D.AddEdge(1, MAIL, 0, False), bench, 20, bench), False),
+        ("not add: 12 for 7", lambda: D.CallOf(D.AddEdge(4, 3, 0, False), full, 12, full), False),
+        ("add: colour 7", lambda: D.CallOf(D.AddEdge(0, MAIL, 7, False), bench, 0, bench._replace(graph=with_row(bench.graph, MAIL, 7, 1))), True),
+        ("one answer: add to an item that is not there", lambda: D.OneLivingAnswer(D.AddEdge(MAIL, 5, 0, False), bench, answers), True),
+        ("not remove: unmarked, and 20", lambda: D.CallOf(D.RemoveEdge(1, MAIL, 0), bench, 20, bench), False),
+        ("add: 7", lambda: D.CallOf(D.AddEdge(4, 3, 0, False), full, 7, full), True),
+        ("add: 19 before 7", lambda: D.CallOf(D.AddEdge(3, 3, 0, False), full, 19, full), True),
+        ("not add: 7 with room", lambda: D.CallOf(ADD, bench, 7, bench), False),
+        ("remove: edge and mark", lambda: D.CallOf(OFF, bench, 0, LESS), True),
+        ("not remove: the mark stays", lambda: D.CallOf(OFF, bench, 0, left), False),
+        ("remove: opens", lambda: D.CallOf(D.RemoveEdge(0, MAIL, 0), TRAPPED, 0, TAKEN), True),
+        ("remove: 20", lambda: D.CallOf(D.RemoveEdge(0, MAIL, 0), bench, 20, bench), True),
+        ("not remove: 20 where it is", lambda: D.CallOf(OFF, bench, 20, bench), False),
+        ("remove: 12", lambda: D.CallOf(OFF, stale, 12, stale), True),
+        ("remove: 13 of the second end", lambda: D.CallOf(D.RemoveEdge(MAIL, 5, 0), bench, 13, bench), True),
+        ("remove: 18", lambda: D.CallOf(D.RemoveEdge(0, MAIL, 8), bench, 18, bench), True),
+        ("placed: colour 7 of the last item", lambda: D.Placed(bench, 4, 4, 7), True),
+        ("not placed: colour 8", lambda: D.Placed(bench, 0, 0, 8), False),
+        ("not placed: the second end", lambda: D.Placed(bench, 0, 5, 0), False),
+        ("one answer: take in", lambda: D.OneLivingAnswer(IN, bench, answers), True),
+        ("nothing changes", lambda: D.NothingChanges([bench, TAKEN, both], [(n, t) for n in (0, 13) for t in (bench, TAKEN, both)]), True),
+        ("ran: three calls, the last refused", lambda: D.Ran(bench, [IN, ADD, ADD], [0, 0, 19], TRAPPED, setups), True),
+        ("not ran: another number", lambda: D.Ran(bench, [IN, ADD], [0, 19], TRAPPED, setups), False),
+        ("not ran: a call without a number", lambda: D.Ran(bench, [IN], [], TAKEN, setups), False),
+        ("left by: an accepted call", lambda: D.leftBy([ADD], [0], D.drawingOf(bench)).Edges(0, MAIL, 0), True),
+        ("not left by: a refused call", lambda: D.leftBy([ADD], [19], D.drawingOf(bench)).Edges(0, MAIL, 0), False),
+        ("opened always", lambda: D.OpenedAlways(runs, setups), True),
+        ("reached: by two calls", lambda: D.Reached(TRAPPED, runs), True),
+        ("not reached: stale", lambda: D.Reached(stale, runs), False),
+        ("question 12: setups, sheets and calls", lambda: D.Question12(setups, runs), True),
+        ("only holding: bench and the mail password held", lambda: D.OnlyHolding(bench, TAKEN), True),
+        ("not only holding: another graph", lambda: D.OnlyHolding(TAKEN, TRAPPED), False),
+        ("not only holding: stale", lambda: D.OnlyHolding(bench, stale), False),
+        ("no heed", lambda: D.NoHeed([bench, TAKEN, TRAPPED], ORDER, 2, [(0, v) for v in ([26, 3], [10], [1], [3], [1, 26], [1, 5], [0])] + [(15, []), (13, [])]), True),
+        ("same answers: bench and the mail password held", lambda: D.SameAnswers(bench, TAKEN, ORDER, 2, [(0, [26, 3]), (0, [1]), (15, [])]), True),
+        ("not same answers: another graph", lambda: D.SameAnswers(TAKEN, TRAPPED, ORDER, 2, [(0, [26, 3])]), False),
+        ("put back: accepted", lambda: D.PutBack(0, TAKEN, 0, long, wordsOf(TAKEN) + [7]), True),
+        ("put back: refused", lambda: D.PutBack(19, TAKEN, 19, long, long), True),
+        ("not put back: refused, and words written", lambda: D.PutBack(19, TAKEN, 19, long, wordsOf(TAKEN) + [7]), False),
+        ("put back: 15", lambda: D.PutBack(0, TAKEN, 15, words[:-1], words[:-1]), True),
+        ("put back: just room", lambda: D.PutBack(0, TAKEN, 0, words, wordsOf(TAKEN)), True),
+        ("not put back: 15 with room", lambda: D.PutBack(0, TAKEN, 15, words, words), False),
+        ("living call: take in", lambda: D.LivingCall(IN, 0, words, wordsOf(TAKEN), four), True),
+        ("living call: add", lambda: D.LivingCall(ADD, 0, wordsOf(TAKEN), wordsOf(TRAPPED), [(0, TRAPPED), (0, TAKEN)]), True),
+        ("not living call: another call's answer", lambda: D.LivingCall(D.TakeOut(1), 0, words, wordsOf(TAKEN), four), False),
+        ("living call: older words", lambda: D.LivingCall(IN, 15, words[:1281], words[:1281], four), True),
+        ("says redrawn", lambda: D.SaysRedrawn([IN, D.TakeOut(1)], words, [words, wordsOf(TAKEN)], four), True),
+        ("one living result", lambda: D.OneLivingResult([IN], words, [(n, x) for n in (0, 15) for x in (words, wordsOf(TAKEN))], four), True),
+        ("refusals: of adding", lambda: D.refusals(ADD) == [12, 13, 18, 19, 7] and D.refusals(OFF) == [12, 13, 18, 20] and D.refusals(IN) == [12, 13], True),
+        ("settled call: take in", lambda: D.SettledCall(IN, bench, 0, TAKEN, answers), True),
+        ("settled call: 13", lambda: D.SettledCall(D.TakeIn(5), bench, 13, bench, answers), True),
+        ("not settled call: another number", lambda: D.SettledCall(D.TakeIn(5), bench, 12, bench, answers), False),
+        ("refused back: 19", lambda: D.RefusedBack(ADD, bench, 19, bench), True),
+        ("not refused back: 19, and another setup", lambda: D.RefusedBack(ADD, bench, 19, TAKEN), False),
+        ("not refused back: 20", lambda: D.RefusedBack(ADD, bench, 20, bench), False),
+        ("living demand 1", lambda: D.LivingDemand1(bench, 1, 1, MAIL, 0, False, [(0, TAKEN), (0, bench), (19, bench), (0, bench._replace(graph=with_row(bench.graph, MAIL, 0, 0)))], answers), True),
+        ("living demand 2", lambda: D.LivingDemand2(bench, 1, 1, MAIL, 0, False, [(0, TAKEN), (0, bench), (19, bench), (0, bench._replace(graph=with_row(bench.graph, MAIL, 0, 0)))]), True),
+        ("not living demand 2: taken in for taken out", lambda: D.LivingDemand2(bench, 1, 1, MAIL, 0, False, [(0, bench), (0, TAKEN), (19, bench), (0, bench)]), False),
+    ]
+
+
 def of_findings(D):
     """Findings."""
     return [
@@ -1075,17 +1194,17 @@ def of_readings(D):
     words, none = wordsOf(bench), wordsOf(EMPTY)
     lent = lambda n: [9] * n
     return [
-        ("reading: bench, equal room", lambda: D.ReadingCall(sheet, 0, 0, lent(1281), words), True),
-        ("reading: bench, more room", lambda: D.ReadingCall(sheet, 0, 0, lent(1283), words + lent(2)), True),
+        ("reading: bench, equal room", lambda: D.ReadingCall(sheet, 0, 0, lent(1283), words), True),
+        ("reading: bench, more room", lambda: D.ReadingCall(sheet, 0, 0, lent(1285), words + lent(2)), True),
         ("not reading: a place behind changed", lambda: D.ReadingCall(sheet, 0, 0, lent(1283), words + [9, 0]), False),
-        ("not reading: equal room unused", lambda: D.ReadingCall(sheet, 0, 0, lent(1281), lent(1281)), False),
-        ("not reading: 15 with equal room", lambda: D.ReadingCall(sheet, 15, 0, lent(1281), words), False),
-        ("reading: 15 with a place too few", lambda: D.ReadingCall(sheet, 15, 0, lent(1280), lent(1280)), True),
-        ("not reading: a place too few, and 0", lambda: D.ReadingCall(sheet, 0, 0, lent(1280), lent(1280)), False),
-        ("not reading: 15 with a place changed", lambda: D.ReadingCall(sheet, 15, 0, lent(1280), words[:1280]), False),
-        ("reading: refused 5 in line 2", lambda: D.ReadingCall(five, 5, 2, lent(1281), none), True),
-        ("not reading: number for line", lambda: D.ReadingCall(five, 2, 5, lent(1281), none), False),
-        ("not reading: refused, and the words as they were", lambda: D.ReadingCall(five, 5, 2, lent(1281), lent(1281)), False),
+        ("not reading: equal room unused", lambda: D.ReadingCall(sheet, 0, 0, lent(1283), lent(1283)), False),
+        ("not reading: 15 with equal room", lambda: D.ReadingCall(sheet, 15, 0, lent(1283), words), False),
+        ("reading: 15 with a place too few", lambda: D.ReadingCall(sheet, 15, 0, lent(1282), lent(1282)), True),
+        ("not reading: a place too few, and 0", lambda: D.ReadingCall(sheet, 0, 0, lent(1282), lent(1282)), False),
+        ("not reading: 15 with a place changed", lambda: D.ReadingCall(sheet, 15, 0, lent(1282), words[:1282]), False),
+        ("reading: refused 5 in line 2", lambda: D.ReadingCall(five, 5, 2, lent(1283), none), True),
+        ("not reading: number for line", lambda: D.ReadingCall(five, 2, 5, lent(1283), none), False),
+        ("not reading: refused, and the words as they were", lambda: D.ReadingCall(five, 5, 2, lent(1283), lent(1283)), False),
         ("reading: refused 5 without room", lambda: D.ReadingCall(five, 5, 2, [], []), True),
         ("not reading: 15 before 5", lambda: D.ReadingCall(five, 15, 2, [], []), False),
         ("name: mail at 69", lambda: D.NameCall(sheet, MAIL, 0, 69, 4), True),
@@ -1096,7 +1215,7 @@ def of_readings(D):
         ("not name: no item, and 0", lambda: D.NameCall(sheet, 5, 0, 0, 0), False),
         ("name: refused 5", lambda: D.NameCall(five, 0, 5, 0, 0), True),
         ("not name: 13 before 5", lambda: D.NameCall(five, 0, 13, 0, 0), False),
-        ("says the setup", lambda: D.SaysSetup([sheet, five], [0, 5, 15], [0, 2], lent(1281), [lent(1281), words, none]), True),
+        ("says the setup", lambda: D.SaysSetup([sheet, five], [0, 5, 15], [0, 2], lent(1283), [lent(1283), words, none]), True),
         ("setup in words", lambda: setupIn(words) == bench and setupIn(none) == EMPTY, True),
     ]
 
@@ -1128,14 +1247,16 @@ def of_results(D):
     cuts = [(0, [2], [3, 6]), (0, [2], [6, 3]), (0, [0], lent), (15, [0], lent)]
     one_bag = [1] + [0] * 13
     scores = [(0, [1], one_bag, [1]), (0, [1], one_bag, [2]), (15, [0], [9] * 14, [9]), (0, [2], one_bag, [1])]
-    handed = (wordsOf(bench), 2, ORDER, MAIL, [2, 2, 6, 4], APART, lent, out, (0, 12), results, values, ways, lists, cuts, [R_ANY, R_ANY], REGISTERS, scores)
-    readings = [(n, l, x) for n in (0, 15) for l in (0, 1) for x in ([9] * 1281, wordsOf(bench))]
+    four = bench._replace(held=16, opened=16)
+    redrawn = [(n, x) for n in (0, 13, 15) for x in (wordsOf(bench), wordsOf(four))]
+    handed = (wordsOf(bench), 2, ORDER, MAIL, [2, 2, 6, 4], APART, lent, out, (0, 12), results, values, ways, lists, cuts, [R_ANY, R_ANY], REGISTERS, scores, redrawn, [(0, four), (0, bench), (13, bench)])
+    readings = [(n, l, x) for n in (0, 15) for l in (0, 1) for x in ([9] * 1283, wordsOf(bench))]
     parts = [(n, p, k) for n in (0, 13) for p in (0, 69, 84) for k in (0, 4, 5)]
     return [
         ("one answer: one result", lambda: D.OneResult(lambda n, v: n == 0 and v == [7], [(0, [7]), (0, [8]), (1, [0])], [[], [7], [8]]), True),
         ("not one answer: two results", lambda: D.OneResult(lambda n, v: n == 0, [(0, [7]), (0, [8])], [[7], [8]]), False),
         ("one answer: results for bench", lambda: D.OneResultOnSetups(*handed), True),
-        ("one answer: results for bench's sheet", lambda: D.OneResultOnSheets(text(BENCH), MAIL, [9] * 1281, readings, parts), True),
+        ("one answer: results for bench's sheet", lambda: D.OneResultOnSheets(text(BENCH), MAIL, [9] * 1283, readings, parts), True),
     ]
 
 
@@ -1149,7 +1270,7 @@ def of_demands(D):
     way = (bench, ORDER, 2, 0, [1, 2], [9, 9], [3, 4], [9, 9], [0, 1])
     ways = [(0, [1, 2], [3, 4], [0, 1]), (0, [1, 2], [3, 4], [9, 9]), (0, [0], [9, 9], [9, 9]), (15, [], [9, 9], [9, 9])]
     lists = [(0, [2, 2], [2, 5, 3, 6]), (0, [0, 0], LENT[:4]), (15, [], LENT[:4]), (13, [], LENT[:4])]
-    docs, sheets = [BENCH_DOC, DOC], [text(BENCH), render(DOC)]
+    docs, sheets = [BENCH_DOC, DOC], [(t, [], [], []) for t in (text(BENCH), render(DOC))]
     five, over = REFUSED["refused 5"][0], REFUSED["refused 11"][0]
     right = D.accepted(bench)
     readings = [right, D.accepted(EMPTY), right._replace(line=1), D.refused(5, 2), D.refused(2, 5), D.refused(11, 4)]
@@ -1216,7 +1337,7 @@ def of_both_demands(D):
     registers = [(hand_in, [R_BOTH, R_ANY], REGISTERS), ((1, 7), [R_ONE, R_ANY], REGISTERS), (bench, SLICE, day)]
     one_bag = [1] + [0] * 13
     scores = [(0, [1], one_bag, [1]), (0, [1], one_bag, [9]), (0, [2], one_bag, [1])] + [(n, v, [9] * 14, [9]) for n, v in answers + [(15, [])]]
-    among = Among(answers, ways, lists, cuts, scores, [sheet, render(DOC)], [BENCH_DOC, DOC], readings, [0, 1, 3, 13, never, never + 5, never + 13], *registers)
+    among = Among(answers, ways, lists, cuts, scores, [(t, [], [], []) for t in (sheet, render(DOC))], [BENCH_DOC, DOC], readings, [0, 1, 3, 13, never, never + 5, never + 13], *registers)
     asked = lambda t, i, s, set_, v, w: [t, i, s, set_, v, w, [2], [3, 6], APART, lent]
     listed = [out, [2, 5, 3, 6], lent, [3, 6], [9] * 14, one_bag, [9], [1]]
     kept = [[9] * 14, [9] * 14, [9], [9]]
@@ -1335,6 +1456,7 @@ def of_stated(D):
         ("stated: bench", lambda: D.Stated(BENCH_DOC, bench), True),
         ("not stated: another start", lambda: D.Stated(BENCH_DOC, with_vertex(bench, 0, Vertex(Credential, 2, 2, 0))), False),
         ("not stated: a place in use", lambda: D.Stated(BENCH_DOC, used), False),
+        ("not stated: an item held", lambda: D.Stated(BENCH_DOC, bench._replace(held=2)), False),
         ("not stated: an edge more", lambda: D.Stated(BENCH_DOC, bench._replace(graph=with_row(bench.graph, MAIL, 0, 3))), False),
         ("not stated: no recovery edge", lambda: D.Stated(BENCH_DOC, bench._replace(recovery=with_row(bench.recovery, ORDER, 1, 0))), False),
         ("stated by rows", lambda: D.StatedByRows([DOC, one_item(), SAME_NAMES]), True),
@@ -1362,7 +1484,8 @@ def of_meaning(D):
         ("not refused: bench", lambda: D.Refused(text(BENCH), NUMBERS, LINES), False),
         ("empty setup", lambda: D.EmptySetup(), True),
         ("accepted or refused", lambda: D.AcceptedOrRefused(TEXTS, NUMBERS, LINES), True),
-        ("question 12: setups and sheets", lambda: D.Question12([bench, setupOf(DOC), EMPTY, RANK_10], TEXTS), True),
+        ("question 12: setups and sheets", lambda: D.Question12Sheets([bench, setupOf(DOC), EMPTY, RANK_10, TAKEN], TEXTS), True),
+        ("fresh: nothing is held", lambda: D.FreshHoldsNothing(TEXTS), True),
         ("names of rows", lambda: D.NamesOfRows(DOCS), True),
         ("name places", lambda: D.NamePlaces(DOCS), True),
     ]
@@ -1453,7 +1576,7 @@ GROUPS = {
     "one": [of_one, of_few_cuts],
     "sums": [of_sums],
     "bench": [of_derivations, of_passes, of_ways, of_bases, of_scores, of_marks, of_set_calls, of_way_calls, of_base_calls, of_score_calls, of_demand3]
-    + [of_quick, of_forecasts, of_cuts, of_attackers, of_next_sets, of_register, of_findings, of_portal, of_same, of_told, of_readings, of_one_answer, of_results, of_demands, of_both_demands],
+    + [of_quick, of_forecasts, of_cuts, of_attackers, of_next_sets, of_register, of_living, of_findings, of_portal, of_same, of_told, of_readings, of_one_answer, of_results, of_demands, of_both_demands],
     "rows": [of_valid_rows, of_rows, of_stated, of_meaning, of_refusals],
     "spare": [of_spare],
     "ring": [of_ring],

@@ -5,7 +5,8 @@ from collections import namedtuple
 Vertex = namedtuple("Vertex", "kind start loss rank")
 Rows = namedtuple("Rows", "needs")
 Graph = namedtuple("Graph", "rows")
-Setup = namedtuple("Setup", "count vertices graph recovery")
+# Nothing is held, and nothing opened, where the last two are not given.
+Setup = namedtuple("Setup", "count vertices graph recovery held opened", defaults=(0, 0))
 ItemRow = namedtuple("ItemRow", "name kind start loss rank")
 EdgeRow = namedtuple("EdgeRow", "source to colour rec")
 Doc = namedtuple("Doc", "items edges")
@@ -566,7 +567,7 @@ def wordsOf(s):
         for w in (1 if x.kind == Account else 0, blank if x.start is None else x.start, blank if x.loss is None else x.loss, x.rank)
     ]
     rows = [n for g in (s.graph, s.recovery) for r in g.rows for n in r.needs]
-    return [s.count] + vertices + rows
+    return [s.count] + vertices + rows + [s.held, s.opened]
 
 
 def setupIn(words):
@@ -575,7 +576,7 @@ def setupIn(words):
     value = lambda n: None if n == blank else n
     place = lambda v: Vertex(Credential if word(1 + 4 * v) == 0 else Account, value(word(2 + 4 * v)), value(word(3 + 4 * v)), word(4 + 4 * v))
     graph = lambda at: Graph(tuple(Rows(tuple(word(at + 8 * v + c) for c in range(8))) for v in range(64)))
-    return Setup(word(0), tuple(place(v) for v in range(64)), graph(257), graph(769))
+    return Setup(word(0), tuple(place(v) for v in range(64)), graph(257), graph(769), word(1281), word(1282))
 
 
 # ---- portal_results: an answer's values as the fields of a struct

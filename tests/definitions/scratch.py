@@ -15,7 +15,7 @@ FILES = """
 vertex_set/Set vertex_set/Order
 setup/Bounds setup/Setup setup/Calls
 derivations/Derivation derivations/Access derivations/Lockout derivations/Both derivations/Passes derivations/Way
-formed/WellFormed
+formed/WellFormed living/Calls
 bases/Base bases/Score bases/Marks
 access/Answers quick_yes/Answers answers/Answers
 antichains/Antichains forecasts/Forecast forecasts/Answers cut_sets/Cuts cut_sets/Answers
@@ -33,7 +33,7 @@ worked_examples/Sheets worked_examples/Table
 """.split()
 
 # Crates whose types the definitions use, and types of theirs that no definition uses.
-TYPES = "vertex_set setup scores access quick_yes answers forecasts cut_sets attackers multiset_scores next_sets records sheet_format findings report_facts report_writer demands".split()
+TYPES = "vertex_set setup living scores access quick_yes answers forecasts cut_sets attackers multiset_scores next_sets records sheet_format findings report_facts report_writer demands".split()
 UNUSED = {"Step", "Names", "Task", "Pass", "Turn"}
 
 

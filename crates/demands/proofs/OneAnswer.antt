@@ -22,7 +22,8 @@ use Rattle.derivations.proofs.Way.{way-unique}
 use Rattle.access.specs.Answers.{WayWritten}
 use Rattle.answers.specs.Answers.{BasesWritten}
 use Rattle.cut_sets.specs.Cuts.{CutSet}
-use Rattle.reference.proofs.Unique.{closure-unique, base-unique, score-unique, counts-unique}
+use Rattle.derivations.proofs.Closures.{closure-unique}
+use Rattle.reference.proofs.Unique.{base-unique, score-unique, counts-unique}
 use Rattle.demands.specs.OneAnswer.{OneClosureAnswer, OneLostAnswer, SameWay, OneWayAnswer, OneBasesAnswer, OneCutsAnswer, OneScoreAnswer, OneMarksAnswer}
 use Rattle.demands.proofs.Stable.{stable-number, stable-list, by-cases}
 

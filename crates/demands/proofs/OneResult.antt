@@ -20,6 +20,7 @@ use Rattle.demands.proofs.Register.{one-hand-in-answer}
 use Rattle.demands.proofs.OneAnswer.{one-closure-answer, one-lost-answer, one-way-answer, one-bases-answer, one-cuts-answer, one-score-answer, one-marks-answer}
 use Rattle.demands.proofs.Stable.{stable-number, by-cases}
 use Rattle.portal_setup.specs.Words.{setupIn}
+use Rattle.portal_living.proofs.Saying.{one-living-result}
 use Rattle.portal_results.specs.Told.{filled, Told}
 use Rattle.demands.specs.OneResult.{OneResult, OneResultOnSetups, OneResultOnSheets}
 
@@ -71,6 +72,7 @@ one-result-on-setups words =
       bagScore =
           λ target n n′ f f′ a x x′ b y y′ e t t′. let d = one-multisets-answer s target n n′ (t .values) (t′ .values) a x x′ b y y′ (t .call) (t′ .call) in
           record { answer = same-fields e t t′ (d .answer); first = d .first; second = d .second };
+      living = λ c n n′ x x′ a b. one-living-result c n n′ words x x′ a b;
     }
 
 -- ---- the calls on a sheet
@@ -81,10 +83,10 @@ one-result-on-sheets text =
       reading =
           λ n n′ l l′ a x x′ p q. (
             by-cases (readSheet text .number ≡ 0) (stable-number n n′)
-                (λ z. ⊎-elim (λ k. p .short z k ∙ sym (q .short z k)) (λ k. p .accepted z k ∙ sym (q .accepted z k)) (less-or (length a) 1281))
+                (λ z. ⊎-elim (λ k. p .short z k ∙ sym (q .short z k)) (λ k. p .accepted z k ∙ sym (q .accepted z k)) (less-or (length a) 1283))
                 (λ z. p .refused z ∙ sym (q .refused z)),
             p .lined ∙ sym (q .lined),
-            ⊎-elim (λ k. p .untouched k ∙ sym (q .untouched k)) (λ k. p .room k ∙ sym (q .room k)) (less-or (length a) 1281),
+            ⊎-elim (λ k. p .untouched k ∙ sym (q .untouched k)) (λ k. p .room k ∙ sym (q .room k)) (less-or (length a) 1283),
           );
       name =
           λ item n n′ p p′ k k′ a b. (

@@ -18,7 +18,8 @@ use Rattle.setup.specs.declared.Setup.{Setup}
 use Rattle.formed.specs.WellFormed.{WellFormed}
 use Rattle.setup.specs.Calls.{Refuses, Inside, Untouched, ListWritten}
 use Rattle.derivations.specs.Access.{Step, HasAccess}
-use Rattle.sheet_format.proofs.Question12.{question-12}
+use Rattle.histories.specs.Histories.{Reached}
+use Rattle.histories.proofs.Reaching.{question-12}
 use Rattle.access.specs.Answers.{ClosureCall, LostCall, WayWritten, WayCall}
 use Rattle.answers.specs.Answers.{BasesCall, ScoreCall, MarksCall}
 use Rattle.cut_sets.specs.Answers.{CutsCall}
@@ -40,9 +41,9 @@ use Rattle.multiset_scores.specs.Answers.{MultisetsWritten, MultisetsCall}
 use Rattle.multiset_scores.proofs.Unique.{one-multisets-answer}
 use Rattle.demands.proofs.Stable.{stable-number, by-cases}
 use Rattle.demands.proofs.OneAnswer.{by-target, one-closure-answer, one-lost-answer, one-way-answer, one-bases-answer, one-cuts-answer, one-score-answer, one-marks-answer}
-use Rattle.demands.specs.Outcomes.{Outcome, Settled, SettledWay, SettledList, SettledBags, SettledBagScore, Yielded, SettledQuestion12}
+use Rattle.demands.specs.Outcomes.{Outcome, Settled, SettledWay, SettledList, SettledBags, SettledBagScore, SettledQuestion12}
 
-listed-dec : (l : List ℕ) (x : ℕ) → Dec (Listed l x)
+pub listed-dec : (l : List ℕ) (x : ℕ) → Dec (Listed l x)
 listed-dec [] x = no (λ h. h)
 listed-dec (y ∷ l) x = first (ℕ-discrete x y) (listed-dec l x)
   where
@@ -254,10 +255,10 @@ module _ (s : Setup) (target n : ℕ) (v : List ℕ) where
 
 -- ---- question 12
 
-pub yielded : (s : Setup) (answer : Bool) → Decides (WellFormed s) answer → Decides (Yielded s) answer
-yielded s answer d = decide-iff (question-12 s) d
+pub reached : (s : Setup) (answer : Bool) → Decides (WellFormed s) answer → Decides (Reached s) answer
+reached s answer d = decide-iff (question-12 s) d
 
-pub settled-question-12 : (s : Setup) (answer : Bool) → Decides (Yielded s) answer → SettledQuestion12 s answer
+pub settled-question-12 : (s : Setup) (answer : Bool) → Decides (Reached s) answer → SettledQuestion12 s answer
 settled-question-12 s answer d = record { meets = d; only = λ b e. decided-once b answer e d }
 
 -- ---- two bags compared

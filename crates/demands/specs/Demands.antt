@@ -1,6 +1,7 @@
 -- Demands 1 and 2: what the offered calls answer, all of them on one input. Each is the contract of a function that makes the calls; the name of
 -- an item, a part of the sheet, is handed back by a function of its own (`SettledName`, `Named`), and so are the answers of the class register's calls,
--- which are lent records (`HandInDemands`, `WithdrawDemands`).
+-- which are lent records (`HandInDemands`, `WithdrawDemands`), and so are the setups that the calls of a setup
+-- that lives hand back (specs/Living.antt).
 use mathlib.Core.Path.{_≡_}
 use mathlib.Core.Bool.{true, false}
 use mathlib.Core.List.{List, [], _∷_}
@@ -19,10 +20,11 @@ use Rattle.register.specs.Afternoon.{RegisterLaw}
 use Rattle.multisets.specs.Multisets.{AtMost}
 use Rattle.multiset_scores.specs.Answers.{multisetNumber, multisetValues, MultisetsCall}
 use Rattle.sheet_format.specs.Read.{readSheet}
+use Rattle.histories.specs.Histories.{Reached}
 use Rattle.portal.specs.Portal.{PortalCall}
 use Rattle.demands.specs.declared.Answers.{Answers}
 use Rattle.demands.specs.Register.{SettledHandIns, SettledWithdrawals}
-use Rattle.demands.specs.Outcomes.{Settled, SettledWay, SettledList, SettledBags, SettledBagScore, Yielded, SettledQuestion12}
+use Rattle.demands.specs.Outcomes.{Settled, SettledWay, SettledList, SettledBags, SettledBagScore, SettledQuestion12}
 use Rattle.demands.specs.Sheets.{Reads, SettledReading, SettledPortal}
 
 -- Demand 1: to every input each call gives its answer or exactly one refusal, with every lent place as it was; and its contract leaves no second
@@ -85,8 +87,8 @@ pub record Demand2 (text : List ℕ) (item : ℕ) (s : Setup) (set target other 
   pub backdoor : BackdoorCall s target (findingNumber (r .findings .backdoor)) (findingValues (r .findings .backdoor))
   pub idle : IneffectiveCall s target (findingNumber (r .findings .idle)) (findingValues (r .findings .idle))
   pub pair : InconsistentCall s target other (findingNumber (r .findings .pair)) (findingValues (r .findings .pair))
-  -- yes exactly where some accepted sheet yields the setup
-  pub formed : Decides (Yielded s) (r .findings .formed)
+  -- yes exactly where an accepted sheet and a list of calls reach the setup
+  pub formed : Decides (Reached s) (r .findings .formed)
   -- the text's rows and the setup that they state, or its first no
   pub reading : Reads text (r .sheet .reading)
   -- this reading is also the one that the portal's contract cites

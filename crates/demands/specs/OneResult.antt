@@ -21,6 +21,8 @@ use Rattle.demands.specs.OneAnswer.{SameWay}
 use Rattle.demands.specs.Register.{SameCall}
 use Rattle.portal_setup.specs.Words.{setupIn}
 use Rattle.portal_results.specs.Told.{Told}
+use Rattle.living.specs.Calls.{Call}
+use Rattle.portal_living.specs.Living.{LivingCall}
 use Rattle.portal_closures.specs.Check.{CheckCall}
 use Rattle.portal_reading.specs.Reading.{ReadingCall, NameCall}
 
@@ -62,6 +64,7 @@ pub record OneResultOnSetups (words : List ℕ) : Type 0 where
       → Told (λ number values. MultisetsCall (setupIn words) target number values a x b y) n f
       → Told (λ number values. MultisetsCall (setupIn words) target number values a x′ b y′) n′ f′
       → SameLists n n′ f f′ x x′ y y′
+  pub living : (c : Call) (n n′ : ℕ) (x x′ : List ℕ) → LivingCall c n words x → LivingCall c n′ words x′ → (n ≡ n′) × (x ≡ x′)
 
 -- The calls on a sheet, for every text.
 pub record OneResultOnSheets (text : List ℕ) : Type 0 where

@@ -8,7 +8,7 @@ use Rattle.vertex_set.specs.Set.{Decides}
 use Rattle.vertex_set.specs.Order.{Listed}
 use Rattle.setup.specs.declared.Setup.{Setup}
 use Rattle.setup.specs.Calls.{Same, SameList}
-use Rattle.sheet_format.specs.Read.{accepted, readSheet}
+use Rattle.histories.specs.Histories.{Reached}
 use Rattle.access.specs.Answers.{WayCall}
 use Rattle.multisets.specs.Multisets.{AtMost}
 use Rattle.multiset_scores.specs.Answers.{MultisetsCall, SameLists}
@@ -58,11 +58,7 @@ pub record SettledBagScore (s : Setup) (target number : ℕ) (values parts parts
   pub meets : MultisetsCall s target number values parts parts′ lengths lengths′
   pub only : (n : ℕ) (v x y : List ℕ) → MultisetsCall s target n v parts x lengths y → SameLists n number v values x parts′ y lengths′
 
--- Question 12: some accepted sheet yields the setup.
-abbrev pub Yielded : Setup → Type 0
-Yielded s = (text : List ℕ) × (readSheet text ≡ accepted s)
-
--- The answer to question 12 is yes or no, one of them, and no refusal.
+-- The answer to question 12 is yes or no, one of them, and no refusal: an accepted sheet and a list of calls reach the setup, or none do.
 pub record SettledQuestion12 (s : Setup) (answer : Bool) : Type 0 where
-  pub meets : Decides (Yielded s) answer
-  pub only : (b : Bool) → Decides (Yielded s) b → b ≡ answer
+  pub meets : Decides (Reached s) answer
+  pub only : (b : Bool) → Decides (Reached s) b → b ≡ answer

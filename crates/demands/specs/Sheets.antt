@@ -8,7 +8,7 @@ use lib.ListN.{length, replicate, take}
 use Rattle.vertex_set.specs.Set.{Iff}
 use Rattle.vertex_set.specs.Order.{Listed}
 use Rattle.setup.specs.declared.Setup.{Setup}
-use Rattle.setup.specs.Setup.{unusedVertex, emptyGraph}
+use Rattle.setup.specs.Setup.{unusedVertex, emptyGraph, noVertices}
 use Rattle.bases.specs.Score.{never}
 use Rattle.sheet_format.specs.declared.Reading.{Reading}
 use Rattle.sheet_format.specs.Rows.{ItemRow, Doc, firstHeader, itemLines, Valid, render, setupOf}
@@ -22,7 +22,7 @@ sheetNumbers = 1 ∷ 2 ∷ 3 ∷ 4 ∷ 5 ∷ 6 ∷ 7 ∷ 8 ∷ 9 ∷ 10 ∷ 11 �
 
 -- The setup of 0 items with no place in use.
 abbrev pub noItems : Setup
-noItems = record { count = 0; vertices = replicate 64 unusedVertex; graph = emptyGraph; recovery = emptyGraph }
+noItems = record { count = 0; vertices = replicate 64 unusedVertex; graph = emptyGraph; recovery = emptyGraph; held = noVertices; opened = noVertices }
 
 -- The rows d are valid, and the text is their written form.
 pub record RowsOf (text : List ℕ) (d : Doc) : Type 0 where

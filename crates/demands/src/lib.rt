@@ -13,7 +13,8 @@ ghost use Rattle.multiset_scores.specs.Answers.{multisetNumber, multisetValues,
 ghost use Rattle.findings.specs.Answers.{findingNumber, findingValues, BackdoorCall, IneffectiveCall, InconsistentCall};
 ghost use Rattle.sheet_format.specs.Read.{readSheet};
 ghost use Rattle.portal.specs.Portal.{PortalCall};
-ghost use Rattle.demands.specs.Outcomes.{Yielded};
+ghost use Rattle.histories.specs.Histories.{Reached};
+ghost use Rattle.demands.specs.Living.{LivingDemand1, LivingDemand2};
 ghost use Rattle.demands.specs.Sheets.{Reads, Named, SettledName};
 ghost use Rattle.demands.specs.Demands.{Demand1, Demand2};
 ghost use Rattle.demands.specs.Register.{HandInDemands, WithdrawDemands};
@@ -25,6 +26,7 @@ use attackers::AttackerAnswer;
 use cut_sets::CutsAnswer;
 use findings::FindingAnswer;
 use forecasts::ForecastAnswer;
+use living::Redrawing;
 use multiset_scores::MultisetAnswer;
 use next_sets::NextAnswer;
 use quick_yes::QuickAnswer;
@@ -75,6 +77,14 @@ pub struct Answers {
     pub bags: BagAnswers,
 }
 
+// What the calls on a setup that lives hand back.
+pub struct LivingAnswers {
+    pub taken: Redrawing,
+    pub freed: Redrawing,
+    pub added: Redrawing,
+    pub removed: Redrawing,
+}
+
 // Asks for closure, lost set, way in and quick yes.
 fn ask_sets(
     s: Setup,
@@ -105,7 +115,7 @@ fn ask_findings(s: Setup, target: usize, other: usize) -> FindingAnswers
     ensures backdoor { λ r. ⌜ BackdoorCall s target (findingNumber (r .backdoor)) (findingValues (r .backdoor)) ⌝ }
     ensures idle { λ r. ⌜ IneffectiveCall s target (findingNumber (r .idle)) (findingValues (r .idle)) ⌝ }
     ensures pair { λ r. ⌜ InconsistentCall s target other (findingNumber (r .pair)) (findingValues (r .pair)) ⌝ }
-    ensures formed { λ r. ⌜ Decides (Yielded s) (r .formed) ⌝ }
+    ensures formed { λ r. ⌜ Decides (Reached s) (r .formed) ⌝ }
 {
     let backdoor = findings::has_backdoor(s, target);
     let idle = findings::ineffective_recovery(s, target);
@@ -264,4 +274,42 @@ pub fn demands_of_withdrawal(records: &mut [Record], used: usize, student: u64) 
     ensures { λ a. ⌜ WithdrawDemands used student a (now (records .entry)) (now (records .exit)) ⌝ }
 {
     register::withdraw(records, used, student)
+}
+
+// Makes the four calls on a setup that lives.
+fn ask_living(
+    s: Setup,
+    item: usize,
+    from: usize,
+    to: usize,
+    colour: usize,
+    rec: bool,
+) -> LivingAnswers
+    ensures { λ r. ⌜ LivingDemand2 s item from to colour rec r ⌝ }
+{
+    let taken = living::take_in(s, item);
+    let freed = living::take_out(s, item);
+    let added = living::add_edge(s, from, to, colour, rec);
+    let removed = living::remove_edge(s, from, to, colour);
+    LivingAnswers {
+        taken,
+        freed,
+        added,
+        removed,
+    }
+}
+
+// Both demands of the calls on a setup that lives: each hands a setup back.
+pub fn demands_of_living(
+    s: Setup,
+    item: usize,
+    from: usize,
+    to: usize,
+    colour: usize,
+    rec: bool,
+) -> LivingAnswers
+    ensures one { λ r. ⌜ LivingDemand1 s item from to colour rec r ⌝ }
+    ensures two { λ r. ⌜ LivingDemand2 s item from to colour rec r ⌝ }
+{
+    ask_living(s, item, from, to, colour, rec)
 }

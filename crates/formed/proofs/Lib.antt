@@ -1,3 +1,4 @@
 pub mod Edges
+pub mod Holding
 pub mod Vertices
 pub mod Whole

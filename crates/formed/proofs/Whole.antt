@@ -11,7 +11,7 @@ use Rattle.setup.specs.declared.Setup.{Setup}
 use Rattle.setup.specs.Setup.{rowsAt, chosenCount}
 use Rattle.setup.proofs.Graphs.{edge-place, edge-colour}
 use Rattle.formed.specs.WellFormed.{WellFormed}
-use Rattle.formed.specs.Inner.Parts.{GraphsFit, VerticesFit}
+use Rattle.formed.specs.Inner.Parts.{GraphsFit, VerticesFit, HoldingFits}
 
 pub graphs-of : (s : Setup) → WellFormed s → GraphsFit (s .count) (s .graph) (s .recovery)
 graphs-of s w =
@@ -25,7 +25,7 @@ graphs-of s w =
       edges = w .edges;
     }
 
-vertices-of : (s : Setup) → WellFormed s → VerticesFit (s .count) (s .vertices)
+pub vertices-of : (s : Setup) → WellFormed s → VerticesFit (s .count) (s .vertices)
 unfolding chosenCount
 vertices-of s w =
     record {
@@ -34,10 +34,14 @@ vertices-of s w =
       losable = w .losable;
     }
 
+holding-of : (s : Setup) → WellFormed s → HoldingFits (s .count) (s .graph) (s .held .0) (s .opened .0)
+holding-of s w = record { holds = w .holds .each; opens = w .opens }
+
 module _ (s : Setup) (lv : length (s .vertices) ≡ 64) (lg : length (s .graph .rows) ≡ 64) (lr : length (s .recovery .rows) ≡ 64) (some : 0 < s .count) (most : s .count ≤ 64) where
-  of-parts : GraphsFit (s .count) (s .graph) (s .recovery) → VerticesFit (s .count) (s .vertices) → WellFormed s
+  of-parts : GraphsFit (s .count) (s .graph) (s .recovery) → VerticesFit (s .count) (s .vertices)
+      → HoldingFits (s .count) (s .graph) (s .held .0) (s .opened .0) → WellFormed s
   unfolding chosenCount
-  of-parts g n =
+  of-parts g n h =
       record {
         shaped = record {
           places = lv;
@@ -57,7 +61,10 @@ module _ (s : Setup) (lv : length (s .vertices) ≡ 64) (lg : length (s .graph .
         edges = g .edges;
         initial = n .initial;
         losable = n .losable;
+        holds = record { each = h .holds };
+        opens = h .opens;
       }
 
-  pub whole-yes : (r : Bool) → GraphsFit (s .count) (s .graph) (s .recovery) → Decides (VerticesFit (s .count) (s .vertices)) r → Decides (WellFormed s) r
-  whole-yes r g = decide-iff (record { to = of-parts g; from = vertices-of s })
+  pub whole-yes : (r : Bool) → GraphsFit (s .count) (s .graph) (s .recovery) → VerticesFit (s .count) (s .vertices)
+      → Decides (HoldingFits (s .count) (s .graph) (s .held .0) (s .opened .0)) r → Decides (WellFormed s) r
+  whole-yes r g n = decide-iff (record { to = of-parts g n; from = holding-of s })

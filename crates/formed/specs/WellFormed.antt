@@ -1,4 +1,4 @@
--- What makes a setup well formed. `sheet_format` proves that these are exactly the setups that accepted sheets yield (question 12).
+-- What makes a setup well formed. `histories` proves that these are exactly the setups that an accepted sheet and a list of calls reach (question 12).
 use mathlib.Core.Path.{_≡_}
 use mathlib.Core.Bool.{true, false}
 use Prim.Native.Nat.{ℕ, _≤_, _<_}
@@ -7,6 +7,8 @@ use Rattle.setup.specs.declared.Value.{Value}
 use Rattle.setup.specs.declared.Value.the-variants.{Blank, Of}
 use Rattle.setup.specs.declared.Vertex.{Vertex}
 use Rattle.setup.specs.declared.Setup.{Setup}
+use Rattle.setup.specs.Calls.{Inside}
+use Rattle.derivations.specs.Access.{AccessFrom}
 use Rattle.setup.specs.Setup.{unusedVertex, vertexAt, Edge, edgeCount, chosenCount, Shaped}
 
 -- A value is in range: a blank, or a number up to the largest.
@@ -34,3 +36,6 @@ pub record WellFormed (s : Setup) : Type 0 where
   pub edges : edgeCount (s .graph) ≤ mostEdges
   pub initial : chosenCount false s ≤ mostChosen
   pub losable : chosenCount true s ≤ mostChosen
+  -- only vertices of the setup are held, and opened is what they open (document 02, point 8), not merely a set that is closed
+  pub holds : Inside s (s .held .0)
+  pub opens : AccessFrom (s .graph) (s .held .0) (s .opened .0)

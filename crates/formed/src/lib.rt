@@ -1,11 +1,11 @@
-// Question 12: is a setup one that some accepted sheet yields?
+// Question 12: is a setup one that an accepted sheet and a list of calls reach?
 ghost use mathlib.Core.Path.{_≡_};
 ghost use Prim.Native.Nat.{_≤_, _<_};
 ghost use lib.Count.{ones};
 ghost use Rattle.vertex_set.specs.Set.{Decides};
 ghost use Rattle.setup.specs.Setup.{unusedVertex, given, total};
 ghost use Rattle.formed.specs.WellFormed.{InRange, ValidVertex, WellFormed};
-ghost use Rattle.formed.specs.Inner.Parts.{VertexFits, RowsFit, MayNeed, EdgesFit, GraphsFit, VerticesFit};
+ghost use Rattle.formed.specs.Inner.Parts.{VertexFits, RowsFit, MayNeed, EdgesFit, GraphsFit, VerticesFit, HoldingFits};
 use setup::Graph;
 use setup::Kind;
 use setup::Rows;
@@ -105,7 +105,8 @@ fn edges_fit(count: usize, v: usize, rows: Rows, recovery: Rows) -> bool
     rows_fit(bound, rows, recovery)
 }
 
-fn row_sizes(rows: Rows) -> u32
+// How many edges run into a vertex with these rows.
+pub fn row_sizes(rows: Rows) -> u32
     ensures { λ r. ⌜ (r ≡ total ones (rows .needs)) × (r ≤ 512) ⌝ }
 {
     let mut n: u32 = 0;
@@ -163,8 +164,25 @@ fn vertices_fit(count: usize, vertices: [Vertex; 64]) -> bool
     losable <= setup::MAX_CHOSEN
 }
 
-// Question 12: is the setup one that some accepted sheet yields? Its parts are handed on, each
-// once, since a call by value copies what it is given.
+// Are only vertices of the setup held, and is `opened` what they open? A test for a closed set would
+// let in a ring that holds itself up. Nothing opens nothing, which spares most setups the passes.
+fn holding_fits(count: usize, graph: Graph, held: VertexSet, opened: VertexSet) -> bool
+    ensures { λ r. ⌜ Decides (HoldingFits count graph (held .0) (opened .0)) r ⌝ }
+{
+    if held.0 == 0 {
+        return opened.0 == 0;
+    }
+    let all = VertexSet::below(count);
+    if held.within(all) {
+        let closed = closures::closure(false, graph, held);
+        let set = closed.set;
+        return set.0 == opened.0;
+    }
+    false
+}
+
+// Question 12: is the setup one that an accepted sheet and a list of calls reach? Its parts are
+// handed on, each once, since a call by value copies what it is given.
 pub fn well_formed(s: Setup) -> bool
     ensures { λ r. ⌜ Decides (WellFormed s) r ⌝ }
 {
@@ -179,7 +197,12 @@ pub fn well_formed(s: Setup) -> bool
     let recovery = s.recovery;
     if graphs_fit(count, graph, recovery) {
         let vertices = s.vertices;
-        return vertices_fit(count, vertices);
+        if vertices_fit(count, vertices) {
+            let held = s.held;
+            let opened = s.opened;
+            return holding_fits(count, graph, held, opened);
+        }
+        return false;
     }
     false
 }

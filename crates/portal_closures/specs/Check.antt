@@ -1,4 +1,4 @@
--- Question 12 by itself (document 01: is the setup one that some accepted sheet yields?).
+-- Question 12 by itself (document 02, point 8: do an accepted sheet and a list of calls reach the setup?).
 use mathlib.Core.Path.{_≡_}
 use Prim.Native.Nat.{ℕ}
 use Rattle.setup.specs.declared.Setup.{Setup}

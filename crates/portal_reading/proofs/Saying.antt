@@ -18,7 +18,7 @@ use Rattle.sheet_format.specs.declared.Reading.{Reading}
 use Rattle.sheet_format.specs.Rows.{setupOf}
 use Rattle.sheet_format.specs.Read.{noRows, readSheet}
 use Rattle.sheet_format.proofs.Meaning.{empty-setup, accepted-or-refused}
-use Rattle.sheet_format.proofs.Question12.{question-12}
+use Rattle.sheet_format.proofs.Question12.{yielded-formed}
 use Rattle.portal_setup.specs.Words.{wordsOf}
 use Rattle.portal_setup.proofs.Saying.{Said, Sayable, words-say}
 use Rattle.portal_reading.specs.Reading.{SaysSetup}
@@ -27,7 +27,7 @@ said : (x : Value) → InRange x → Said x
 said Blank h = tt
 said (Of n) h = omega arith
 
-well-formed-said : (s : Setup) → WellFormed s → Sayable s
+pub well-formed-said : (s : Setup) → WellFormed s → Sayable s
 well-formed-said s w = record { shaped = w .shaped; start = λ v b. both v b .0; loss = λ v b. both v b .1 }
   where
     both : (v : ℕ) → v < 64 → Said (vertexAt s v .start) × Said (vertexAt s v .loss)
@@ -53,7 +53,7 @@ empty-said =
 reading-said : (text : List ℕ) → Sayable (readSheet text .setup)
 reading-said text =
     ⊎-elim
-    (λ a. subst (λ (x : Reading). Sayable (x .setup)) (sym (a .reading)) (well-formed-said (a .setup) (question-12 (a .setup) .from (text, a .reading))))
+    (λ a. subst (λ (x : Reading). Sayable (x .setup)) (sym (a .reading)) (well-formed-said (a .setup) (yielded-formed text (a .setup) (a .reading))))
     (λ r. subst (λ (x : Reading). Sayable (x .setup)) (sym (r .reading)) empty-said)
     (accepted-or-refused .either text)
 

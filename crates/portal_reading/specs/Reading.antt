@@ -8,19 +8,19 @@ use Rattle.sheet_format.specs.Names.{nameOf, nameStart}
 use Rattle.setup.specs.Calls.{written}
 use Rattle.portal_setup.specs.Words.{setupIn, wordsOf}
 
--- 20600 for version 2.6.0 of the calls, two digits for each of the last two parts.
+-- 30000 for version 3.0.0 of the calls, two digits for each of the last two parts.
 abbrev pub version : ℕ
-version = 20600
+version = 30000
 
--- The sheet's own number and line, and its setup's words at the front of the lent buffer. With fewer than 1281 places no word is written,
+-- The sheet's own number and line, and its setup's words at the front of the lent buffer. With fewer than 1283 places no word is written,
 -- and an accepted sheet gets 15.
 pub record ReadingCall (text : List ℕ) (number line : ℕ) (entry exit : List ℕ) : Type 0 where
   pub refused : (readSheet text .number ≡ 0 → ⊥) → number ≡ readSheet text .number
-  pub short : readSheet text .number ≡ 0 → length entry < 1281 → number ≡ 15
-  pub accepted : readSheet text .number ≡ 0 → 1281 ≤ length entry → number ≡ 0
+  pub short : readSheet text .number ≡ 0 → length entry < 1283 → number ≡ 15
+  pub accepted : readSheet text .number ≡ 0 → 1283 ≤ length entry → number ≡ 0
   pub lined : line ≡ readSheet text .line
-  pub room : 1281 ≤ length entry → exit ≡ written (wordsOf (readSheet text .setup)) entry
-  pub untouched : length entry < 1281 → exit ≡ entry
+  pub room : 1283 ≤ length entry → exit ≡ written (wordsOf (readSheet text .setup)) entry
+  pub untouched : length entry < 1283 → exit ≡ entry
 
 -- An item's name as the part of the sheet's bytes that holds it: where it begins, and how many bytes it has. The empty part at the sheet's
 -- start for a refused sheet, with its number, and for an item that isn't there, with 13.
@@ -34,5 +34,5 @@ pub record NameCall (text : List ℕ) (item number start size : ℕ) : Type 0 wh
 
 -- What is read is what is asked: the words that reading writes say the sheet's setup.
 abbrev pub SaysSetup : Type 0
-SaysSetup = (text : List ℕ) (number line : ℕ) (entry exit : List ℕ) → ReadingCall text number line entry exit → 1281 ≤ length entry
+SaysSetup = (text : List ℕ) (number line : ℕ) (entry exit : List ℕ) → ReadingCall text number line entry exit → 1283 ≤ length entry
     → setupIn exit ≡ readSheet text .setup

@@ -5,10 +5,10 @@ ghost use Rattle.portal_reading.specs.Reading.{version, ReadingCall, Nam
 use portal_results::PortalPart;
 use portal_results::PortalReading;
 
-// Version 2.6.0.
-const VERSION: u64 = 20600;
+// Version 3.0.0.
+const VERSION: u64 = 30000;
 
-const SETUP_WORDS: usize = 1281;
+const SETUP_WORDS: usize = 1283;
 
 // The version of the calls that this library has.
 #[no_mangle]

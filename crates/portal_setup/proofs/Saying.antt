@@ -140,9 +140,11 @@ unfolding setupIn wordsOf
 words-say s h rest =
     λ i. record {
       count = s .count;
-      vertices = (ap (λ (l : List ℕ). tabulate 64 (vertexIn (s .count ∷ l))) (append-assoc vs (gs ++ rs) rest) ∙ vertices-say s h ((gs ++ rs) ++ rest)) i;
-      graph = (ap (λ (l : List ℕ). graphIn (s .count ∷ l) 257) front-graph ∙ graph-says (s .graph) (h .shaped .graph) 257 (s .count ∷ vs) (rs ++ rest) (omega (arith, long))) i;
-      recovery = (ap (λ (l : List ℕ). graphIn (s .count ∷ l) 769) front-recovery ∙ graph-says (s .recovery) (h .shaped .recovery) 769 (s .count ∷ (vs ++ gs)) rest (omega (arith, long, rows, both))) i;
+      vertices = (ap (λ (l : List ℕ). tabulate 64 (vertexIn (s .count ∷ l))) (append-assoc vs (gs ++ (rs ++ two)) rest) ∙ vertices-say s h ((gs ++ (rs ++ two)) ++ rest)) i;
+      graph = (ap (λ (l : List ℕ). graphIn (s .count ∷ l) 257) front-graph ∙ graph-says (s .graph) (h .shaped .graph) 257 (s .count ∷ vs) ((rs ++ two) ++ rest) (omega (arith, long))) i;
+      recovery = (ap (λ (l : List ℕ). graphIn (s .count ∷ l) 769) front-recovery ∙ graph-says (s .recovery) (h .shaped .recovery) 769 (s .count ∷ (vs ++ gs)) (two ++ rest) (omega (arith, long, rows, both))) i;
+      held = record { 0 = (ap (λ (l : List ℕ). wordAt (s .count ∷ l) 1281) front-sets ∙ set-says 0 1281 (omega (arith, all))) i };
+      opened = record { 0 = (ap (λ (l : List ℕ). wordAt (s .count ∷ l) 1282) front-sets ∙ set-says 1 1282 (omega (arith, all))) i };
     }
   where
     vs : List ℕ
@@ -154,6 +156,9 @@ words-say s h rest =
     rs : List ℕ
     rs = graphWords (s .recovery .rows)
 
+    two : List ℕ
+    two = s .held .0 ∷ s .opened .0 ∷ []
+
     long : length vs ≡ 256
     long = vertices-long (s .vertices) (h .shaped .places)
 
@@ -163,8 +168,19 @@ words-say s h rest =
     both : length (vs ++ gs) ≡ length vs + length gs
     both = length-append vs gs
 
-    front-graph : (vs ++ (gs ++ rs)) ++ rest ≡ vs ++ (gs ++ (rs ++ rest))
-    front-graph = append-assoc vs (gs ++ rs) rest ∙ ap (λ (l : List ℕ). vs ++ l) (append-assoc gs rs rest)
+    all : length ((vs ++ gs) ++ rs) ≡ 1280
+    all = let r = rows-long (s .recovery) (h .shaped .recovery) in let l = length-append (vs ++ gs) rs in omega (arith, long, rows, both)
 
-    front-recovery : (vs ++ (gs ++ rs)) ++ rest ≡ (vs ++ gs) ++ (rs ++ rest)
-    front-recovery = front-graph ∙ sym (append-assoc vs gs (rs ++ rest))
+    front-graph : (vs ++ (gs ++ (rs ++ two))) ++ rest ≡ vs ++ (gs ++ ((rs ++ two) ++ rest))
+    front-graph = append-assoc vs (gs ++ (rs ++ two)) rest ∙ ap (λ (l : List ℕ). vs ++ l) (append-assoc gs (rs ++ two) rest)
+
+    front-recovery : (vs ++ (gs ++ (rs ++ two))) ++ rest ≡ (vs ++ gs) ++ (rs ++ (two ++ rest))
+    front-recovery = front-graph ∙ sym (append-assoc vs gs ((rs ++ two) ++ rest)) ∙ ap (λ (l : List ℕ). (vs ++ gs) ++ l) (append-assoc rs two rest)
+
+    front-sets : (vs ++ (gs ++ (rs ++ two))) ++ rest ≡ ((vs ++ gs) ++ rs) ++ (two ++ rest)
+    front-sets = front-recovery ∙ sym (append-assoc (vs ++ gs) rs (two ++ rest))
+
+    -- the two sets stand behind the count and 1280 words
+    set-says : (j k : ℕ) → k ≡ length (s .count ∷ ((vs ++ gs) ++ rs)) + j → wordAt (s .count ∷ (((vs ++ gs) ++ rs) ++ (two ++ rest))) k ≡ getD (two ++ rest) j 0
+    set-says j k e =
+        ap (λ (m : ℕ). getD (s .count ∷ (((vs ++ gs) ++ rs) ++ (two ++ rest))) m 0) e ∙ getD-append-add (s .count ∷ ((vs ++ gs) ++ rs)) (two ++ rest) j 0

@@ -1,5 +1,5 @@
 -- A setup as plain numbers: the count; then of each of 64 places kind, start, loss and rank; then of each place eight rows, one a colour; then
--- the same rows of recovery edges. That is 1 + 256 + 512 + 512 = 1281 words.
+-- the same rows of recovery edges; then the held set, and what it opens. That is 1 + 256 + 512 + 512 + 2 = 1283 words.
 use mathlib.Core.List.{List, [], _∷_, _++_}
 use mathlib.Core.Bool.{cond}
 use Prim.Native.Nat.{ℕ, zero, suc, _+_, _*_}
@@ -51,7 +51,15 @@ abbrev pub graphIn : List ℕ → ℕ → Graph
 graphIn words at = record { rows = tabulate 64 (λ v. rowsIn words (at + 8 * v)) }
 
 unfoldable pub setupIn : List ℕ → Setup
-setupIn words = record { count = wordAt words 0; vertices = tabulate 64 (vertexIn words); graph = graphIn words 257; recovery = graphIn words 769 }
+setupIn words =
+    record {
+      count = wordAt words 0;
+      vertices = tabulate 64 (vertexIn words);
+      graph = graphIn words 257;
+      recovery = graphIn words 769;
+      held = record { 0 = wordAt words 1281 };
+      opened = record { 0 = wordAt words 1282 };
+    }
 
 -- ---- from a setup to words
 
@@ -81,4 +89,5 @@ abbrev pub graphWords : List Rows → List ℕ
 graphWords rs = flat needsOf rs
 
 unfoldable pub wordsOf : Setup → List ℕ
-wordsOf s = s .count ∷ (verticesWords (s .vertices) ++ (graphWords (s .graph .rows) ++ graphWords (s .recovery .rows)))
+wordsOf s =
+    s .count ∷ (verticesWords (s .vertices) ++ (graphWords (s .graph .rows) ++ (graphWords (s .recovery .rows) ++ (s .held .0 ∷ s .opened .0 ∷ []))))

@@ -1,6 +1,7 @@
 // A setup as plain numbers, as C hands it over and gets it. Every buffer says some setup, if
 // perhaps a malformed one, so that question 12 is asked of each.
 ghost use mathlib.Core.Path.{_≡_};
+ghost use mathlib.Core.List.{[], _∷_};
 ghost use Prim.Native.Nat.{_+_, _≤_, _<_};
 ghost use lib.ListN.{length};
 ghost use Rattle.written.specs.Inner.{Wrote};
@@ -12,14 +13,20 @@ use setup::Rows;
 use setup::Setup;
 use setup::Value;
 use setup::Vertex;
+use vertex_set::VertexSet;
 
 // The number that stands for a blank.
 const BLANK: u64 = 0xFFFF_FFFF_FFFF_FFFF;
 
-// Where among the words the rows of the graph begin, and where the rows of the recovery edges do.
+// Where among the words the rows of the graph begin, and where the rows of the recovery edges do;
+// where the held set stands, and what it opens.
 const GRAPH: usize = 257;
 
 const RECOVERY: usize = 769;
+
+const HELD: usize = 1281;
+
+const OPENED: usize = 1282;
 
 fn word_at(words: &[u64], i: usize) -> u64
     ensures { λ r. ⌜ r ≡ wordAt (now (words .entry)) i ⌝ }
@@ -92,6 +99,8 @@ pub fn setup_in(words: &[u64]) -> Setup
     let count = word_at(words, 0) as usize;
     let graph = graph_in(words, GRAPH);
     let recovery = graph_in(words, RECOVERY);
+    let held = VertexSet(word_at(words, HELD));
+    let opened = VertexSet(word_at(words, OPENED));
     let unused = Vertex {
         kind: Kind::Credential,
         start: Value::Blank,
@@ -103,6 +112,8 @@ pub fn setup_in(words: &[u64]) -> Setup
         vertices: [unused; 64],
         graph,
         recovery,
+        held,
+        opened,
     };
     for v in 0..64usize {
         let vertex = vertex_in(words, v);
@@ -183,15 +194,26 @@ fn put_graph(g: Graph, out: &mut [u64], at: usize) -> usize
     next
 }
 
+fn put_sets(held: VertexSet, opened: VertexSet, out: &mut [u64], at: usize) -> usize
+    requires { ⌜ at + 2 ≤ length (now out) ⌝ }
+    ensures { λ r. ⌜ WroteAll 2 (now (out .entry)) at (held .0 ∷ opened .0 ∷ []) (now (out .exit)) r ⌝ }
+{
+    let words = [held.0, opened.0];
+    put_words(&words, out, at)
+}
+
 // Writes the words that say the setup, from `at` on, and gives the next place.
 pub fn put_setup(s: Setup, out: &mut [u64], at: usize) -> usize
-    requires { ⌜ at + 1281 ≤ length (now out) ⌝ }
-    ensures { λ r. ⌜ WroteAll 1281 (now (out .entry)) at (wordsOf s) (now (out .exit)) r ⌝ }
+    requires { ⌜ at + 1283 ≤ length (now out) ⌝ }
+    ensures { λ r. ⌜ WroteAll 1283 (now (out .entry)) at (wordsOf s) (now (out .exit)) r ⌝ }
 {
     out[at] = s.count as u64;
     let graph = s.graph;
     let recovery = s.recovery;
+    let held = s.held;
+    let opened = s.opened;
     let behind_vertices = put_vertices(s, out, at + 1);
     let behind_graph = put_graph(graph, out, behind_vertices);
-    put_graph(recovery, out, behind_graph)
+    let behind_recovery = put_graph(recovery, out, behind_graph);
+    put_sets(held, opened, out, behind_recovery)
 }

@@ -1,4 +1,4 @@
--- What the definitions say is settled by them: one closure, one base, one score, one result of marking.
+-- What the definitions say is settled by them: one base, one score, one result of marking.
 -- Assumes nothing.
 use mathlib.Core.Path.{_≡_, refl, sym, ap, _∙_}
 use mathlib.Core.Bool.{Bool}
@@ -9,18 +9,12 @@ use native.Mathlib.Omega.{arith}
 use lib.ListN.{length}
 use Rattle.vertex_set.proofs.Cases.{less-or}
 use Rattle.vertex_set.proofs.Lists.{exactly-unique}
-use Rattle.vertex_set.proofs.Sets.{same-set}
 use Rattle.setup.specs.declared.Graph.{Graph}
 use Rattle.setup.specs.declared.Setup.{Setup}
-use Rattle.derivations.specs.Derivation.{Rule, Closure}
 use Rattle.bases.specs.Base.{MinimalSet, Base}
 use Rattle.bases.proofs.Bridge.{base-exactly}
 use Rattle.bases.specs.Score.{never, Score}
 use Rattle.bases.specs.Marks.{Mark, Repeated, Shut, Loose, Right, CountsAs, MarkedAs, tally, Counts}
-
-pub closure-unique : (rule : Rule) (set t u : ℕ) → Closure rule set t → Closure rule set u → t ≡ u
-closure-unique rule set t u a b =
-    same-set t u (record { each = λ v m. b .each v .from (a .each v .to m) }) (record { each = λ v m. a .each v .from (b .each v .to m) })
 
 module _ (loss : Bool) (s : Setup) (g : Graph) (target : ℕ) where
   pub base-unique : (l k : List ℕ) → Base loss s g target l → Base loss s g target k → l ≡ k

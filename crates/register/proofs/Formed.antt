@@ -1,6 +1,6 @@
 -- A setup that cannot fail to be well formed is so: all that is asked of it can be decided.
 -- Assumes nothing.
-use mathlib.Core.Path.{_≡_, refl, ap, _∙_}
+use mathlib.Core.Path.{_≡_, refl, ap, subst, _∙_}
 use mathlib.Core.Bool.{true, false}
 use mathlib.Core.HLevel.{Stable, dec→stable}
 use mathlib.Core.Logic.{⊎-elim}
@@ -9,7 +9,8 @@ use native.Mathlib.Decide.{ℕ-discrete}
 use native.Mathlib.Omega.{arith}
 use Rattle.vertex_set.specs.Set.{Member}
 use Rattle.vertex_set.proofs.Cases.{less-or}
-use Rattle.vertex_set.proofs.Sets.{member-or}
+use Rattle.vertex_set.specs.declared.VertexSet.{VertexSet}
+use Rattle.vertex_set.proofs.Sets.{member-or, none-in-zero}
 use lib.ListN.{length}
 use Rattle.setup.specs.Bounds.{largest, highest, mostEdges, mostChosen}
 use Rattle.setup.specs.declared.Kind.{Kind}
@@ -20,7 +21,13 @@ use Rattle.setup.specs.declared.Vertex.{Vertex}
 use Rattle.setup.specs.declared.Graph.{Graph}
 use Rattle.setup.specs.declared.Setup.{Setup}
 use Rattle.setup.specs.Setup.{unusedVertex, vertexAt, rowsAt, row, edgeCount, chosenCount, ShapedGraph}
+use Rattle.setup.specs.Calls.{Inside}
+use Rattle.derivations.specs.Access.{access, AccessFrom}
+use Rattle.derivations.proofs.Closures.{closure-unique, none-opens}
 use Rattle.formed.specs.WellFormed.{InRange, WellFormed}
+use Rattle.reference.specs.Closures.{closureOf}
+use Rattle.reference.proofs.Closures.{closure-of}
+use Rattle.reference.proofs.Graphs.{own-graph}
 
 same-stable : (a b : ℕ) → Stable (a ≡ b)
 same-stable a b = dec→stable (ℕ-discrete a b)
@@ -65,8 +72,14 @@ graph-stable : (g : Graph) → Stable (ShapedGraph g)
 graph-stable g h =
     record { places = same-stable (length (g .rows)) 64 (λ d. h (λ w. d (w .places))); colours = λ v l. same-stable (length (rowsAt g v .needs)) 8 (λ d. h (λ w. d (w .colours v l))) }
 
-pub formed-stable : (s : Setup) → Stable (WellFormed s)
-formed-stable s h =
+-- the setup with other vertices held, and other ones opened
+put : Setup → VertexSet → VertexSet → Setup
+put s held opened = record { count = s .count; vertices = s .vertices; graph = s .graph; recovery = s .recovery; held = held; opened = opened }
+
+-- all that is asked of what is drawn, whatever is held
+drawn : (s : Setup) → ((WellFormed s → ⊥) → ⊥) → (held opened : VertexSet) → Inside s (held .0) → AccessFrom (s .graph) (held .0) (opened .0) → WellFormed (put s held opened)
+unfolding put chosenCount
+drawn s h held opened inside opens =
     record {
       shaped = record {
         places = same-stable (length (s .vertices)) 64 (λ d. h (λ w. d (w .shaped .places)));
@@ -86,4 +99,17 @@ formed-stable s h =
       edges = le-stable (edgeCount (s .graph)) mostEdges (λ d. h (λ w. d (w .edges)));
       initial = le-stable (chosenCount false s) mostChosen (λ d. h (λ w. d (w .initial)));
       losable = le-stable (chosenCount true s) mostChosen (λ d. h (λ w. d (w .losable)));
+      holds = record { each = inside .each };
+      opens = opens;
     }
+
+-- What the held vertices open is found in the drawing, where nothing is held; what is opened cannot differ from it.
+pub formed-stable : (s : Setup) → Stable (WellFormed s)
+unfolding put
+formed-stable s h =
+    let none : VertexSet = record { 0 = 0 } in
+    let bare : WellFormed (put s none none) = drawn s h none none (record { each = λ v m. absurd (none-in-zero v m) }) (none-opens (s .graph)) in
+    let closed : AccessFrom (s .graph) (s .held .0) (closureOf false (s .count) (s .graph) (s .held .0)) = closure-of false (put s none none) (s .graph) bare (own-graph (put s none none) bare) (s .held .0) in
+    drawn s h (s .held) (s .opened)
+    (record { each = λ v m. lt-stable v (s .count) (λ d. h (λ w. d (w .holds .each v m))) })
+    (subst (AccessFrom (s .graph) (s .held .0)) (same-stable _ _ (λ d. h (λ w. d (closure-unique (access (s .graph)) _ _ _ closed (w .opens))))) closed)

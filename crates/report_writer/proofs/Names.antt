@@ -20,7 +20,8 @@ use Rattle.sheet_format.proofs.Tests.{and-parts}
 use Rattle.sheet_format.proofs.Documents.{docLines}
 use Rattle.sheet_format.proofs.Rows.{itemLine, edgeLine}
 use Rattle.sheet_format.proofs.Meaning.{render-lines, accepted-of-valid, valid-of-accepted, accepted-or-refused}
-use Rattle.sheet_format.proofs.Question12.{question-12}
+use Rattle.sheet_format.specs.Meaning.{Accepted, Refused}
+use Rattle.sheet_format.proofs.Question12.{yielded-formed}
 use Rattle.sheet.proofs.Names.{item-there, names-of-rows}
 use Rattle.report_facts.specs.Inner.Facts.{HasNames}
 
@@ -59,13 +60,13 @@ names-by text s d v e f = rw (e, f) (doc-names d v)
 pub accepted-yields : (text : List ℕ) (r : Reading) → r ≡ readSheet text → r .number ≡ 0 → Yields text (r .setup)
 accepted-yields text r q z =
     ⊎-elim
-    (λ a.
+    (λ (a : Accepted text).
     let e : r .setup ≡ a .setup = ap (λ (x : Reading). x .setup) (q ∙ a .reading) in
     let d = valid-of-accepted text (a .setup) (a .reading) in
     rw e
     (record {
-      formed = question-12 (a .setup) .from (text, a .reading);
+      formed = yielded-formed text (a .setup) (a .reading);
       names = names-by text (a .setup) (d .0) (d .1) (d .2) (d .3);
     }))
-    (λ f. absurd (let e = ap (λ (x : Reading). x .number) (q ∙ f .reading) in omega (arith, f .least)))
+    (λ (f : Refused text). absurd (let e = ap (λ (x : Reading). x .number) (q ∙ f .reading) in omega (arith, f .least)))
     (accepted-or-refused .either text)

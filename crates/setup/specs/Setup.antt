@@ -6,6 +6,7 @@ use Prim.Native.Nat.{ℕ, _+_, _<_}
 use lib.ListN.{length, getD, replicate}
 use lib.Count.{ones}
 use lib.Dec.{eqb}
+use Rattle.vertex_set.specs.declared.VertexSet.{VertexSet}
 use Rattle.vertex_set.specs.Set.{Member, Iff}
 use Rattle.setup.specs.declared.Kind.the-variants.{Credential}
 use Rattle.setup.specs.declared.Value.{Value}
@@ -41,6 +42,10 @@ Edge g f v c = Member (row g v c) f
 -- The graph without edges.
 unfoldable pub emptyGraph : Graph
 emptyGraph = record { rows = replicate 64 (record { needs = replicate 8 0 }) }
+
+-- The set without vertices: what is held, and what is opened, after reading.
+abbrev pub noVertices : VertexSet
+noVertices = record { 0 = 0 }
 
 -- The sum of f over a list.
 abbrev pub total {ℓ} : {A : Type ℓ} → (A → ℕ) → List A → ℕ

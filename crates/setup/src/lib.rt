@@ -49,12 +49,16 @@ pub const EMPTY: Graph = Graph {
     rows: [Rows { needs: [0; 8] }; 64],
 };
 
-// `recovery` has the rows of the recovery edges alone; each of them stands in `graph` too.
+// `recovery` has the rows of the recovery edges alone; each of them stands in `graph` too. `held` are
+// the vertices that are held at the moment, and `opened` those that they open (document 02, point
+// 8); both are empty after reading.
 pub struct Setup {
     pub count: usize,
     pub vertices: [Vertex; 64],
     pub graph: Graph,
     pub recovery: Graph,
+    pub held: VertexSet,
+    pub opened: VertexSet,
 }
 
 // The value by which a vertex counts: its start value, or for a loss its loss value.

@@ -10,6 +10,7 @@ use native.Mathlib.Omega.{arith}
 use lib.ListN.{length, take, drop}
 use borrow.Author.Tests.{le-leb, lt-leb}
 use Rattle.setup.specs.Bounds.{mostBytes}
+use Rattle.setup.specs.Setup.{noVertices}
 use Rattle.vertex_set.proofs.Cases.{false-true}
 use Rattle.sheet_format.specs.declared.Reading.{Reading}
 use Rattle.sheet_format.specs.Text.{linesOf, all}
@@ -66,7 +67,7 @@ module _ (s : List ℕ) (items : Items) where
           → ReadsRest s items (record {
             number = 0;
             line = 0;
-            setup = record { count = items .count; vertices = items .vertices; graph = edges .graph; recovery = edges .recovery };
+            setup = record { count = items .count; vertices = items .vertices; graph = edges .graph; recovery = edges .recovery; held = noVertices; opened = noVertices };
           })
       rest-yes z =
           record {

@@ -2,6 +2,7 @@
 use setup::Setup;
 use sheet_format::Reading;
 use sheet_items::Items;
+use vertex_set::VertexSet;
 ghost use mathlib.Core.Path.{_≡_};
 ghost use Prim.Native.Nat.{_+_};
 ghost use Rattle.sheet_format.specs.Read.{refused, readSheet};
@@ -20,6 +21,8 @@ fn refuse(number: u64, line: u64) -> Reading
         vertices: [sheet_rows::UNUSED; 64],
         graph: setup::EMPTY,
         recovery: setup::EMPTY,
+        held: VertexSet(0),
+        opened: VertexSet(0),
     };
     Reading {
         number,
@@ -57,6 +60,8 @@ fn read_rest(s: &[u8], items: Items) -> Reading
         vertices,
         graph,
         recovery,
+        held: VertexSet(0),
+        opened: VertexSet(0),
     };
     Reading {
         number: 0,

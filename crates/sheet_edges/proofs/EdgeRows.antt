@@ -14,7 +14,7 @@ use Rattle.vertex_set.specs.Set.{Member}
 use Rattle.vertex_set.proofs.Cases.{byTest}
 use Rattle.setup.specs.declared.Rows.{Rows}
 use Rattle.setup.specs.declared.Graph.{Graph}
-use Rattle.setup.specs.Setup.{rowsAt, row, Edge, emptyGraph}
+use Rattle.setup.specs.Setup.{rowsAt, row, Edge, emptyGraph, noVertices}
 use Rattle.sheet_format.specs.Text.{linesOf, fieldsOf, sameText}
 use Rattle.sheet_format.specs.Rows.{ItemRow, EdgeRow, Doc, Each, Known, SameEdge, numberIn, verticesOf, withEdge, withEdges, recoveryRows, setupOf}
 use Rattle.sheet_format.specs.Questions.{question4, question5Edge, question7Edge, question8, question9, isKnown, isRepeated, edgeOf}
@@ -153,7 +153,7 @@ so-far-none s start first items =
     }
 
 pub over : (s : List ℕ) (start first : ℕ) (items : List ItemRow) (graph recovery : Graph) (n at : ℕ) → SoFar s start first items graph recovery n at → length s ≤ at
-    → readLines AmongEdges (docWith items []) first (linesOf (drop start s)) ≡ accepted (record { count = length items; vertices = verticesOf items; graph = graph; recovery = recovery })
+    → readLines AmongEdges (docWith items []) first (linesOf (drop start s)) ≡ accepted (record { count = length items; vertices = verticesOf items; graph = graph; recovery = recovery; held = noVertices; opened = noVertices })
 unfolding setupOf
 over s start first items graph recovery n at f h =
     let end = over-yes (docWith items (f .edges)) (first + n) in

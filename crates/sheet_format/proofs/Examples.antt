@@ -7,7 +7,7 @@ use Prim.Native.Nat.{ℕ}
 use lib.ListN.{replicate}
 use Rattle.setup.specs.declared.Kind.the-variants.{Credential, Account}
 use Rattle.setup.specs.declared.Value.the-variants.{Blank, Of}
-use Rattle.setup.specs.Setup.{unusedVertex, emptyGraph}
+use Rattle.setup.specs.Setup.{unusedVertex, emptyGraph, noVertices}
 use Rattle.sheet_format.specs.Text.{grow, linesOf, fieldsOf, isEmpty, sameText, all}
 use Rattle.sheet_format.specs.Fields.{isDigit, isNameByte, isName, isNumber, valueBehind, numberOf, isNumberTo, digitsIn, decimal, isKind, kindOf, isValue, fieldValue}
 use Rattle.sheet_format.specs.Rows.{firstHeader, secondHeader, itemLines, edgeLines, render, startCount, lossCount, numberIn, verticesOf, withEdge, withEdges, recoveryRows, setupOf}
@@ -29,6 +29,8 @@ whole : readSheet sheet ≡ accepted (record {
       ∷ replicate 59 unusedVertex;
   graph = record { rows = replicate 3 (record { needs = replicate 8 0 }) ++ (record { needs = 2 ∷ replicate 7 0 } ∷ record { needs = 5 ∷ 8 ∷ replicate 6 0 } ∷ replicate 59 (record { needs = replicate 8 0 })) };
   recovery = record { rows = replicate 4 (record { needs = replicate 8 0 }) ++ (record { needs = 0 ∷ 8 ∷ replicate 6 0 } ∷ replicate 59 (record { needs = replicate 8 0 })) };
+  held = noVertices;
+  opened = noVertices;
 })
 unfolding grow linesOf fieldsOf isEmpty sameText all isDigit isNameByte isName isNumber valueBehind numberOf isNumberTo isKind kindOf isValue fieldValue firstHeader secondHeader startCount lossCount numberIn verticesOf emptyGraph withEdge withEdges recoveryRows setupOf question1 isTextByte endsInLF question2 question3 question10 noneEmpty question4 question5Item question5Edge itemOf edgeOf isKnown question6 question8 sameEdge isRepeated question9 question7Item question7Edge itemQuestions edgeQuestions questionsOf behind firstNo question11 unless readLines readSheet
 whole = refl

@@ -5,18 +5,18 @@ use mathlib.Core.List.{List, [], _∷_, List·Memᴰ·head, List·Memᴰ·tail, 
 use mathlib.Core.Logic.{_⊎_, inl, inr, ⊎-elim}
 use Prim.Native.Nat.{ℕ, _+_, _^_, _≤_, _<_}
 use native.Mathlib.Omega.{arith}
-use lib.ListN.{length, getD, set, replicate, length-set, length-replicate, getD-replicate, List·getD-eq-default}
-use lib.Seq.{getD-set-same, getD-set-other}
+use lib.ListN.{length, getD, replicate, length-replicate, getD-replicate, List·getD-eq-default}
 use lib.Bits.{bitOr}
 use lib.Count.{ones}
 use Rattle.vertex_set.specs.Set.{Member, Iff}
-use Rattle.vertex_set.proofs.Cases.{same-or, less-or}
+use Rattle.vertex_set.proofs.Cases.{less-or}
 use Rattle.vertex_set.proofs.Sets.{none-in-zero, in-or, in-one, ones-or-one}
 use Rattle.setup.specs.declared.Rows.{Rows}
 use Rattle.setup.specs.declared.Graph.{Graph}
-use Rattle.setup.specs.Setup.{rowsAt, rowOf, row, Edge, ShapedGraph, total, edgeCount, emptyGraph}
+use Rattle.setup.specs.Setup.{row, Edge, ShapedGraph, edgeCount, emptyGraph}
 use Rattle.setup.proofs.Graphs.{edge-place}
-use Rattle.setup.proofs.Counts.{total-set}
+use Rattle.setup.specs.Inner.{withRow}
+use Rattle.setup.proofs.OneRow as one
 use Rattle.sheet_format.specs.Rows.{ItemRow, EdgeRow, Each, numberIn, withEdge, withEdges}
 use Rattle.sheet_format.proofs.Question12Lists.{In}
 
@@ -51,66 +51,23 @@ empty-count = refl
 -- ---- one edge more
 
 module _ (g : Graph) (f v c : ℕ) (sh : ShapedGraph g) (lv : v < 64) (lc : c < 8) where
-  new : Rows
-  new = record { needs = set (rowsAt g v .needs) c (bitOr (row g v c) (2 ^ f)) }
-
-  here : rowsAt (withEdge g f v c) v ≡ new
-  unfolding withEdge new
-  here = getD-set-same (g .rows) v new (record { needs = [] }) (let p = sh .places in omega arith)
-
-  there : (u : ℕ) → (u ≡ v → ⊥) → rowsAt (withEdge g f v c) u ≡ rowsAt g u
-  unfolding withEdge new
-  there u d = getD-set-other (g .rows) v u new (record { needs = [] }) d
-
-  long : length (new .needs) ≡ 8
-  unfolding new
-  long = length-set (rowsAt g v .needs) c (bitOr (row g v c) (2 ^ f)) ∙ sh .colours v lv
-
   pub edge-shaped : ShapedGraph (withEdge g f v c)
-  unfolding withEdge new
-  edge-shaped =
-      record {
-        places = length-set (g .rows) v new ∙ sh .places;
-        colours = λ u l. ⊎-elim
-            (λ e. subst (λ (w : ℕ). length (rowsAt (withEdge g f v c) w .needs) ≡ 8) (sym e) (ap (λ (r : Rows). length (r .needs)) here ∙ long))
-            (λ d. ap (λ (r : Rows). length (r .needs)) (there u d) ∙ sh .colours u l)
-            (same-or u v);
-      }
-
-  row-here : row (withEdge g f v c) v c ≡ bitOr (row g v c) (2 ^ f)
-  unfolding new
-  row-here = ap (λ (r : Rows). rowOf r c) here ∙ getD-set-same (rowsAt g v .needs) c (bitOr (row g v c) (2 ^ f)) 0 (let p = sh .colours v lv in omega arith)
-
-  row-there : (u b : ℕ) → (u ≡ v → b ≡ c → ⊥) → row (withEdge g f v c) u b ≡ row g u b
-  unfolding new
-  row-there u b d = ⊎-elim
-      (λ e. subst (λ (w : ℕ). row (withEdge g f v c) w b ≡ row g w b) (sym e)
-      (ap (λ (r : Rows). rowOf r b) here ∙ getD-set-other (rowsAt g v .needs) c b (bitOr (row g v c) (2 ^ f)) 0 (d e)))
-      (λ n. ap (λ (r : Rows). rowOf r b) (there u n))
-      (same-or u v)
+  unfolding withEdge withRow
+  edge-shaped = one.row-shaped g v c (bitOr (row g v c) (2 ^ f)) sh lv lc
 
   -- its edges are those there were, and the new one
   pub edge-more : (a u b : ℕ) → Iff (Edge (withEdge g f v c) a u b) (Edge g a u b ⊎ ((a ≡ f) × (u ≡ v) × (b ≡ c)))
-  edge-more a u b = ⊎-elim (λ e. ⊎-elim (λ k. at e k) (λ k. beside (λ p q. k q)) (same-or b c)) (λ k. beside (λ p q. k p)) (same-or u v)
-    where
-      at : u ≡ v → b ≡ c → Iff (Edge (withEdge g f v c) a u b) (Edge g a u b ⊎ ((a ≡ f) × (u ≡ v) × (b ≡ c)))
-      at e k =
-          rw (e, k, row-here)
-          (record {
-            to = λ m. ⊎-elim (λ p. inl p) (λ p. inr (in-one f a .to p, refl, refl)) (in-or (row g v c) (2 ^ f) a .to m);
-            from = λ m. in-or (row g v c) (2 ^ f) a .from (⊎-elim (λ p. inl p) (λ p. inr (in-one f a .from (p .0))) m);
-          })
-
-      beside : (u ≡ v → b ≡ c → ⊥) → Iff (Edge (withEdge g f v c) a u b) (Edge g a u b ⊎ ((a ≡ f) × (u ≡ v) × (b ≡ c)))
-      beside d =
-          rw (row-there u b d)
-          (record { to = λ m. inl m; from = ⊎-elim (λ m. m) (λ p. absurd (d (p .1) (p .2))) })
+  unfolding withEdge withRow
+  edge-more = one.edge-more g v c (bitOr (row g v c) (2 ^ f)) sh lv lc f (λ i.
+      record {
+        to = λ m. ⊎-elim (λ p. inl p) (λ p. inr (in-one f i .to p)) (in-or (row g v c) (2 ^ f) i .to m);
+        from = λ m. in-or (row g v c) (2 ^ f) i .from (⊎-elim (λ p. inl p) (λ p. inr (in-one f i .from p)) m);
+      })
 
   pub count-more : edgeCount (withEdge g f v c) ≤ edgeCount g + 1
-  unfolding withEdge edgeCount new
+  unfolding withEdge withRow
   count-more =
-      let inner = total-set ones (rowsAt g v .needs) c (bitOr (row g v c) (2 ^ f)) 0 (let p = sh .colours v lv in omega arith) in
-      let outer = total-set (λ r. total ones (r .needs)) (g .rows) v new (record { needs = [] }) (let p = sh .places in omega arith) in
+      let count = one.row-count g v c (bitOr (row g v c) (2 ^ f)) sh lv lc in
       let more = ones-or-one f (row g v c) in
       omega arith
 

@@ -1,6 +1,6 @@
 -- A well formed setup is the one that some valid rows state.
 -- Assumes nothing.
-use mathlib.Core.Path.{_≡_, refl, sym, ap, _∙_}
+use mathlib.Core.Path.{_≡_, refl, sym, ap, subst, _∙_}
 use mathlib.Core.Bool.{true}
 use mathlib.Core.List.{List, _++_, map}
 use mathlib.Core.Logic.{⊎-elim}
@@ -16,6 +16,8 @@ use Rattle.vertex_set.proofs.Sets.{member-decided}
 use Rattle.setup.specs.declared.Vertex.{Vertex}
 use Rattle.setup.specs.declared.Setup.{Setup}
 use Rattle.setup.specs.Setup.{unusedVertex, vertexAt, rowsAt, row, Edge, given, chosenCount, emptyGraph}
+use Rattle.derivations.specs.Access.{access, AccessFrom}
+use Rattle.derivations.proofs.Closures.{closure-unique, none-opens}
 use Rattle.formed.specs.WellFormed.{WellFormed}
 use Rattle.setup.proofs.Graphs.{edge-place, edge-colour, graph-same}
 use Rattle.sheet_format.specs.Rows.{ItemRow, EdgeRow, Doc, Each, Known, ValidItem, ValidEdge, Valid, startCount, lossCount, numberIn, vertexOf, verticesOf, withEdges, recoveryRows, setupOf}
@@ -218,9 +220,21 @@ module _ (s : Setup) (w : WellFormed s) where
         text = text-length (docOf s) (omega arith) (omega arith) short-items short-edges;
       }
 
-  setup-of-doc : setupOf (docOf s) ≡ s
+  -- where nothing is held, nothing is opened, and so the rows state the whole setup
+  setup-of-doc : s .held .0 ≡ 0 → setupOf (docOf s) ≡ s
   unfolding setupOf
-  setup-of-doc = λ i. record { count = count i; vertices = same-vertices i; graph = same-graph i; recovery = same-recovery i }
+  setup-of-doc z =
+      λ i. record {
+        count = count i;
+        vertices = same-vertices i;
+        graph = same-graph i;
+        recovery = same-recovery i;
+        held = record { 0 = sym z i };
+        opened = record { 0 = closure-unique (access (s .graph)) 0 0 (s .opened .0) (none-opens (s .graph)) unheld i };
+      }
+    where
+      unheld : AccessFrom (s .graph) 0 (s .opened .0)
+      unheld = subst (λ (x : ℕ). AccessFrom (s .graph) x (s .opened .0)) z (w .opens)
 
-  pub doc-of-well-formed : (d : Doc) × Valid d × (setupOf d ≡ s)
-  doc-of-well-formed = (docOf s, valid-doc, setup-of-doc)
+  pub doc-of-well-formed : s .held .0 ≡ 0 → (d : Doc) × Valid d × (setupOf d ≡ s)
+  doc-of-well-formed z = (docOf s, valid-doc, setup-of-doc z)

@@ -9,6 +9,8 @@ use native.Mathlib.Omega.{arith}
 use lib.ListN.{length}
 use Rattle.vertex_set.specs.Set.{Iff}
 use Rattle.vertex_set.proofs.Cases.{byTest}
+use Rattle.vertex_set.proofs.Sets.{none-in-zero}
+use Rattle.derivations.proofs.Closures.{none-opens}
 use Rattle.setup.specs.Setup.{Edge, chosenCount, given, emptyGraph}
 use Rattle.formed.specs.WellFormed.{ValidVertex, WellFormed}
 use Rattle.sheet_format.specs.Rows.{ItemRow, EdgeRow, Doc, Each, ValidItem, ValidEdge, Valid, startCount, lossCount, vertexOf, withEdges, recoveryRows, setupOf}
@@ -103,4 +105,6 @@ module _ (d : Doc) (w : Valid d) where
             omega arith;
         initial = rw (vertices-total (λ x. given (x .start)) (d .items) refl) (w .starts);
         losable = rw (vertices-total (λ x. given (x .loss)) (d .items) refl) (w .losses);
+        holds = record { each = λ v m. absurd (none-in-zero v m) };
+        opens = none-opens _;
       }

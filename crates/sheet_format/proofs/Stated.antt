@@ -156,6 +156,8 @@ stated-by-rows d w =
         no-edges (setupOf d .graph) v c (λ f m. behind v l (edges d w f v c .to m .1)),
         no-edges (setupOf d .recovery) v c (λ f m. behind v l (recovery d w f v c .to m .1)),
       );
+      unheld = refl;
+      unopened = refl;
     }
   where
     behind : {f c : ℕ} {e : EdgeRow} (v : ℕ) → length (d .items) ≤ v → Joins d f v c e → ⊥
@@ -165,7 +167,14 @@ stated-by-rows d w =
 
 pub stated-unique : StatedUnique
 stated-unique d s t p q =
-    λ i. record { count = same-count i; vertices = same-vertices i; graph = same-graph i; recovery = same-recovery i }
+    λ i. record {
+      count = same-count i;
+      vertices = same-vertices i;
+      graph = same-graph i;
+      recovery = same-recovery i;
+      held = record { 0 = (p .unheld ∙ sym (q .unheld)) i };
+      opened = record { 0 = (p .unopened ∙ sym (q .unopened)) i };
+    }
   where
     same-count : s .count ≡ t .count
     same-count = p .count ∙ sym (q .count)

@@ -9,7 +9,7 @@ use lib.ListN.{length, replicate}
 use Rattle.vertex_set.specs.Set.{Iff}
 use Rattle.setup.specs.Bounds.{mostBytes}
 use Rattle.setup.specs.declared.Setup.{Setup}
-use Rattle.setup.specs.Setup.{unusedVertex, emptyGraph}
+use Rattle.setup.specs.Setup.{unusedVertex, emptyGraph, noVertices}
 use Rattle.formed.specs.WellFormed.{WellFormed}
 use Rattle.sheet_format.specs.Text.{linesOf}
 use Rattle.sheet_format.specs.Rows.{Doc, Each, Valid, render, setupOf}
@@ -113,7 +113,7 @@ pub record Accepted (s : List ℕ) : Type 0 where
 
 -- A refused sheet gives a setup of 0 items with no place in use.
 abbrev pub EmptySetup : Type 0
-EmptySetup = setupOf noRows ≡ record { count = 0; vertices = replicate 64 unusedVertex; graph = emptyGraph; recovery = emptyGraph }
+EmptySetup = setupOf noRows ≡ record { count = 0; vertices = replicate 64 unusedVertex; graph = emptyGraph; recovery = emptyGraph; held = noVertices; opened = noVertices }
 
 -- s is refused, with a number from 1 to 11 and that setup.
 pub record Refused (s : List ℕ) : Type 0 where
@@ -128,8 +128,15 @@ pub record AcceptedOrRefused : Type 0 where
   pub either : (s : List ℕ) → Accepted s ⊎ Refused s
   pub never : (s : List ℕ) → Accepted s → Refused s → ⊥
 
--- ---- question 12
+-- ---- what is held after reading
 
--- A setup is well formed, as every call tests it, exactly when some accepted sheet yields it.
-abbrev pub Question12 : Type 0
-Question12 = (s : Setup) → Iff (WellFormed s) ((text : List ℕ) × (readSheet text ≡ accepted s))
+-- Every reading, an accepted one and a refused one, holds nothing and has nothing opened (document 02, point 8).
+pub record FreshHoldsNothing : Type 0 where
+  pub held : (text : List ℕ) → readSheet text .setup .held .0 ≡ 0
+  pub opened : (text : List ℕ) → readSheet text .setup .opened .0 ≡ 0
+
+-- ---- question 12, of sheets alone
+
+-- A setup is well formed and holds nothing exactly when some accepted sheet yields it. Question 12 itself, of sheets and calls, is in `histories`.
+abbrev pub Question12Sheets : Type 0
+Question12Sheets = (s : Setup) → Iff (WellFormed s × (s .held .0 ≡ 0)) ((text : List ℕ) × (readSheet text ≡ accepted s))

@@ -12,7 +12,7 @@ use Rattle.setup.specs.declared.Value.{Value}
 use Rattle.setup.specs.declared.Vertex.{Vertex}
 use Rattle.setup.specs.declared.Graph.{Graph}
 use Rattle.setup.specs.declared.Setup.{Setup}
-use Rattle.setup.specs.Setup.{unusedVertex, rowsAt, row, emptyGraph, total, given}
+use Rattle.setup.specs.Setup.{unusedVertex, rowsAt, row, emptyGraph, total, given, noVertices}
 use Rattle.formed.specs.WellFormed.{InRange}
 use Rattle.sheet_format.specs.Text.{bytesOf, sameText}
 use Rattle.sheet_format.specs.Fields.{isName, decimal, kindText, valueText}
@@ -149,7 +149,7 @@ unfoldable pub recoveryRows : List EdgeRow → List EdgeRow
 recoveryRows [] = []
 recoveryRows (e ∷ es) = cond (e .rec) (e ∷ recoveryRows es) (recoveryRows es)
 
--- An edge marked 1 stands in both graphs.
+-- An edge marked 1 stands in both graphs. Nothing is held yet, and nothing opened.
 unfoldable pub setupOf : Doc → Setup
 setupOf d =
     record {
@@ -157,4 +157,6 @@ setupOf d =
       vertices = verticesOf (d .items);
       graph = withEdges (d .items) emptyGraph (d .edges);
       recovery = withEdges (d .items) emptyGraph (recoveryRows (d .edges));
+      held = noVertices;
+      opened = noVertices;
     }

@@ -49,6 +49,9 @@ pub record Stated (d : Doc) (s : Setup) : Type 0 where
   -- a place not in use has kind `c`, `-`, `-`, rank 0 and empty rows
   pub unused : (v : ℕ) → s .count ≤ v → vertexAt s v ≡ unusedVertex
   pub emptyRows : (v c : ℕ) → s .count ≤ v → (row (s .graph) v c ≡ 0) × (row (s .recovery) v c ≡ 0)
+  -- nothing is held, and nothing opened (document 02, point 8)
+  pub unheld : s .held .0 ≡ 0
+  pub unopened : s .opened .0 ≡ 0
 
 -- Valid rows state the setup that they yield.
 abbrev pub StatedByRows : Type 0

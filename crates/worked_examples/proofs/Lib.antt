@@ -4,6 +4,7 @@ pub mod Excluded
 pub mod Forecasts
 pub mod ForecastsExcluded
 pub mod Quick
+pub mod Living
 pub mod NextSets
 pub mod NextSetsExcluded
 pub mod Reading

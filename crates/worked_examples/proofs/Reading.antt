@@ -8,7 +8,7 @@ use Rattle.sheet_format.specs.Rows.{firstHeader, secondHeader, startCount, loss
 use Rattle.setup.specs.Setup.{emptyGraph}
 use Rattle.sheet_format.specs.Questions.{question1, isTextByte, endsInLF, question2, question3, question10, noneEmpty, question4, question5Item, question5Edge, itemOf, edgeOf, isKnown, question6, question8, sameEdge, isRepeated, question9, question7Item, question7Edge}
 use Rattle.sheet_format.specs.Read.{itemQuestions, edgeQuestions, questionsOf, behind, firstNo, question11, unless, readLines, readSheet}
-use Rattle.sheet_format.proofs.Question12.{question-12}
+use Rattle.sheet_format.proofs.Question12.{yielded-formed}
 use Rattle.worked_examples.specs.Sheets.{Sheet, Reads, AllRead, AllRefused, linesText}
 
 -- One more entry shown.
@@ -29,4 +29,4 @@ all-refused =
 
 -- question 12: what an accepted sheet yields is well formed
 pub reads-well : (x : Sheet) → Reads x → WellFormed (x .setup)
-reads-well x e = question-12 (x .setup) .from (linesText (x .lines), e)
+reads-well x e = yielded-formed (linesText (x .lines)) (x .setup) e

@@ -1,6 +1,7 @@
 pub mod Attackers
 pub mod Forecasts
 pub mod Quick
+pub mod Living
 pub mod NextSets
 pub mod Sheets
 pub mod Table

@@ -10,7 +10,7 @@ use Rattle.setup.specs.declared.Vertex.{Vertex}
 use Rattle.setup.specs.declared.Rows.{Rows}
 use Rattle.setup.specs.declared.Graph.{Graph}
 use Rattle.setup.specs.declared.Setup.{Setup}
-use Rattle.setup.specs.Setup.{unusedVertex}
+use Rattle.setup.specs.Setup.{unusedVertex, noVertices}
 use Rattle.sheet_format.specs.Text.{bytesOf}
 use Rattle.sheet_format.specs.Rows.{Each}
 use Rattle.sheet_format.specs.Read.{readSheet, accepted, refused}
@@ -78,6 +78,8 @@ bench =
             ∷ []);
         graph = graph ([] ∷ [] ∷ [] ∷ (2 ∷ []) ∷ (5 ∷ 8 ∷ []) ∷ []);
         recovery = graph ([] ∷ [] ∷ [] ∷ [] ∷ (0 ∷ 8 ∷ []) ∷ []);
+        held = noVertices;
+        opened = noVertices;
       };
     }
 
@@ -132,6 +134,8 @@ ring =
             ∷ []);
         graph = graph ((2 ∷ []) ∷ (32 ∷ []) ∷ [] ∷ (32 ∷ []) ∷ (4 ∷ 8 ∷ []) ∷ (17 ∷ []) ∷ []);
         recovery = graph [];
+        held = noVertices;
+        opened = noVertices;
       };
     }
 
@@ -164,6 +168,8 @@ alone =
         vertices = places (record { kind = Account; start = Of 5; loss = Blank; rank = 0 } ∷ []);
         graph = graph [];
         recovery = graph [];
+        held = noVertices;
+        opened = noVertices;
       };
     }
 
@@ -176,6 +182,8 @@ closed =
         vertices = places (record { kind = Account; start = Blank; loss = Blank; rank = 0 } ∷ []);
         graph = graph [];
         recovery = graph [];
+        held = noVertices;
+        opened = noVertices;
       };
     }
 
@@ -188,6 +196,8 @@ loop =
         vertices = places (record { kind = Account; start = Blank; loss = Of 4; rank = 0 } ∷ []);
         graph = graph ((1 ∷ []) ∷ []);
         recovery = graph [];
+        held = noVertices;
+        opened = noVertices;
       };
     }
 
@@ -205,6 +215,8 @@ pair =
         vertices = places (record { kind = Account; start = Blank; loss = Of 1; rank = 0 } ∷ record { kind = Account; start = Blank; loss = Of 1; rank = 0 } ∷ []);
         graph = graph ((2 ∷ []) ∷ (1 ∷ []) ∷ []);
         recovery = graph [];
+        held = noVertices;
+        opened = noVertices;
       };
     }
 
@@ -229,6 +241,8 @@ spare =
             ∷ []);
         graph = graph ([] ∷ [] ∷ (1 ∷ 0 ∷ 0 ∷ 0 ∷ 0 ∷ 0 ∷ 0 ∷ 2 ∷ []) ∷ []);
         recovery = graph ([] ∷ [] ∷ (0 ∷ 0 ∷ 0 ∷ 0 ∷ 0 ∷ 0 ∷ 0 ∷ 2 ∷ []) ∷ []);
+        held = noVertices;
+        opened = noVertices;
       };
     }
 
@@ -267,6 +281,8 @@ full =
         vertices = replicate 63 unusedVertex ++ (record { kind = Credential; start = Of 5; loss = Of 6; rank = 0 } ∷ []);
         graph = graph ((0 ∷ 0 ∷ 0 ∷ 0 ∷ 0 ∷ 0 ∷ 0 ∷ 9223372036854775808 ∷ []) ∷ []);
         recovery = graph [];
+        held = noVertices;
+        opened = noVertices;
       };
     }
 
@@ -308,6 +324,8 @@ halves =
             ∷ []);
         graph = graph ([] ∷ [] ∷ [] ∷ (1 ∷ 6 ∷ []) ∷ (7 ∷ []) ∷ []);
         recovery = graph [];
+        held = noVertices;
+        opened = noVertices;
       };
     }
 
@@ -353,6 +371,8 @@ relay =
             ∷ []);
         graph = graph ([] ∷ (1 ∷ []) ∷ [] ∷ (6 ∷ []) ∷ []);
         recovery = graph [];
+        held = noVertices;
+        opened = noVertices;
       };
     }
 
@@ -408,6 +428,8 @@ figure1 =
             ∷ []);
         graph = graph ([] ∷ [] ∷ [] ∷ [] ∷ [] ∷ (12 ∷ 20 ∷ []) ∷ (34 ∷ []) ∷ (1 ∷ 64 ∷ []) ∷ []);
         recovery = graph ([] ∷ [] ∷ [] ∷ [] ∷ [] ∷ [] ∷ [] ∷ (0 ∷ 64 ∷ []) ∷ []);
+        held = noVertices;
+        opened = noVertices;
       };
     }
 
@@ -450,6 +472,8 @@ figure6 =
             ∷ []);
         graph = graph ([] ∷ [] ∷ [] ∷ (3 ∷ []) ∷ (4 ∷ []) ∷ (8 ∷ 16 ∷ []) ∷ []);
         recovery = graph [];
+        held = noVertices;
+        opened = noVertices;
       };
     }
 
@@ -502,6 +526,8 @@ zeroed =
             ∷ []);
         graph = graph ([] ∷ [] ∷ [] ∷ [] ∷ [] ∷ (1 ∷ 6 ∷ 24 ∷ []) ∷ []);
         recovery = graph [];
+        held = noVertices;
+        opened = noVertices;
       };
     }
 
@@ -540,6 +566,8 @@ outer =
             ∷ []);
         graph = graph ([] ∷ [] ∷ [] ∷ [] ∷ [] ∷ [] ∷ (3 ∷ 12 ∷ 48 ∷ []) ∷ []);
         recovery = graph [];
+        held = noVertices;
+        opened = noVertices;
       };
     }
 
@@ -578,6 +606,8 @@ inner =
             ∷ []);
         graph = graph ([] ∷ [] ∷ [] ∷ [] ∷ [] ∷ [] ∷ (3 ∷ 12 ∷ 48 ∷ []) ∷ []);
         recovery = graph [];
+        held = noVertices;
+        opened = noVertices;
       };
     }
 
@@ -610,6 +640,8 @@ later =
             ∷ []);
         graph = graph ([] ∷ [] ∷ [] ∷ [] ∷ (3 ∷ 12 ∷ []) ∷ []);
         recovery = graph [];
+        held = noVertices;
+        opened = noVertices;
       };
     }
 

@@ -32,7 +32,7 @@ pub fn successors(graph: &Graph) -> [u64; 64] {
 }
 
 /// The twin: the closure and its number of passes, by the steps of `closures::closure`.
-fn closure(graph: &Graph, set: u64) -> (u64, usize) {
+pub fn closure(graph: &Graph, set: u64) -> (u64, usize) {
     let list = successors(graph);
     let gained = |held: u64, grown: u64| members(grown & !held).fold(0, |all, f| all | list[f]);
     let (mut held, mut grown, mut passes) = (set, set, 0);

@@ -1,20 +1,24 @@
 //! Question 12 in Rust, with which the twins of whole calls begin: the setup from its words, then the
 //! proved code's questions in its order.
 
+use crate::closing::closure;
 use crate::kinds::CHOSEN;
 use crate::twin::{Graph, Rows, VERTICES};
-use product::BLANK;
+use product::{BLANK, HELD, OPENED};
 
 /// What question 12 looks at, as the proved code has it.
+#[derive(Clone, Copy)]
 pub struct Whole {
     pub count: usize,
     /// Kind, start, loss and rank.
     vertices: [[u64; 4]; VERTICES],
     pub graph: Graph,
-    recovery: Graph,
+    pub recovery: Graph,
+    pub held: u64,
+    pub opened: u64,
 }
 
-const EDGES: u32 = brute::setup::MAX_EDGES as u32;
+pub const EDGES: u32 = brute::setup::MAX_EDGES as u32;
 /// The place of the start value; the loss value stands behind it, then the rank.
 pub const START: usize = 1;
 const LOSS: usize = 2;
@@ -30,7 +34,23 @@ impl Whole {
             vertices: std::array::from_fn(|v| std::array::from_fn(|i| words[1 + 4 * v + i])),
             graph: graph(257),
             recovery: graph(769),
+            held: words[HELD],
+            opened: words[OPENED],
         }
+    }
+
+    /// The words that say the setup, to the front of a buffer.
+    pub fn put(&self, words: &mut [u64]) {
+        words[0] = self.count as u64;
+        words[1..257].copy_from_slice(self.vertices.as_flattened());
+        words[257..769].copy_from_slice(self.graph.as_flattened());
+        words[769..HELD].copy_from_slice(self.recovery.as_flattened());
+        (words[HELD], words[OPENED]) = (self.held, self.opened);
+    }
+
+    /// How many edges there are.
+    pub fn edges(&self) -> u32 {
+        self.graph.iter().flatten().map(|row| row.count_ones()).sum()
     }
 
     /// The setup in these words, where question 12 says yes.
@@ -59,10 +79,18 @@ impl Whole {
                 return false;
             }
         }
-        let edges: u32 = self.graph.iter().flatten().map(|row| row.count_ones()).sum();
-        edges <= EDGES
+        self.edges() <= EDGES
             && self.chosen(START).count_ones() as usize <= CHOSEN
             && self.chosen(LOSS).count_ones() as usize <= CHOSEN
+            && self.holding_fits(below)
+    }
+
+    /// Are only vertices held, and is what is opened what they open? Nothing opens nothing.
+    fn holding_fits(&self, below: u64) -> bool {
+        if self.held == 0 {
+            return self.opened == 0;
+        }
+        self.held & !below == 0 && closure(&self.graph, self.held).0 == self.opened
     }
 }
 

@@ -3,7 +3,7 @@
 //! makes few rounds and writes the same files to build/bench/. `bench marking` prints the table of
 //! marks alone, `bench rows` that of the report with the most rows, `bench reports` those of reading
 //! and of reports, `bench forecast` that of forecasts,
-//! `bench next` that of next sets, `bench closing` that of closures, `bench opens` that of quick
+//! `bench next` that of next sets, `bench living` that of calls that change a setup, `bench closing` that of closures, `bench opens` that of quick
 //! answers, `bench cuts` that of cut sets, `bench intruders` that of kinds of intruder, and `bench
 //! register` that of the class register, and
 //! `bench bags` that of bag scores.
@@ -22,8 +22,10 @@ mod gate;
 mod grid;
 mod intruders;
 mod kinds;
+mod living;
 mod marking;
 mod next;
+mod older;
 mod opens;
 mod plain;
 mod programs;
@@ -84,6 +86,7 @@ fn main() -> ExitCode {
         ["reports"] => print_reports(),
         ["forecast"] => print_forecasts(),
         ["next"] => print_next_sets(),
+        ["living"] => print_living(),
         ["closing"] => print_closing(),
         ["opens"] => print_opens(),
         ["cuts"] => print_cuts(),
@@ -91,7 +94,7 @@ fn main() -> ExitCode {
         ["register"] => print_register(),
         ["bags"] => print_bags(),
         _ => {
-            eprintln!("usage: bench [quick | marking | rows | reports | forecast | next | closing | opens | cuts | intruders | register | bags]");
+            eprintln!("usage: bench [quick | marking | rows | reports | forecast | next | living | closing | opens | cuts | intruders | register | bags]");
             return ExitCode::from(2);
         }
     }
@@ -119,6 +122,9 @@ fn run(rounds: &Rounds, folder: &str) {
     show(calls::reading(rounds, &mut targets));
     show(forecast::forecasts(&kinds, rounds, &mut targets));
     show(next::next_sets(&kinds, rounds, &mut targets));
+    show(living::changes(&kinds, rounds, &mut targets));
+    show(living::against_reading(&kinds, rounds, &mut targets));
+    show(living::nothing_held(&kinds, rounds, &mut targets));
     show(closing::closures(&kinds, rounds, &mut targets));
     show(opens::quick_answers(&kinds, rounds, &mut targets));
     show(cuts::cut_sets(&kinds, rounds, &mut targets));
@@ -180,6 +186,15 @@ fn print_next_sets() {
     let mut targets = Vec::new();
     let grid = next::next_sets(&kinds::all(), &FULL, &mut targets);
     println!("{}\n{}", grid.text(), targets::grid(&targets).text());
+}
+
+fn print_living() {
+    let kinds = kinds::all();
+    let mut targets = Vec::new();
+    println!("{}", living::changes(&kinds, &FULL, &mut targets).text());
+    println!("{}", living::against_reading(&kinds, &FULL, &mut targets).text());
+    println!("{}", living::nothing_held(&kinds, &FULL, &mut targets).text());
+    println!("{}\n{}", targets::grid(&targets).text(), targets::reasons(&targets));
 }
 
 fn print_marking() {

@@ -14,6 +14,7 @@
 //! * [`next`] shows an opening list one set at a time (02, point 9).
 //! * [`register`] works the class register out from the log of its calls (02, point 12).
 //! * [`bags`] compares bags of values, and has the scores that keep their parts (02, point 6).
+//! * [`living`] has the calls that change a setup (02, point 8).
 //! * [`calls`] answers as the product's calls do: questions 12 to 17, and 21, in order, lent lists.
 //! * [`report`] prints the report's bytes and the portal's numbers.
 //! * [`cases`] makes the inputs on which the two programs are compared.
@@ -25,6 +26,7 @@ pub mod forecast;
 pub mod graph;
 pub mod kinds;
 pub mod lists;
+pub mod living;
 pub mod next;
 pub mod register;
 pub mod report;
@@ -33,5 +35,6 @@ pub mod sheet;
 
 pub use calls::{Calls, Way};
 pub use lists::{Least, Marks};
+pub use living::Edit;
 pub use setup::{Place, Setup};
 pub use sheet::{Refusal, Sheet};

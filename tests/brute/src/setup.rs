@@ -1,5 +1,6 @@
-//! The setup as plain data (01, "The sheet"), and question 12.
+//! The setup as plain data (01, "The sheet"; 02, point 8), and question 12.
 
+use crate::graph;
 use std::fmt;
 
 /// Places of a setup, and the most items of a sheet.
@@ -49,19 +50,24 @@ pub const UNUSED: Place = Place {
     recovery: [0; COLOURS],
 };
 
-/// The item count and 64 places. It has no names.
+/// The item count and 64 places, the held set and what it opens. It has no names.
 #[derive(Clone, Debug, PartialEq, Eq)]
 pub struct Setup {
     /// The number of items.
     pub count: u64,
     /// Items stand in row order; places behind them are [`UNUSED`] in a well-formed setup.
     pub places: [Place; PLACES],
+    /// The items that are held (02, point 8): none after reading.
+    pub held: u64,
+    /// What they open: nothing after reading.
+    pub opened: u64,
 }
 
-/// The count and the places that are not [`UNUSED`], for messages about malformed setups too.
+/// The count, the held set, what it opens, and the places that are not [`UNUSED`], for messages
+/// about malformed setups too.
 impl fmt::Display for Setup {
     fn fmt(&self, out: &mut fmt::Formatter<'_>) -> fmt::Result {
-        writeln!(out, "count {}", self.count)?;
+        writeln!(out, "count {}, held {:#x}, opened {:#x}", self.count, self.held, self.opened)?;
         for (number, place) in self.places.iter().enumerate().filter(|(_, place)| **place != UNUSED)
         {
             let Place { kind, start, loss, rank, rows, recovery } = place;
@@ -102,9 +108,14 @@ pub fn take_in(set: u64, item: u64) -> u64 {
 }
 
 impl Setup {
-    /// 0 items and no place in use: what a refused sheet gives.
+    /// 0 items, no place in use and nothing held: what a refused sheet gives.
     pub fn empty() -> Setup {
-        Setup { count: 0, places: [UNUSED; PLACES] }
+        Setup { count: 0, places: [UNUSED; PLACES], held: 0, opened: 0 }
+    }
+
+    /// The same drawing with nothing held, as a sheet would yield it.
+    pub fn nothing_held(&self) -> Setup {
+        Setup { held: 0, opened: 0, ..self.clone() }
     }
 
     /// The items of the setup, as a set. Only for counts up to 64.
@@ -151,8 +162,10 @@ impl Setup {
         reduced
     }
 
-    /// Question 12: is the setup one that some accepted sheet yields? No sheet's length stands
-    /// in the way: the longest sheet that keeps the other bounds has 11,626 bytes.
+    /// Question 12: is the setup one from an accepted sheet and a list of calls that change it (02,
+    /// point 8)? Some sheet states the same drawing, and the held items can be taken in one by one,
+    /// so that all of them must be items, and what is opened what they open. No sheet's length
+    /// stands in the way: the longest sheet that keeps the other bounds has 11,626 bytes.
     pub fn well_formed(&self) -> bool {
         if self.count < 1 || self.count > PLACES as u64 {
             return false;
@@ -164,6 +177,8 @@ impl Setup {
             && self.starting().len() <= MAX_STARTING
             && self.losable().len() <= MAX_LOSABLE
             && self.edges() <= MAX_EDGES
+            && within(self.held, items)
+            && self.opened == graph::closure(self, self.held)
     }
 }
 

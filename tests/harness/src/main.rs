@@ -6,6 +6,7 @@
 mod bags;
 mod compare;
 mod intruders;
+mod living;
 mod long_lists;
 mod passes;
 mod program;

@@ -3,6 +3,9 @@
 use crate::bags::{compare_bag_scores, compare_bags, compare_known_bags};
 use crate::compare::Difference;
 use crate::intruders::compare_known_kinds;
+use crate::living::{
+    compare_every_step, compare_lives, compare_living_cases, compare_short_lists, DRAWINGS,
+};
 use crate::long_lists::compare_long_lists;
 use crate::passes::compare_known_passes;
 use crate::program::Program;
@@ -10,6 +13,7 @@ use crate::setups::{compare_setup, Depth, FEW, FULL, MANY, MOST};
 use crate::sheets::{compare_report, compare_sheet};
 use crate::walks::{compare_next_cases, compare_walks};
 use brute::cases::draft::sheet_of_setup;
+use brute::cases::living::LISTS;
 use brute::cases::registers::Met;
 use brute::cases::{
     bags, bounds, buffers, cuts, damaged, forecasts, intruders, noise, random, readings, setups,
@@ -20,10 +24,15 @@ use std::time::{Duration, Instant};
 
 type Outcome = Result<(), Box<Difference>>;
 
-/// The fewest sets that the gate's walks show, and the fewest calls in them whose last set had left
-/// the list.
+/// The fewest sets that the gate's walks show, the fewest calls in them whose last set had left the
+/// list, and the fewest changes between two calls.
 const SHOWN: usize = 800;
 const LEFT: usize = 80;
+const CHANGED: usize = 3_000;
+
+/// Of the 6,561 graphs of two items and two colours, how many there are from one to the next whose lists
+/// of up to 3 calls the gate makes one by one: a number that shares no factor with 3.
+const APART: usize = 800;
 
 /// The fewest of the gate's calls on the class register, by what they came to.
 const REGISTERED: [(&str, usize); 11] = [
@@ -49,14 +58,18 @@ pub struct Counts {
     pub damaged: u64,
     pub texts: u64,
     pub setups: u64,
+    /// Lists of calls that change a setup, and such calls on all graphs of two items.
+    pub lives: u64,
+    pub steps: u64,
     pub reports: u64,
 }
 
 impl fmt::Display for Counts {
     fn fmt(&self, out: &mut fmt::Formatter<'_>) -> fmt::Result {
-        let Counts { tiny, random, bounds, damaged, texts, setups, reports } = self;
+        let Counts { tiny, random, bounds, damaged, texts, setups, lives, steps, reports } = self;
         write!(out, "{tiny} tiny sheets, {random} random ones, {bounds} at the bounds, ")?;
-        write!(out, "{damaged} damaged, {texts} other texts, {setups} setups as plain numbers; ")?;
+        write!(out, "{damaged} damaged, {texts} other texts, {setups} setups as plain numbers, ")?;
+        write!(out, "{lives} lists of calls that change one, {steps} such calls on tiny ones; ")?;
         write!(out, "{reports} whole reports")
     }
 }
@@ -113,6 +126,8 @@ impl Run {
         assert!(scores.enough(), "too few bag scores: {scores:?}");
         let walked = compare_walks(&mut self.rng, 600)?;
         assert!(walked.shown >= SHOWN && walked.left >= LEFT, "too little was walked: {walked:?}");
+        assert!(walked.changed >= CHANGED, "too little was changed: {walked:?}");
+        self.lives()?;
         for case in bounds::bounds() {
             self.counts.bounds += 1;
             self.sheet(&case, FEW, true)?;
@@ -155,14 +170,32 @@ impl Run {
             self.counts.texts += 1;
             self.sheet(&case, MANY, self.counts.texts % 8 == 0)?;
         }
-        let mut given = setups::malformed_setups(seed, 3);
-        given.extend(setups::near_misses(seed, 3));
+        // Every call is to refuse them, so that no tables are made.
+        for case in setups::malformed_setups(seed, 3) {
+            self.setup(&case, FEW)?;
+        }
+        let mut given = setups::near_misses(seed, 3);
         given.extend(setups::shaken_setups(seed, 300));
         for case in &given {
             self.setup(case, MANY)?;
         }
         let too_few = self.met.too_few(&REGISTERED);
         assert!(too_few.is_empty(), "too few of {too_few:?} were registered: {:?}", self.met);
+        Ok(())
+    }
+
+    /// Setups that live: answers worked out by hand, random lists, and all lists on graphs of two items.
+    fn lives(&mut self) -> Outcome {
+        compare_living_cases()?;
+        let met = compare_lives(&mut self.rng, LISTS)?;
+        assert!(met.too_few().is_empty(), "too few: {:?} of {met:?}", met.too_few());
+        let lengths = met.too_few_of_other_lengths();
+        assert!(lengths.is_empty(), "too few: {lengths:?} of {met:?}");
+        self.counts.lives += LISTS as u64;
+        self.counts.steps += compare_every_step()? as u64;
+        for drawing in (0..DRAWINGS).step_by(APART) {
+            self.counts.lives += compare_short_lists(drawing)? as u64;
+        }
         Ok(())
     }
 
@@ -194,6 +227,11 @@ impl Run {
             }
         }
         compare_walks(&mut self.rng, 6)?;
+        compare_lives(&mut self.rng, 10)?;
+        self.counts.lives += 10;
+        if self.rng.chance(1, 20) {
+            self.counts.lives += compare_short_lists(self.rng.number() % DRAWINGS)? as u64;
+        }
         for case in damaged::damaged_sheets(self.rng.number(), 11) {
             self.counts.damaged += 1;
             self.sheet(&case, MANY, false)?;

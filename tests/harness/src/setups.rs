@@ -2,6 +2,7 @@
 
 use crate::bags::compare_written;
 use crate::compare::{told, Difference, Subject};
+use crate::living::compare_any;
 use crate::register::{compare_afternoon, compare_register_calls};
 use crate::walks::values;
 use crate::words::words_of;
@@ -15,6 +16,7 @@ use brute::kinds::{self, Intruder, KINDS};
 use brute::lists::{Least, Marks};
 use brute::report::PORTAL_NEVER;
 use brute::setup::{holds, single, Setup, PLACES};
+use product::HELD;
 
 /// How much is asked of a setup.
 #[derive(Clone, Copy)]
@@ -31,6 +33,8 @@ pub struct Depth {
     pub pairs: usize,
     /// The calls of an afternoon; a fifth of them are made by themselves, too.
     pub register: usize,
+    /// Calls that change the setup, one of each sort first.
+    pub edits: usize,
     /// All calls on each target; otherwise some of those that are alike are left out, at random.
     pub all: bool,
 }
@@ -45,6 +49,7 @@ pub const FULL: Depth = Depth {
     handed: usize::MAX,
     pairs: 4,
     register: 30,
+    edits: 8,
     all: true,
 };
 /// For many small setups.
@@ -57,11 +62,13 @@ pub const MANY: Depth = Depth {
     handed: 1,
     pairs: 1,
     register: 6,
+    edits: 1,
     all: false,
 };
 /// For a million tiny ones.
 pub const MOST: Depth = Depth { items: 2, ..MANY };
-/// For setups at the bounds, where the brute force takes long.
+/// For setups at the bounds, where the brute force takes long, and for malformed ones, which every call
+/// is to refuse.
 pub const FEW: Depth = Depth {
     sets: 8,
     items: 5,
@@ -71,6 +78,7 @@ pub const FEW: Depth = Depth {
     handed: 4,
     pairs: 2,
     register: 6,
+    edits: 4,
     all: true,
 };
 
@@ -89,6 +97,7 @@ pub fn compare_setup(
     let Some(words) = words_of(setup) else { return Ok(false) };
     let words = in_other_words(rng, words);
     let subject = Subject { label, sheet, setup: Some(setup) };
+    compare_any(&subject, rng, &words, setup, depth.edits)?;
     let calls = Calls::new(setup);
     let mut compare = Compare { subject, words, calls: &calls, rng, depth };
     compare.all()?;
@@ -96,10 +105,21 @@ pub fn compare_setup(
     Ok(true)
 }
 
-/// The same setup in a buffer without the zeros at its end, in one with anything behind it, or with
-/// any number but 0 and 1 for the kind of an account.
+/// Compares all calls that leave a setup as it is: their answers are to be those of the brute force on
+/// the same setup with nothing held. The setup is well formed.
+pub fn compare_unheeding(label: &str, setup: &Setup, rng: &mut Rng, depth: Depth) -> Outcome {
+    let words = words_of(setup).expect("a well-formed setup can be said in words");
+    let words = in_other_words(rng, words);
+    let subject = Subject { label, sheet: None, setup: Some(setup) };
+    let calls = Calls::new(&setup.nothing_held());
+    Compare { subject, words, calls: &calls, rng, depth }.all()
+}
+
+/// The same setup in a buffer without the zeros at its end (of which older ones, where nothing is held,
+/// have two), in one with anything behind it, or with any number but 0 and 1 for the kind of an
+/// account.
 fn in_other_words(rng: &mut Rng, mut words: Vec<u64>) -> Vec<u64> {
-    match rng.below(6) {
+    match rng.below(8) {
         0 => {
             let last = words.iter().rposition(|&word| word != 0);
             words.truncate(last.map_or(0, |last| last + 1));
@@ -108,7 +128,8 @@ fn in_other_words(rng: &mut Rng, mut words: Vec<u64>) -> Vec<u64> {
             let behind = 1 + rng.below(5);
             words.extend(probes::lent_sets(rng, behind));
         }
-        2 => {
+        2 if words[HELD..] == [0, 0] => words.truncate(HELD),
+        3 => {
             let kinds = words.iter_mut().skip(1).step_by(4).take(PLACES);
             kinds.filter(|kind| **kind == 1).for_each(|kind| *kind = rng.number() | 2);
         }

@@ -11,7 +11,7 @@ use brute::report::portal_code;
 use brute::setup::Setup;
 use brute::sheet::{self, Refusal, Sheet};
 use brute::Calls;
-use product::WORDS;
+use product::{HELD, WORDS};
 
 type Outcome = Result<(), Box<Difference>>;
 
@@ -69,7 +69,8 @@ fn reading(
         Err(refusal) => (u64::from(refusal.number), refusal.line, Setup::empty()),
     };
     let words = words_of(&setup).expect("a sheet's setup can be said in words");
-    let other = *rng.pick(&[0, 1, WORDS - 1, WORDS, WORDS + 9]);
+    // An older buffer has no room for the held set and what it opens.
+    let other = *rng.pick(&[0, 1, HELD, WORDS - 1, WORDS, WORDS + 9]);
     for length in [WORDS + 1, other] {
         let lent = probes::lent_sets(rng, length);
         let (mut proved, mut brute) = (lent.clone(), lent);

@@ -1,15 +1,15 @@
 //! Opening lists shown one set at a time while the drawing changes: between two calls edges are added
-//! and removed in the setup itself, and each call is compared with the brute force on the setup of
-//! that moment.
+//! and removed by the calls that do so, and items held, and each call is compared with the brute force
+//! on the setup of that moment.
 
 use crate::compare::{told, Difference, Subject};
-use crate::words::words_of;
+use crate::living::Life;
 use brute::calls::Calls;
+use brute::cases::living::{random_edit, redrawing};
 use brute::cases::random::{large_draft, random_draft};
-use brute::cases::walks::{next_cases, redraw};
+use brute::cases::walks::next_cases;
 use brute::cases::Rng;
 use brute::next::comes_after;
-use brute::setup::Setup;
 
 type Outcome = Result<(), Box<Difference>>;
 
@@ -18,11 +18,13 @@ const STEPS: usize = 24;
 /// Every 50th walk is over a setup at the bounds.
 const LARGE_EVERY: usize = 50;
 
-/// What was walked: the sets shown, and the calls whose last set had left the list.
+/// What was walked: the sets shown, the calls whose last set had left the list, and the accepted calls
+/// that changed the setup between two of them.
 #[derive(Debug, Default)]
 pub struct Walked {
     pub shown: usize,
     pub left: usize,
+    pub changed: usize,
 }
 
 /// The answers that were worked out by hand.
@@ -54,10 +56,10 @@ pub fn compare_walks(rng: &mut Rng, count: usize) -> Result<Walked, Box<Differen
         let large = number % LARGE_EVERY == LARGE_EVERY - 1;
         let draft =
             if large { large_draft(rng, number / LARGE_EVERY) } else { random_draft(rng, number) };
-        let setup = draft.setup();
+        let life = Life::read(&draft.text(), &[]);
         let changes = [1, 4, 16][number % 3];
-        let target = rng.below(setup.count as usize) as u64;
-        walk(&label, setup, target, changes, rng, &mut walked)?;
+        let target = rng.below(life.setup.count as usize) as u64;
+        walk(&label, life, target, changes, rng, &mut walked)?;
     }
     Ok(walked)
 }
@@ -65,7 +67,7 @@ pub fn compare_walks(rng: &mut Rng, count: usize) -> Result<Walked, Box<Differen
 /// One walk from the empty set on. What is shown rises, so that nothing is shown twice.
 fn walk(
     label: &str,
-    mut setup: Setup,
+    mut life: Life,
     target: u64,
     changes: usize,
     rng: &mut Rng,
@@ -74,13 +76,16 @@ fn walk(
     let mut last = 0;
     for _ in 0..STEPS {
         for _ in 0..rng.below(changes + 1) {
-            redraw(rng, &mut setup);
+            // One in eight is any call, of which some take items in and out.
+            let any = rng.chance(1, 8);
+            let edit =
+                if any { random_edit(rng, &life.setup) } else { redrawing(rng, &life.setup) };
+            walked.changed += usize::from(life.step(label, edit, 1)? == 0);
         }
-        let words = words_of(&setup).expect("an accepted sheet's setup has words");
-        let proved = product::next_opening(&words, target, last);
-        let calls = Calls::new(&setup);
+        let proved = product::next_opening(&life.words, target, last);
+        let calls = Calls::new(&life.setup);
         let expected = calls.next_opening(target, last);
-        let subject = Subject { label, sheet: None, setup: Some(&setup) };
+        let subject = Subject { label, sheet: None, setup: Some(&life.setup) };
         let named = || format!("next_opening({target}, {last:#x})");
         subject.same(named, proved.numbers(), told(2, expected.map(values)))?;
         let listed = calls.opening_list(target).is_ok_and(|list| list.contains(&last));

@@ -3,9 +3,9 @@
 //!
 //! A setup is a buffer of [`WORDS`] plain numbers, which [`read`] writes: the count; then of each of
 //! 64 places kind (0 for a credential, any other number for an account), start, loss (or [`BLANK`])
-//! and rank; then of each place eight rows, one a colour; then the same rows of recovery edges. A
-//! shorter buffer counts as one with zeros behind it. An item is its number, a set the sum of 2^i
-//! over its items.
+//! and rank; then of each place eight rows, one a colour; then the same rows of recovery edges; then
+//! the held set and what it opens. A shorter buffer counts as one with zeros behind it: nothing is held
+//! there. An item is its number, a set the sum of 2^i over its items.
 //!
 //! This crate is all the unsafe code there is for the calls: a slice is a pointer and a length
 //! there, and the calls are proved to stay within it.
@@ -18,13 +18,17 @@ pub use results::{
 };
 
 /// How many words a setup has.
-pub const WORDS: usize = 1 + 4 * 64 + 2 * 8 * 64;
+pub const WORDS: usize = OPENED + 1;
+/// Where among them the held set stands.
+pub const HELD: usize = 1 + 4 * 64 + 2 * 8 * 64;
+/// Where the set of the items stands that the held ones open.
+pub const OPENED: usize = HELD + 1;
 /// The number that stands for a blank, and so for no value.
 pub const BLANK: u64 = u64::MAX;
 /// "Never": the score of an item that no set opens, the risk of one that no loss shuts.
 pub const NEVER: u64 = 1 << 62;
 /// The version of the header that this crate was written for.
-pub const VERSION: u64 = 20600;
+pub const VERSION: u64 = 30000;
 
 mod linked {
     use super::*;
@@ -92,6 +96,23 @@ mod linked {
             lengths: *mut u64,
             length_places: usize,
         ) -> BagScore;
+        pub fn portal_take_in(setup: *mut u64, words: usize, item: u64) -> u64;
+        pub fn portal_take_out(setup: *mut u64, words: usize, item: u64) -> u64;
+        pub fn portal_add_edge(
+            setup: *mut u64,
+            words: usize,
+            from: u64,
+            to: u64,
+            colour: u64,
+            recovery: u64,
+        ) -> u64;
+        pub fn portal_remove_edge(
+            setup: *mut u64,
+            words: usize,
+            from: u64,
+            to: u64,
+            colour: u64,
+        ) -> u64;
         pub fn portal_setup_score(setup: *const u64, words: usize, target: u64) -> SetupScore;
         pub fn portal_setup_risk(setup: *const u64, words: usize, target: u64) -> SetupRisk;
         pub fn portal_mark_openings(
@@ -164,7 +185,7 @@ pub fn name(sheet: &[u8], item: u64) -> Part {
     unsafe { linked::portal_name(sheet.as_ptr(), sheet.len(), item) }
 }
 
-/// Question 12: 0 for a setup that an accepted sheet yields, else 12.
+/// Question 12: 0 for a setup from an accepted sheet and calls that change it, else 12.
 pub fn check(setup: &[u64]) -> u64 {
     unsafe { linked::portal_check(setup.as_ptr(), setup.len()) }
 }
@@ -248,6 +269,28 @@ pub fn bag_score(setup: &[u64], target: u64, values: &mut [u64], lengths: &mut [
             lengths.len(),
         )
     }
+}
+
+/// Takes an item into the held set, and opens what it opens. 0, or 12, 13, 15; a refused call leaves
+/// every word, here and in the next three.
+pub fn take_in(setup: &mut [u64], item: u64) -> u64 {
+    unsafe { linked::portal_take_in(setup.as_mut_ptr(), setup.len(), item) }
+}
+
+/// Takes an item out of the held set; it stays open where the rest opens it. 0, or 12, 13, 15.
+pub fn take_out(setup: &mut [u64], item: u64) -> u64 {
+    unsafe { linked::portal_take_out(setup.as_mut_ptr(), setup.len(), item) }
+}
+
+/// Adds an edge, marked for recovery where that number isn't 0. 0, or 12, 13, 18, 19, 7, 15.
+pub fn add_edge(setup: &mut [u64], from: u64, to: u64, colour: u64, recovery: u64) -> u64 {
+    let (words, length) = (setup.as_mut_ptr(), setup.len());
+    unsafe { linked::portal_add_edge(words, length, from, to, colour, recovery) }
+}
+
+/// Removes an edge, whatever its mark. 0, or 12, 13, 18, 20, 15.
+pub fn remove_edge(setup: &mut [u64], from: u64, to: u64, colour: u64) -> u64 {
+    unsafe { linked::portal_remove_edge(setup.as_mut_ptr(), setup.len(), from, to, colour) }
 }
 
 /// A target's score. 12, 13.

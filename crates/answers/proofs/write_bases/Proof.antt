@@ -50,8 +50,9 @@ write-sets-requires c κs = search needs
 slice-aggregate-write-sets-2 : tie.Need-slice-aggregate-write-sets-2
 slice-aggregate-write-sets-2 c = search needs
 
+-- what is known of the lent list's length lies too far back for `search`
 mul-write-sets : tie.Need-mul-write-sets
-mul-write-sets c = search needs
+mul-write-sets c = let out = c .before .before .before .before .before .before .before .before .before .before .before .before .before .before .before .before .before .before .good .1 .1 .0 in search needs
 
 sub-write-sets : tie.Need-sub-write-sets
 sub-write-sets c = search needs

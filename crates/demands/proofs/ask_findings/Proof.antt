@@ -1,7 +1,7 @@
 use borrow.Author.Needs.{needs}
 use Rattle.demands.proofs.ask_findings.Statement.{statement}
 use Rattle.demands.proofs.ask_findings.Tie as tie
-use Rattle.demands.proofs.Outcomes.{yielded}
+use Rattle.demands.proofs.Outcomes.{reached}
 
 has-backdoor-requires : tie.Need-has-backdoor-requires
 has-backdoor-requires c κs = search needs
@@ -19,7 +19,7 @@ returns : tie.Need-returns
 returns c =
     let p = c .before in
     let i = p .before in
-    (i .before .has-backdoor .ensures, (i .ineffective-recovery .ensures, (p .inconsistent .ensures, yielded _ _ (c .well-formed .ensures))))
+    (i .before .has-backdoor .ensures, (i .ineffective-recovery .ensures, (p .inconsistent .ensures, reached _ _ (c .well-formed .ensures))))
 
 pub ask-findings-spec : {M : Type 1} → statement M
 ask-findings-spec =

@@ -10,6 +10,7 @@ use Rattle.setup.specs.declared.Vertex.{Vertex}
 use Rattle.setup.specs.declared.Rows.{Rows}
 use Rattle.setup.specs.declared.Graph.{Graph}
 use Rattle.setup.specs.Setup.{unusedVertex, rowsAt, rowOf, total, edgeCount, given, valueOf}
+use Rattle.derivations.specs.Access.{AccessFrom}
 use Rattle.formed.specs.WellFormed.{ValidVertex}
 
 -- The vertex at the place v is as its being in use, or not, wants it.
@@ -45,3 +46,8 @@ pub record VerticesFit (count : ℕ) (vertices : List Vertex) : Type 0 where
   pub each : (v : ℕ) → v < 64 → VertexFits count v (getD vertices v unusedVertex)
   pub initial : total (λ x. given (valueOf false x)) vertices ≤ mostChosen
   pub losable : total (λ x. given (valueOf true x)) vertices ≤ mostChosen
+
+-- Only vertices of the setup are held, and opened is what they open.
+pub record HoldingFits (count : ℕ) (graph : Graph) (held opened : ℕ) : Type 0 where
+  pub holds : (v : ℕ) → Member held v → v < count
+  pub opens : AccessFrom graph held opened

@@ -5,7 +5,7 @@ use Prim.Native.Nat.{ℕ, _^_}
 use lib.ListN.{length, drop, set}
 use lib.Bits.{bitOr}
 use Rattle.setup.specs.declared.Rows.{Rows}
-use Rattle.setup.specs.Setup.{rowOf}
+use Rattle.setup.specs.Setup.{rowOf, noVertices}
 use Rattle.sheet_format.specs.Text.{linesOf}
 use Rattle.sheet_format.specs.Rows.{ItemRow, verticesOf}
 use Rattle.sheet_format.specs.Read.{AmongEdges, accepted, refused, readLines}
@@ -20,6 +20,6 @@ withNeed r c f = record { needs = set (r .needs) c (bitOr (rowOf r c) (2 ^ f)) }
 pub record ReadsEdges (s : List ℕ) (start first : ℕ) (low high : List ℕ) (count : ℕ) (r : Edges) : Type 0 where
   pub taken : r .number ≡ 0 → (items : List ItemRow) → NameKeys items low high count
       → readLines AmongEdges (record { items = items; edges = [] }) first (linesOf (drop start s))
-      ≡ accepted (record { count = length items; vertices = verticesOf items; graph = r .graph; recovery = r .recovery })
+      ≡ accepted (record { count = length items; vertices = verticesOf items; graph = r .graph; recovery = r .recovery; held = noVertices; opened = noVertices })
   pub no : (r .number ≡ 0 → ⊥) → (items : List ItemRow) → NameKeys items low high count
       → readLines AmongEdges (record { items = items; edges = [] }) first (linesOf (drop start s)) ≡ refused (r .number) (r .line)

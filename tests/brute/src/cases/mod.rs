@@ -10,6 +10,7 @@ pub mod damaged;
 pub mod draft;
 pub mod forecasts;
 pub mod intruders;
+pub mod living;
 pub mod noise;
 pub mod probes;
 pub mod random;

@@ -1,12 +1,13 @@
-//! Setups that no accepted sheet yields, one for each way to be malformed, and near misses that
-//! some sheet does yield.
+//! Setups that no accepted sheet and no calls on it yield, one for each way to be malformed, and near
+//! misses that some do.
 
 use super::draft::Draft;
 use super::random::random_draft;
 use super::{Rng, SetupCase};
+use crate::graph;
 use crate::setup::{
-    Place, Setup, ACCOUNT, COLOURS, CREDENTIAL, MAX_EDGES, MAX_LOSABLE, MAX_RANK, MAX_STARTING,
-    MAX_VALUE, PLACES, UNUSED,
+    items_of, single, Place, Setup, ACCOUNT, COLOURS, CREDENTIAL, MAX_EDGES, MAX_LOSABLE, MAX_RANK,
+    MAX_STARTING, MAX_VALUE, PLACES, UNUSED,
 };
 
 /// What is done to a well-formed setup of few items.
@@ -116,6 +117,102 @@ const MALFORMED: &[(&str, Change)] = &[
     ("the last place with loss 0", |_, setup| setup.places[63].loss = Some(0)),
 ];
 
+/// The ways to be malformed by the held set and what is told to be opened (02, point 8). All else of
+/// these setups is in order.
+const MALFORMED_LIVING: &[(&str, Change)] = &[
+    ("held the item behind the last", |_, setup| {
+        setup.held = 1 << setup.count;
+        setup.opened = setup.held;
+    }),
+    ("held the item behind the last, not opened", |rng, setup| {
+        hold_some(rng, setup);
+        setup.held |= 1 << setup.count;
+    }),
+    ("held item 63 of fewer", |rng, setup| {
+        hold_some(rng, setup);
+        setup.held |= 1 << 63;
+        setup.opened |= 1 << 63;
+    }),
+    ("held everything there could be", |_, setup| (setup.held, setup.opened) = (!0, !0)),
+    ("opened one item more", |rng, setup| {
+        while setup.opened == setup.all_items() || setup.held == 0 {
+            *setup = few_items(rng);
+            hold_some(rng, setup);
+        }
+        setup.opened |= some_item(rng, setup.all_items() & !setup.opened);
+    }),
+    ("opened one item less", |rng, setup| {
+        while setup.opened == setup.held {
+            *setup = few_items(rng);
+            hold_some(rng, setup);
+        }
+        setup.opened &= !some_item(rng, setup.opened & !setup.held);
+    }),
+    ("a held item is not opened", |rng, setup| {
+        hold_one(rng, setup);
+        setup.opened &= !setup.held;
+    }),
+    ("opened the item behind the last", |rng, setup| {
+        hold_some(rng, setup);
+        setup.opened |= 1 << setup.count;
+    }),
+    ("held, and nothing opened", |rng, setup| {
+        hold_one(rng, setup);
+        setup.opened = 0;
+    }),
+    ("opened, and nothing held", |rng, setup| setup.opened = some_item(rng, setup.all_items())),
+    ("all opened, and nothing held", |_, setup| setup.opened = setup.all_items()),
+    ("what was opened, and nothing held", |rng, setup| {
+        hold_one(rng, setup);
+        setup.held = 0;
+    }),
+    ("a ring that holds itself up", |rng, setup| {
+        // The two need each other and nothing else: closed together, and opened by neither's lack.
+        *setup = ring_of(rng, 2);
+        setup.opened = 0b11;
+    }),
+    ("a longer ring that holds itself up", |rng, setup| {
+        let many = rng.between(3, 8);
+        *setup = ring_of(rng, many);
+        setup.opened = (1 << many) - 1;
+    }),
+    ("an item that holds itself up", |rng, setup| {
+        *setup = ring_of(rng, 1);
+        setup.opened = 1;
+    }),
+    ("a ring that holds itself up beside a held item", |rng, setup| {
+        *setup = ring_of(rng, 3);
+        let alone = single(setup.count as usize - 1);
+        (setup.held, setup.opened) = (alone, alone | 0b111);
+    }),
+    ("what was open before an edge made its colour harder", |_, setup| {
+        *setup = one_opens_another();
+        setup.places[1].rows[0] |= 1 << 2;
+    }),
+    ("what was open before its edge went", |_, setup| {
+        *setup = one_opens_another();
+        setup.places[1].rows[0] = 0;
+    }),
+    ("what was open before an edge opened more", |_, setup| {
+        *setup = one_opens_another();
+        setup.places[2].rows[7] = 0b10;
+    }),
+    ("opened by half of a colour", |_, setup| {
+        *setup = one_opens_another();
+        setup.places[2].rows[3] = 0b1001;
+        setup.opened |= 1 << 2;
+    }),
+    ("opened by an empty colour", |_, setup| {
+        *setup = one_opens_another();
+        setup.opened |= 1 << 3;
+    }),
+    ("opened without recovery", |_, setup| {
+        *setup = one_opens_another();
+        setup.places[1].recovery[0] = 0b1;
+        setup.opened = 0b1;
+    }),
+];
+
 /// Changes that leave a setup well formed.
 const NEAR_MISSES: &[(&str, Change)] = &[
     ("unchanged", |_, _| {}),
@@ -160,11 +257,35 @@ const NEAR_MISSES: &[(&str, Change)] = &[
             place.recovery = place.rows;
         }
     }),
+    ("one item held", |rng, setup| hold_one(rng, setup)),
+    ("some items held", |rng, setup| hold_some(rng, setup)),
+    ("the last item held", |_, setup| hold(setup, 1 << (setup.count - 1))),
+    ("all items held", |_, setup| hold(setup, setup.all_items())),
+    ("item 63 of 64 held", |_, setup| {
+        *setup = Draft::of_items(PLACES).setup();
+        hold(setup, 1 << 63);
+    }),
+    ("all of 64 held", |_, setup| {
+        *setup = Draft::of_items(PLACES).setup();
+        hold(setup, u64::MAX);
+    }),
+    ("a ring that a held item opens", |rng, setup| {
+        *setup = ring_of(rng, 4);
+        hold(setup, 0b10);
+    }),
+    ("one that opens another", |_, setup| *setup = one_opens_another()),
 ];
 
 /// Each way to be malformed, `rounds` times from different setups. Question 12 is a no.
 pub fn malformed_setups(seed: u64, rounds: usize) -> Vec<SetupCase> {
-    changed(seed, rounds, MALFORMED)
+    let mut cases = changed(seed, rounds, MALFORMED);
+    cases.extend(malformed_living(seed, rounds));
+    cases
+}
+
+/// Those of them that are malformed by the held set and what is told to be opened, alone.
+pub fn malformed_living(seed: u64, rounds: usize) -> Vec<SetupCase> {
+    changed(seed, rounds, MALFORMED_LIVING)
 }
 
 /// Near misses, `rounds` times from different setups. Question 12 is a yes.
@@ -177,6 +298,9 @@ pub fn shaken_setups(seed: u64, count: usize) -> impl Iterator<Item = SetupCase>
     let mut rng = Rng::new(seed);
     (0..count).map(move |number| {
         let mut setup = few_items(&mut rng);
+        if rng.chance(1, 3) {
+            hold_some(&mut rng, &mut setup);
+        }
         for _ in 0..rng.between(1, 2) {
             shake(&mut rng, &mut setup);
         }
@@ -207,6 +331,47 @@ fn few_items(rng: &mut Rng) -> Setup {
             return setup;
         }
     }
+}
+
+/// Holds a set, and opens what it opens.
+pub fn hold(setup: &mut Setup, held: u64) {
+    setup.held = held;
+    setup.opened = graph::closure(setup, held);
+}
+
+/// Holds any of the items.
+pub fn hold_some(rng: &mut Rng, setup: &mut Setup) {
+    let held = rng.number() & rng.number() & setup.all_items();
+    hold(setup, held);
+}
+
+/// Holds one of the items.
+fn hold_one(rng: &mut Rng, setup: &mut Setup) {
+    hold(setup, single(rng.below(setup.count as usize)));
+}
+
+/// One item of a set, which is not empty.
+fn some_item(rng: &mut Rng, set: u64) -> u64 {
+    let items: Vec<usize> = items_of(set).collect();
+    single(*rng.pick(&items))
+}
+
+/// A ring through the first items, each of which needs the next one alone, and a bare item behind it.
+fn ring_of(rng: &mut Rng, many: usize) -> Setup {
+    let mut setup = Draft::of_items(many + 1).setup();
+    let colour = rng.below(COLOURS);
+    for item in 0..many {
+        setup.places[item].rows[colour] = single((item + 1) % many);
+    }
+    setup
+}
+
+/// Four items: the first is held and opens the second, and the other two are shut.
+fn one_opens_another() -> Setup {
+    let mut setup = Draft::of_items(4).setup();
+    setup.places[1].rows[0] = 0b1;
+    hold(&mut setup, 0b1);
+    setup
 }
 
 fn some_place<'a>(rng: &mut Rng, setup: &'a mut Setup) -> &'a mut Place {
@@ -266,7 +431,7 @@ fn shake(rng: &mut Rng, setup: &mut Setup) {
     let (here, colour) = (*rng.pick(&[near, 63, 0]), rng.below(COLOURS));
     let bit = 1u64 << *rng.pick(&[near, 63, 0]);
     let place = &mut setup.places[here];
-    match rng.below(9) {
+    match rng.below(13) {
         0 => setup.count = (setup.count + 2).saturating_sub(rng.below(5) as u64),
         1 => place.kind = *rng.pick(&[CREDENTIAL, ACCOUNT, b'd']),
         2 => place.start = *rng.pick(&[None, Some(0), Some(MAX_VALUE), Some(MAX_VALUE + 1)]),
@@ -275,6 +440,16 @@ fn shake(rng: &mut Rng, setup: &mut Setup) {
         5 => place.rows[colour] ^= bit,
         6 => place.recovery[colour] ^= bit,
         7 => place.rows[colour] = 0,
+        8 => setup.held ^= bit,
+        9 => setup.opened ^= bit,
+        10 => {
+            setup.held ^= bit;
+            setup.opened ^= bit;
+        }
+        11 if setup.count <= PLACES as u64 => {
+            let held = setup.held ^ bit;
+            hold(setup, held);
+        }
         _ => {
             place.rows[colour] |= bit;
             place.recovery[colour] |= bit;

@@ -1,8 +1,7 @@
 //! Showing an opening list one set at a time (02, point 9): small sheets on which a wrong next set
-//! shows, and drawings that change between two sets.
+//! shows.
 
-use super::{Rng, SheetCase};
-use crate::setup::{holds, items_of, single, Setup, COLOURS, MAX_EDGES};
+use super::SheetCase;
 
 /// A sheet, a target of it, and what is shown after some sets: a set, or "no more".
 pub struct NextCase {
@@ -114,38 +113,4 @@ fn far_shown() -> [(u64, Answer); 5] {
     let (low, high) = (1 << 62, 1 << 63);
     let (first, second) = (Ok(Some(low)), Ok(Some(high)));
     [(0, first), (low, second), (high, Ok(None)), (low | high, Ok(None)), (1, Err(21))]
-}
-
-/// Redraws a well-formed setup: one edge is removed, or one is added that is not there. The setup
-/// stays well formed, and its items stay as they were.
-pub fn redraw(rng: &mut Rng, setup: &mut Setup) {
-    let edges = edges(setup);
-    if !edges.is_empty() && (edges.len() == MAX_EDGES || rng.chance(1, 2)) {
-        let &(from, to, colour) = rng.pick(&edges);
-        let place = &mut setup.places[to];
-        place.rows[colour] &= !single(from);
-        place.recovery[colour] &= !single(from);
-        return;
-    }
-    let count = setup.count as usize;
-    let (from, to) = (rng.below(count), rng.below(count));
-    let colours = *rng.pick(&[2, COLOURS]);
-    let colour = rng.below(colours);
-    let place = &mut setup.places[to];
-    if !holds(place.rows[colour], from) {
-        place.rows[colour] |= single(from);
-        if rng.chance(1, 4) {
-            place.recovery[colour] |= single(from);
-        }
-    }
-}
-
-/// The edges by their ends and colours.
-fn edges(setup: &Setup) -> Vec<(usize, usize, usize)> {
-    let into = |to: usize| {
-        (0..COLOURS).flat_map(move |colour| {
-            items_of(setup.places[to].rows[colour]).map(move |from| (from, to, colour))
-        })
-    };
-    (0..setup.count as usize).flat_map(into).collect()
 }

@@ -8,6 +8,7 @@ mod forecasts;
 mod generators;
 mod graphs;
 mod intruders;
+mod living;
 mod questions;
 mod quick;
 mod reading;

@@ -6,13 +6,18 @@ use brute::cases::draft::sheet_of_setup;
 use brute::cases::readings::ORDER_SHEET;
 use brute::cases::setups::{malformed_setups, near_misses, shaken_setups};
 use brute::cases::tiny::{all_marked, all_unmarked};
+use brute::living;
+use brute::setup::items_of;
 use brute::sheet::read;
-use brute::{Calls, Setup, Way};
+use brute::{Calls, Edit, Setup, Way};
 
-/// Question 12 as 01 asks it: some accepted sheet yields the setup. Names don't matter to a
-/// setup, nor does the order of edge rows, so one sheet is as good as any other.
+/// Question 12 as 02 asks it, in point 8: the setup is one from an accepted sheet and a list of calls
+/// that change it. Names don't matter to a setup, nor does the order of edge rows, nor that of what
+/// is taken in, so one sheet and one list are as good as any other.
 fn some_sheet_yields(setup: &Setup) -> bool {
-    read(&sheet_of_setup(setup)).is_ok_and(|sheet| sheet.setup == *setup)
+    let Ok(sheet) = read(&sheet_of_setup(setup)) else { return false };
+    let held: Vec<Edit> = items_of(setup.held).map(|item| Edit::TakeIn(item as u64)).collect();
+    living::run(&sheet.setup, &held).1 == *setup
 }
 
 #[test]

@@ -1,11 +1,10 @@
 //! The next set of an opening list, against answers worked out by hand and against the list itself:
-//! with no change in between the sets shown are the whole list, and they rise while it changes.
+//! with no change in between the sets shown are the whole list.
 
 use crate::{accepted, calls};
 use brute::cases::random::random_sheets;
 use brute::cases::tiny::{all_marked, all_unmarked};
-use brute::cases::walks::{next_cases, redraw};
-use brute::cases::Rng;
+use brute::cases::walks::next_cases;
 use brute::next::{comes_after, next};
 use brute::{Calls, Setup};
 
@@ -70,24 +69,4 @@ fn a_set_is_passed_over_exactly_where_it_is_not_after_the_last() {
         let after: Vec<u64> = list.into_iter().filter(|&set| comes_after(set, last)).collect();
         assert_eq!(next(&list, last), after.first().copied(), "after {last}");
     }
-}
-
-#[test]
-fn redrawn_setups_are_well_formed_and_change() {
-    let mut rng = Rng::new(9);
-    let (mut steps, mut changed) = (0, 0);
-    for case in random_sheets(22, 60) {
-        let mut setup = accepted(&case.sheet).setup;
-        let items = setup.places.map(|place| (place.kind, place.start, place.loss, place.rank));
-        for _ in 0..20 {
-            let before = setup.clone();
-            redraw(&mut rng, &mut setup);
-            assert!(setup.well_formed(), "{}", case.label);
-            let after = setup.places.map(|place| (place.kind, place.start, place.loss, place.rank));
-            assert_eq!(items, after, "{}", case.label);
-            steps += 1;
-            changed += usize::from(before != setup);
-        }
-    }
-    assert!(changed * 2 > steps, "{changed} of {steps} steps changed the drawing");
 }

@@ -1,0 +1,34 @@
+use borrow.Author.Needs.{needs}
+use Rattle.living.specs.Calls.{TakeOut}
+use Rattle.living.proofs.Calls.{hold-asked, hold-done}
+use Rattle.living.proofs.Drawing.{out-redrawn}
+use Rattle.living.proofs.take_out.Statement.{statement}
+use Rattle.living.proofs.take_out.Tie as tie
+
+ask-vertex-requires : tie.Need-ask-vertex-requires
+ask-vertex-requires c κs = search needs
+
+returns : tie.Need-returns
+returns c =
+    let k = c .before in
+    let a = k .before .args in
+    hold-asked (a .s) (a .v) (TakeOut (a .v)) (k .ask-vertex .result) (k .ask-vertex .ensures) (c .if1 .taken)
+
+let-go-requires : tie.Need-let-go-requires
+let-go-requires c κs = search needs
+
+hold-requires : tie.Need-hold-requires
+hold-requires c κs = search needs
+
+returns-2 : tie.Need-returns-2
+returns-2 c =
+    let h = c .before in
+    let e = h .before in
+    let k = e .before in
+    let a = k .before .args in
+    let y = k .ask-vertex .ensures .yes (e .if1 .left) in
+    hold-done (a .s) (a .v) (TakeOut (a .v)) (c .hold .result) (y .0) (y .1)
+    (out-redrawn (a .s) (c .hold .result) (a .v) (h .let-go .result .0) (y .0) (h .let-go .ensures) (c .hold .ensures))
+
+pub take-out-spec : {M : Type 1} → statement M
+take-out-spec = tie.close (tie.spec ask-vertex-requires returns let-go-requires hold-requires returns-2)

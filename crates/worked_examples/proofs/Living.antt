@@ -1,0 +1,257 @@
+-- The histories hold: each call's answer is computed, and the contracts leave no other.
+-- Assumes nothing.
+use mathlib.Core.Path.{_≡_, refl, sym, subst}
+use mathlib.Core.Bool.{true, false}
+use mathlib.Core.List.{List, [], _∷_}
+use mathlib.Core.Logic.{_⊎_, inl, inr, ⊎-elim}
+use Prim.Native.Nat.{ℕ, _-_, _^_, _≤_, _<_}
+use native.Mathlib.Omega.{arith}
+use lib.Count.{ones}
+use Rattle.vertex_set.specs.declared.VertexSet.{VertexSet}
+use Rattle.vertex_set.specs.Set.{Member, Iff}
+use Rattle.vertex_set.proofs.Cases.{false-true}
+use Rattle.vertex_set.proofs.Decisions.{iff-refl}
+use Rattle.vertex_set.proofs.Sets.{in-one, none-in-zero}
+use Rattle.vertex_set.proofs.Places.{in-removed}
+use Rattle.setup.specs.Bounds.{mostEdges}
+use Rattle.setup.specs.declared.Graph.{Graph}
+use Rattle.setup.specs.declared.Setup.{Setup}
+use Rattle.setup.specs.Setup.{row, Edge, edgeCount}
+use Rattle.setup.specs.Inner.{withRow}
+use Rattle.formed.specs.WellFormed.{WellFormed}
+use Rattle.derivations.specs.Access.{AccessFrom}
+use Rattle.living.specs.Calls.{Call, TakeIn, TakeOut, AddEdge, RemoveEdge, Placed, CallOf}
+use Rattle.living.specs.Inner.{RowPlace, EdgeMore, EdgeLess}
+use Rattle.living.proofs.Calls.{hold-done, hold-asked, vertex-beyond, asked-colour, add-asked, add-there, add-done, remove-missing, remove-done}
+use Rattle.living.proofs.Drawing.{let-go-other, row-place, more-shaped, more-edges, less-shaped, less-edges, add-redrawn, remove-redrawn}
+use Rattle.living.proofs.Kept.{step}
+use Rattle.reference.specs.Graphs.{GraphOf}
+use Rattle.reference.specs.Tests.{lowest, some, every, isMember, isWithin, isMeeting, withVertex}
+use Rattle.reference.specs.Closures.{isComplete, isBroken, colourOf, isAdded, passOf, passesOf, closureOf}
+use Rattle.reference.proofs.Graphs.{own-graph}
+use Rattle.reference.proofs.Closures.{closure-of}
+use Rattle.reference.proofs.Tests.{in-with}
+use Rattle.histories.proofs.Reaching.{holding}
+use Rattle.worked_examples.specs.Sheets.{Yields, bench, ordpw, mailpw, mail}
+use Rattle.worked_examples.specs.Living.{LeadsTo, AllLive}
+use Rattle.worked_examples.proofs.Reading.{_&_, all-read, reads-well}
+
+-- ---- answers, computed
+
+-- The setup with x held.
+abbrev holds : Setup → ℕ → Setup
+holds s x = holding s (record { 0 = x }) (record { 0 = closureOf false (s .count) (s .graph) x })
+
+-- The setup with other graphs.
+abbrev draws : Setup → Graph → Graph → Setup
+draws s g r =
+    record {
+      count = s .count;
+      vertices = s .vertices;
+      graph = g;
+      recovery = r;
+      held = s .held;
+      opened = record { 0 = closureOf false (s .count) g (s .held .0) };
+    }
+
+formed-after : (c : Call) (s t : Setup) → WellFormed s → CallOf c s 0 t → WellFormed t
+formed-after c s t w a = ⊎-elim (λ k. k .formed) (λ k. absurd (k .number refl)) (step s 0 t w c a)
+
+-- The graph with an edge more; the graphs without an edge that is no recovery edge.
+more : Setup → ℕ → ℕ → ℕ → Graph
+more s f v c = withRow (s .graph) v c (withVertex (row (s .graph) v c) f)
+
+less : Setup → ℕ → ℕ → ℕ → Graph
+less s f v c = withRow (s .graph) v c (row (s .graph) v c - 2 ^ f)
+
+unmarked : Setup → ℕ → ℕ → ℕ → Graph
+unmarked s f v c = withRow (s .recovery) v c (row (s .recovery) v c)
+
+module _ (s : Setup) (w : WellFormed s) where
+  takes-in : (v : ℕ) → v < s .count → CallOf (TakeIn v) s 0 (holds s (withVertex (s .held .0) v))
+  takes-in v l =
+      hold-done s v (TakeIn v) (holds s (withVertex (s .held .0) v)) w l
+      (record {
+        count = refl;
+        vertices = refl;
+        shaped = record { places = w .shaped .places; graph = w .shaped .graph; recovery = w .shaped .recovery };
+        edges = λ f u c. iff-refl;
+        marks = λ f u c. iff-refl;
+        held = in-with (s .held .0) v;
+        opened = closure-of false s (s .graph) w (own-graph s w) (withVertex (s .held .0) v);
+      })
+
+  takes-out : (v : ℕ) → v < s .count → Member (s .held .0) v → CallOf (TakeOut v) s 0 (holds s (s .held .0 - 2 ^ v))
+  takes-out v l m =
+      hold-done s v (TakeOut v) (holds s (s .held .0 - 2 ^ v)) w l
+      (record {
+        count = refl;
+        vertices = refl;
+        shaped = record { places = w .shaped .places; graph = w .shaped .graph; recovery = w .shaped .recovery };
+        edges = λ f u c. iff-refl;
+        marks = λ f u c. iff-refl;
+        held = λ i. in-removed (s .held .0) v i m;
+        opened = closure-of false s (s .graph) w (own-graph s w) (s .held .0 - 2 ^ v);
+      })
+
+  beyond : (v : ℕ) → s .count ≤ v → CallOf (TakeIn v) s 13 s
+  beyond v l = hold-asked s v (TakeIn v) 13 (vertex-beyond s v w l) (λ e. omega arith)
+
+  module _ (f v c : ℕ) (q : Placed s f v c) where
+    place : RowPlace v c
+    place = row-place s f v c w q
+
+    is-more : EdgeMore (s .graph) f v c (more s f v c)
+    unfolding more
+    is-more = record { needed = withVertex (row (s .graph) v c) f; each = in-with (row (s .graph) v c) f; is = refl }
+
+    more-graph : GraphOf s (more s f v c)
+    more-graph =
+        record {
+          shaped = more-shaped (s .graph) f v c (w .shaped .graph) place (more s f v c) is-more;
+          ends = λ a u b m. ⊎-elim (w .ends a u b) (λ e. let x = e .from in let y = e .to in let k = q .from in let l = q .to in (omega arith, omega arith))
+              (more-edges (s .graph) f v c (w .shaped .graph) place (more s f v c) is-more a u b .to m);
+        }
+
+    adds : (Edge (s .graph) f v c → ⊥) → edgeCount (s .graph) < mostEdges → CallOf (AddEdge f v c false) s 0 (draws s (more s f v c) (s .recovery))
+    adds n l =
+        add-done s f v c false (draws s (more s f v c) (s .recovery)) w q n l
+        (add-redrawn s (draws s (more s f v c) (s .recovery)) f v c w q (more s f v c) (s .recovery)
+        (record { count = refl; vertices = refl; isGraph = refl; isRecovery = refl; held = refl; opened = closure-of false s (more s f v c) w more-graph (s .held .0) })
+        false is-more (record { marked = λ e. absurd (false-true e); unmarked = λ e. refl }))
+
+    is-unmarked : (Edge (s .recovery) f v c → ⊥) → EdgeLess (s .recovery) f v c (unmarked s f v c)
+    unfolding unmarked
+    is-unmarked n = record { needed = row (s .recovery) v c; each = let-go-other (row (s .recovery) v c) f n .each; is = refl }
+
+    module _ (e : Edge (s .graph) f v c) where
+      is-less : EdgeLess (s .graph) f v c (less s f v c)
+      unfolding less
+      is-less = record { needed = row (s .graph) v c - 2 ^ f; each = λ i. in-removed (row (s .graph) v c) f i e; is = refl }
+
+      less-graph : GraphOf s (less s f v c)
+      less-graph =
+          record {
+            shaped = less-shaped (s .graph) f v c (w .shaped .graph) place (less s f v c) is-less;
+            ends = λ a u b m. w .ends a u b (less-edges (s .graph) f v c (w .shaped .graph) place (less s f v c) is-less a u b .to m .0);
+          }
+
+      removes : (Edge (s .recovery) f v c → ⊥) → CallOf (RemoveEdge f v c) s 0 (draws s (less s f v c) (unmarked s f v c))
+      removes n =
+          remove-done s f v c (draws s (less s f v c) (unmarked s f v c)) w q e
+          (remove-redrawn s (draws s (less s f v c) (unmarked s f v c)) f v c w q (less s f v c) (unmarked s f v c)
+          (record { count = refl; vertices = refl; isGraph = refl; isRecovery = refl; held = refl; opened = closure-of false s (less s f v c) w less-graph (s .held .0) })
+          is-less (is-unmarked n))
+
+-- ---- document 01's sheet, redrawn
+
+abbrev fresh : Setup
+fresh = bench .setup
+
+well : WellFormed fresh
+well = reads-well bench (all-read .0)
+
+-- the mail password is held
+abbrev one : Setup
+one = holds fresh (withVertex 0 mailpw)
+
+first : CallOf (TakeIn mailpw) fresh 0 one
+first = takes-in fresh well mailpw (omega arith)
+
+one-well : WellFormed one
+one-well = formed-after (TakeIn mailpw) fresh one well first
+
+placed : (s : Setup) → s .count ≡ 5 → Placed s ordpw mail 0
+placed s e = record { from = omega arith; to = omega arith; colour = omega arith }
+
+-- and mail needs the order password too
+abbrev two : Setup
+two = draws one (more one ordpw mail 0) (one .recovery)
+
+no-edge : Edge (one .graph) ordpw mail 0 → ⊥
+no-edge m = let e : _≡_ {A = ℕ} 0 1 = in-one 1 0 .to m in omega arith
+
+few : edgeCount (one .graph) < mostEdges
+unfolding edgeCount ones
+few = let e : edgeCount (one .graph) ≡ 4 = refl in omega arith
+
+second : CallOf (AddEdge ordpw mail 0 false) one 0 two
+second = adds one one-well ordpw mail 0 (placed one refl) no-edge few
+
+two-well : WellFormed two
+two-well = formed-after (AddEdge ordpw mail 0 false) one two one-well second
+
+-- .. and no longer
+abbrev three : Setup
+three = draws two (less two ordpw mail 0) (unmarked two ordpw mail 0)
+
+there : Edge (two .graph) ordpw mail 0
+unfolding more withRow
+there = in-with 2 ordpw ordpw .from (inr refl)
+
+no-mark : Edge (two .recovery) ordpw mail 0 → ⊥
+no-mark m = none-in-zero ordpw m
+
+third : CallOf (RemoveEdge ordpw mail 0) two 0 three
+third = removes two two-well ordpw mail 0 (placed two refl) there no-mark
+
+-- mail, which is open, is taken in, and its opener out
+abbrev four : Setup
+four = holds one (withVertex (withVertex 0 mailpw) mail)
+
+fourth : CallOf (TakeIn mail) one 0 four
+fourth = takes-in one one-well mail (omega arith)
+
+four-well : WellFormed four
+four-well = formed-after (TakeIn mail) one four one-well fourth
+
+abbrev five : Setup
+five = holds four (withVertex (withVertex 0 mailpw) mail - 2 ^ mailpw)
+
+fifth : CallOf (TakeOut mailpw) four 0 five
+fifth = takes-out four four-well mailpw (omega arith) (in-with (withVertex 0 mailpw) mail mailpw .from (inl (in-with 0 mailpw mailpw .from (inr refl))))
+
+-- .. or taken out itself
+abbrev six : Setup
+six = holds four (withVertex (withVertex 0 mailpw) mail - 2 ^ mail)
+
+sixth : CallOf (TakeOut mail) four 0 six
+sixth = takes-out four four-well mail (omega arith) (in-with (withVertex 0 mailpw) mail mail .from (inr refl))
+
+-- held already
+abbrev seven : Setup
+seven = holds one (withVertex (withVertex 0 mailpw) mailpw)
+
+seventh : CallOf (TakeIn mailpw) one 0 seven
+seventh = takes-in one one-well mailpw (omega arith)
+
+-- refused
+colour-eight : CallOf (AddEdge ordpw mail 8 false) one 18 one
+colour-eight = add-asked one ordpw mail 8 false 18 (asked-colour one ordpw mail 8 one-well (omega arith) (omega arith) (omega arith)) (λ e. omega arith)
+
+not-there : CallOf (RemoveEdge ordpw mail 0) one 20 one
+not-there = remove-missing one ordpw mail 0 one-well (placed one refl) no-edge
+
+same-edge : CallOf (AddEdge mailpw mail 0 true) fresh 19 fresh
+same-edge = add-there fresh mailpw mail 0 true well (record { from = omega arith; to = omega arith; colour = omega arith }) (in-one 1 1 .from refl)
+
+sixth-item : CallOf (TakeIn 5) one 13 one
+sixth-item = beyond one one-well 5 (omega arith)
+
+-- ---- what is held and opened then, computed
+
+pub all-live : AllLive
+unfolding lowest some every isMember isWithin isMeeting withVertex isComplete isBroken colourOf isAdded passOf passesOf closureOf more less unmarked withRow
+all-live =
+    led (record { setup = one; ran = (one, first, refl); isHeld = refl; isOpened = refl })
+    & led (record { setup = two; ran = (one, first, (two, second, refl)); isHeld = refl; isOpened = refl })
+    & led (record { setup = three; ran = (one, first, (two, second, (three, third, refl))); isHeld = refl; isOpened = refl })
+    & led (record { setup = five; ran = (one, first, (four, fourth, (five, fifth, refl))); isHeld = refl; isOpened = refl })
+    & led (record { setup = six; ran = (one, first, (four, fourth, (six, sixth, refl))); isHeld = refl; isOpened = refl })
+    & led (record { setup = seven; ran = (one, first, (seven, seventh, refl)); isHeld = refl; isOpened = refl })
+    & led (record { setup = one; ran = (one, first, (one, colour-eight, (one, not-there, refl))); isHeld = refl; isOpened = refl })
+    & led (record { setup = one; ran = (fresh, same-edge, (one, first, (one, sixth-item, refl))); isHeld = refl; isOpened = refl })
+    & tt
+  where
+    led : {calls : List Call} {numbers : List ℕ} {held opened : ℕ} → LeadsTo calls numbers held opened fresh → Yields bench (LeadsTo calls numbers held opened)
+    led l = record { setup = fresh; reading = all-read .0; holds = l }

@@ -141,6 +141,7 @@ dropping-all kept₀ low₀ high₀ n a b kept low high i left e p =
       most = let m = p .most in omega arith;
       left = λ f g k. p .part f g k ∙ ap (λ (j : ℕ). only (notAbove f g a b) (take j kept₀)) e;
       keyed = p .keyed;
+      rest = λ j h. p .rest j (omega arith);
     }
 
 -- ---- a set is taken in
@@ -159,6 +160,7 @@ module _ (kept low high : List ℕ) (n x a b : ℕ) (room : n ≤ length kept) w
           refl,
         );
         keyed = λ f g k e d. k;
+        rest = λ j h. refl;
       }
 
   -- none is
@@ -182,6 +184,7 @@ module _ (kept low high : List ℕ) (n x a b : ℕ) (room : n ≤ length kept) w
         keyed = λ f g k e h.
             let o = d .keyed f g k in
             record { isLow = stored low′ f a ll (o .isLow) (sym e); isHigh = stored high′ g b lh (o .isHigh) (sym h) };
+        rest = λ j h. let m = d .most in getD-set-other kept′ r j x 0 (λ e. omega arith) ∙ d .rest j (omega arith);
       }
     where
       stored : (q : List ℕ) (h : ℕ → ℕ) (c : ℕ) → r < length q → ((j : ℕ) → j < r → getD q j 0 ≡ h (getD kept′ j 0)) → c ≡ h x

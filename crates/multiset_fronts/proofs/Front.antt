@@ -1,13 +1,13 @@
 -- The lowest of a list of sets, by any order that can be decided, kept one by one from the list's front.
 -- Assumes nothing.
-use mathlib.Core.Path.{_≡_, refl, sym, subst}
+use mathlib.Core.Path.{_≡_, refl, sym, ap, subst}
 use mathlib.Core.Bool.{Bool, true}
-use mathlib.Core.List.{List, [], _∷_, _++_}
+use mathlib.Core.List.{List, [], _∷_, _++_, map}
 use mathlib.Core.Logic.{_⊎_, inl, inr, ⊎-elim}
 use Prim.Native.Nat.{ℕ}
 use Rattle.vertex_set.specs.Set.{Iff}
 use Rattle.vertex_set.specs.Order.{Listed, Before}
-use Rattle.vertex_set.proofs.Sorted.{listed-append, only, listed-only, sorted-append, sorted-only}
+use Rattle.vertex_set.proofs.Sorted.{listed-append, listed-map, listed-of-map, only, listed-only, sorted-append, sorted-map, sorted-only}
 use Rattle.multiset_fronts.specs.Inner.{Front}
 
 module _ (le : ℕ → ℕ → Type 0) (refl-le : (x : ℕ) → le x x) (trans-le : (x y z : ℕ) → le x y → le y z → le x z) where
@@ -57,3 +57,26 @@ module _ (le : ℕ → ℕ → Type 0) (refl-le : (x : ℕ) → le x x) (trans-l
             ordered = sorted-append Before (only keep acc) (x ∷ []) (sorted-only Before keep acc (f .ordered)) ((λ y i. absurd i), tt)
                 (λ a b i j. subst (Before a) (sym (one x b j)) (later a (f .of a (listed-only keep acc a .to i .0))));
           }
+
+-- where h keeps both orders, the images of the lowest are the lowest of the images
+module _ (le le′ : ℕ → ℕ → Type 0) (h : ℕ → ℕ) (p acc : List ℕ) (same : (x y : ℕ) → Listed p x → Listed p y → Iff (le x y) (le′ (h x) (h y)))
+    (before : (x y : ℕ) → Listed p x → Listed p y → Before x y → Before (h x) (h y)) (f : Front le p acc) where
+  images-least : (x y : ℕ) → Listed acc x → Listed p y → le′ (h y) (h x) → (h x ≡ h y) ⊎ (Before (h x) (h y) × le′ (h x) (h y))
+  images-least x y i j q =
+      let o = f .of x i in
+      ⊎-elim (λ e. inl (ap h e)) (λ k. inr (before x y o j (k .0), same x y o j .to (k .1))) (f .least x y i j (same y x j o .from q))
+
+  pub front-map : Front le′ (map h p) (map h acc)
+  front-map =
+      record {
+        of = λ x i. let a = listed-of-map h acc x i in subst (Listed (map h p)) (sym (a .2)) (listed-map h p (a .0) (f .of (a .0) (a .1)));
+        least = λ x y i j.
+            let a = listed-of-map h acc x i in
+            let b = listed-of-map h p y j in
+            rw (a .2, b .2) (images-least (a .0) (b .0) (a .1) (b .1));
+        cover = λ y j.
+            let b = listed-of-map h p y j in
+            let c = f .cover (b .0) (b .1) in
+            (h (c .0), listed-map h acc (c .0) (c .1), subst (le′ (h (c .0))) (sym (b .2)) (same (c .0) (b .0) (f .of (c .0) (c .1)) (b .1) .to (c .2)));
+        ordered = sorted-map Before Before h acc (λ x y i j. before x y (f .of x i) (f .of y j)) (f .ordered);
+      }

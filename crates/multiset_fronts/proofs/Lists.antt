@@ -4,7 +4,7 @@ use mathlib.Core.Path.{_≡_, refl, sym, ap, subst, _∙_}
 use mathlib.Core.Bool.{Bool, true, false}
 use mathlib.Core.List.{List, [], _∷_, _++_, append-nil}
 use mathlib.Core.Logic.{inl, inr}
-use Prim.Native.Nat.{ℕ, zero, suc, _+_, _<_}
+use Prim.Native.Nat.{ℕ, zero, suc, _+_, _≤_, _<_}
 use native.Mathlib.Numerals.{add-one}
 use native.Mathlib.Omega.{arith}
 use lib.ListN.{length, getD, take, set}
@@ -19,7 +19,16 @@ listed-take (x ∷ l) zero i h k = absurd (omega arith)
 listed-take (x ∷ l) (suc n) zero h k = inl refl
 listed-take (x ∷ l) (suc n) (suc i) h k = inr (listed-take l n i (omega arith) (omega arith))
 
--- and has a place there
+-- what is in the first i is in the first n, where these are no fewer
+pub listed-longer : (l : List ℕ) (i n x : ℕ) → i ≤ n → Listed (take i l) x → Listed (take n l) x
+listed-longer [] zero n x h m = absurd m
+listed-longer [] (suc i) n x h m = absurd m
+listed-longer (y ∷ l) zero n x h m = absurd m
+listed-longer (y ∷ l) (suc i) zero x h m = absurd (omega arith)
+listed-longer (y ∷ l) (suc i) (suc n) x h (inl e) = inl e
+listed-longer (y ∷ l) (suc i) (suc n) x h (inr m) = inr (listed-longer l i n x (omega arith) m)
+
+-- what is in the first n has a place there
 pub take-place : (l : List ℕ) (n y : ℕ) → Listed (take n l) y → (i : ℕ) × (i < n) × (i < length l) × (y ≡ getD l i 0)
 take-place [] zero y h = absurd h
 take-place [] (suc n) y h = absurd h

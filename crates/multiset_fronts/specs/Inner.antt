@@ -7,7 +7,9 @@ use Prim.Native.Nat.{ℕ, _+_, _≤_, _<_}
 use lib.ListN.{length, getD, take}
 use Rattle.vertex_set.specs.Order.{Listed, Before}
 use Rattle.vertex_set.proofs.Sorted.{only, Sorted}
-use Rattle.multiset_keys.specs.Inner.{Key, keyLe, SmallColumns, keyOf}
+use Rattle.families.specs.Inner.Family.{masks}
+use Rattle.family_lists.specs.Inner.Tables.{sumBy}
+use Rattle.multiset_keys.specs.Inner.{Key, keyLe, KeyTables}
 
 -- The most sets that an access base has.
 abbrev pub mostSets : ℕ
@@ -41,11 +43,12 @@ pub record Keyed (f g : ℕ → ℕ) (kept low high : List ℕ) (n : ℕ) : Type
 abbrev pub notAbove : (ℕ → ℕ) → (ℕ → ℕ) → ℕ → ℕ → ℕ → Bool
 notAbove f g a b y = not (bothLe a b (f y) (g y))
 
--- Of the first n sets, those that a, b is at most are gone, with their keys, and r are left.
+-- Of the first n sets, those that a, b is at most are gone, with their keys, and r are left. What stands behind the first n is as it was.
 pub record Dropped (kept low high kept′ low′ high′ : List ℕ) (n a b r : ℕ) : Type 0 where
   pub most : r ≤ n
   pub left : (f g : ℕ → ℕ) → Keyed f g kept low high n → take r kept′ ≡ only (notAbove f g a b) (take n kept)
   pub keyed : (f g : ℕ → ℕ) → Keyed f g kept low high n → Keyed f g kept′ low′ high′ r
+  pub rest : (j : ℕ) → n ≤ j → getD kept′ j 0 ≡ getD kept j 0
 
 -- What taking in a set asks for: keys, and room for one more set in each list.
 pub record Takes (kept low high : List ℕ) (n a b : ℕ) : Type 0 where
@@ -64,12 +67,13 @@ pub record TakenIn (kept low high kept′ low′ high′ : List ℕ) (n x a b r 
   pub most : r ≤ n + 1
   pub either : (f g : ℕ → ℕ) → Keyed f g kept low high n → f x ≡ a → g x ≡ b → Either f g (take n kept) (take r kept′) x a b
   pub keyed : (f g : ℕ → ℕ) → Keyed f g kept low high n → f x ≡ a → g x ≡ b → Keyed f g kept′ low′ high′ r
+  pub rest : (j : ℕ) → n < j → getD kept′ j 0 ≡ getD kept j 0
 
 -- ---- the lowest of a list
 
--- By their keys in the two columns, x is at most y.
-abbrev pub KeysLe : List ℕ → List ℕ → ℕ → ℕ → Type 0
-KeysLe first second x y = bothLe (keyOf first x) (keyOf second x) (keyOf first y) (keyOf second y) ≡ true
+-- By the keys that f and g give, x is at most y.
+abbrev pub KeysLe : (ℕ → ℕ) → (ℕ → ℕ) → ℕ → ℕ → Type 0
+KeysLe f g x y = bothLe (f x) (g x) (f y) (g y) ≡ true
 
 -- acc has of the sets p those to which no other is at most, of equal ones the first, in order; and for each of p it has one that is at most it.
 pub record Front (le : ℕ → ℕ → Type 0) (p acc : List ℕ) : Type 0 where
@@ -78,21 +82,16 @@ pub record Front (le : ℕ → ℕ → Type 0) (p acc : List ℕ) : Type 0 where
   pub cover : (y : ℕ) → Listed p y → (x : ℕ) × Listed acc x × le x y
   pub ordered : Sorted Before acc
 
--- The sums of the columns of every set of 64 vertices are keys.
-pub record KeyColumns (columns : List ℕ) : Type 0 where
-  pub small : SmallColumns columns
-  pub keys : (x : ℕ) → Key (keyOf columns x)
-
--- What the running list asks for: n sets in order, and room.
-pub record CanKeep (list : List ℕ) (n : ℕ) (first second kept : List ℕ) : Type 0 where
+-- What the running list asks for: n masks in order, and tables of keys.
+pub record CanKeep (list : List ℕ) (n : ℕ) (low₁ high₁ low₂ high₂ : List ℕ) : Type 0 where
   pub sets : n ≤ length list
-  pub room : n ≤ length kept
   pub few : n ≤ mostSets
+  pub small : (x : ℕ) → Listed (take n list) x → x < masks
   pub ordered : Sorted Before (take n list)
-  pub isFirst : KeyColumns first
-  pub isSecond : KeyColumns second
+  pub isFirst : KeyTables low₁ high₁
+  pub isSecond : KeyTables low₂ high₂
 
--- The first r sets of `kept` are the lowest of the first n of the list.
-pub record KeptLowest (list : List ℕ) (n : ℕ) (first second kept : List ℕ) (r : ℕ) : Type 0 where
+-- The first r masks of `kept` are, by the keys of the tables, the lowest of the first n of the list.
+pub record KeptLowest (list : List ℕ) (n : ℕ) (low₁ high₁ low₂ high₂ kept : List ℕ) (r : ℕ) : Type 0 where
   pub most : r ≤ n
-  pub front : Front (KeysLe first second) (take n list) (take r kept)
+  pub front : Front (KeysLe (sumBy low₁ high₁) (sumBy low₂ high₂)) (take n list) (take r kept)

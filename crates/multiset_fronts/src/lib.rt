@@ -89,20 +89,28 @@ fn take_in(
     left + 1
 }
 
-// Of the first n sets of the list, writes the lowest to the front of `kept`, and gives their count. By
-// the two columns a set's keys are found.
-pub fn keep_lowest(list: &[u64], n: usize, first: &[u64], second: &[u64], kept: &mut [u64]) -> usize
-    requires { ⌜ CanKeep (now list) n (now first) (now second) (now kept) ⌝ }
-    ensures { λ r. ⌜ KeptLowest (now (list .entry)) n (now (first .entry)) (now (second .entry)) (now (kept .exit)) r ⌝ }
+// Keeps of the first n masks of the list those of the lowest sets, at its front, and gives their count.
+// A mask's first key is found by the tables `low1` and `high1`, its second by the others. No more are
+// kept than were seen, so that no mask is overwritten before it was looked at.
+pub fn keep_lowest(
+    list: &mut [u64],
+    n: usize,
+    low1: &[u64],
+    high1: &[u64],
+    low2: &[u64],
+    high2: &[u64],
+) -> usize
+    requires { ⌜ CanKeep (now list) n (now low1) (now high1) (now low2) (now high2) ⌝ }
+    ensures { λ r. ⌜ KeptLowest (now (list .entry)) n (now (low1 .entry)) (now (high1 .entry)) (now (low2 .entry)) (now (high2 .entry)) (now (list .exit)) r ⌝ }
 {
-    let mut low = [0u64; MOST_SETS];
-    let mut high = [0u64; MOST_SETS];
+    let mut first = [0u64; MOST_SETS];
+    let mut second = [0u64; MOST_SETS];
     let mut count: usize = 0;
     for i in 0..n {
         let x = list[i];
-        let a = multiset_keys::key_of(first, x);
-        let b = multiset_keys::key_of(second, x);
-        count = take_in(kept, &mut low, &mut high, count, x, a, b);
+        let a = multiset_keys::key_of(low1, high1, x);
+        let b = multiset_keys::key_of(low2, high2, x);
+        count = take_in(list, &mut first, &mut second, count, x, a, b);
     }
     count
 }

@@ -1,4 +1,4 @@
--- Keys are sums of columns: the key of a set has at each threshold the count of the set's values at or above it.
+-- Keys are sums of columns: the key of a set has at each threshold the count of the set's values at or above it. Tables of sums give them.
 -- Assumes nothing.
 use mathlib.Core.Path.{_≡_, refl, sym, ap, subst, _∙_}
 use mathlib.Core.Bool.{true}
@@ -6,21 +6,21 @@ use mathlib.Core.List.{List, [], _∷_, map}
 use mathlib.Core.Logic.{⊎-elim}
 use Prim.Native.Nat.{ℕ, zero, suc, _+_, _-_, _*_, _%_, _^_, _≤_, _<_}
 use native.Mathlib.Omega.{arith}
-use lib.Count.{ones, trailingZeros, ones-le}
+use lib.Count.{ones, ones-le}
 use lib.ListN.{length, getD, drop, set, length-drop, length-set, List·getD-eq-default}
 use lib.Seq.{drop-cons, drop-length, getD-set-same, getD-set-other}
 use Rattle.vertex_set.specs.Set.{Iff}
 use Rattle.vertex_set.specs.Order.{Listed, sumBelow, sumOver}
 use Rattle.vertex_set.proofs.Cases.{less-or, same-or}
 use Rattle.vertex_set.proofs.Digits.{digit, digit-lt}
-use Rattle.vertex_set.proofs.Places.{Lowest, lowest}
-use Rattle.vertex_set.proofs.Sums.{sum-removed, sum-none, sum-bound}
 use Rattle.vertex_set.proofs.Sorted.{map-same}
+use Rattle.families.proofs.Masks.{spread, set-of}
+use Rattle.family_lists.specs.Inner.Lists.{Summable}
 use Rattle.multisets.specs.Multisets.{valuesBelow, valuesOver}
 use Rattle.multisets.specs.Meaning.{isHigh, atLeast}
 use Rattle.multisets.proofs.Counts.{is-high, not-high, at-least-most}
 use Rattle.multisets.proofs.Sets.{at-least-over, length-values}
-use Rattle.multiset_keys.specs.Inner.{packed, guards, marksOf, Columns, SmallColumns, keyOf, Key, keyLe}
+use Rattle.multiset_keys.specs.Inner.{packed, guards, marksOf, Columns, keyOf, KeysOf, KeyTables, Key, keyLe}
 use Rattle.multiset_keys.proofs.Lanes.{packed-key, packed-key-le, key-most}
 
 -- ---- a value's column
@@ -95,50 +95,15 @@ pub columns-all : (values thresholds : List ℕ) (n : ℕ) (out : List ℕ) → 
     → Columns values thresholds out
 columns-all values thresholds n out h z b = record { long = b .long; few = h; each = λ v l. b .each v (omega arith) }
 
--- ---- the sum of a set's columns
-
-pub columns-small : (values thresholds columns : List ℕ) → Columns values thresholds columns → SmallColumns columns
-columns-small values thresholds columns c =
+-- the columns can be summed up
+pub columns-sum-up : (chosen : ℕ) (values thresholds columns : List ℕ) → ones chosen ≤ 14 → Columns values thresholds columns
+    → Summable chosen (λ (v : ℕ). getD columns v 0)
+columns-sum-up chosen values thresholds columns few c =
     record {
-      long = c .long;
-      each = λ v. ⊎-elim (λ l. let e = c .each v l in let m = column-most thresholds (getD values v 0) (c .few) in omega arith)
+      few = few;
+      small = λ v m. ⊎-elim (λ l. let e = c .each v l in let m = column-most thresholds (getD values v 0) (c .few) in omega arith)
           (λ l. let e = List·getD-eq-default columns 0 {n = v} (let w = c .long in omega arith) in omega arith) (less-or v 64);
     }
-
--- the columns of the vertices of rest are still to be added
-pub record Adding (columns : List ℕ) (x key rest : ℕ) : Type 0 where
-  pub word : rest < 2 ^ 64
-  pub sum : key + keyOf columns rest ≡ keyOf columns x
-
-pub adding-none : (columns : List ℕ) (x : ℕ) → x < 2 ^ 64 → Adding columns x 0 x
-adding-none columns x h = record { word = h; sum = omega arith }
-
-module _ (columns : List ℕ) (x key rest : ℕ) (s : SmallColumns columns) (p : Adding columns x key rest) (n : rest ≡ 0 → ⊥) where
-  low : Lowest rest
-  low = lowest rest (p .word) n
-
-  removed : keyOf columns rest ≡ keyOf columns (rest - 2 ^ trailingZeros 64 rest) + getD columns (trailingZeros 64 rest) 0
-  unfolding sumOver
-  removed = sum-removed (λ (u : ℕ). getD columns u 0) 64 rest (trailingZeros 64 rest) (low .member) (low .below)
-
-  most : keyOf columns x ≤ 64 * guards 7
-  unfolding sumOver
-  most = sum-bound (λ (u : ℕ). getD columns u 0) (guards 7) 64 x (λ u k. s .each u)
-
-  pub adding-fits : key + getD columns (trailingZeros 64 rest) 0 < 2 ^ 64
-  adding-fits = let r = removed in let e = p .sum in let m = most in omega arith
-
-  pub adding-more : Adding columns x (key + getD columns (trailingZeros 64 rest) 0) (rest - (1 * 2 ^ trailingZeros 64 rest) % 2 ^ 64)
-  adding-more =
-      rw (low .power)
-      (record { word = let w = p .word in omega arith; sum = let r = removed in let e = p .sum in omega arith })
-
-key-none : (columns : List ℕ) (y : ℕ) → y ≡ 0 → keyOf columns y ≡ 0
-unfolding sumOver
-key-none columns y q = sum-none (λ (u : ℕ). getD columns u 0) 64 y q
-
-pub adding-all : (columns : List ℕ) (x key rest : ℕ) → rest ≡ 0 → Adding columns x key rest → key ≡ keyOf columns x
-adding-all columns x key rest z p = let e = key-none columns rest z in let f = p .sum in omega arith
 
 -- ---- a set's key has its counts
 
@@ -210,3 +175,12 @@ module _ (values thresholds columns : List ℕ) (c : Columns values thresholds c
 
       Counts : ℕ → ℕ → Type 0
       Counts x y = (t : ℕ) → Listed thresholds t → count x t ≤ count y t
+
+-- two tables of keys give keys
+pub key-tables : (chosen : ℕ) (values thresholds low high : List ℕ) → KeysOf chosen values thresholds low high → KeyTables low high
+key-tables chosen values thresholds low high k =
+    record {
+      fit = k .sums .fit;
+      keys = λ m l. subst Key (sym (k .sums .sum m (spread 64 chosen m) l (set-of chosen m (k .sums .word))))
+          (is-key values thresholds (k .columns) (k .are) (spread 64 chosen m));
+    }

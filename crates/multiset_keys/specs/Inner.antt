@@ -7,6 +7,9 @@ use Prim.Native.Nat.{ℕ, zero, suc, _+_, _*_, _/_, _%_, _≤_, _<_}
 use lib.Dec.{leb}
 use lib.ListN.{length, getD}
 use Rattle.vertex_set.specs.Order.{sumOver}
+use Rattle.families.specs.Inner.Family.{masks}
+use Rattle.family_lists.specs.Inner.Tables.{TablesFit, sumBy}
+use Rattle.family_lists.specs.Inner.Lists.{SumTables}
 use Rattle.multisets.specs.Meaning.{isHigh}
 
 -- The numbers of a list, 8 bits for each, the first in the lowest.
@@ -47,11 +50,17 @@ pub record Columns (values thresholds columns : List ℕ) : Type 0 where
   pub few : length thresholds ≤ 7
   pub each : (v : ℕ) → v < 64 → getD columns v 0 ≡ packed (marksOf thresholds (getD values v 0))
 
--- No column is too large for sums of 64 of them.
-pub record SmallColumns (columns : List ℕ) : Type 0 where
-  pub long : length columns ≡ 64
-  pub each : (v : ℕ) → getD columns v 0 ≤ guards 7
-
 -- The key of a set: the sum of its vertices' columns.
 abbrev pub keyOf : List ℕ → ℕ → ℕ
 keyOf columns x = sumOver (λ (v : ℕ). getD columns v 0) x
+
+-- The two tables give for each mask the key of its set.
+pub record KeysOf (chosen : ℕ) (values thresholds low high : List ℕ) : Type 0 where
+  pub columns : List ℕ
+  pub are : Columns values thresholds columns
+  pub sums : SumTables chosen (λ (v : ℕ). getD columns v 0) low high
+
+-- What the two tables give for a mask is a key.
+pub record KeyTables (low high : List ℕ) : Type 0 where
+  pub fit : TablesFit low high
+  pub keys : (m : ℕ) → m < masks → Key (sumBy low high m)

@@ -2,10 +2,14 @@
 // each threshold: how many of the set's values are at or above it. Since sets have at most 64
 // vertices, the highest bit of each lane is free.
 ghost use mathlib.Core.Path.{_≡_};
-ghost use Prim.Native.Nat.{_≤_};
+ghost use Prim.Native.Nat.{_≤_, _<_};
 ghost use lib.ListN.{length};
+ghost use lib.Count.{ones};
+ghost use Rattle.families.specs.Inner.Family.{masks};
+ghost use Rattle.family_lists.specs.Inner.Tables.{TablesFit, sumBy};
 ghost use Rattle.multisets.specs.Meaning.{isHigh};
-ghost use Rattle.multiset_keys.specs.Inner.{packed, marksOf, keyLe, Key, Columns, SmallColumns, keyOf};
+ghost use Rattle.multiset_keys.specs.Inner.{packed, marksOf, keyLe, Key, Columns, KeysOf};
+use vertex_set::VertexSet;
 
 // The free bits of the seven lanes.
 const GUARDS: u64 = 0x0080_8080_8080_8080;
@@ -36,7 +40,7 @@ fn column(value: u64, thresholds: &[u64]) -> u64
 }
 
 // The keys of all vertices' values.
-pub fn fill_columns(values: [u64; 64], thresholds: &[u64], out: &mut [u64])
+fn fill_columns(values: [u64; 64], thresholds: &[u64], out: &mut [u64])
     requires { ⌜ length (now thresholds) ≤ 7 ⌝ }
     requires { ⌜ length (now out) ≡ 64 ⌝ }
     ensures { λ _. ⌜ Columns values (now (thresholds .entry)) (now (out .exit)) ⌝ }
@@ -47,20 +51,34 @@ pub fn fill_columns(values: [u64; 64], thresholds: &[u64], out: &mut [u64])
     }
 }
 
-// The key of a set, as the sum of its vertices' columns.
-pub fn key_of(columns: &[u64], x: u64) -> u64
-    requires { ⌜ SmallColumns (now columns) ⌝ }
-    ensures { λ r. ⌜ r ≡ keyOf (now (columns .entry)) x ⌝ }
+// Fills two tables by which the key of each set of chosen vertices is found, as the sum of its
+// vertices' columns.
+pub fn fill_keys(
+    chosen: VertexSet,
+    values: [u64; 64],
+    thresholds: &[u64],
+    low: &mut [u64],
+    high: &mut [u64],
+)
+    requires { ⌜ ones (chosen .0) ≤ 14 ⌝ }
+    requires { ⌜ length (now thresholds) ≤ 7 ⌝ }
+    requires { ⌜ length (now low) ≡ 128 ⌝ }
+    requires { ⌜ length (now high) ≡ 128 ⌝ }
+    ensures { λ _. ⌜ KeysOf (chosen .0) values (now (thresholds .entry)) (now (low .exit)) (now (high .exit)) ⌝ }
 {
-    let one: u64 = 1;
-    let mut key: u64 = 0;
-    let mut rest = x;
-    while rest != 0 {
-        let v = u64::trailing_zeros(rest);
-        key = key + columns[v as usize];
-        rest = rest - (one << v);
-    }
-    key
+    let mut columns = [0u64; 64];
+    fill_columns(values, thresholds, &mut columns);
+    least_sums::sum_tables(chosen, columns, low, high);
+}
+
+// The key of a mask's set, by two tables of sums: the bits from 7 on by `high`, the others by `low`.
+pub fn key_of(low: &[u64], high: &[u64], mask: u64) -> u64
+    requires { ⌜ TablesFit (now low) (now high) ⌝ }
+    requires { ⌜ mask < masks ⌝ }
+    ensures { λ r. ⌜ r ≡ sumBy (now (low .entry)) (now (high .entry)) mask ⌝ }
+{
+    let place = mask as usize;
+    high[place / 128] + low[place % 128]
 }
 
 // Is each lane of the key a at most that of the key b? The free bits of b are set before a is taken

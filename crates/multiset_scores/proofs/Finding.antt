@@ -1,53 +1,99 @@
--- Finding the score: the base's sets are listed, compared at the values of all initial vertices, and the lowest kept.
+-- Finding the score: the masks of the base's sets are listed, compared at the values of all initial vertices, and the lowest kept.
 -- Assumes nothing.
-use mathlib.Core.Path.{_≡_, sym, ap, subst, _∙_}
+use mathlib.Core.Path.{_≡_, refl, sym, ap, subst, _∙_}
 use mathlib.Core.Bool.{false}
-use mathlib.Core.List.{List, [], _∷_, _++_}
-use Prim.Native.Nat.{ℕ, _^_, _≤_, _<_}
+use mathlib.Core.List.{List, [], _∷_, _++_, map-append}
+use Prim.Native.Nat.{ℕ, zero, suc, _+_, _/_, _^_, _≤_, _<_}
+use native.Mathlib.Nat.{pow-suc}
 use native.Mathlib.Omega.{arith}
-use lib.ListN.{length, getD, take, drop, length-append}
-use lib.Seq.{take-append-seam}
-use Rattle.vertex_set.specs.Set.{Within}
+use lib.Count.{ones}
+use lib.ListN.{length, getD, take, drop, set, length-append, length-map, length-set}
+use lib.Pow.{pow-mono}
+use lib.Seq.{take-append-seam, getD-set-other}
+use Rattle.vertex_set.specs.Set.{Iff}
 use Rattle.vertex_set.specs.Order.{Listed, Before, Ordered}
-use Rattle.vertex_set.proofs.Sorted.{Sorted}
+use Rattle.vertex_set.proofs.Sorted.{listed-map, listed-of-map, Sorted, sorted-map, sorted-ordered}
 use Rattle.setup.specs.declared.Setup.{Setup}
 use Rattle.setup.specs.Setup.{ChosenSet}
 use Rattle.formed.specs.WellFormed.{WellFormed}
-use Rattle.family_lists.specs.Inner.Lists.{Writable, WroteSets}
+use Rattle.families.specs.Inner.Family.{In, masks}
+use Rattle.families.specs.Inner.Masks.{SetOfMask}
+use Rattle.families.proofs.Masks.{spread, spread-odd, set-of, set-is, set-before}
+use Rattle.family_lists.specs.Inner.Lists.{ListOf, Writable, WroteSets}
+use Rattle.family_lists.specs.Inner.Tables.{sumBy}
 use Rattle.sums.specs.Inner.Sums.{WeightsOf}
 use Rattle.bases.specs.Base.{Base}
 use Rattle.bases.specs.Score.{Values}
 use Rattle.bases.specs.Inner.Readers.{BaseFamily}
 use Rattle.forecasts.proofs.Bounds.{longest-base}
-use Rattle.multiset_keys.specs.Inner.{Columns}
-use Rattle.multiset_fronts.specs.Inner.{mostSets, Front, CanKeep, KeptLowest}
-use Rattle.multiset_scores.specs.Inner.{ValuesLe, CanCompare, ComparedLowest, ScoreFound}
-use Rattle.multiset_scores.proofs.Thresholds.{threshold, in-halves, key-columns, front-values}
+use Rattle.multiset_keys.specs.Inner.{KeysOf}
+use Rattle.multiset_keys.proofs.Sums.{key-tables}
+use Rattle.multiset_fronts.specs.Inner.{mostSets, KeysLe, Front, CanKeep, KeptLowest}
+use Rattle.multiset_fronts.proofs.Front.{front-map}
+use Rattle.multiset_fronts.proofs.Lists.{take-more, take-stored}
+use Rattle.multiset_scores.specs.Inner.{ValuesLe, setsOf, CanCompare, ComparedLowest, Named, ScoreFound}
+use Rattle.multiset_scores.proofs.Thresholds.{threshold, in-halves, masks-values}
 use Rattle.multiset_scores.proofs.Scores.{front-points, score-of-front, few-of-front}
 
--- ---- the lowest of listed sets
+-- ---- the lowest of listed masks' sets
 
-module _ (list : List ℕ) (n initial : ℕ) (kept points ws first second : List ℕ) (p : CanCompare list n initial kept)
-    (w : WeightsOf initial (λ (v : ℕ). getD points v 0) ws) (a : Columns points (take 7 ws) first) (b : Columns points (take 7 (drop 7 ws)) second) where
-  pub can-keep : CanKeep list n first second kept
+module _ (list : List ℕ) (n initial : ℕ) (points ws a b c d : List ℕ) (p : CanCompare list n initial) (word : initial < 2 ^ 64)
+    (w : WeightsOf initial (λ (v : ℕ). getD points v 0) ws) (first : KeysOf initial points (take 7 ws) a b) (second : KeysOf initial points (take 7 (drop 7 ws)) c d) where
+  small : (x : ℕ) → Listed (take n list) x → x < masks
+  small x h = let l = p .exact x h in let m = pow-mono {i = ones initial} {j = 14} (p .few) in omega arith
+
+  pub can-keep : CanKeep list n a b c d
   can-keep =
       record {
         sets = p .sets;
-        room = p .room;
         few = p .most;
+        small = small;
         ordered = p .ordered;
-        isFirst = key-columns points (take 7 ws) first a;
-        isSecond = key-columns points (take 7 (drop 7 ws)) second b;
+        isFirst = key-tables initial points (take 7 ws) a b first;
+        isSecond = key-tables initial points (take 7 (drop 7 ws)) c d second;
       }
 
-  pub compared-lowest : initial < 2 ^ 64 → (kept′ : List ℕ) (r : ℕ) → KeptLowest list n first second kept′ r → ComparedLowest list n initial points kept′ r
-  compared-lowest word kept′ r k =
+  pub compared-lowest : (kept : List ℕ) (r : ℕ) → KeptLowest list n a b c d kept r → ComparedLowest list n initial points kept r
+  compared-lowest kept r k =
       record {
         most = k .most;
-        front = λ inside. front-values points (take 7 ws) (take 7 (drop 7 ws)) first second a b initial
-            (λ v m. in-halves ws (w .long) (getD points v 0) (threshold initial (λ (v : ℕ). getD points v 0) ws w (p .few) word v m))
-            (take n list) (take r kept′) inside (k .front);
+        front = front-map (KeysLe (sumBy a b) (sumBy c d)) (ValuesLe points) (spread 64 initial) (take n list) (take r kept)
+            (λ x y i j. same x y (small x i) (small y j))
+            (λ x y i j. set-before initial x y _ _ word (p .exact x i) (p .exact y j) (set-of initial x word) (set-of initial y word)) (k .front);
       }
+    where
+      same : (x y : ℕ) → x < masks → y < masks → Iff (KeysLe (sumBy a b) (sumBy c d) x y) (ValuesLe points (spread 64 initial x) (spread 64 initial y))
+      same =
+          masks-values points (take 7 ws) (take 7 (drop 7 ws)) (first .columns) (second .columns) (first .are) (second .are) initial
+          (λ v m. in-halves ws (w .long) (getD points v 0) (threshold initial (λ (v : ℕ). getD points v 0) ws w (p .few) word v m))
+          (sumBy a b) (sumBy c d) (λ m l. first .sums .sum m (spread 64 initial m) l (set-of initial m word))
+          (λ m l. second .sums .sum m (spread 64 initial m) l (set-of initial m word)) word
+
+-- ---- masks in the places of sets
+
+-- The sets of the masks before place i stand there; from i on stand masks.
+pub record Naming (initial : ℕ) (kept₀ : List ℕ) (i : ℕ) (kept : List ℕ) : Type 0 where
+  pub long : length kept ≡ length kept₀
+  pub done : take i kept ≡ setsOf initial (take i kept₀)
+  pub rest : (j : ℕ) → i ≤ j → getD kept j 0 ≡ getD kept₀ j 0
+
+pub naming-none : (initial : ℕ) (kept : List ℕ) → Naming initial kept 0 kept
+naming-none initial kept = record { long = refl; done = refl; rest = λ j h. refl }
+
+pub naming-more : (initial : ℕ) (kept₀ : List ℕ) (i : ℕ) (kept : List ℕ) → initial < 2 ^ 64 → i < length kept₀ → Naming initial kept₀ i kept
+    → (x : ℕ) → SetOfMask initial (getD kept i 0) x → Naming initial kept₀ (i + 1) (set kept i x)
+naming-more initial kept₀ i kept word l p x s =
+    record {
+      long = length-set kept i x ∙ p .long;
+      done = take-stored kept i x (let e = p .long in omega arith)
+          ∙ (ap (λ (q : List ℕ). q ++ (x ∷ [])) (p .done)
+          ∙ (ap (λ (z : ℕ). setsOf initial (take i kept₀) ++ (z ∷ [])) (set-is initial (getD kept i 0) x word s ∙ ap (spread 64 initial) (p .rest i (omega arith)))
+          ∙ (sym (map-append (spread 64 initial) (take i kept₀) (getD kept₀ i 0 ∷ [])) ∙ ap (setsOf initial) (sym (take-more kept₀ i l)))));
+      rest = λ j h. getD-set-other kept i j x 0 (λ e. omega arith) ∙ p .rest j (omega arith);
+    }
+
+pub naming-all : (initial : ℕ) (kept₀ : List ℕ) (n i : ℕ) (kept : List ℕ) → i ≡ n → Naming initial kept₀ i kept → Named initial kept₀ n kept
+naming-all initial kept₀ n i kept e p = record { are = subst (λ (j : ℕ). take j kept ≡ setsOf initial (take j kept₀)) e (p .done) }
 
 -- ---- the base listed
 
@@ -55,46 +101,98 @@ ordered-sorted : (l : List ℕ) → Ordered l → Sorted Before l
 ordered-sorted [] o = tt
 ordered-sorted (x ∷ l) o = (o .0, ordered-sorted l (o .1))
 
-module _ (s : Setup) (target initial : ℕ) (wf : WellFormed s) (m : List ℕ) (k : ℕ) (f : BaseFamily false s (s .graph) target initial m k) where
-  pub can-list : (places : ℕ) → places ≡ mostSets → Writable initial m places
+-- over the first n vertices a mask of n bits stands for itself
+spread-none : (k m : ℕ) → spread k 0 m ≡ 0
+unfolding spread
+spread-none zero m = refl
+spread-none (suc k) m = let r = spread-none k m in omega arith
+
+spread-own : (k n c m : ℕ) → n ≤ k → c + 1 ≡ 2 ^ n → m < 2 ^ n → spread k c m ≡ m
+unfolding spread
+spread-own zero n c m h e l = let z : n ≡ 0 = omega arith in let q : m < 2 ^ 0 = rw z at l in omega arith
+spread-own (suc k) zero c m h e l =
+    let z : c ≡ 0 = omega arith in
+    ap (λ (y : ℕ). spread (suc k) y m) z ∙ (spread-none (suc k) m ∙ omega arith)
+spread-own (suc k) (suc n) c m h e l =
+    let p = pow-suc 2 n in
+    let r = spread-own k n (c / 2) (m / 2) (omega arith) (omega arith) (omega arith) in
+    spread-odd k c m (omega arith) ∙ omega arith
+
+own-set : (m x : ℕ) → m < masks → SetOfMask 16383 m x → x ≡ m
+own-set m x l s = set-is 16383 m x (omega arith) s ∙ spread-own 64 14 16383 m (omega arith) refl l
+
+module _ (s : Setup) (target initial : ℕ) (wf : WellFormed s) (word : initial < 2 ^ 64) (m : List ℕ) (k : ℕ) (f : BaseFamily false s (s .graph) target initial m k) where
+  pub can-list : (places : ℕ) → places ≡ mostSets → Writable 16383 m places
+  unfolding ones
   can-list places e =
       record {
         words = f .words;
-        few = f .few;
-        exact = f .exact;
+        few = omega arith;
+        exact = record { below = λ x l i. l };
         room = let a = f .count in let b = f .counted in let c = longest-base false s (s .graph) target (f .base) wf (f .isBase) in omega arith;
       }
 
-  module _ (entry : List ℕ) (n : ℕ) (exit : List ℕ) (w : WroteSets initial m entry n exit) where
+  module _ (entry : List ℕ) (n : ℕ) (exit : List ℕ) (w : WroteSets 16383 m entry n exit) where
     listed : take n exit ≡ w .list
     listed = ap (λ (l : List ℕ). take n l) (w .wrote) ∙ (ap (λ (j : ℕ). take j (w .list ++ drop (length (w .list)) entry)) (w .count) ∙ take-append-seam (w .list) (drop (length (w .list)) entry))
 
-    base : Base false s (s .graph) target (w .list)
-    base = f .each (w .list) (w .is)
+    -- what is listed are the masks of the family
+    member : (x : ℕ) → Listed (w .list) x → (x < masks) × In m x
+    member x h =
+        let r = w .is .sound x h in
+        let e = own-set (r .0) x (r .1) (r .3) in
+        (subst (λ (z : ℕ). z < masks) (sym e) (r .1), subst (In m) (sym e) (r .2))
 
-    few-sets : n ≤ mostSets
-    few-sets = let a = w .count in let b = longest-base false s (s .graph) target (w .list) wf base in omega arith
+    exact : (x : ℕ) → Listed (w .list) x → x < 2 ^ ones initial
+    exact x h = let r = member x h in f .exact .below x (r .0) (r .1)
 
-    pub can-compare : (kept : List ℕ) → length kept ≡ mostSets → CanCompare exit n initial kept
-    can-compare kept e =
+    sets-listed : ListOf initial m (setsOf initial (w .list))
+    sets-listed =
         record {
-          sets = let a = ap length (w .wrote) in let b = length-append (w .list) (drop (length (w .list)) entry) in let c = w .count in omega arith;
-          room = let a = few-sets in omega arith;
-          most = few-sets;
-          few = f .few;
-          ordered = subst (Sorted Before) (sym listed) (ordered-sorted (w .list) (base .ordered));
+          sound = λ x h.
+              let r = listed-of-map (spread 64 initial) (w .list) x h in
+              let q = member (r .0) (r .1) in
+              (r .0, q .0, q .1, subst (SetOfMask initial (r .0)) (sym (r .2)) (set-of initial (r .0) word));
+          whole = λ x l i.
+              let r = w .is .whole x l i in
+              (spread 64 initial x, listed-map (spread 64 initial) (w .list) x (subst (Listed (w .list)) (own-set x (r .0) l (r .2)) (r .1)), set-of initial x word);
+          ordered = sorted-ordered (setsOf initial (w .list)) (sorted-map Before Before (spread 64 initial) (w .list)
+              (λ x y i j. set-before initial x y _ _ word (exact x i) (exact y j) (set-of initial x word) (set-of initial y word))
+              (ordered-sorted (w .list) (w .is .ordered)));
         }
 
-    pub score-found : (points : List ℕ) → Values false s points → ChosenSet false s initial → initial < 2 ^ 64 → (kept : List ℕ) (r : ℕ) → length kept ≡ mostSets
-        → ComparedLowest exit n initial points kept r → ScoreFound s target kept r
-    score-found points p ch word kept r long c =
-        let inside : (x : ℕ) → Listed (w .list) x → Within x initial = λ x h. record { each = λ v i. ch .each v .from (base .sound x h .is .chosen v i) } in
-        let g : Front (ValuesLe points) (w .list) (take r kept) =
-        subst (λ (l : List ℕ). Front (ValuesLe points) l (take r kept)) listed (c .front (subst (λ (l : List ℕ). (x : ℕ) → Listed l x → Within x initial) (sym listed) inside)) in
-        let h = front-points s points p (w .list) (take r kept) g in
+    base : Base false s (s .graph) target (setsOf initial (w .list))
+    base = f .each (setsOf initial (w .list)) sets-listed
+
+    few-sets : n ≤ mostSets
+    few-sets =
+        let a = w .count in
+        let b = length-map (w .list) (spread 64 initial) in
+        let c = longest-base false s (s .graph) target (setsOf initial (w .list)) wf base in omega arith
+
+    pub can-compare : CanCompare exit n initial
+    can-compare =
+        record {
+          sets = let a = ap length (w .wrote) in let b = length-append (w .list) (drop (length (w .list)) entry) in let c = w .count in omega arith;
+          most = few-sets;
+          few = f .few;
+          exact = λ x h. exact x (subst (λ (l : List ℕ). Listed l x) listed h);
+          ordered = subst (Sorted Before) (sym listed) (ordered-sorted (w .list) (w .is .ordered));
+        }
+
+    pub few-left : (points kept : List ℕ) (r : ℕ) → ComparedLowest exit n initial points kept r → r ≤ mostSets
+    few-left points kept r c = let a = few-sets in let b = c .most in omega arith
+
+    pub score-found : (points : List ℕ) → Values false s points → ChosenSet false s initial → (kept kept′ : List ℕ) (r : ℕ) → length kept′ ≡ mostSets
+        → ComparedLowest exit n initial points kept r → Named initial kept r kept′ → ScoreFound s target kept′ r
+    score-found points p ch kept kept′ r long c t =
+        let g : Front (ValuesLe points) (setsOf initial (w .list)) (take r kept′) =
+        subst (λ (l : List ℕ). Front (ValuesLe points) (setsOf initial l) (take r kept′)) listed
+        (subst (Front (ValuesLe points) (setsOf initial (take n exit))) (sym (t .are)) (c .front)) in
+        let h = front-points s points p (setsOf initial (w .list)) (take r kept′) g in
         record {
           long = long;
-          most = let a = few-sets in let b = c .most in omega arith;
-          few = few-of-front s target (w .list) (take r kept) base h initial ch word (f .few);
-          score = score-of-front s target (w .list) (take r kept) base h;
+          most = few-left points kept r c;
+          few = few-of-front s target (setsOf initial (w .list)) (take r kept′) base h initial ch word (f .few);
+          score = score-of-front s target (setsOf initial (w .list)) (take r kept′) base h;
         }

@@ -9,7 +9,7 @@ use lib.Count.{ones}
 use lib.Dec.{eqb}
 use lib.ListN.{length, getD, take, drop, take-append-drop, length-drop}
 use lib.Seq.{take-all}
-use Rattle.vertex_set.specs.Set.{Member, Within}
+use Rattle.vertex_set.specs.Set.{Member, Within, Iff}
 use Rattle.vertex_set.specs.Order.{Listed, sumOver}
 use Rattle.vertex_set.proofs.Cases.{byTest, less-or, same-or}
 use Rattle.vertex_set.proofs.Decisions.{decide-eqb}
@@ -17,17 +17,19 @@ use Rattle.vertex_set.proofs.Digits.{digit}
 use Rattle.vertex_set.proofs.Sets.{member-below, in-one, ones-below-more}
 use Rattle.vertex_set.proofs.Sorted.{listed-append}
 use Rattle.vertex_set.proofs.Sums.{sum-removed, sum-none}
+use Rattle.families.specs.Inner.Family.{masks}
 use Rattle.families.specs.Inner.Masks.{placeAmong, Picked, SetOfMask}
 use Rattle.families.proofs.Exact.{place-lt}
+use Rattle.families.proofs.Masks.{spread, set-of, set-within}
 use Rattle.sums.specs.Inner.Sums.{WeightsOf}
 use Rattle.sums.proofs.Weights.{at-none, at-removed}
 use Rattle.multisets.specs.Multisets.{valuesBelow, valuesOver}
 use Rattle.multisets.proofs.Pairs.{fewer-pairing, pairing-fewer}
 use Rattle.multisets.proofs.Meaning.{fewer-at}
-use Rattle.multiset_keys.specs.Inner.{Columns}
+use Rattle.multiset_keys.specs.Inner.{Columns, keyOf}
 use Rattle.multiset_keys.proofs.Lanes.{both-true, true-both}
-use Rattle.multiset_keys.proofs.Sums.{columns-small, is-key, keys-compare}
-use Rattle.multiset_fronts.specs.Inner.{KeysLe, KeyColumns, Front}
+use Rattle.multiset_keys.proofs.Sums.{keys-compare}
+use Rattle.multiset_fronts.specs.Inner.{KeysLe}
 use Rattle.multiset_scores.specs.Inner.{ValuesLe}
 
 -- ---- different chosen vertices have different ranks
@@ -119,12 +121,9 @@ value-listed value x z h = value-of value x 64 z h
 
 -- ---- keys compare as multisets do
 
-pub key-columns : (values thresholds columns : List ℕ) → Columns values thresholds columns → KeyColumns columns
-key-columns values thresholds columns c = record { small = columns-small values thresholds columns c; keys = is-key values thresholds columns c }
-
 module _ (points low high first second : List ℕ) (a : Columns points low first) (b : Columns points high second) (initial : ℕ)
     (all : (v : ℕ) → Member initial v → Listed low (getD points v 0) ⊎ Listed high (getD points v 0)) where
-  keys-values : (x y : ℕ) → Within x initial → KeysLe first second x y → ValuesLe points x y
+  keys-values : (x y : ℕ) → Within x initial → KeysLe (keyOf first) (keyOf second) x y → ValuesLe points x y
   keys-values x y w h =
       let p = both-true _ _ h in
       fewer-pairing (valuesOver (λ (v : ℕ). getD points v 0) x) (valuesOver (λ (v : ℕ). getD points v 0) y)
@@ -136,16 +135,16 @@ module _ (points low high first second : List ℕ) (a : Columns points low first
       (λ i. keys-compare points high second b x y .to (p .1) z (subst (Listed high) (sym (q .2)) i))
       (all (q .0) (w .each (q .0) (q .1)))) .each)
 
-  values-keys : (x y : ℕ) → ValuesLe points x y → KeysLe first second x y
+  values-keys : (x y : ℕ) → ValuesLe points x y → KeysLe (keyOf first) (keyOf second) x y
   values-keys x y h =
       let f = pairing-fewer (valuesOver (λ (v : ℕ). getD points v 0) x) (valuesOver (λ (v : ℕ). getD points v 0) y) h in
       true-both _ _ (keys-compare points low first a x y .from (λ t i. f t)) (keys-compare points high second b x y .from (λ t i. f t))
 
-  pub front-values : (p acc : List ℕ) → ((x : ℕ) → Listed p x → Within x initial) → Front (KeysLe first second) p acc → Front (ValuesLe points) p acc
-  front-values p acc w f =
-      record {
-        of = f .of;
-        least = λ x y i j h. ⊎-elim (λ e. inl e) (λ k. inr (k .0, keys-values x y (w x (f .of x i)) (k .1))) (f .least x y i j (values-keys y x h));
-        cover = λ y j. let c = f .cover y j in (c .0, c .1, keys-values (c .0) y (w (c .0) (f .of (c .0) (c .1))) (c .2));
-        ordered = f .ordered;
-      }
+  -- so do the keys of masks, which tables give
+  module _ (f g : ℕ → ℕ) (same-first : (m : ℕ) → m < masks → f m ≡ keyOf first (spread 64 initial m))
+      (same-second : (m : ℕ) → m < masks → g m ≡ keyOf second (spread 64 initial m)) (word : initial < 2 ^ 64) where
+    pub masks-values : (m k : ℕ) → m < masks → k < masks → Iff (KeysLe f g m k) (ValuesLe points (spread 64 initial m) (spread 64 initial k))
+    masks-values m k l h =
+        let w = set-within initial m (spread 64 initial m) (set-of initial m word) in
+        rw (same-first m l, same-second m l, same-first k h, same-second k h)
+        (record { to = keys-values (spread 64 initial m) (spread 64 initial k) w; from = values-keys (spread 64 initial m) (spread 64 initial k) })

@@ -1,13 +1,13 @@
 -- What the inner functions ask and answer. Nothing of this has to be believed: the contract of the call does not cite it.
 use mathlib.Core.Path.{_≡_}
-use mathlib.Core.List.{List}
+use mathlib.Core.List.{List, map}
 use mathlib.Core.Bool.{false}
 use Prim.Native.Nat.{ℕ, _^_, _≤_, _<_}
 use lib.Count.{ones}
 use lib.ListN.{length, getD, take}
-use Rattle.vertex_set.specs.Set.{Within}
 use Rattle.vertex_set.specs.Order.{Listed, Before}
 use Rattle.vertex_set.proofs.Sorted.{Sorted}
+use Rattle.families.proofs.Masks.{spread}
 use Rattle.setup.specs.declared.Setup.{Setup}
 use Rattle.setup.specs.Setup.{ChosenSet}
 use Rattle.formed.specs.WellFormed.{WellFormed}
@@ -37,18 +37,26 @@ ValuesLe points x y = Pairing (valuesOver (λ (v : ℕ). getD points v 0) x) (va
 abbrev pub MultisetLe : Setup → ℕ → ℕ → Type 0
 MultisetLe s x y = Pairing (multisetOf s x) (multisetOf s y)
 
--- What comparing the first n sets asks for.
-pub record CanCompare (list : List ℕ) (n initial : ℕ) (kept : List ℕ) : Type 0 where
+-- What comparing the sets of the first n masks asks for.
+pub record CanCompare (list : List ℕ) (n initial : ℕ) : Type 0 where
   pub sets : n ≤ length list
-  pub room : n ≤ length kept
   pub most : n ≤ mostSets
   pub few : ones initial ≤ 14
+  pub exact : (x : ℕ) → Listed (take n list) x → x < 2 ^ ones initial
   pub ordered : Sorted Before (take n list)
 
--- Where the first n sets have only initial vertices, the first r of `kept` are the lowest of them.
+-- The sets of masks, one after the other.
+abbrev pub setsOf : ℕ → List ℕ → List ℕ
+setsOf initial l = map (spread 64 initial) l
+
+-- The sets of the first r masks of `kept` are the lowest of those of the first n of the list.
 pub record ComparedLowest (list : List ℕ) (n initial : ℕ) (points kept : List ℕ) (r : ℕ) : Type 0 where
   pub most : r ≤ n
-  pub front : ((x : ℕ) → Listed (take n list) x → Within x initial) → Front (ValuesLe points) (take n list) (take r kept)
+  pub front : Front (ValuesLe points) (setsOf initial (take n list)) (setsOf initial (take r kept))
+
+-- In the place of each of the first n masks stands its set.
+pub record Named (initial : ℕ) (kept : List ℕ) (n : ℕ) (kept′ : List ℕ) : Type 0 where
+  pub are : take n kept′ ≡ setsOf initial (take n kept)
 
 -- The first n sets of `kept` are those of the score.
 pub record ScoreFound (s : Setup) (target : ℕ) (kept : List ℕ) (n : ℕ) : Type 0 where

@@ -1,40 +1,53 @@
 // Scores that keep their parts: of the multisets of start values that the sets of an access base have,
 // those to which no different one is at most (document 02, point 6: the bag score).
+ghost use Prim.Native.Nat.{_≤_};
+ghost use lib.ListN.{length};
 ghost use Rattle.multiset_scores.specs.Answers.{multisetNumber, multisetValues, MultisetsCall};
-ghost use Rattle.multiset_scores.specs.Inner.{Asked, CanCompare, ComparedLowest, CanFind, ScoreFound, ScoreTaken};
+ghost use Rattle.multiset_scores.specs.Inner.{Asked, CanCompare, ComparedLowest, Named, CanFind, ScoreFound, ScoreTaken};
 use families::WORDS;
 use multiset_fronts::MOST_SETS;
 use multisets::MOST_VALUES;
 use setup::Setup;
 use vertex_set::VertexSet;
 
+// The set of the vertices 0 to 13: over it each mask stands for itself.
+const ALL_PLACES: u64 = 0x3FFF;
+
 pub enum MultisetAnswer {
     Multisets(usize),
     Refused(u64),
 }
 
-// Writes the lowest of the sets to the front of `kept`: they are compared at the values of all initial
+// Keeps of the first n masks those of the lowest sets: they are compared at the values of all initial
 // vertices, seven in each key.
-fn lowest_of(
-    list: &[u64],
-    n: usize,
-    initial: VertexSet,
-    points: [u64; 64],
-    kept: &mut [u64],
-) -> usize
-    requires { ⌜ CanCompare (now list) n (initial .0) (now kept) ⌝ }
-    ensures { λ r. ⌜ ComparedLowest (now (list .entry)) n (initial .0) points (now (kept .exit)) r ⌝ }
+fn lowest_of(kept: &mut [u64], n: usize, initial: VertexSet, points: [u64; 64]) -> usize
+    requires { ⌜ CanCompare (now kept) n (initial .0) ⌝ }
+    ensures { λ r. ⌜ ComparedLowest (now (kept .entry)) n (initial .0) points (now (kept .exit)) r ⌝ }
 {
     let thresholds = sums::weights_of(initial, points);
-    let mut first = [0u64; 64];
-    let mut second = [0u64; 64];
-    multiset_keys::fill_columns(points, &thresholds[0..7], &mut first);
-    multiset_keys::fill_columns(points, &thresholds[7..14], &mut second);
-    multiset_fronts::keep_lowest(list, n, &first, &second, kept)
+    let mut low1 = [0u64; 128];
+    let mut high1 = [0u64; 128];
+    let mut low2 = [0u64; 128];
+    let mut high2 = [0u64; 128];
+    multiset_keys::fill_keys(initial, points, &thresholds[0..7], &mut low1, &mut high1);
+    multiset_keys::fill_keys(initial, points, &thresholds[7..14], &mut low2, &mut high2);
+    multiset_fronts::keep_lowest(kept, n, &low1, &high1, &low2, &high2)
 }
 
-// Writes the sets of the target's score to the front of `kept`, and gives their count: the sets of the
-// access base are listed in order, and the lowest of them kept.
+// In the place of each of the first n masks puts the set that it stands for.
+fn name_sets(kept: &mut [u64], n: usize, initial: VertexSet)
+    requires { ⌜ n ≤ length (now kept) ⌝ }
+    ensures { λ _. ⌜ Named (initial .0) (now (kept .entry)) n (now (kept .exit)) ⌝ }
+{
+    for i in 0..n {
+        let mask = kept[i];
+        let set = family_steps::set_of(initial, mask as usize);
+        kept[i] = set.0;
+    }
+}
+
+// Writes the sets of the target's score to the front of `kept`, and gives their count: the masks of the
+// access base's sets are listed in order, those of the lowest kept, and their sets put in their places.
 fn find_score(
     s: Setup,
     target: usize,
@@ -48,9 +61,10 @@ fn find_score(
     let graph = s.graph;
     let mut base = [0u64; WORDS];
     let _ = bases::base_family(s, graph, false, target, initial, &mut base);
-    let mut list = [0u64; MOST_SETS];
-    let n = family_lists::write_sets(&base, initial, &mut list);
-    lowest_of(&list, n, initial, points, kept)
+    let n = family_lists::write_sets(&base, VertexSet(ALL_PLACES), kept);
+    let left = lowest_of(kept, n, initial, points);
+    name_sets(kept, left, initial);
+    left
 }
 
 // The score of a target of a well-formed setup. Its number of multisets is known before a place is

@@ -5,7 +5,7 @@ use crate::grid::{micros, ratio, with_commas, Grid};
 use crate::kinds::{Kind, CHOSEN, ROOM};
 use crate::targets::{at_most, largest, smallest, Target};
 use crate::timing::in_turn;
-use crate::twin::{self, members, Setup, VERTICES, WORDS};
+use crate::twin::{self, members, Setup, Sums, VERTICES, WORDS};
 use crate::{proved, Rounds};
 use product::BLANK;
 use std::hint::black_box;
@@ -16,6 +16,9 @@ const LONG: usize = 1000;
 /// The most sets of a list, and the places of a bag.
 const SETS: usize = 3432;
 const PLACES: usize = 14;
+
+/// The set of the first 14 vertices, over which each mask is its own set.
+const MASKS: u64 = 0x3FFF;
 
 /// The free bits of a key's seven lanes.
 const GUARDS: u64 = 0x0080_8080_8080_8080;
@@ -50,20 +53,24 @@ fn twin_score(setup: &Setup, target: usize, lent: &mut Lent) -> usize {
         BLANK => 0,
         value => value,
     });
-    let mut list = [0; SETS];
+    let mut kept = [0; SETS];
     let count = {
         let mut table = [[0; WORDS]; VERTICES];
         twin::fill::<false>(&setup.graph, chosen, false, &mut table);
-        twin::write_sets(&twin::minimal_members(&table[target]), chosen, &mut list)
+        twin::write_sets(&twin::minimal_members(&table[target]), MASKS, &mut kept)
     };
     let mut thresholds = [0; CHOSEN];
     members(chosen).zip(&mut thresholds).for_each(|(v, place)| *place = values[v]);
-    let (first, second) = (columns(&values, &thresholds[..7]), columns(&values, &thresholds[7..]));
-    let (mut kept, mut low, mut high) = ([0; SETS], [0; SETS], [0; SETS]);
+    let keys = |thresholds: &[u64]| {
+        let columns = columns(&values, thresholds);
+        Sums::new(chosen, |v| columns[v])
+    };
+    let (first, second) = (keys(&thresholds[..7]), keys(&thresholds[7..]));
+    let (mut low, mut high) = ([0; SETS], [0; SETS]);
     let mut many = 0;
-    for &set in &list[..count] {
-        let key = |columns: &[u64; VERTICES]| members(set).map(|v| columns[v]).sum::<u64>();
-        let (a, b) = (key(&first), key(&second));
+    for i in 0..count {
+        let mask = kept[i];
+        let (a, b) = (first.of(mask), second.of(mask));
         let keys = low[..many].iter().zip(&high[..many]);
         if keys.into_iter().any(|(&c, &d)| at_most_key(c, a) && at_most_key(d, b)) {
             continue;
@@ -74,9 +81,10 @@ fn twin_score(setup: &Setup, target: usize, lent: &mut Lent) -> usize {
             (kept[left], low[left], high[left]) = (kept[i], c, d);
             left += usize::from(!(at_most_key(a, c) && at_most_key(b, d)));
         }
-        (kept[left], low[left], high[left]) = (set, a, b);
+        (kept[left], low[left], high[left]) = (mask, a, b);
         many = left + 1;
     }
+    kept[..many].iter_mut().for_each(|mask| *mask = twin::set_of(chosen, *mask));
     for (number, &set) in kept[..many].iter().enumerate() {
         let row = &mut lent.values[PLACES * number..PLACES * (number + 1)];
         row.fill(0);
@@ -214,10 +222,7 @@ pub fn bag_scores(kinds: &[Kind], rounds: &Rounds, targets: &mut Vec<Target>) ->
     let seen = format!("at least {least:.0} ({name})");
     let what = "bag scores by sorted vectors and all pairs / proved";
     let wanted = "at least 5 times, on long lists (1,000 sets or more)";
-    targets.push(Target::measured(what, wanted, seen, least >= 5.0).because(
-        "where the list's first set has the lowest bag, each bag is found to be above another by the first comparison; the vectors \
-         also get the list for nothing, and the proved call works it out.",
-    ));
+    targets.push(Target::measured(what, wanted, seen, least >= 5.0));
     let (name, most) = largest(&worst);
     grid.note(&format!("The longest time is that of the sheet \"{name}\", {} µs.", micros(most)));
     grid

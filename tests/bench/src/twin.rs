@@ -245,6 +245,11 @@ impl Sums {
         self.high[b / 2] + self.low[b % 2 * 64 + i]
     }
 
+    /// The sum of a mask.
+    pub fn of(&self, mask: u64) -> u64 {
+        self.high[mask as usize / 128] + self.low[mask as usize % 128]
+    }
+
     /// The least sum over a family.
     pub fn least(&self, family: &Family) -> u64 {
         let mut least = NEVER;
@@ -298,6 +303,11 @@ pub fn write_sets(family: &Family, chosen: u64, out: &mut [u64]) -> usize {
         }
     }
     next
+}
+
+/// The set that a mask stands for.
+pub fn set_of(chosen: u64, mask: u64) -> u64 {
+    members(chosen).enumerate().fold(0, |set, (bit, v)| set + ((mask >> bit & 1) << v))
 }
 
 /// Both lists of a target in one lent list, and their lengths. One table is alive at a time.

@@ -1,9 +1,9 @@
--- `multiset_scores::find_score` meets its contract: the sets of the access base in order, and the lowest of them.
+-- `multiset_scores::find_score` meets its contract: the masks of the access base's sets in order, the lowest of them, and their sets.
 -- Assumes nothing.
-use mathlib.Core.Path.{refl, _∙_}
+use mathlib.Core.Path.{_∙_}
 use Prim.Native.Nat.{_^_, _<_}
 use borrow.Author.Needs.{needs}
-use Rattle.multiset_scores.proofs.Finding.{can-list, can-compare, score-found}
+use Rattle.multiset_scores.proofs.Finding.{can-list, can-compare, few-left, score-found}
 use Rattle.multiset_scores.proofs.find_score.Statement.{statement}
 use Rattle.multiset_scores.proofs.find_score.Tie as tie
 
@@ -19,37 +19,42 @@ base-family-requires c κs = search needs
 slice-aggregate-write-sets : tie.Need-slice-aggregate-write-sets
 slice-aggregate-write-sets c = search needs
 
-slice-aggregate-write-sets-2 : tie.Need-slice-aggregate-write-sets-2
-slice-aggregate-write-sets-2 c = search needs
-
 write-sets-requires : tie.Need-write-sets-requires
 write-sets-requires c κs =
     let b = c .before .before .before in
     let s = b .before .before .before .before in
-    can-list (s .args .s) (s .args .target) (s .args .initial .0) (s .pre .asked .formed) _ (b .base-family .result) (b .base-family .ensures) _ refl
-
-slice-aggregate-lowest-of : tie.Need-slice-aggregate-lowest-of
-slice-aggregate-lowest-of c = search needs
+    can-list (s .args .s) (s .args .target) (s .args .initial .0) (s .pre .asked .formed) (word s) _ (b .base-family .result) (b .base-family .ensures) _ (s .pre .room)
 
 lowest-of-requires : tie.Need-lowest-of-requires
 lowest-of-requires c κs =
     let w = c .before .before .before in
     let b = w .before .before .before .before in
     let s = b .before .before .before .before in
-    can-compare (s .args .s) (s .args .target) (s .args .initial .0) (s .pre .asked .formed) _ (b .base-family .result) (b .base-family .ensures) _ (w .write-sets .result) _ (w .write-sets .ensures)
-    (s .args .kept .now) (s .pre .room)
+    can-compare (s .args .s) (s .args .target) (s .args .initial .0) (s .pre .asked .formed) (word s) _ (b .base-family .result) (b .base-family .ensures) _ (w .write-sets .result) _ (w .write-sets .ensures)
+
+name-sets-requires : tie.Need-name-sets-requires
+name-sets-requires c κs =
+    let l = c .before .before .before in
+    let w = l .before .before .before .before in
+    let b = w .before .before .before .before in
+    let s = b .before .before .before .before in
+    let r = s .pre .room in
+    let few = few-left (s .args .s) (s .args .target) (s .args .initial .0) (s .pre .asked .formed) (word s) _ (b .base-family .result) (b .base-family .ensures) _ (w .write-sets .result) _
+    (w .write-sets .ensures) (s .args .points) _ (l .lowest-of .result) (l .lowest-of .ensures) in
+    search needs
 
 same-length : tie.Need-same-length
 same-length c = search needs
 
 returns : tie.Need-returns
 returns c =
-    let l = c .before .before in
+    let t = c .before .before in
+    let l = t .before .before .before .before in
     let w = l .before .before .before .before in
     let b = w .before .before .before .before in
     let s = b .before .before .before .before in
-    score-found (s .args .s) (s .args .target) (s .args .initial .0) (s .pre .asked .formed) _ (b .base-family .result) (b .base-family .ensures) _ (w .write-sets .result) _ (w .write-sets .ensures)
-    (s .args .points) (s .pre .values) (s .pre .isChosen) (word s) _ (l .lowest-of .result) (same-length c ∙ s .pre .room) (l .lowest-of .ensures)
+    score-found (s .args .s) (s .args .target) (s .args .initial .0) (s .pre .asked .formed) (word s) _ (b .base-family .result) (b .base-family .ensures) _ (w .write-sets .result) _
+    (w .write-sets .ensures) (s .args .points) (s .pre .values) (s .pre .isChosen) _ _ (l .lowest-of .result) (same-length c ∙ s .pre .room) (l .lowest-of .ensures) (t .name-sets .ensures)
 
 pub find-score-spec : {M : Type 1} → statement M
 find-score-spec =
@@ -58,9 +63,8 @@ find-score-spec =
     slice-aggregate-base-family
     base-family-requires
     slice-aggregate-write-sets
-    slice-aggregate-write-sets-2
     write-sets-requires
-    slice-aggregate-lowest-of
     lowest-of-requires
+    name-sets-requires
     same-length
     returns)

@@ -21,53 +21,52 @@ use Rattle.families.specs.Inner.Masks.{SetOfMask}
 use Rattle.families.proofs.Masks.{spread, spread-odd, set-of, set-is, set-before}
 use Rattle.family_lists.specs.Inner.Lists.{ListOf, Writable, WroteSets}
 use Rattle.family_lists.specs.Inner.Tables.{sumBy}
-use Rattle.sums.specs.Inner.Sums.{WeightsOf}
 use Rattle.bases.specs.Base.{Base}
 use Rattle.bases.specs.Score.{Values}
 use Rattle.bases.specs.Inner.Readers.{BaseFamily}
 use Rattle.forecasts.proofs.Bounds.{longest-base}
-use Rattle.multiset_keys.specs.Inner.{KeysOf}
 use Rattle.multiset_keys.proofs.Sums.{key-tables}
 use Rattle.multiset_fronts.specs.Inner.{mostSets, KeysLe, Front, CanKeep, KeptLowest}
 use Rattle.multiset_fronts.proofs.Front.{front-map}
 use Rattle.multiset_fronts.proofs.Lists.{take-more, take-stored}
-use Rattle.multiset_scores.specs.Inner.{ValuesLe, setsOf, CanCompare, ComparedLowest, Named, ScoreFound}
+use Rattle.multiset_scores.specs.Inner.{ValuesLe, BothKeys, setsOf, CanCompare, ComparedLowest, Named, ScoreFound}
 use Rattle.multiset_scores.proofs.Thresholds.{threshold, in-halves, masks-values}
 use Rattle.multiset_scores.proofs.Scores.{front-points, score-of-front, few-of-front}
 
 -- ---- the lowest of listed masks' sets
 
-module _ (list : List ℕ) (n initial : ℕ) (points ws a b c d : List ℕ) (p : CanCompare list n initial) (word : initial < 2 ^ 64)
-    (w : WeightsOf initial (λ (v : ℕ). getD points v 0) ws) (first : KeysOf initial points (take 7 ws) a b) (second : KeysOf initial points (take 7 (drop 7 ws)) c d) where
+module _ (list : List ℕ) (n initial : ℕ) (points low₁ high₁ low₂ high₂ : List ℕ) (p : CanCompare list n initial) (word : initial < 2 ^ 64)
+    (k : BothKeys initial points low₁ high₁ low₂ high₂) where
   small : (x : ℕ) → Listed (take n list) x → x < masks
   small x h = let l = p .exact x h in let m = pow-mono {i = ones initial} {j = 14} (p .few) in omega arith
 
-  pub can-keep : CanKeep list n a b c d
+  pub can-keep : CanKeep list n low₁ high₁ low₂ high₂
   can-keep =
       record {
         sets = p .sets;
         few = p .most;
         small = small;
         ordered = p .ordered;
-        isFirst = key-tables initial points (take 7 ws) a b first;
-        isSecond = key-tables initial points (take 7 (drop 7 ws)) c d second;
+        isFirst = key-tables initial points (take 7 (k .thresholds)) low₁ high₁ (k .first);
+        isSecond = key-tables initial points (take 7 (drop 7 (k .thresholds))) low₂ high₂ (k .second);
       }
 
-  pub compared-lowest : (kept : List ℕ) (r : ℕ) → KeptLowest list n a b c d kept r → ComparedLowest list n initial points kept r
-  compared-lowest kept r k =
+  pub compared-lowest : (kept : List ℕ) (r : ℕ) → KeptLowest list n low₁ high₁ low₂ high₂ kept r → ComparedLowest list n initial points kept r
+  compared-lowest kept r l =
       record {
-        most = k .most;
-        front = front-map (KeysLe (sumBy a b) (sumBy c d)) (ValuesLe points) (spread 64 initial) (take n list) (take r kept)
+        most = l .most;
+        front = front-map (KeysLe (sumBy low₁ high₁) (sumBy low₂ high₂)) (ValuesLe points) (spread 64 initial) (take n list) (take r kept)
             (λ x y i j. same x y (small x i) (small y j))
-            (λ x y i j. set-before initial x y _ _ word (p .exact x i) (p .exact y j) (set-of initial x word) (set-of initial y word)) (k .front);
+            (λ x y i j. set-before initial x y _ _ word (p .exact x i) (p .exact y j) (set-of initial x word) (set-of initial y word)) (l .front);
       }
     where
-      same : (x y : ℕ) → x < masks → y < masks → Iff (KeysLe (sumBy a b) (sumBy c d) x y) (ValuesLe points (spread 64 initial x) (spread 64 initial y))
+      same : (x y : ℕ) → x < masks → y < masks
+          → Iff (KeysLe (sumBy low₁ high₁) (sumBy low₂ high₂) x y) (ValuesLe points (spread 64 initial x) (spread 64 initial y))
       same =
-          masks-values points (take 7 ws) (take 7 (drop 7 ws)) (first .columns) (second .columns) (first .are) (second .are) initial
-          (λ v m. in-halves ws (w .long) (getD points v 0) (threshold initial (λ (v : ℕ). getD points v 0) ws w (p .few) word v m))
-          (sumBy a b) (sumBy c d) (λ m l. first .sums .sum m (spread 64 initial m) l (set-of initial m word))
-          (λ m l. second .sums .sum m (spread 64 initial m) l (set-of initial m word)) word
+          masks-values points (take 7 (k .thresholds)) (take 7 (drop 7 (k .thresholds))) (k .first .columns) (k .second .columns) (k .first .are) (k .second .are) initial
+          (λ v m. in-halves (k .thresholds) (k .values .long) (getD points v 0) (threshold initial (λ (v : ℕ). getD points v 0) (k .thresholds) (k .values) (p .few) word v m))
+          (sumBy low₁ high₁) (sumBy low₂ high₂) (λ m l. k .first .sums .sum m (spread 64 initial m) l (set-of initial m word))
+          (λ m l. k .second .sums .sum m (spread 64 initial m) l (set-of initial m word)) word
 
 -- ---- masks in the places of sets
 

@@ -4,15 +4,17 @@ use mathlib.Core.List.{List, map}
 use mathlib.Core.Bool.{false}
 use Prim.Native.Nat.{ℕ, _^_, _≤_, _<_}
 use lib.Count.{ones}
-use lib.ListN.{length, getD, take}
+use lib.ListN.{length, getD, take, drop}
 use Rattle.vertex_set.specs.Order.{Listed, Before}
 use Rattle.vertex_set.proofs.Sorted.{Sorted}
 use Rattle.families.proofs.Masks.{spread}
+use Rattle.sums.specs.Inner.Sums.{WeightsOf}
 use Rattle.setup.specs.declared.Setup.{Setup}
 use Rattle.setup.specs.Setup.{ChosenSet}
 use Rattle.formed.specs.WellFormed.{WellFormed}
 use Rattle.bases.specs.Score.{Values}
 use Rattle.multisets.specs.Multisets.{Pairing, valuesOver}
+use Rattle.multiset_keys.specs.Inner.{KeysOf}
 use Rattle.multiset_fronts.specs.Inner.{mostSets, Front}
 use Rattle.multiset_scores.specs.Scores.{multisetOf, MultisetScore}
 use Rattle.multiset_scores.specs.Answers.{MultisetsWritten}
@@ -44,6 +46,14 @@ pub record CanCompare (list : List ℕ) (n initial : ℕ) : Type 0 where
   pub few : ones initial ≤ 14
   pub exact : (x : ℕ) → Listed (take n list) x → x < 2 ^ ones initial
   pub ordered : Sorted Before (take n list)
+
+-- The tables give both keys of each set of initial vertices: the values of all initial vertices are thresholds, the first seven in one key, and
+-- the others in the other.
+pub record BothKeys (initial : ℕ) (points low₁ high₁ low₂ high₂ : List ℕ) : Type 0 where
+  pub thresholds : List ℕ
+  pub values : WeightsOf initial (λ (v : ℕ). getD points v 0) thresholds
+  pub first : KeysOf initial points (take 7 thresholds) low₁ high₁
+  pub second : KeysOf initial points (take 7 (drop 7 thresholds)) low₂ high₂
 
 -- The sets of masks, one after the other.
 abbrev pub setsOf : ℕ → List ℕ → List ℕ

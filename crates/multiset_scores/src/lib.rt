@@ -1,9 +1,11 @@
 // Scores that keep their parts: of the multisets of start values that the sets of an access base have,
 // those to which no different one is at most (document 02, point 6: the bag score).
+ghost use mathlib.Core.Path.{_≡_};
 ghost use Prim.Native.Nat.{_≤_};
 ghost use lib.ListN.{length};
+ghost use lib.Count.{ones};
 ghost use Rattle.multiset_scores.specs.Answers.{multisetNumber, multisetValues, MultisetsCall};
-ghost use Rattle.multiset_scores.specs.Inner.{Asked, CanCompare, ComparedLowest, Named, CanFind, ScoreFound, ScoreTaken};
+ghost use Rattle.multiset_scores.specs.Inner.{Asked, BothKeys, CanCompare, ComparedLowest, Named, CanFind, ScoreFound, ScoreTaken};
 use families::WORDS;
 use multiset_fronts::MOST_SETS;
 use multisets::MOST_VALUES;
@@ -18,19 +20,43 @@ pub enum MultisetAnswer {
     Refused(u64),
 }
 
-// Keeps of the first n masks those of the lowest sets: they are compared at the values of all initial
-// vertices, seven in each key.
+// Fills the tables of both keys: sets are compared at the values of all initial vertices, seven in each
+// key.
+fn fill_tables(
+    initial: VertexSet,
+    points: [u64; 64],
+    low1: &mut [u64],
+    high1: &mut [u64],
+    low2: &mut [u64],
+    high2: &mut [u64],
+)
+    requires { ⌜ ones (initial .0) ≤ 14 ⌝ }
+    requires { ⌜ (length (now low1) ≡ 128) × (length (now high1) ≡ 128) ⌝ }
+    requires { ⌜ (length (now low2) ≡ 128) × (length (now high2) ≡ 128) ⌝ }
+    ensures { λ _. ⌜ BothKeys (initial .0) points (now (low1 .exit)) (now (high1 .exit)) (now (low2 .exit)) (now (high2 .exit)) ⌝ }
+{
+    let thresholds = sums::weights_of(initial, points);
+    multiset_keys::fill_keys(initial, points, &thresholds[0..7], low1, high1);
+    multiset_keys::fill_keys(initial, points, &thresholds[7..14], low2, high2);
+}
+
+// Keeps of the first n masks those of the lowest sets.
 fn lowest_of(kept: &mut [u64], n: usize, initial: VertexSet, points: [u64; 64]) -> usize
     requires { ⌜ CanCompare (now kept) n (initial .0) ⌝ }
     ensures { λ r. ⌜ ComparedLowest (now (kept .entry)) n (initial .0) points (now (kept .exit)) r ⌝ }
 {
-    let thresholds = sums::weights_of(initial, points);
     let mut low1 = [0u64; 128];
     let mut high1 = [0u64; 128];
     let mut low2 = [0u64; 128];
     let mut high2 = [0u64; 128];
-    multiset_keys::fill_keys(initial, points, &thresholds[0..7], &mut low1, &mut high1);
-    multiset_keys::fill_keys(initial, points, &thresholds[7..14], &mut low2, &mut high2);
+    fill_tables(
+        initial,
+        points,
+        &mut low1,
+        &mut high1,
+        &mut low2,
+        &mut high2,
+    );
     multiset_fronts::keep_lowest(kept, n, &low1, &high1, &low2, &high2)
 }
 

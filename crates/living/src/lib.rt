@@ -64,20 +64,13 @@ fn edge_count(graph: Graph) -> u32
 fn hold(s: Setup, held: VertexSet, start: VertexSet) -> Setup
     ensures { λ r. ⌜ Holds s (held .0) (start .0) r ⌝ }
 {
-    let count = s.count;
-    let vertices = s.vertices;
     let graph = s.graph;
-    let recovery = s.recovery;
     let closed = closures::closure(false, graph, start);
     let opened = closed.set;
-    Setup {
-        count,
-        vertices,
-        graph,
-        recovery,
-        held,
-        opened,
-    }
+    let mut r = s;
+    r.held = held;
+    r.opened = opened;
+    r
 }
 
 // Questions 12 and 13, where a vertex is named: the number of the first no, and 0 where there is none.

@@ -1,5 +1,5 @@
 # `make test` proves and tests everything; its last line is the verdict.
-.PHONY: test report definitions prove lib install fuzz bench mutate alter check-contracts
+.PHONY: test report pool definitions prove lib install fuzz bench mutate alter check-contracts
 
 test:
 	@bash scripts/test.sh
@@ -13,6 +13,15 @@ report:
 	@python3 scripts/prove.py report build/report.log
 	@target/bin/report < "$$SHEET"
 
+# The pooled sheet of two sheets, and nothing else on standard output.
+pool: export FIRST ?= examples/first-lab.sheet
+pool: export SECOND ?= examples/second-lab.sheet
+pool:
+	@test -x target/bin/pool || echo "pool: proving the program first, which takes minutes (build/pool.log)" >&2
+	@mkdir -p build
+	@python3 scripts/prove.py pool build/pool.log
+	@target/bin/pool "$$FIRST" "$$SECOND"
+
 # Every definition that must be believed, in reading order, as one text.
 definitions:
 	@python3 scripts/definitions.py
@@ -25,7 +34,7 @@ prove:
 lib:
 	@bash scripts/lib.sh
 
-# Library, header, pkg-config file, the program `report` and manual pages: make install PREFIX=/usr/local.
+# Library, header, pkg-config file, the programs `report` and `pool`, and manual pages: make install PREFIX=/usr/local.
 PREFIX = /usr/local
 install:
 	@bash scripts/install.sh "$(PREFIX)"

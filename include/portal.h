@@ -5,6 +5,7 @@
  *   sheets     portal_score, portal_risk     one item's score or risk, as one number
  *              portal_read                   the sheet's setup, which the calls on setups ask
  *              portal_name                   an item's name
+ *              portal_pool                   two sheets, pooled into one
  *   setups     portal_check                  is this a setup?
  *              portal_closure, portal_lost   what a set opens, what the loss of a set takes away
  *              portal_way_in                 how a set opens an item, step by step
@@ -29,9 +30,9 @@
  *
  * Results. A result is a struct of plain numbers. Its first field is `number`: 0 for an answer, else that of the refusal. The
  * other fields have the answer's values; a field that the answer has no value for is 0, so all of them are after a refusal.
- * (portal_reading's line is the exception that document 01 asks for: a refused sheet has a line. portal_registered's count is
- * that of document 02: it comes back from a refusal as it was given.) portal_bag_at_most alone hands
- * back a bool: it refuses nothing, and true is yes.
+ * (portal_reading's line, and portal_pooled's with its sheet, are the exceptions that the documents ask for: a refused sheet
+ * has a line. portal_registered's count is that of document 02: it comes back from a refusal as it was given.)
+ * portal_bag_at_most alone hands back a bool: it refuses nothing, and true is yes.
  *
  * Lent places. A slice is a pointer and the count of its places. A pointer may be null where the count is 0, and nowhere else.
  * It is aligned as its type is. Memory that a call may write to overlaps nothing else that the same call is given. A refused
@@ -61,9 +62,9 @@ extern "C" {
 
 /* ---- version ---- */
 
-/* 3.0.0 is 30000: the last two parts have two digits each. The first part changes where a call or a struct does, the second
+/* 3.1.0 is 30100: the last two parts have two digits each. The first part changes where a call or a struct does, the second
  * where one is new. */
-#define PORTAL_VERSION 30000
+#define PORTAL_VERSION 30100
 
 /* The version of the library. A program that was compiled with another one's header sees PORTAL_VERSION differ from it. */
 uint64_t portal_version(void);
@@ -76,7 +77,7 @@ uint64_t portal_version(void);
 /* Bytes of stack: for a call that asks all subsets of the starting or losable items, which scores, lists, cut sets, the next
  * opening set and findings do, and portal_bag_score, which needs the most; for one that marks a handed-in list, which
  * portal_hand_in does; and for the others (portal_version, _read, _name, _check, _closure, _lost, _way_in, _opens, _forecast,
- * _kinds, _bag_at_most, _take_in, _take_out, _add_edge, _remove_edge, _withdraw). */
+ * _kinds, _bag_at_most, _take_in, _take_out, _add_edge, _remove_edge, _pool, _withdraw). */
 #define PORTAL_STACK ((size_t)256 * 1024)
 #define PORTAL_STACK_MARKS ((size_t)512 * 1024)
 #define PORTAL_STACK_SMALL ((size_t)128 * 1024)
@@ -107,6 +108,10 @@ enum portal_number {
     PORTAL_EDGE_THERE = 19,
     PORTAL_NO_EDGE = 20,
     PORTAL_STRANGER = 21,
+    /* of two sheets that are pooled */
+    PORTAL_DISAGREE = 22,
+    PORTAL_POOL_BOUND = 23,
+    PORTAL_POOL_SHORT = 24,
     /* of a call on the class register */
     PORTAL_OVERFULL = 25,
     PORTAL_ALL_USED = 26,
@@ -139,6 +144,9 @@ static inline const char *portal_refusal_text(uint64_t number)
     case PORTAL_EDGE_THERE: return "the edge to add is there, with one mark or the other";
     case PORTAL_NO_EDGE: return "the edge to remove is not there";
     case PORTAL_STRANGER: return "the last set shown has an item that is not a starting one";
+    case PORTAL_DISAGREE: return "the two sheets have an item of one name that differs in kind, start, loss or rank";
+    case PORTAL_POOL_BOUND: return "the pooled sheet has more than 64 items, 256 edges, 14 starting items or 14 losable items, or needs a ninth colour";
+    case PORTAL_POOL_SHORT: return "the buffer is shorter than the pooled sheet";
     case PORTAL_OVERFULL: return "the used count is above the slice's length";
     case PORTAL_ALL_USED: return "a new record is needed, and all are used";
     case PORTAL_NO_RECORD: return "the student to withdraw has no record";
@@ -159,6 +167,8 @@ static inline const char *portal_refusal_text(uint64_t number)
 #define PORTAL_COLOURS 8
 #define PORTAL_MAX_SHEET 16384
 #define PORTAL_MAX_NAME 16
+/* Bytes that are always enough for a pooled sheet. */
+#define PORTAL_POOL_BYTES 12526
 #define PORTAL_MAX_VALUE UINT64_C(4000000000)
 
 /* Places that are always enough for one list of a target, and for both: of subsets of at most 14 items none of which lies within another
@@ -259,6 +269,15 @@ struct portal_lists {
     uint64_t number;
     uint64_t openings;
     uint64_t lockouts;
+};
+
+/* A pooled sheet's bytes are the first `length` of the buffer. A refusal has the sheet that was refused, 1 or 2, with its line;
+ * where neither was, both are 0. */
+struct portal_pooled {
+    uint64_t number;
+    uint64_t sheet;
+    uint64_t line;
+    uint64_t length;
 };
 
 /* more is 1 where a set is shown, and 0 for "no more"; then set is 0 too. */
@@ -366,6 +385,16 @@ struct portal_reading portal_read(const uint8_t *sheet, size_t length, uint64_t 
  * number, 1 to 11, then 13; the part is then the empty one at the sheet's start.
  */
 struct portal_part portal_name(const uint8_t *sheet, size_t length, uint64_t item);
+
+/*
+ * The pooled sheet of two labs' sheets, written to the start of the buffer. Items of one name are one item, and must agree in kind, start, loss
+ * and rank ("-" and 0 disagree). The first sheet's items come first, then the other's remaining ones; all edges of the first, then all of the
+ * other. For an item in both, each colour of the second sheet's edges into it, rising, becomes the lowest colour that neither the first sheet nor
+ * an earlier renaming uses there. A set that opened an item in either sheet opens it in the pooled one; nothing is said of losses.
+ * PORTAL_POOL_BYTES places are always enough. Refused with 1 to 11 and the sheet's line, the first sheet's refusal before the second's; then with
+ * 22, 23, 24. A refusal leaves the buffer as it was, and the bytes behind the pooled sheet stay as they were.
+ */
+struct portal_pooled portal_pool(const uint8_t *first, size_t first_length, const uint8_t *second, size_t second_length, uint8_t *out, size_t places);
 
 /* ---- calls on a setup ---- */
 

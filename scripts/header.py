@@ -3,7 +3,7 @@
 
 Every exported function of the portal's crates has its prototype, with the same names and the types that C has for them, in
 order; every struct that is handed back has its fields, here and in tests/product; the version, the places of a setup's words, the blank,
-the largest sheet and name, the longest list, the number of kinds and the places of a bag are the sources', and the manual pages have the version; the refusals' names and sentences are those of docs/TERMS.md and of man/portal.3; README.md and man/portal.3 name every call, and above
+the largest sheet and name, the bytes of a pooled sheet, the longest list, the number of kinds and the places of a bag are the sources', and the manual pages have the version; the refusals' names and sentences are those of docs/TERMS.md and of man/portal.3; README.md and man/portal.3 name every call, and above
 each prototype stands a comment. Else the exit status is 1.
 """
 import re
@@ -11,7 +11,7 @@ import sys
 from pathlib import Path
 
 ROOT = Path(__file__).resolve().parent.parent
-FEWEST = {"calls": 30, "structs": 18, "refusals": 24}
+FEWEST = {"calls": 31, "structs": 19, "refusals": 27}
 SLICES = {"&[u8]": "const uint8_t *", "&mut [u8]": "uint8_t *", "&[u64]": "const uint64_t *", "&mut [u64]": "uint64_t *",
           "&mut [Record]": "struct portal_record *"}
 SCALARS = {"u64": "uint64_t", "u8": "uint8_t", "bool": "bool", "usize": "size_t"}
@@ -139,12 +139,15 @@ ways = re.search(r"^const WAYS: \[u64; 15\] = \[(.*?)\];", read("crates/antichai
 faults += ["PORTAL_MAX_LIST is not the last number of WAYS"] * (macro(header, "PORTAL_MAX_LIST") != parts(ways)[-1])
 faults += ["PORTAL_KINDS is another number"] * (macro(header, "PORTAL_KINDS") != str(constant(read("crates/attackers/src/lib.rt"), "KINDS")))
 faults += ["PORTAL_BAG_PLACES is another number"] * (macro(header, "PORTAL_BAG_PLACES") != str(constant(read("crates/multisets/src/lib.rt"), "MOST_VALUES")))
+enough = re.search(r"^poolBytes = (\d+)$", read("crates/pool_format/specs/Meaning.antt"), re.M).group(1)
+faults += ["PORTAL_POOL_BYTES is another number"] * (macro(header, "PORTAL_POOL_BYTES") != enough)
+faults += ["tests/product has another number of bytes for a pooled sheet"] * (str(constant(read("tests/product/src/lib.rs"), "POOL_BYTES")) != enough)
 # The opened set is the last word.
 lengths = {macro(header, "PORTAL_SETUP_WORDS"), str(opened + 1), *(str(constant(sources[name], "SETUP_WORDS")) for name in ("portal_reading", "portal_living"))}
 faults += [f"a setup has {' and '.join(sorted(lengths))} words"] * (len(lengths) != 1)
 faults += ["PORTAL_VERSION is another number"] * (macro(header, "PORTAL_VERSION") != str(constant(reading, "VERSION")))
 major, minor, patch = (constant(reading, "VERSION") // unit % 100 for unit in (10_000, 100, 1))
-pages = ("man/portal.3", "man/report.1")
+pages = ("man/portal.3", "man/report.1", "man/pool.1")
 faults += [f"{page} is for another version" for page in pages if f'"Gemzuleg {major}.{minor}.{patch}"\n' not in read(page)]
 faults += ["tests/product is for another version"] * (f"pub const VERSION: u64 = {constant(reading, 'VERSION')};" not in read("tests/product/src/lib.rs"))
 faults += ["PORTAL_BLANK is another number"] * (macro(header, "PORTAL_BLANK") != "UINT64_MAX" or constant(words, "BLANK") != 2**64 - 1)

@@ -1,5 +1,5 @@
 #!/bin/bash
-# Installs the portal's library, its header, the pkg-config file, the program `report` and the manual pages: install.sh PREFIX.
+# Installs the portal's library, its header, the pkg-config file, the programs `report` and `pool`, and the manual pages: install.sh PREFIX.
 # DESTDIR stands before every path that is written to, and in no file.
 set -euo pipefail
 cd "$(dirname "$0")/.."
@@ -10,6 +10,7 @@ to=${DESTDIR:-}$prefix
 
 bash scripts/make_older.sh build/lib/libportal.a bash scripts/lib.sh
 bash scripts/make_older.sh target/bin/report rt check report
+bash scripts/make_older.sh target/bin/pool rt check pool
 version=$(sed -n 's/^#define PORTAL_VERSION \([0-9]*\)$/\1/p' include/portal.h)
 dotted=$((version / 10000)).$((version / 100 % 100)).$((version % 100))
 
@@ -17,8 +18,8 @@ install -D -m 644 -t "$to/include" include/portal.h
 install -D -m 644 -t "$to/lib" build/lib/libportal.a
 install -D -m 755 -t "$to/lib" build/lib/libportal.so.*
 cp -P build/lib/libportal.so "$to/lib/"
-install -D -m 755 -t "$to/bin" target/bin/report
-install -D -m 644 -t "$to/share/man/man1" man/report.1
+install -D -m 755 -t "$to/bin" target/bin/report target/bin/pool
+install -D -m 644 -t "$to/share/man/man1" man/report.1 man/pool.1
 install -D -m 644 -t "$to/share/man/man3" man/portal.3
 mkdir -p "$to/lib/pkgconfig"
 cat > "$to/lib/pkgconfig/gemzuleg.pc" << END

@@ -1,11 +1,12 @@
 #!/usr/bin/env python3
 """Checks that rows are written straight into the bytes that go out, with none built elsewhere and copied (document 02, point 7).
 
-The crates that write rows, and all crates below them, have no byte array: none that a function makes, no field, no constant and no answer.
-The program has two, named below. Of the kit they use what is named below, and nothing else. So there is no byte array to build a row in, or
-its digits, names and sums, and to copy them from. Byte strings are no such place: they are constants, and rows have their fixed words from
-them. Arrays of words and of structs are not looked at: that none of them holds a row's bytes is read. The exit status is 1 where something
-of this does not hold. `rows.py FOLDER` looks at another copy of the repository.
+The crates of the program `report` that write rows, and all crates below them, have no byte array: none that a function makes, no field, no
+constant and no answer. The program has two, named below. Of the kit they use what is named below, and nothing else. So there is no byte array
+to build a row in, or its digits, names and sums, and to copy them from. Byte strings are no such place: they are constants, and rows have
+their fixed words from them. Arrays of words and of structs are not looked at: that none of them holds a row's bytes is read. Nor is pooling,
+which writes a sheet and no report. The exit status is 1 where something of this does not hold. `rows.py FOLDER` looks at another copy of the
+repository.
 """
 import re
 import sys
@@ -14,7 +15,8 @@ from pathlib import Path
 
 from contracts import functions
 
-# All crates that stand on one of these write rows, and these two: one puts bytes into a lent buffer, one hands bytes to the system.
+WHOLE = "report"
+# All crates of that program that stand on one of these write rows, and these two: one puts bytes into a lent buffer, one hands bytes to the system.
 GROUND = {"writing", "streams"}
 # The byte arrays that there are, by crate, function and name: what is read, and the bytes that go out. Each is made once.
 OWN = {("report", "main", "sheet"), ("report", "print_report", "out")}
@@ -61,6 +63,7 @@ PROGRAM = {
     "ground": ("", "pub fn least(n: u64) -> u64 {\n    n\n}"),
     "beside": ("", "pub fn copy() {\n    let line = [0u8; 300];\n}"),
     "writing": ("", "pub fn put_byte(b: u8, out: &mut [u8], at: usize) {\n    out[at] = b;\n}"),
+    "pool": ("writing", "pub fn colours() {\n    let digits = [0u8; 256];\n}"),
     "report_rows": ("ground writing", "pub fn put_row(out: &mut [u8]) {\n    writing::put_byte(ground::least(1) as u8, out, 0);\n}"),
     "streams": ("io libc os", "pub fn write_once(b: &[u8]) {\n    let n = libc::write(1, b);\n}"),
     "report": (
@@ -76,6 +79,7 @@ CHANGES = [
     ("ground", "pub fn", "struct Line<T> {\n    items: [T; 300],\n}\npub fn", 1),
     ("ground", "pub fn", "type Line = u8;\npub fn", 1),
     ("beside", "300", "301", 0),
+    ("pool", "256", "257", 0),
     ("report_rows", "pub fn", "const BLANK: [u8; 2] = [32, 32];\npub fn", 1),
     ("report_rows", "{\n", "{\n    let mut line = io::large_buffer();\n", 1),
     ("report", "    let mut out = io::large_buffer();", "    let mut out = io::large_buffer();\n    let mut sheet = [0u8; 65536];", 1),
@@ -210,15 +214,22 @@ def faults_of(crate, text, kit, constants, seen):
                 yield first + body.count("\n", 0, place), f"{name} makes a byte array"
 
 
+def below(crates, needs):
+    """All crates on which these stand, these too."""
+    found = set(crates)
+    for crate in reversed(needs):
+        found |= needs[crate] & set(needs) if crate in found else set()
+    return found
+
+
 def check(needs, sources):
     """The crates that write rows, those below them, and the faults of a program: of each crate what it depends on and its sources, by path."""
-    writers, below = set(GROUND), set()
+    whole, writers = below({WHOLE}, needs), set(GROUND)
     for crate, used in needs.items():
-        writers |= {crate} if used & writers else set()
-    for crate in reversed(needs):
-        below |= needs[crate] & set(needs) if crate in writers | below else set()
+        writers |= {crate} if crate in whole and used & writers else set()
+    looked_in = below(writers, needs)
     kit = set().union(*needs.values()) - set(needs)
-    looked_at = [(crate, path, plain(text)) for crate in needs if crate in writers | below for path, text in sources[crate].items()]
+    looked_at = [(crate, path, plain(text)) for crate in needs if crate in looked_in for path, text in sources[crate].items()]
     constants, seen, faults = {}, Counter(), []
     for _, _, text in looked_at:
         for name, kind in re.findall(r"\bconst (\w+)\s*:\s*([^=]+?)\s*=", text):
@@ -228,8 +239,8 @@ def check(needs, sources):
     for crate, name, own in sorted(OWN):
         if seen[crate, name, own] != 1:
             faults.append(f"{crate}: {name} makes the byte array {own} {seen[crate, name, own]} times and not once")
-    faults += [f"{crate}: no such crate" for crate in sorted(GROUND - set(needs))]
-    return writers, below - writers, faults
+    faults += [f"{crate}: no such crate" for crate in sorted({WHOLE, *GROUND} - set(needs))]
+    return writers, looked_in - writers, faults
 
 
 def trials():

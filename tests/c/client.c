@@ -563,6 +563,53 @@ static void try_held(void)
     expect("recovery is no backdoor", portal_backdoor(held, WORDS, ORDER_ITEM).yes, 0);
 }
 
+/* A refusal has its number, sheet and line, the length 0, and a buffer as it was. */
+static void expect_refused(const char *what, struct portal_pooled r, uint64_t number, uint64_t sheet, uint64_t line, const uint8_t *out)
+{
+    size_t changed = 0;
+    for (size_t at = 0; at < PORTAL_POOL_BYTES; at++)
+        changed += out[at] != '#';
+    expect(what, r.number, number);
+    expect("refused, which sheet", r.sheet, sheet);
+    expect("refused, its line", r.line, line);
+    expect("refused, no length", r.length, 0);
+    expect("refused, nothing written", changed, 0);
+}
+
+/* Two labs that share a storeroom: one item, whose colour in the second sheet gets out of the way. */
+static void try_pool(void)
+{
+    static const char first[] = "name kind start loss rank\nbadge c 2 1 0\nstore a - - 1\n\nfrom to colour rec\nbadge store 0 0\n";
+    static const char second[] = "name kind start loss rank\nstore a - - 1\npin c 1 0 0\n\nfrom to colour rec\npin store 0 1\n";
+    static const char both[] =
+        "name kind start loss rank\nbadge c 2 1 0\nstore a - - 1\npin c 1 0 0\n\nfrom to colour rec\nbadge store 0 0\npin store 1 1\n";
+    static const char other[] = "name kind start loss rank\nstore a - - 2\n\nfrom to colour rec\n";
+    static const char five[] = "name kind start loss rank\nx c - - 0\n\nfrom to colour rec\nx x 0 0\nx x 1 0\nx x 2 0\nx x 3 0\nx x 4 0\n";
+    const uint8_t *one = (const uint8_t *)first, *two = (const uint8_t *)second, *fives = (const uint8_t *)five;
+    const size_t n = sizeof first - 1, m = sizeof second - 1, k = sizeof five - 1, all = sizeof both - 1;
+    uint8_t out[PORTAL_POOL_BYTES];
+    memset(out, '#', sizeof out);
+    struct portal_pooled r = portal_pool(one, n, two, m, out, sizeof out);
+    expect("pooled", r.number + r.sheet + r.line, 0);
+    expect("pooled, its length", r.length, all);
+    expect("pooled, its bytes", (uint64_t)memcmp(out, both, all), 0);
+    expect("pooled, the byte behind", out[all], '#');
+    expect("pooled, just enough room", portal_pool(one, n, two, m, out, all).length, all);
+    memset(out, '#', sizeof out);
+    r = portal_pool(one, n, two, m, out, all - 1);
+    expect_refused("pooled, no room", r, PORTAL_POOL_SHORT, 0, 0, out);
+    r = portal_pool(one, n, (const uint8_t *)other, sizeof other - 1, out, sizeof out);
+    expect_refused("pooled, another rank", r, PORTAL_DISAGREE, 0, 0, out);
+    r = portal_pool(fives, k, fives, k, out, sizeof out);
+    expect_refused("pooled, ten colours", r, PORTAL_POOL_BOUND, 0, 0, out);
+    r = portal_pool(one, n, two, m - 1, out, sizeof out);
+    expect_refused("pooled, the second refused", r, PORTAL_NO_TEXT, 2, 0, out);
+    r = portal_pool(one, n - 1, two, m - 1, out, sizeof out);
+    expect_refused("pooled, both refused", r, PORTAL_NO_TEXT, 1, 0, out);
+    r = portal_pool(NULL, 0, two, m, NULL, 0);
+    expect("pooled, nothing at all", r.number, PORTAL_NO_TEXT);
+}
+
 static void try_setup_score(void)
 {
     expect("setup's score", portal_setup_score(setup, WORDS, ORDER_ITEM).score, 1);
@@ -719,6 +766,7 @@ static const struct call {
     { "portal_add_edge, a full drawing", PORTAL_STACK_SMALL, try_full_drawing },
     { "portal_remove_edge", PORTAL_STACK_SMALL, try_remove_edge },
     { "a setup that lives, to every call", PORTAL_STACK_MARKS, try_held },
+    { "portal_pool", PORTAL_STACK_SMALL, try_pool },
     { "portal_setup_score", PORTAL_STACK, try_setup_score },
     { "portal_setup_risk", PORTAL_STACK, try_setup_risk },
     { "portal_mark_openings", PORTAL_STACK_MARKS, try_mark_openings },
@@ -815,7 +863,7 @@ int main(int argc, char **argv)
         id[i] = begin(PORTAL_STACK_MARKS, run_all, NULL);
     for (int i = 0; i < THREADS; i++)
         pthread_join(id[i], NULL);
-    for (uint64_t number = 0; number <= PORTAL_STRANGER; number++)
+    for (uint64_t number = 0; number <= PORTAL_NO_RECORD; number++)
         expect("a sentence", strcmp(portal_refusal_text(number), portal_refusal_text(UINT64_MAX)) != 0, 1);
     if (faults)
         return 1;

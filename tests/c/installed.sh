@@ -1,5 +1,5 @@
 #!/bin/bash
-# Installs to a folder of its own, and builds and runs the example and `report` from there, as a buyer would.
+# Installs to a folder of its own, and builds and runs the example, `report` and `pool` from there, as a buyer would.
 set -euo pipefail
 cd "$(dirname "$0")/../.."
 at=$(mktemp -d)
@@ -15,7 +15,8 @@ fi
 gcc -std=c11 -Wall -Wextra -Werror -o "$at/example" examples/portal.c "${flags[@]}"
 LD_LIBRARY_PATH=$at/lib "$at/example" examples/document.sheet order mailpw mailpw mailpw+token token | cmp - examples/portal.expected
 "$at/bin/report" < examples/document.sheet | cmp - examples/document.report
-for page in man1/report.1 man3/portal.3; do
+"$at/bin/pool" examples/first-lab.sheet examples/second-lab.sheet | cmp - examples/both-labs.sheet
+for page in man1/report.1 man1/pool.1 man3/portal.3; do
     [[ -s $at/share/man/$page ]] || { echo "installed: no $page" >&2; exit 1; }
 done
-echo "installed: the example and report run from there"
+echo "installed: the example, report and pool run from there"

@@ -32,6 +32,7 @@ FIRST = {
     "register": ["register-"],
     "sheet_format/Names": ["name-", "line-"],
     "sheet_format": ["reads-alone", "reads-loop", "reads-pair", "refuses-", "passes-", "renders", "decimal-", "no-fields"],
+    "pool_format": ["pool-"],
     "findings": ["finding-"],
     "reference": ["B"],
     "report_text": ["report-"],

@@ -2139,6 +2139,198 @@ def Decoded(text, item, r):
     return answer and refusal
 
 
+# ---- pool_format: rows are looked for among `docs`
+
+
+def Agree(xs, ys):
+    return Each(lambda x: Each(lambda y: implies(lambda: SameName(x, y), lambda: vertexOf(x) == vertexOf(y)), ys), xs)
+
+
+def Fits(p):
+    most = len(p.items) <= 64
+    starts = startCount(p.items) <= 14
+    losses = lossCount(p.items) <= 14
+    many = len(p.edges) <= 256
+    colours = Each(lambda x: x.colour <= 7, p.edges)
+    return most and starts and losses and many and colours
+
+
+def PoolRefused(q, sheet, line, r, entry, exit):
+    answer = r == Pooled(q, sheet, line, 0)
+    untouched = exit == entry
+    return answer and untouched
+
+
+def PoolWritten(text, r, entry, exit):
+    answer = r == Pooled(0, 0, 0, len(text))
+    written = exit == text + entry[len(text):]
+    return answer and written
+
+
+def PoolsRows(d, e, r, entry, exit):
+    agree, fits, long = Agree(d.items, e.items), Fits(pooled(d, e)), len(render(pooled(d, e)))
+    disagree = implies(lambda: not agree, lambda: PoolRefused(22, 0, 0, r, entry, exit))
+    beyond = implies(lambda: agree and not fits, lambda: PoolRefused(23, 0, 0, r, entry, exit))
+    short = implies(lambda: agree and fits and len(entry) < long, lambda: PoolRefused(24, 0, 0, r, entry, exit))
+    room = implies(lambda: agree and fits and long <= len(entry), lambda: PoolWritten(render(pooled(d, e)), r, entry, exit))
+    return disagree and beyond and short and room
+
+
+def PoolCall(first, second, r, entry, exit, docs):
+    one, two = readSheet(first), readSheet(second)
+    refused_ = implies(lambda: one.number != 0, lambda: PoolRefused(one.number, 1, one.line, r, entry, exit))
+    refusedSecond = implies(lambda: one.number == 0 and two.number != 0, lambda: PoolRefused(two.number, 2, two.line, r, entry, exit))
+    pools = all(
+        implies(lambda: Valid(d) and Valid(e) and first == render(d) and second == render(e), lambda: PoolsRows(d, e, r, entry, exit)) for d in docs for e in docs
+    )
+    return refused_ and refusedSecond and pools
+
+
+def RenamesLowest(es, fs, n, c):
+    new = lambda b: newColour(es, fs, n, b)
+    unused = not usesColour(es, n, new(c))
+    fresh = all(not (usesColour(fs, n, b) and new(b) == new(c)) for b in range(c))
+    lowest = all(usesColour(es, n, k) or any(usesColour(fs, n, b) and new(b) == k for b in range(c)) for k in range(new(c)))
+    return unused and fresh and lowest
+
+
+def Renaming(docs, names):
+    return all(implies(lambda: Valid(d) and Valid(e), lambda: all(RenamesLowest(d.edges, e.edges, n, c) for n in names for c in range(8))) for d in docs for e in docs)
+
+
+def PooledValid(docs):
+    return all(
+        implies(lambda: Valid(d) and Valid(e) and Agree(d.items, e.items) and Fits(pooled(d, e)), lambda: Valid(pooled(d, e))) for d in docs for e in docs
+    )
+
+
+poolBytes = 12526
+
+
+def AlwaysEnough(docs):
+    return all(implies(lambda: Valid(d), lambda: len(render(d)) <= poolBytes) for d in docs)
+
+
+def IsPooled(a, b, t, docs):
+    return any(
+        Valid(first)
+        and Valid(second)
+        and a == render(first)
+        and b == render(second)
+        and Agree(first.items, second.items)
+        and Fits(pooled(first, second))
+        and t == render(pooled(first, second))
+        for first in docs
+        for second in docs
+    )
+
+
+def PooledText(a, b, answers, docs):
+    return all(
+        implies(lambda: PoolCall(a, b, r, entry, exit, docs) and r.number == 0, lambda: IsPooled(a, b, exit[:r.size], docs)) for r, entry, exit in answers
+    )
+
+
+def SameItem(s, t, i, j):
+    has = hasItem(s, i)
+    hasToo = hasItem(t, j)
+    name = nameOf(s, i) == nameOf(t, j)
+    return has and hasToo and name
+
+
+def ByName(s, t, held):
+    return lambda j: any(held(i) and SameItem(s, t, i, j) for i in world.vertices)
+
+
+def KeepsOpening(s, t):
+    g, k = readSheet(s).setup.graph, readSheet(t).setup.graph
+    return all(
+        implies(
+            lambda: SameItem(s, t, i, j) and HasAccess(g, lambda v: Member(x, v), i), lambda: HasAccess(k, ByName(s, t, lambda v: Member(x, v)), j)
+        )
+        for x in world.sets
+        for i in world.vertices
+        for j in world.vertices
+    )
+
+
+def KeepsItems(s, t):
+    return all(implies(lambda: hasItem(s, i), lambda: any(SameItem(s, t, i, j) for j in world.vertices)) for i in world.vertices)
+
+
+def PoolingLaw(a, b, t):
+    accepted_ = readSheet(t).number == 0
+    itemsOfFirst = KeepsItems(a, t)
+    itemsOfSecond = KeepsItems(b, t)
+    opensAsFirst = KeepsOpening(a, t)
+    opensAsSecond = KeepsOpening(b, t)
+    return accepted_ and itemsOfFirst and itemsOfSecond and opensAsFirst and opensAsSecond
+
+
+def Pooling(asked, docs):
+    return all(implies(lambda: IsPooled(a, b, t, docs), lambda: PoolingLaw(a, b, t)) for a, b, t in asked)
+
+
+def SamePool(r, r_, exit, exit_):
+    answer = r == r_
+    buffer = exit == exit_
+    return answer and buffer
+
+
+def PoolDetermined(a, b, entry, answers, docs):
+    return all(
+        implies(lambda: PoolCall(a, b, r, entry, x, docs) and PoolCall(a, b, r_, entry, x_, docs), lambda: SamePool(r, r_, x, x_))
+        for r, x in answers
+        for r_, x_ in answers
+    )
+
+
+# ---- demands/Pools
+
+
+def PoolAnswered(first, second, r, entry, exit, docs):
+    number = r.number == 0
+    sheet = r.sheet == 0
+    line = r.line == 0
+    text = IsPooled(first, second, exit[:r.size], docs)
+    behind = exit[r.size:] == entry[r.size:]
+    return number and sheet and line and text and behind
+
+
+def PoolRefusal(r, entry, exit):
+    one = Listed(sheetNumbers, r.number) and (r.sheet == 1 or r.sheet == 2)
+    both = Listed([22, 23, 24], r.number) and r.sheet == 0 and r.line == 0
+    size = r.size == 0
+    buffer = exit == entry
+    return (one or both) and size and buffer
+
+
+def SettledPool(first, second, r, entry, exit, docs, answers):
+    outcome = PoolAnswered(first, second, r, entry, exit, docs) or PoolRefusal(r, entry, exit)
+    meets = PoolCall(first, second, r, entry, exit, docs)
+    only = all(implies(lambda: PoolCall(first, second, r_, entry, x_, docs), lambda: SamePool(r, r_, exit, x_)) for r_, x_ in answers)
+    return outcome and meets and only
+
+
+def SettledPools(first, second, entry, docs, answers):
+    return all(implies(lambda: PoolCall(first, second, r, entry, x, docs), lambda: SettledPool(first, second, r, entry, x, docs, answers)) for r, x in answers)
+
+
+def PoolMeaning(first, second, answers, docs, names, asked):
+    renaming = Renaming(docs, names)
+    valid = PooledValid(docs)
+    enough = AlwaysEnough(docs)
+    text = PooledText(first, second, answers, docs)
+    pooling = Pooling(asked, docs)
+    return renaming and valid and enough and text and pooling
+
+
+def PoolsAsStated(first, second, r, entry, exit, docs, names, asked):
+    call = PoolCall(first, second, r, entry, exit, docs)
+    meaning = PoolMeaning(first, second, [(r, entry, exit)], docs, names, asked)
+    return call and meaning
+
+
 # ---- demands/OneAnswer: of all pairs of the answers that are handed to them
 
 
@@ -2449,12 +2641,13 @@ def Demand1(text, item, s, set_, target, other, opened, locked, kinds, vertices,
     next_ = Settled([12, 13, 21], lambda n, v: NextCall(s, target, set_, n, v), *r.next, both)
     handIn = SettledHandIns(*among.handIns)
     withdraw = SettledWithdrawals(*among.withdrawals)
+    pool = SettledPools(*among.pools)
     bagAtMost = SettledBags(opened, locked, r.bagAtMost)
     bagScore = SettledBagScore(s, target, *r.bagScore, parts, parts_, lengths, lengths_, among.bags)
     sets = closure and lost and way and quick
     lists = bases and score and risk and openings and lockouts
     ahead = forecast and next_ and bagAtMost and bagScore
-    return sets and lists and backdoor and idle and pair and formed and reading and portalScore and portalRisk and ahead and cuts and attackers and handIn and withdraw
+    return sets and lists and backdoor and idle and pair and formed and reading and portalScore and portalRisk and ahead and cuts and attackers and handIn and withdraw and pool
 
 
 def Demand2(text, item, s, set_, target, other, opened, locked, kinds, vertices, vertices_, colours, colours_, list_, exit, harden, harden_, parts, parts_, lengths, lengths_, r, among):
@@ -2480,12 +2673,13 @@ def Demand2(text, item, s, set_, target, other, opened, locked, kinds, vertices,
     cuts = CutsCall(s, target, *r.cuts, harden, harden_)
     next_ = NextCall(s, target, set_, *r.next)
     register = RegisterLaw(*among.afternoons)
+    pool = PoolMeaning(*among.meaning)
     bagAtMost = Decides(BagAtMost(opened, locked), r.bagAtMost)
     bagScore = MultisetsCall(s, target, *r.bagScore, parts, parts_, lengths, lengths_)
     sets = closure and lost and way and quick
     lists = bases and score and risk and openings and lockouts
     ahead = forecast and next_ and bagAtMost and bagScore
-    return sets and lists and backdoor and idle and pair and formed and reading and asked and portalScore and portalRisk and ahead and cuts and attackers and register
+    return sets and lists and backdoor and idle and pair and formed and reading and asked and portalScore and portalRisk and ahead and cuts and attackers and register and pool
 
 
 # ---- reference/Meaning
@@ -2773,7 +2967,7 @@ def OneResultOnSetups(words, set_, target, other, sets, kinds, a, b, numbers, re
     return all(told) and living
 
 
-def OneResultOnSheets(text, item, entry, readings, parts):
+def OneResultOnSheets(text, item, entry, readings, parts, second, lent, pools, docs):
     reading = all(
         implies(lambda: ReadingCall(text, n, l, entry, x) and ReadingCall(text, n_, l_, entry, x_), lambda: n == n_ and l == l_ and x == x_)
         for n, l, x in readings
@@ -2784,4 +2978,9 @@ def OneResultOnSheets(text, item, entry, readings, parts):
         for n, p, k in parts
         for n_, p_, k_ in parts
     )
-    return reading and name
+    pool = all(
+        implies(lambda: PoolCall(text, second, r, lent, x, docs) and PoolCall(text, second, r_, lent, x_, docs), lambda: SamePool(r, r_, x, x_))
+        for r, x in pools
+        for r_, x_ in pools
+    )
+    return reading and name and pool

@@ -5,7 +5,7 @@ from collections import namedtuple
 
 from executables import Account, Attempt, Credential, Doc, EdgeRow, Graph, ItemRow, Made, Record, Registered, Rows, Setup, Step, Vertex, emptyGraph
 from executables import lessRecovery, never
-from executables import readSheet, render, setupIn, setupOf, text, unusedVertex, wordsOf
+from executables import Pooled, pooled, readSheet, render, setupIn, setupOf, text, unusedVertex, wordsOf
 
 H1, H2 = "name kind start loss rank", "from to colour rec"
 BENCH = [H1, "ordpw c 1 2 0", "mailpw c 1 1 0", "token c 3 2 0", "mail a - - 1", "order a - - 3", "", H2]
@@ -65,6 +65,7 @@ def worlds(D):
         "ring": D.World(range(6), range(2), range(16), [[5, 6, 9, 10], [5, 6, 10, 9], [5, 6, 9], [5, 6, 9, 10, 12]]),
         "one": D.World(range(3), range(3), range(8), lists_over([0, 1, 2, 3])),
         "sums": D.World(range(16), range(2), [0, 1, 2**13, 2**14 - 1, 2**15 - 1], []),
+        "pool": D.World(range(4), range(4), range(8), []),
         "spare": D.World([0, 1, 2, 3, 64], range(4), range(16), lists_over([0, 1, 2, 3])),
     }
 
@@ -107,6 +108,11 @@ def edge(source, to, colour=0, rec=False):
 
 
 DOC = Doc([item("pw", 10), item("box", rank=9, kind=Account)], [edge("pw", "box", 2, True), edge("box", "box", 2), edge("pw", "box", 7)])
+# two labs that are pooled, with the item g in both
+LABS = [
+    Doc([item("a", 1), item("g", rank=1, kind=Account)], [edge("a", "g", 1)]),
+    Doc([item("g", rank=1, kind=Account), item("h", 2)], [edge("h", "g", 1, True), edge("g", "h", 3)]),
+]
 REFUSED = {
     "refused 2": ([], 2, 0),
     "refused 2, no LF": (text(BENCH)[:-1], 2, 0),
@@ -1252,11 +1258,13 @@ def of_results(D):
     handed = (wordsOf(bench), 2, ORDER, MAIL, [2, 2, 6, 4], APART, lent, out, (0, 12), results, values, ways, lists, cuts, [R_ANY, R_ANY], REGISTERS, scores, redrawn, [(0, four), (0, bench), (13, bench)])
     readings = [(n, l, x) for n in (0, 15) for l in (0, 1) for x in ([9] * 1283, wordsOf(bench))]
     parts = [(n, p, k) for n in (0, 13) for p in (0, 69, 84) for k in (0, 4, 5)]
+    twice = render(pooled(BENCH_DOC, BENCH_DOC))
+    pools = (text(BENCH), twice, [(Pooled(0, 0, 0, len(twice)), twice), (Pooled(24, 0, 0, 0), twice)], [BENCH_DOC])
     return [
         ("one answer: one result", lambda: D.OneResult(lambda n, v: n == 0 and v == [7], [(0, [7]), (0, [8]), (1, [0])], [[], [7], [8]]), True),
         ("not one answer: two results", lambda: D.OneResult(lambda n, v: n == 0, [(0, [7]), (0, [8])], [[7], [8]]), False),
         ("one answer: results for bench", lambda: D.OneResultOnSetups(*handed), True),
-        ("one answer: results for bench's sheet", lambda: D.OneResultOnSheets(text(BENCH), MAIL, [9] * 1283, readings, parts), True),
+        ("one answer: results for bench's sheet", lambda: D.OneResultOnSheets(text(BENCH), MAIL, [9] * 1283, readings, parts, *pools), True),
     ]
 
 
@@ -1315,7 +1323,7 @@ def of_demands(D):
 Answers = namedtuple(
     "Answers", "closure lost way bases score risk openings lockouts backdoor idle pair formed reading portalScore portalRisk forecast quick cuts attackers next bagAtMost bagScore"
 )
-Among = namedtuple("Among", "answers ways lists cuts bags texts docs readings numbers handIns withdrawals afternoons")
+Among = namedtuple("Among", "answers ways lists cuts bags texts docs readings numbers handIns withdrawals afternoons pools meaning")
 
 
 def of_both_demands(D):
@@ -1337,7 +1345,11 @@ def of_both_demands(D):
     registers = [(hand_in, [R_BOTH, R_ANY], REGISTERS), ((1, 7), [R_ONE, R_ANY], REGISTERS), (bench, SLICE, day)]
     one_bag = [1] + [0] * 13
     scores = [(0, [1], one_bag, [1]), (0, [1], one_bag, [9]), (0, [2], one_bag, [1])] + [(n, v, [9] * 14, [9]) for n, v in answers + [(15, [])]]
-    among = Among(answers, ways, lists, cuts, scores, [(t, [], [], []) for t in (sheet, render(DOC))], [BENCH_DOC, DOC], readings, [0, 1, 3, 13, never, never + 5, never + 13], *registers)
+    first, second, both = (render(d) for d in (*LABS, pooled(*LABS)))
+    lent_bytes = [35] * len(both)
+    pools = [(first, second, lent_bytes, LABS, [(Pooled(0, 0, 0, len(both)), both), (Pooled(24, 0, 0, 0), lent_bytes)])]
+    pools += [(first, second, [(Pooled(0, 0, 0, len(both)), lent_bytes, both)], LABS, [list(b"g")], [(first, second, both)])]
+    among = Among(answers, ways, lists, cuts, scores, [(t, [], [], []) for t in (sheet, render(DOC))], [BENCH_DOC, DOC], readings, [0, 1, 3, 13, never, never + 5, never + 13], *registers, *pools)
     asked = lambda t, i, s, set_, v, w: [t, i, s, set_, v, w, [2], [3, 6], APART, lent]
     listed = [out, [2, 5, 3, 6], lent, [3, 6], [9] * 14, one_bag, [9], [1]]
     kept = [[9] * 14, [9] * 14, [9], [9]]
@@ -1571,6 +1583,75 @@ def of_refusals(D):
     return found
 
 
+def of_pools(D):
+    """Two labs with the item g in both; one with another rank; one with five colours into g. `both` is the first two pooled, by hand."""
+    g, none = item("g", rank=1, kind=Account), Doc([item("a", 1), item("g", rank=1, kind=Account)], [])
+    first, second = LABS
+    ranked, five = Doc([item("g", rank=2, kind=Account)], []), Doc([g], [edge("g", "g", c) for c in range(5)])
+    wide, ranked_five = Doc([g], [edge("g", "g", c) for c in range(17)]), five._replace(items=ranked.items)
+    docs, names = [first, second, ranked, five], [list(b"a"), list(b"g"), list(b"h")]
+    a, b, r, f, n = (render(d) for d in (first, second, ranked, five, none))
+    both = text([H1, "a c 1 - 0", "g a - - 1", "h c 2 - 0", "", H2, "a g 1 0", "h g 0 1", "g h 3 0"])
+    other = render(pooled(second, first))
+    bad = text([H1, "a c - -"])
+    lent, end = [35] * (len(both) + 2), both + [35, 35]
+    yes, no = Pooled(0, 0, 0, len(both)), lambda q, s=0, k=0: Pooled(q, s, k, 0)
+    answers = [(yes, end), (yes, lent), (Pooled(0, 0, 0, len(other)), other + [35, 35]), (no(22), lent), (no(24), lent), (no(4, 2, 2), lent)]
+    asked = [(a, b, both), (a, b, b), (a, b, n)]
+    loops = lambda *cs: [edge("g", "g", c) for c in cs]
+    beyond = [("65 items", Doc([item(f"n{i}") for i in range(65)], [])), ("15 starts", Doc([item(f"n{i}", 1) for i in range(15)], []))]
+    beyond += [("15 losses", Doc([item(f"n{i}", None, 1) for i in range(15)], [])), ("257 edges", Doc([g], [edge("g", "g")] * 257)), ("a ninth colour", Doc([g], [edge("g", "g", 8)]))]
+    long = [LONG_NAMES, LONG_NAMES._replace(edges=LONG_NAMES.edges * 2)]
+    z, w = render(Doc([item("z")], [])), render(Doc([g], []))
+    return [(f"not fits: {what}", lambda d=d: D.Fits(d), False) for what, d in beyond] + [
+        ("agree: a storeroom", lambda: D.Agree(first.items, second.items), True),
+        ("not agree: another rank", lambda: D.Agree(first.items, ranked.items), False),
+        ("fits: both", lambda: D.Fits(pooled(first, second)), True),
+        ("call: pooled", lambda: D.PoolCall(a, b, yes, lent, end, docs), True),
+        ("not call: pooled, another length", lambda: D.PoolCall(a, b, Pooled(0, 0, 0, 1), lent, end, docs), False),
+        ("call: pool, 22", lambda: D.PoolCall(a, r, no(22), lent, lent, docs), True),
+        ("not call: pool, 22 and written", lambda: D.PoolCall(a, r, no(22), lent, end, docs), False),
+        ("call: pool, 22 before 23", lambda: D.PoolCall(f, render(ranked_five), no(22), lent, lent, [five, ranked_five]), True),
+        ("call: pool, 23", lambda: D.PoolCall(f, f, no(23), lent, lent, docs), True),
+        ("call: pool, 24", lambda: D.PoolCall(a, b, no(24), lent[:10], lent[:10], docs), True),
+        ("call: pool, the first refused", lambda: D.PoolCall(bad, [], no(4, 1, 2), lent, lent, docs), True),
+        ("call: pool, the second refused", lambda: D.PoolCall(a, bad, no(4, 2, 2), lent, lent, docs), True),
+        ("renames: into an item without edges", lambda: D.RenamesLowest([], five.edges, list(b"g"), 0), True),
+        ("renames: 1 and 2 to 0 and 1", lambda: D.RenamesLowest([], loops(1, 2), list(b"g"), 2), True),
+        ("renames: past the first sheet's 0", lambda: D.RenamesLowest(loops(0), loops(1), list(b"g"), 1), True),
+        ("renaming", lambda: D.Renaming([*docs, wide], names), True),
+        ("pooled valid", lambda: D.PooledValid(docs), True),
+        ("enough: the longest names", lambda: D.AlwaysEnough(long), True),
+        ("is pooled: a storeroom", lambda: D.IsPooled(a, b, both, docs), True),
+        ("not is pooled: ten colours", lambda: D.IsPooled(f, f, render(pooled(five, five)), docs), False),
+        ("not is pooled: another rank", lambda: D.IsPooled(a, r, render(pooled(first, ranked)), docs), False),
+        ("pooled text", lambda: D.PooledText(a, r, [(no(22), lent, lent)], docs) and D.PooledText(a, b, [(yes, lent, end)], docs), True),
+        ("same item: g of both", lambda: D.SameItem(a, b, 1, 0), True),
+        ("same item: h of both", lambda: D.SameItem(b, both, 1, 2), True),
+        ("by name: h of the second", lambda: D.ByName(b, both, lambda i: i == 1)(2), True),
+        ("keeps opening: of the second", lambda: D.KeepsOpening(b, both), True),
+        ("keeps items: of the second", lambda: D.KeepsItems(b, both), True),
+        ("not pooling law: a sheet of no bytes", lambda: D.PoolingLaw([], [], []), False),
+        ("not pooling law: the first sheet's item lost", lambda: D.PoolingLaw(z, w, w), False),
+        ("not pooling law: the second sheet's item lost", lambda: D.PoolingLaw(w, z, w), False),
+        ("not pooling law: the first sheet's edge lost", lambda: D.PoolingLaw(a, n, n), False),
+        ("not pooling law: the second sheet's edge lost", lambda: D.PoolingLaw(n, a, n), False),
+        ("pooling", lambda: D.Pooling(asked, docs), True),
+        ("not same pool: another answer", lambda: D.SamePool(yes, no(22), lent, lent), False),
+        ("not same pool: another buffer", lambda: D.SamePool(yes, yes, lent, end), False),
+        ("determined: pooled", lambda: D.PoolDetermined(a, b, lent, answers, docs), True),
+        ("settled: pooled", lambda: D.SettledPool(a, b, yes, lent, end, docs, answers), True),
+        ("settled: every pool", lambda: D.SettledPools(a, b, lent, docs, answers), True),
+        ("settled: pool, 22", lambda: D.SettledPool(a, r, no(22), lent, lent, docs, answers), True),
+        ("not settled: pool, 22 as an answer", lambda: D.PoolAnswered(a, b, no(22)._replace(size=len(both)), lent, end, docs), False),
+        ("not settled: pooled, changed behind", lambda: D.PoolAnswered(a, b, yes, lent, both + [0, 0], docs), False),
+        ("not settled: pool, 12", lambda: D.PoolRefusal(no(12, 1, 2), lent, lent), False),
+        ("settled: pool, the second refused", lambda: D.PoolRefusal(no(4, 2, 2), lent, lent), True),
+        ("not settled: pool, 22 and written", lambda: D.PoolRefusal(no(22), lent, end), False),
+        ("stated: pooled", lambda: D.PoolsAsStated(a, b, yes, lent, end, docs, names, asked), True),
+    ]
+
+
 GROUPS = {
     "far": [of_sets, of_setups, of_well_formed, of_parts, of_full_marks, of_written_rows, of_whole],
     "one": [of_one, of_few_cuts],
@@ -1579,6 +1660,7 @@ GROUPS = {
     + [of_quick, of_forecasts, of_cuts, of_attackers, of_next_sets, of_register, of_living, of_findings, of_portal, of_same, of_told, of_readings, of_one_answer, of_results, of_demands, of_both_demands],
     "rows": [of_valid_rows, of_rows, of_stated, of_meaning, of_refusals],
     "spare": [of_spare],
+    "pool": [of_pools],
     "ring": [of_ring],
     "bags": [of_bags, of_bag_scores],
 }

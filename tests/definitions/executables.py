@@ -13,6 +13,7 @@ Doc = namedtuple("Doc", "items edges")
 Place = namedtuple("Place", "phase above")
 Asked = namedtuple("Asked", "number answer")
 Reading = namedtuple("Reading", "number line setup")
+Pooled = namedtuple("Pooled", "number sheet line size")
 Step = namedtuple("Step", "vertex colour")
 Record = namedtuple("Record", "student target way right repeated shut loose missing")
 Registered = namedtuple("Registered", "number used")
@@ -411,6 +412,46 @@ def nameOf(s, i):
 def nameStart(s, i):
     r = readSheet(s)
     return sum(len(line) + 1 for line in linesOf(s)[: i + 1]) if r.number == 0 and i < r.setup.count else 0
+
+
+# ---- pool_format: the rows of two sheets as those of one
+
+
+def hasItem(s, i):
+    r = readSheet(s)
+    return r.number == 0 and i < r.setup.count
+
+
+def vertexOf(x):
+    return Vertex(x.kind, x.start, x.loss, x.rank)
+
+
+def remaining(xs, ys):
+    return [y for y in ys if not isKnown(xs, y.name)]
+
+
+def usesColour(es, n, c):
+    return any(e.to == n and e.colour == c for e in es)
+
+
+def lowestFree(taken):
+    return next((k for k in range(16) if k not in taken), 16)
+
+
+def newColour(es, fs, n, c):
+    taken = {e.colour for e in es if e.to == n}
+    for b in range(c):
+        if usesColour(fs, n, b):
+            taken.add(lowestFree(taken))
+    return lowestFree(taken)
+
+
+def recoloured(d, e, x):
+    return x._replace(colour=newColour(d.edges, e.edges, x.to, x.colour)) if isKnown(d.items, x.to) else x
+
+
+def pooled(d, e):
+    return Doc(list(d.items) + remaining(d.items, e.items), list(d.edges) + [recoloured(d, e, x) for x in e.edges])
 
 
 # ---- reference: closures, bases, scores and marks, computed

@@ -24,6 +24,7 @@ multisets/Multisets multisets/Meaning multiset_scores/Scores multiset_scores/Ans
 next_sets/Next next_sets/Answers next_sets/Walks
 records/Records register/Calls register/Afternoon
 sheet_format/Text sheet_format/Fields sheet_format/Rows sheet_format/Stated sheet_format/Questions sheet_format/Read sheet_format/Names
+pool_format/Rows
 findings/Findings findings/Answers
 reference/Tests reference/Closures reference/Bases
 report_text/Rows report_text/Report report_text/Unmixed
@@ -33,7 +34,7 @@ worked_examples/Sheets worked_examples/Table
 """.split()
 
 # Crates whose types the definitions use, and types of theirs that no definition uses.
-TYPES = "vertex_set setup living scores access quick_yes answers forecasts cut_sets attackers multiset_scores next_sets records sheet_format findings report_facts report_writer demands".split()
+TYPES = "vertex_set setup living scores access quick_yes answers forecasts cut_sets attackers multiset_scores next_sets records sheet_format pool_format findings report_facts report_writer demands".split()
 UNUSED = {"Step", "Names", "Task", "Pass", "Turn"}
 
 

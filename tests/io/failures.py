@@ -1,9 +1,10 @@
 #!/usr/bin/env python3
-"""Runs the program `report` where its input or output fails, and where they only come in pieces.
+"""Runs the programs `report` and `pool` where their input or output fails, and where they only come in pieces.
 
 Standard output has to be the whole report and standard error empty, or standard output a beginning of the report (nothing, where the
-input failed) and standard error one line that names the system's reason. Which of the two, and which reason, is said case by case.
-REPORT=program tries another program. The exit status is 1 where a case does not hold.
+input failed) and standard error one line that names the system's reason. Which of the two, and which reason, is said case by case. Of
+`pool` likewise, with the pooled sheet for the report; where it refuses, standard output is empty and standard error has the refusal's line.
+REPORT=program and POOL=program try others. The exit status is 1 where a case does not hold.
 """
 import errno
 import hashlib
@@ -19,10 +20,13 @@ from pathlib import Path
 
 ROOT = Path(__file__).resolve().parent.parent.parent
 REPORT = os.environ.get("REPORT", str(ROOT / "target/bin/report"))
+POOL = os.environ.get("POOL", str(ROOT / "target/bin/pool"))
 PAUSE = 0.2  # widens the window in which a mistaken program goes on; no case depends on it
 LIMIT = 20
 NO_INPUT = "report: cannot read standard input: "
 CUT_OFF = "report: the report is cut off: "
+SHEET_CUT_OFF = "pool: the sheet is cut off: "
+USAGE = b"usage: pool FIRST SECOND\n"
 # SHA-256 of the long sheet's report, 1,429,457 bytes, as the brute force prints it.
 LONG_REPORT = "13235e9e2aa89d65669858dd8fae414542acc69e742c77ed074e08f7c317ff91"
 faults, cases = [], 0
@@ -241,10 +245,10 @@ def gone(read, _):
     return out
 
 
-def limited():
-    """A file may have 100,000 bytes, and the signal for more is ignored: a write then takes a part, and the next fails."""
+def limited(size=100_000):
+    """A file may have so many bytes, and the signal for more is ignored: a write then takes a part, and the next fails."""
     signal.signal(signal.SIGXFSZ, signal.SIG_IGN)
-    resource.setrlimit(resource.RLIMIT_FSIZE, (100_000, 100_000))
+    resource.setrlimit(resource.RLIMIT_FSIZE, (size, size))
 
 
 def to_file(case, sheet, report, reason=None, **more):
@@ -281,9 +285,104 @@ def outputs():
         to_place("a refused sheet to /dev/full", refused, text, full, errno.ENOSPC)
 
 
+def pool(case, words, sheet=b"", said=b"", want=0, cut=0, **more):
+    """Runs `pool` on these words: standard output has the sheet, or as many of its first bytes as it is cut to, and standard error what is said."""
+    global cases
+    cases += 1
+    with tempfile.TemporaryFile() as place:
+        process = subprocess.Popen([POOL, *words], **{"stdout": place, "stderr": subprocess.PIPE, **more})
+        _, err = finish(process)
+        place.seek(0)
+        out = place.read()
+    wanted = sheet[:cut] if cut else sheet
+    if (out, err or b"", process.returncode) != (wanted, said, want):
+        faults.append(f"{case}: standard output has {len(out)} bytes, {out[:60]!r}, standard error {err!r}, the exit status is {process.returncode}")
+
+
+def cannot_read(name, reason):
+    return line_of(f"pool: cannot read {name}: ", reason)
+
+
+def items(names):
+    """A sheet of so many items, with no edge."""
+    return "\n".join(["name kind start loss rank", *(f"{name} a - - 0" for name in names), "", "from to colour rec", ""]).encode()
+
+
+def pool_inputs(at):
+    first, second, both = (str(ROOT / f"examples/{name}.sheet") for name in ("first-lab", "second-lab", "both-labs"))
+    sheet = Path(both).read_bytes()
+    pool("two labs", [first, second], sheet)
+    pool("two labs, with no standard input", [first, second], sheet, **without(0))
+    for place in 0, 1:
+        words = [first, second]
+        data = Path(words[place]).read_bytes()
+        read, write = os.pipe()
+        words[place] = f"/dev/fd/{read}"
+        teller = threading.Thread(target=byte_by_byte(data), args=(write, None))
+        teller.start()
+        pool(f"single bytes with pauses for sheet {place + 1}", words, sheet, pass_fds=(read,))
+        teller.join()
+        os.close(read)
+    for words in [], [first], [first, second, second]:
+        pool(f"{len(words)} names", words, said=USAGE)
+    for name, reason in (str(at / "none.sheet"), errno.ENOENT), (str(at), errno.EISDIR), ("", errno.ENOENT), ("x" * 256, errno.ENAMETOOLONG):
+        pool(f"{name!r} as the first", [name, second], said=cannot_read(name, reason))
+        pool(f"{name!r} as the second", [first, name], said=cannot_read(name, reason))
+    pool("two names of nothing", ["none", "nothing"], said=cannot_read("none", errno.ENOENT))
+    short = os.path.relpath(first, at)
+    for size, told in (4095, None), (4096, cannot_read), (4097, lambda _, reason: cannot_read("a name", reason)):
+        name = "/" * (size - len(first)) + first
+        pool(f"a name of {size:,} bytes", [name, second], b"" if told else sheet, told(name, errno.ENAMETOOLONG) if told else b"")
+    pool("a name beside the program", [short, second], sheet, cwd=at)
+
+
+def pool_refusals(at):
+    first, second, misspelt = (str(ROOT / f"examples/{name}.sheet") for name in ("first-lab", "second-lab", "misspelt-name"))
+    refused = (ROOT / "examples/misspelt-name.report").read_bytes().removeprefix(b"refused ")
+    pool("a refused first sheet", [misspelt, second], said=b"pool: refused 1 " + refused)
+    pool("a refused second sheet", [first, misspelt], said=b"pool: refused 2 " + refused)
+    pool("two refused sheets", [misspelt, os.devnull], said=b"pool: refused 1 " + refused)
+    pool("an empty second sheet", [first, os.devnull], said=b"pool: refused 2 2 0\n")
+    pool("a first sheet without end", ["/dev/zero", second], said=b"pool: refused 1 1 0\n")
+    made = at / "made.sheet"
+    for size, number in (16384, b"3 1"), (16385, b"1 0"):
+        made.write_bytes(b"x" * (size - 1) + b"\n")
+        pool(f"a second sheet of {size:,} bytes", [first, str(made)], said=b"pool: refused 2 " + number + b"\n")
+    text = Path(second).read_bytes()
+    other = text.replace(b"store a - - 1\n", b"store a - - 4\n")
+    assert text != other, "the second lab's store has another row"
+    made.write_bytes(other)
+    pool("a store of two ranks", [first, str(made)], said=b"pool: refused 0 22 0\n")
+    more = at / "more.sheet"
+    made.write_bytes(items(f"item{i}" for i in range(64)))
+    more.write_bytes(items(["another"]))
+    pool("65 items", [str(made), str(more)], said=b"pool: refused 0 23 0\n")
+
+
+def pool_outputs():
+    words = [str(ROOT / f"examples/{name}.sheet") for name in ("first-lab", "second-lab")]
+    sheet = (ROOT / "examples/both-labs.sheet").read_bytes()
+    with open("/dev/full", "wb") as full:
+        pool("a pooled sheet to /dev/full", words, said=line_of(SHEET_CUT_OFF, errno.ENOSPC), stdout=full)
+    pool("a pooled sheet to a closed output", words, said=line_of(SHEET_CUT_OFF, errno.EBADF), **without(1))
+    pool("a pooled sheet and a closed standard error", words, sheet, **without(2))
+    pool("a refusal and a closed standard error", words[:1] + [os.devnull], **without(2))
+    size = len(sheet) // 2
+    pool("a pooled sheet to a file that gets full", words, sheet, line_of(SHEET_CUT_OFF, errno.EFBIG), cut=size, preexec_fn=lambda: limited(size))
+    for restored, said, want in (True, b"", -signal.SIGPIPE), (False, line_of(SHEET_CUT_OFF, errno.EPIPE), 0):
+        read, write = os.pipe()
+        os.close(read)
+        pool(f"a reader that is gone, SIGPIPE {'as it comes' if restored else 'ignored'}", words, said=said, want=want, stdout=write, restore_signals=restored)
+        os.close(write)
+
+
 if __name__ == "__main__":
     inputs()
     outputs()
+    with tempfile.TemporaryDirectory() as at:
+        pool_inputs(Path(at))
+        pool_refusals(Path(at))
+    pool_outputs()
     for fault in faults:
         print("failures:", fault)
     print(f"failures of input and output: {cases} cases, {len(faults)} faults")

@@ -6,3 +6,4 @@ pub mod OneResult
 pub mod Sheets
 pub mod Stable
 pub mod Register
+pub mod Pools

@@ -22,6 +22,7 @@ use Rattle.demands.proofs.Stable.{stable-number, by-cases}
 use Rattle.portal_setup.specs.Words.{setupIn}
 use Rattle.portal_living.proofs.Saying.{one-living-result}
 use Rattle.portal_results.specs.Told.{filled, Told}
+use Rattle.pool_format.proofs.Meaning.{pool-determined}
 use Rattle.demands.specs.OneResult.{OneResult, OneResultOnSetups, OneResultOnSheets}
 
 -- ---- what a struct tells
@@ -96,4 +97,5 @@ one-result-on-sheets text =
             a .begins ∙ sym (b .begins),
             a .long ∙ sym (b .long),
           );
+      pool = pool-determined text;
     }

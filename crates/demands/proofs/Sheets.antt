@@ -66,7 +66,7 @@ listed-from : (k a n : ℕ) → a ≤ n → n < a + k → Listed (from k a) n
 listed-from zero a n l h = absurd (omega arith)
 listed-from (suc k) a n l h = ⊎-elim inl (λ d. inr (listed-from k (suc a) n (omega (arith, d)) (omega arith))) (same-or n a)
 
-sheet-number : (n : ℕ) → 1 ≤ n → n ≤ 11 → Listed sheetNumbers n
+pub sheet-number : (n : ℕ) → 1 ≤ n → n ≤ 11 → Listed sheetNumbers n
 sheet-number n l h = listed-from 11 1 n l (omega arith)
 
 module _ (text : List ℕ) (r : Reading) (h : Reads text r) where

@@ -1,7 +1,7 @@
 -- Demands 1 and 2: what the offered calls answer, all of them on one input. Each is the contract of a function that makes the calls; the name of
 -- an item, a part of the sheet, is handed back by a function of its own (`SettledName`, `Named`), and so are the answers of the class register's calls,
 -- which are lent records (`HandInDemands`, `WithdrawDemands`), and so are the setups that the calls of a setup
--- that lives hand back (specs/Living.antt).
+-- that lives hand back (specs/Living.antt), and the pooled sheet of two sheets (`SettledPool`, `PoolsAsStated`).
 use mathlib.Core.Path.{_≡_}
 use mathlib.Core.Bool.{true, false}
 use mathlib.Core.List.{List, [], _∷_}
@@ -24,6 +24,7 @@ use Rattle.histories.specs.Histories.{Reached}
 use Rattle.portal.specs.Portal.{PortalCall}
 use Rattle.demands.specs.declared.Answers.{Answers}
 use Rattle.demands.specs.Register.{SettledHandIns, SettledWithdrawals}
+use Rattle.demands.specs.Pools.{SettledPools, PoolMeaning}
 use Rattle.demands.specs.Outcomes.{Settled, SettledWay, SettledList, SettledBags, SettledBagScore, SettledQuestion12}
 use Rattle.demands.specs.Sheets.{Reads, SettledReading, SettledPortal}
 
@@ -63,6 +64,8 @@ pub record Demand1 (text : List ℕ) (item : ℕ) (s : Setup) (set target other 
   -- the class register, for every answer that a call may give: 25, 12, 13, 26; 25, 27
   pub handIn : SettledHandIns
   pub withdraw : SettledWithdrawals
+  -- pooling, for every answer that the call may give: 1 to 11 of either sheet, 22, 23, 24
+  pub pool : SettledPools
   -- one list at most another as bags: yes or no, here of the two handed-in lists; the bag score: 12, 13, 15
   pub bagAtMost : SettledBags opened locked (r .bags .compared)
   pub bagScore : SettledBagScore s target (multisetNumber (r .bags .score)) (multisetValues (r .bags .score)) parts parts′ lengths lengths′
@@ -107,6 +110,8 @@ pub record Demand2 (text : List ℕ) (item : ℕ) (s : Setup) (set target other 
   pub next : NextCall s target set (nextNumber (r .next)) (nextValues (r .next))
   -- after every list of calls on the class register, its records are those of the latest accepted attempts
   pub register : RegisterLaw
+  -- colours are renamed to the lowest free one; the pooled sheet is a sheet with the items of both, and opens what either opened
+  pub pool : PoolMeaning
   -- whether both lists have at most 14 values, and those of the one can be paired, one to one, with values of the other that are at least as high
   pub bagAtMost : Decides (AtMost opened locked) (r .bags .compared)
   -- the bags of start values over the opening list to which no different one is at most, each once

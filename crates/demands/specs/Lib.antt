@@ -5,3 +5,4 @@ pub mod Outcomes
 pub mod OneResult
 pub mod Sheets
 pub mod Register
+pub mod Pools

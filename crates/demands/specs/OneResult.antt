@@ -25,6 +25,9 @@ use Rattle.living.specs.Calls.{Call}
 use Rattle.portal_living.specs.Living.{LivingCall}
 use Rattle.portal_closures.specs.Check.{CheckCall}
 use Rattle.portal_reading.specs.Reading.{ReadingCall, NameCall}
+use Rattle.pool_format.specs.declared.Pooled.{Pooled}
+use Rattle.pool_format.specs.Call.{PoolCall}
+use Rattle.pool_format.specs.Meaning.{SamePool}
 
 -- Two structs that tell an answer of the call in as many fields are the same.
 abbrev pub OneResult : (ℕ → List ℕ → Type 0) → Type 0
@@ -70,3 +73,5 @@ pub record OneResultOnSetups (words : List ℕ) : Type 0 where
 pub record OneResultOnSheets (text : List ℕ) : Type 0 where
   pub reading : (n n′ l l′ : ℕ) (a x x′ : List ℕ) → ReadingCall text n l a x → ReadingCall text n′ l′ a x′ → (n ≡ n′) × (l ≡ l′) × (x ≡ x′)
   pub name : (item n n′ p p′ k k′ : ℕ) → NameCall text item n p k → NameCall text item n′ p′ k′ → (n ≡ n′) × (p ≡ p′) × (k ≡ k′)
+  pub pool : (second : List ℕ) (r r′ : Pooled) (entry exit exit′ : List ℕ)
+      → PoolCall text second r entry exit → PoolCall text second r′ entry exit′ → SamePool r r′ exit exit′

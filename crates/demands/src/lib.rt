@@ -18,6 +18,7 @@ ghost use Rattle.demands.specs.Living.{LivingDemand1, LivingDemand2};
 ghost use Rattle.demands.specs.Sheets.{Reads, Named, SettledName};
 ghost use Rattle.demands.specs.Demands.{Demand1, Demand2};
 ghost use Rattle.demands.specs.Register.{HandInDemands, WithdrawDemands};
+ghost use Rattle.demands.specs.Pools.{SettledPool, PoolsAsStated};
 use access::ClosureAnswer;
 use access::LostAnswer;
 use access::WayAnswer;
@@ -29,6 +30,7 @@ use forecasts::ForecastAnswer;
 use living::Redrawing;
 use multiset_scores::MultisetAnswer;
 use next_sets::NextAnswer;
+use pool_format::Pooled;
 use quick_yes::QuickAnswer;
 use records::Record;
 use records::Registered;
@@ -312,4 +314,12 @@ pub fn demands_of_living(
     ensures two { λ r. ⌜ LivingDemand2 s item from to colour rec r ⌝ }
 {
     ask_living(s, item, from, to, colour, rec)
+}
+
+// Both demands of pooling, whose input is two sheets.
+pub fn demands_of_pool(first: &[u8], second: &[u8], out: &mut [u8]) -> Pooled
+    ensures one { λ r. ⌜ SettledPool (now (first .entry)) (now (second .entry)) r (now (out .entry)) (now (out .exit)) ⌝ }
+    ensures two { λ r. ⌜ PoolsAsStated (now (first .entry)) (now (second .entry)) r (now (out .entry)) (now (out .exit)) ⌝ }
+{
+    pooling::pool_sheets(first, second, out)
 }

@@ -8,9 +8,9 @@ use Rattle.sheet_format.specs.Names.{nameOf, nameStart}
 use Rattle.setup.specs.Calls.{written}
 use Rattle.portal_setup.specs.Words.{setupIn, wordsOf}
 
--- 30000 for version 3.0.0 of the calls, two digits for each of the last two parts.
+-- 30100 for version 3.1.0 of the calls, two digits for each of the last two parts.
 abbrev pub version : ℕ
-version = 30000
+version = 30100
 
 -- The sheet's own number and line, and its setup's words at the front of the lent buffer. With fewer than 1283 places no word is written,
 -- and an accepted sheet gets 15.

@@ -5,8 +5,8 @@ ghost use Rattle.portal_reading.specs.Reading.{version, ReadingCall, Nam
 use portal_results::PortalPart;
 use portal_results::PortalReading;
 
-// Version 3.0.0.
-const VERSION: u64 = 30000;
+// Version 3.1.0.
+const VERSION: u64 = 30100;
 
 const SETUP_WORDS: usize = 1283;
 

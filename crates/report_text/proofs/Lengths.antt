@@ -6,18 +6,17 @@ use mathlib.Core.Bool.{Bool, true, false}
 use mathlib.Core.List.{List, [], _∷_}
 use mathlib.Core.Logic.{inl, inr, ⊎-elim}
 use Prim.Native.Nat.{ℕ, zero, suc, _+_, _-_, _*_, _/_, _%_, _^_, _≤_, _<_}
-use native.Mathlib.Nat.{pow-suc}
 use native.Mathlib.Omega.{arith}
 use lib.Count.{ones}
 use lib.ListN.{length, replicate, length-append}
-use borrow.Author.Tests.{lt-ltb, le-ltb}
 use Rattle.vertex_set.specs.Set.{Member}
 use Rattle.vertex_set.specs.Order.{Listed}
-use Rattle.vertex_set.proofs.Cases.{less-or, same-or}
+use Rattle.vertex_set.proofs.Cases.{same-or}
 use Rattle.vertex_set.proofs.Places.{places, length-places, listed-places}
 use Rattle.setup.specs.Bounds.{largest, mostChosen}
 use Rattle.sheet_format.specs.Fields.{digitsIn, decimal}
 use Rattle.sheet_format.specs.Rows.{lineText}
+use Rattle.sheet_format.proofs.Numbers.{decimal-length}
 use Rattle.bases.specs.Score.{never}
 use Rattle.reference.specs.Tests.{filtered, isMember}
 use Rattle.report_text.specs.Inner.{longestRow}
@@ -26,21 +25,6 @@ use Rattle.report_text.proofs.Items.{set-text}
 use Rattle.report_text.proofs.Rows.{score-never, score-number}
 
 -- ---- fields
-
-digits-length : (j k n : ℕ) → n < 10 ^ suc k → length (digitsIn j n) ≤ suc k
-unfolding digitsIn
-digits-length zero k n h = omega arith
-digits-length (suc j) zero n h = rw (lt-ltb n 10 h) (omega arith)
-digits-length (suc j) (suc k) n h =
-    let p = pow-suc 10 (suc k) in
-    ⊎-elim (λ l. rw (lt-ltb n 10 l) (omega arith))
-    (λ l. rw (le-ltb n 10 l) (let i = digits-length j k (n / 10) (omega arith) in omega (arith, length-append (digitsIn j (n / 10)) ((48 + n % 10) ∷ []))))
-    (less-or n 10)
-
--- A number below 10^(k + 1) has at most k + 1 digits.
-pub decimal-length : (k n : ℕ) → n < 10 ^ suc k → length (decimal n) ≤ suc k
-unfolding decimal
-decimal-length k n h = digits-length 20 k n h
 
 score-length : (r : ℕ) → r < 2 ^ 64 → length (scoreText r) ≤ 20
 score-length r h =

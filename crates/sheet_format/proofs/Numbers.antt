@@ -1,4 +1,4 @@
--- Numbers as they are written and read: each undoes the other.
+-- Numbers as they are written and read: each undoes the other; and how many digits they have.
 -- Assumes nothing.
 use mathlib.Core.Path.{_≡_, refl, sym, ap, ap₂, _∙_, subst}
 use mathlib.Core.List.{List, [], _∷_, _++_, append-nil, append-assoc, nil≢cons, head-eq-of-cons-eq}
@@ -7,7 +7,7 @@ use mathlib.Core.Logic.{⊎-elim}
 use Prim.Native.Nat.{ℕ, zero, suc, _+_, _-_, _*_, _/_, _%_, _^_, _≤_, _<_}
 use native.Mathlib.Nat.{pow-suc, pow-succ', pow-le-pow-right, mul-assoc, mul-le-mul-right, add-zero, zero-add, add-suc, suc-add}
 use native.Mathlib.Omega.{arith}
-use lib.ListN.{length}
+use lib.ListN.{length, length-append}
 use lib.Dec.{eqb, leb}
 use borrow.Author.Tests.{lt-ltb, le-ltb, leb-true, le-leb, eqb-false, ne-eqb, not-true}
 use Rattle.vertex_set.proofs.Cases.{less-or, false-true}
@@ -94,6 +94,23 @@ number-decimal (suc n) h = number-lead (digitsIn 20 (suc n)) (digits-digits 20 (
 pub value-decimal : (n : ℕ) → n < 10 ^ 20 → numberOf (decimal n) ≡ n
 unfolding decimal numberOf
 value-decimal n h = value-digits 20 n h
+
+-- ---- how many digits
+
+digits-length : (j k n : ℕ) → n < 10 ^ suc k → length (digitsIn j n) ≤ suc k
+unfolding digitsIn
+digits-length zero k n h = omega arith
+digits-length (suc j) zero n h = rw (lt-ltb n 10 h) (omega arith)
+digits-length (suc j) (suc k) n h =
+    let p = pow-suc 10 (suc k) in
+    ⊎-elim (λ l. rw (lt-ltb n 10 l) (omega arith))
+    (λ l. rw (le-ltb n 10 l) (let i = digits-length j k (n / 10) (omega arith) in omega (arith, length-append (digitsIn j (n / 10)) ((48 + n % 10) ∷ []))))
+    (less-or n 10)
+
+-- A number below 10^(k + 1) has at most k + 1 digits.
+pub decimal-length : (k n : ℕ) → n < 10 ^ suc k → length (decimal n) ≤ suc k
+unfolding decimal
+decimal-length k n h = digits-length 20 k n h
 
 -- ---- what is read writes back
 

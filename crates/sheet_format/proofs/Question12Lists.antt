@@ -30,7 +30,7 @@ of-each P [] e x m = absurd (List·Memᴰ·not-nil m)
 of-each P (y ∷ ys) e x m = ⊎-elim (λ p. subst P (sym p) (e .0)) (λ k. of-each P ys (e .1) x k) (List·Memᴰ·cases-cons m)
 
 -- two lists without like elements, of which none of the one is like one of the other
-apart-append : {A : Type 0} (R : A → A → Type 0) (xs ys : List A) → Apart R xs → Apart R ys
+pub apart-append : {A : Type 0} (R : A → A → Type 0) (xs ys : List A) → Apart R xs → Apart R ys
     → ((x y : A) → In x xs → In y ys → R x y → ⊥) → Apart R (xs ++ ys)
 apart-append R [] ys p q h = q
 apart-append R (x ∷ xs) ys p q h = (

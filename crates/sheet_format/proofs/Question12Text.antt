@@ -31,11 +31,11 @@ decimal-length : (n : ℕ) → length (decimal n) ≤ 20
 unfolding decimal
 decimal-length n = digits-length 20 n
 
-digit-length : (n : ℕ) → n < 10 → length (decimal n) ≡ 1
+pub digit-length : (n : ℕ) → n < 10 → length (decimal n) ≡ 1
 unfolding decimal digitsIn
 digit-length n l = rw (lt-ltb n 10 l)
 
-kind-length : (k : Kind) → length (kindText k) ≡ 1
+pub kind-length : (k : Kind) → length (kindText k) ≡ 1
 kind-length Credential = refl
 kind-length Account = refl
 
@@ -43,16 +43,16 @@ value-length : (x : Value) → length (valueText x) ≤ 20
 value-length Blank = omega arith
 value-length (Of n) = decimal-length n
 
-rec-length : (b : Bool) → length (decimal (cond b 1 0)) ≡ 1
+pub rec-length : (b : Bool) → length (decimal (cond b 1 0)) ≡ 1
 rec-length true = digit-length 1 (omega arith)
 rec-length false = digit-length 0 (omega arith)
 
 -- ---- lines
 
-four-fields : (a b c d : List ℕ) → length (lineText (a ∷ b ∷ c ∷ d ∷ [])) ≡ length a + length b + length c + length d + 4
+pub four-fields : (a b c d : List ℕ) → length (lineText (a ∷ b ∷ c ∷ d ∷ [])) ≡ length a + length b + length c + length d + 4
 four-fields a b c d = simp length-append (omega arith)
 
-five-fields : (a b c d e : List ℕ) → length (lineText (a ∷ b ∷ c ∷ d ∷ e ∷ [])) ≡ length a + length b + length c + length d + length e + 5
+pub five-fields : (a b c d e : List ℕ) → length (lineText (a ∷ b ∷ c ∷ d ∷ e ∷ [])) ≡ length a + length b + length c + length d + length e + 5
 five-fields a b c d e = simp length-append (omega arith)
 
 items-text : (xs : List ItemRow) → Each (λ x. length (x .name) ≡ 2) xs → length (itemLines xs) ≤ 68 * length xs

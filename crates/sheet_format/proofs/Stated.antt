@@ -36,18 +36,18 @@ at-place [] i l = absurd (omega arith)
 at-place (y ∷ ys) zero l = (y, refl)
 at-place (y ∷ ys) (suc i) l = at-place ys i (omega arith)
 
-stands-in : {A : Type 0} (xs : List A) (i : ℕ) (x : A) → StandsAt xs i x → In x xs
+pub stands-in : {A : Type 0} (xs : List A) (i : ℕ) (x : A) → StandsAt xs i x → In x xs
 stands-in [] i x h = absurd h
 stands-in (y ∷ ys) zero x h = List·Memᴰ·head (sym h)
 stands-in (y ∷ ys) (suc i) x h = List·Memᴰ·tail (stands-in ys i x h)
 
-in-stands : {A : Type 0} (xs : List A) (x : A) → In x xs → (i : ℕ) × StandsAt xs i x
+pub in-stands : {A : Type 0} (xs : List A) (x : A) → In x xs → (i : ℕ) × StandsAt xs i x
 in-stands [] x m = absurd (List·Memᴰ·not-nil m)
 in-stands (y ∷ ys) x m = ⊎-elim (λ p. (0, sym p)) (λ k. let h = in-stands ys x k in (suc (h .0), h .1)) (List·Memᴰ·cases-cons m)
 
 -- ---- the number of a name is the place of its item row
 
-number-stands : (xs : List ItemRow) (n : List ℕ) → Known xs n → (x : ItemRow) × StandsAt xs (numberIn xs n) x × (n ≡ x .name)
+pub number-stands : (xs : List ItemRow) (n : List ℕ) → Known xs n → (x : ItemRow) × StandsAt xs (numberIn xs n) x × (n ≡ x .name)
 unfolding numberIn
 number-stands [] n k = absurd k
 number-stands (y ∷ ys) n k =
@@ -55,7 +55,7 @@ number-stands (y ∷ ys) n k =
     (λ t. rw t (y, refl, sym (text-decided (y .name) n .yes t)))
     (λ t. rw t (⊎-elim (λ e. absurd (text-decided (y .name) n .no t e)) (λ h. number-stands ys n h) k))
 
-stands-number : (xs : List ItemRow) → Apart SameName xs → (i : ℕ) (x : ItemRow) → StandsAt xs i x → numberIn xs (x .name) ≡ i
+pub stands-number : (xs : List ItemRow) → Apart SameName xs → (i : ℕ) (x : ItemRow) → StandsAt xs i x → numberIn xs (x .name) ≡ i
 unfolding numberIn
 stands-number [] a i x h = absurd h
 stands-number (y ∷ ys) a zero x h = rw (yes-of (sameText (y .name) (x .name)) (text-decided (y .name) (x .name)) (ap (λ (z : ItemRow). z .name) h))

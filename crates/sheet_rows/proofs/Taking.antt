@@ -9,8 +9,6 @@ use lib.ListN.{take}
 use lib.Dec.{leb, ltb}
 use borrow.Author.Tests.{le-leb, lt-leb, leb-true, lt-ltb, le-ltb}
 use Rattle.setup.specs.Bounds.{highest}
-use Rattle.setup.specs.declared.Value.{Value}
-use Rattle.setup.specs.declared.Value.the-variants.{Blank, Of}
 use Rattle.setup.specs.Setup.{given}
 use Rattle.sheet_format.specs.Text.{fieldsOf}
 use Rattle.sheet_format.specs.Fields.{isName, isKind, isValue, isNumberTo, numberOf, isNumber}
@@ -28,10 +26,6 @@ use Rattle.sheet_rows.proofs.Asks.{answer-yes, answer-no, all-yes, one-
 use Rattle.sheet_rows.proofs.Tables.{table-place, known-test}
 
 -- ---- room for an item
-
-pub given-le : (v : Value) → given v ≤ 1
-given-le Blank = omega arith
-given-le (Of n) = omega arith
 
 pub room-items : (n s l : ℕ) → 64 ≤ n → false ≡ (leb (suc n) 64 && leb s 14 && leb l 14)
 room-items n s l h = rw (lt-leb (suc n) 64 (omega arith))

@@ -205,8 +205,8 @@ pub fn find_name(low: &[u64], high: &[u64], count: usize, key: Key) -> usize
 }
 
 // 1 for a value, 0 for a blank.
-fn count_value(v: Value) -> usize
-    ensures { λ r. ⌜ r ≡ given v ⌝ }
+pub fn count_value(v: Value) -> usize
+    ensures { λ r. ⌜ (r ≡ given v) × (r ≤ 1) ⌝ }
 {
     match v {
         Value::Blank => 0,

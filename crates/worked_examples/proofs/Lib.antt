@@ -14,3 +14,4 @@ pub mod CutSets
 pub mod CutSetsExcluded
 pub mod Multisets
 pub mod MultisetsExcluded
+pub mod Pooling

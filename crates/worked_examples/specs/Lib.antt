@@ -7,3 +7,4 @@ pub mod Sheets
 pub mod Table
 pub mod CutSets
 pub mod Multisets
+pub mod Pooling

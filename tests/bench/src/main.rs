@@ -5,8 +5,8 @@
 //! and of reports, `bench forecast` that of forecasts,
 //! `bench next` that of next sets, `bench living` that of calls that change a setup, `bench closing` that of closures, `bench opens` that of quick
 //! answers, `bench cuts` that of cut sets, `bench intruders` that of kinds of intruder, and `bench
-//! register` that of the class register, and
-//! `bench bags` that of bag scores.
+//! register` that of the class register,
+//! `bench bags` that of bag scores, and `bench pool` that of two sheets pooled.
 
 mod bags;
 mod calls;
@@ -28,6 +28,7 @@ mod next;
 mod older;
 mod opens;
 mod plain;
+mod pool;
 mod programs;
 mod proved;
 mod ready;
@@ -93,8 +94,9 @@ fn main() -> ExitCode {
         ["intruders"] => print_intruders(),
         ["register"] => print_register(),
         ["bags"] => print_bags(),
+        ["pool"] => print_pools(),
         _ => {
-            eprintln!("usage: bench [quick | marking | rows | reports | forecast | next | living | closing | opens | cuts | intruders | register | bags]");
+            eprintln!("usage: bench [quick | marking | rows | reports | forecast | next | living | closing | opens | cuts | intruders | register | bags | pool]");
             return ExitCode::from(2);
         }
     }
@@ -132,6 +134,7 @@ fn run(rounds: &Rounds, folder: &str) {
     show(bags::bag_scores(&kinds, rounds, &mut targets));
     show(marking::marking(antichain(&kinds), rounds, &mut targets));
     show(register::register(&kinds, rounds, &mut targets));
+    show(pool::pooling(rounds, &mut targets));
     let clingo = clingo::opening_lists(&kinds, &programs, rounds, &mut targets);
     clingo.into_iter().for_each(&mut show);
     show(programs::case_study(&root, &programs, rounds));
@@ -242,4 +245,11 @@ fn print_register() {
     let mut targets = Vec::new();
     let grid = register::register(&kinds::all(), &FULL, &mut targets);
     println!("{}\n{}", grid.text(), targets::grid(&targets).text());
+}
+
+fn print_pools() {
+    let mut targets = Vec::new();
+    let grid = pool::pooling(&FULL, &mut targets);
+    let reasons = targets::reasons(&targets);
+    println!("{}\n{}\n{reasons}", grid.text(), targets::grid(&targets).text());
 }

@@ -9,6 +9,7 @@ mod intruders;
 mod living;
 mod long_lists;
 mod passes;
+mod pools;
 mod program;
 mod register;
 mod runs;

@@ -8,6 +8,7 @@ use crate::living::{
 };
 use crate::long_lists::compare_long_lists;
 use crate::passes::compare_known_passes;
+use crate::pools::{compare_pool_cases, compare_pools};
 use crate::program::Program;
 use crate::setups::{compare_setup, Depth, FEW, FULL, MANY, MOST};
 use crate::sheets::{compare_report, compare_sheet};
@@ -48,6 +49,9 @@ const REGISTERED: [(&str, usize); 11] = [
     ("26", 4_000),
     ("27", 5_000),
 ];
+/// The fewest random pairs in the gate that give a pooled sheet, and the fewest 22 and 23.
+const POOLED: usize = 400;
+const NOT_POOLED: usize = 20;
 
 /// How many inputs were compared, and how many reports among them.
 #[derive(Default)]
@@ -128,6 +132,10 @@ impl Run {
         assert!(walked.shown >= SHOWN && walked.left >= LEFT, "too little was walked: {walked:?}");
         assert!(walked.changed >= CHANGED, "too little was changed: {walked:?}");
         self.lives()?;
+        compare_pool_cases(&mut self.rng)?;
+        let pools = compare_pools(&mut self.rng, 1_000)?;
+        let others = pools.disagree.min(pools.beyond);
+        assert!(pools.pooled >= POOLED && others >= NOT_POOLED, "too little was pooled: {pools:?}");
         for case in bounds::bounds() {
             self.counts.bounds += 1;
             self.sheet(&case, FEW, true)?;
@@ -232,6 +240,7 @@ impl Run {
         if self.rng.chance(1, 20) {
             self.counts.lives += compare_short_lists(self.rng.number() % DRAWINGS)? as u64;
         }
+        compare_pools(&mut self.rng, 40)?;
         for case in damaged::damaged_sheets(self.rng.number(), 11) {
             self.counts.damaged += 1;
             self.sheet(&case, MANY, false)?;

@@ -13,8 +13,8 @@
 mod results;
 
 pub use results::{
-    BagScore, Closure, CutSets, Finding, Forecast, Kinds, Lists, Marks, NextOpening, Part, Quick,
-    Reading, Record, Refusal, Registered, Set, SetupRisk, SetupScore, Way,
+    BagScore, Closure, CutSets, Finding, Forecast, Kinds, Lists, Marks, NextOpening, Part, Pooled,
+    Quick, Reading, Record, Refusal, Registered, Set, SetupRisk, SetupScore, Way,
 };
 
 /// How many words a setup has.
@@ -27,8 +27,10 @@ pub const OPENED: usize = HELD + 1;
 pub const BLANK: u64 = u64::MAX;
 /// "Never": the score of an item that no set opens, the risk of one that no loss shuts.
 pub const NEVER: u64 = 1 << 62;
+/// Bytes that are always enough for a pooled sheet.
+pub const POOL_BYTES: usize = 12_526;
 /// The version of the header that this crate was written for.
-pub const VERSION: u64 = 30000;
+pub const VERSION: u64 = 30100;
 
 mod linked {
     use super::*;
@@ -39,6 +41,14 @@ mod linked {
         pub fn portal_risk(sheet: *const u8, length: usize, item: u64) -> u64;
         pub fn portal_read(sheet: *const u8, n: usize, setup: *mut u64, words: usize) -> Reading;
         pub fn portal_name(sheet: *const u8, length: usize, item: u64) -> Part;
+        pub fn portal_pool(
+            first: *const u8,
+            first_length: usize,
+            second: *const u8,
+            second_length: usize,
+            out: *mut u8,
+            places: usize,
+        ) -> Pooled;
         pub fn portal_check(setup: *const u64, words: usize) -> u64;
         pub fn portal_closure(setup: *const u64, words: usize, set: u64) -> Closure;
         pub fn portal_lost(setup: *const u64, words: usize, set: u64) -> Set;
@@ -183,6 +193,14 @@ pub fn read(sheet: &[u8], setup: &mut [u64]) -> Reading {
 /// Where an item's name stands in the sheet. 1 to 11, 13.
 pub fn name(sheet: &[u8], item: u64) -> Part {
     unsafe { linked::portal_name(sheet.as_ptr(), sheet.len(), item) }
+}
+
+/// Pools two sheets into a buffer. 1 to 11 with the sheet and its line; 22, 23, 24.
+pub fn pool(first: &[u8], second: &[u8], out: &mut [u8]) -> Pooled {
+    let (text, length) = (first.as_ptr(), first.len());
+    let (other, other_length) = (second.as_ptr(), second.len());
+    let (places, count) = (out.as_mut_ptr(), out.len());
+    unsafe { linked::portal_pool(text, length, other, other_length, places, count) }
 }
 
 /// Question 12: 0 for a setup from an accepted sheet and calls that change it, else 12.

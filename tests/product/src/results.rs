@@ -52,6 +52,15 @@ results! {
         /// How many bytes it has.
         length,
     }
+    /// A pooled sheet.
+    Pooled {
+        /// The sheet that was refused, 1 or 2; 0 where neither was.
+        sheet,
+        /// The line of that refusal.
+        line,
+        /// How many bytes the pooled sheet has.
+        length,
+    }
     /// What a set opens.
     Closure {
         /// The set of all items that it opens.

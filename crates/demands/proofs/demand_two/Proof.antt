@@ -1,4 +1,5 @@
 use Rattle.register.proofs.Afternoon.{register-law}
+use Rattle.demands.proofs.Pools.{pool-meaning}
 use borrow.Author.Needs.{needs}
 use Rattle.demands.proofs.demand_two.Statement.{statement}
 use Rattle.demands.proofs.demand_two.Tie as tie
@@ -97,6 +98,7 @@ returns c =
       attackers = a .attacker-score .ensures;
       next = x .next-access-set .ensures;
       register = register-law;
+      pool = pool-meaning;
       bagAtMost = b .ask-bags .ensures .0;
       bagScore = b .ask-bags .ensures .1;
     }

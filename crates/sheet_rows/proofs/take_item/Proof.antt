@@ -1,7 +1,7 @@
 use mathlib.Core.Path.{sym, ap, _∙_}
 use Prim.Native.Nat.{ℕ, _+_}
 use native.Mathlib.Omega.{arith}
-use Rattle.sheet_rows.proofs.Taking.{given-le, item-unread, item-used, item-taken, item-full}
+use Rattle.sheet_rows.proofs.Taking.{item-unread, item-used, item-taken, item-full}
 use borrow.Author.Needs.{needs}
 use Rattle.sheet_rows.proofs.take_item.Statement.{statement}
 use Rattle.sheet_rows.proofs.take_item.Tie as tie
@@ -39,18 +39,18 @@ count-value-requires c κs = search needs
 
 add-starts : tie.Need-add-starts
 add-starts c =
-    let e = c .count-value .ensures in
+    let e = c .count-value .ensures .1 in
     let p = c .before .before .before .before .before .before in
-    omega (arith, given-le (p .read-item .result .vertex .start), p .before .before .before .before .pre .2)
+    omega (arith, p .before .before .before .before .pre .2)
 
 count-value-requires-2 : tie.Need-count-value-requires-2
 count-value-requires-2 c κs = search needs
 
 add-losses : tie.Need-add-losses
 add-losses c =
-    let e = c .count-value2 .ensures in
+    let e = c .count-value2 .ensures .1 in
     let p = c .before .before .before .before .before .before .before in
-    omega (arith, given-le (p .read-item .result .vertex .loss), p .before .before .before .before .pre .3)
+    omega (arith, p .before .before .before .before .pre .3)
 
 has-room-requires : tie.Need-has-room-requires
 has-room-requires c κs = search needs
@@ -69,7 +69,7 @@ returns-3 c =
     let a = p .before .before .before .before .args in
     item-taken (a .l .now) (a .low .now) (a .high .now) (a .count) (a .starts) (a .losses) (p .read-item .result) (p .read-item .ensures)
     (z .if1 .left) (f .find-name .result) (f .find-name .ensures) _ _
-    (ap (λ (i : ℕ). a .starts + i) (k .count-value .ensures)) (ap (λ (i : ℕ). a .losses + i) (m .count-value2 .ensures)) (y .if2 .left)
+    (ap (λ (i : ℕ). a .starts + i) (k .count-value .ensures .0)) (ap (λ (i : ℕ). a .losses + i) (m .count-value2 .ensures .0)) (y .if2 .left)
     (sym (c .before .has-room .ensures) ∙ c .if3 .taken)
 
 returns-4 : tie.Need-returns-4
@@ -83,7 +83,7 @@ returns-4 c =
     let a = p .before .before .before .before .args in
     item-full (a .l .now) (a .low .now) (a .high .now) (a .count) (a .starts) (a .losses) (p .read-item .result) (p .read-item .ensures)
     (z .if1 .left) (f .find-name .result) (f .find-name .ensures) _ _
-    (ap (λ (i : ℕ). a .starts + i) (k .count-value .ensures)) (ap (λ (i : ℕ). a .losses + i) (m .count-value2 .ensures)) (y .if2 .left)
+    (ap (λ (i : ℕ). a .starts + i) (k .count-value .ensures .0)) (ap (λ (i : ℕ). a .losses + i) (m .count-value2 .ensures .0)) (y .if2 .left)
     (c .no-taken3 .result) (sym (c .before .before .has-room .ensures) ∙ c .before .if3 .left) (c .no-taken3 .ensures)
 
 pub take-item-spec : {M : Type 1} → statement M

@@ -12,6 +12,7 @@ pub mod forecasts;
 pub mod intruders;
 pub mod living;
 pub mod noise;
+pub mod pools;
 pub mod probes;
 pub mod random;
 pub mod readings;

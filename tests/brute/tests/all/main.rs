@@ -9,6 +9,7 @@ mod generators;
 mod graphs;
 mod intruders;
 mod living;
+mod pools;
 mod questions;
 mod quick;
 mod reading;

@@ -1,0 +1,39 @@
+-- `pool_items::same_value` meets its contract: both are values or both are blanks, and of the same amount.
+use borrow.Author.Needs.{needs}
+use Rattle.pool_items.proofs.Items.{value-told, value-other}
+use Rattle.pool_items.proofs.same_value.Statement.{statement}
+use Rattle.pool_items.proofs.same_value.Tie as tie
+
+count-value-requires : tie.Need-count-value-requires
+count-value-requires c κs = search needs
+
+count-value-requires-2 : tie.Need-count-value-requires-2
+count-value-requires-2 c κs = search needs
+
+amount-of-requires : tie.Need-amount-of-requires
+amount-of-requires c κs = search needs
+
+amount-of-requires-2 : tie.Need-amount-of-requires-2
+amount-of-requires-2 c κs = search needs
+
+returns : tie.Need-returns
+returns c =
+    let t = c .before .before in
+    let q = t .before .before .before .args in
+    value-told (q .a) (q .b) _ _ (t .before .before .count-value .ensures .0) (t .before .count-value2 .ensures .0) _ _ (t .if1 .taken) (c .before .amount-of .ensures) (c .amount-of2 .ensures)
+
+returns-2 : tie.Need-returns-2
+returns-2 c =
+    let q = c .before .before .before .args in
+    value-other (q .a) (q .b) _ _ (c .before .before .count-value .ensures .0) (c .before .count-value2 .ensures .0) (c .if1 .left)
+
+pub same-value-spec : {M : Type 1} → statement M
+same-value-spec =
+    tie.close
+    (tie.spec
+    count-value-requires
+    count-value-requires-2
+    amount-of-requires
+    amount-of-requires-2
+    returns
+    returns-2)

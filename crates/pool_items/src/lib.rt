@@ -1,0 +1,189 @@
+// The item rows of two accepted sheets that are pooled: the keys of their names, which items are in
+// both, whether these agree, and what remains of the second sheet.
+use setup::Kind;
+use setup::Value;
+use setup::Vertex;
+use sheet_fields::Key;
+ghost use mathlib.Core.Path.{_≡_};
+ghost use Prim.Native.Nat.{_≤_};
+ghost use Rattle.vertex_set.specs.Set.{Decides};
+ghost use Rattle.pool_items.specs.Inner.Keys.{HasLines, KeysOf, PlacesOf};
+ghost use Rattle.pool_format.specs.Inner.{kindCode, amount};
+ghost use Rattle.pool_items.specs.Inner.Items.{AllAgree, Small, WithItem, Rising, CountsRemaining};
+
+// The keys of the names of a sheet's items, and where each item's row begins; behind the last of
+// them the place of the empty line.
+pub struct Keys {
+    pub low: [u64; 64],
+    pub high: [u64; 64],
+    pub from: [usize; 65],
+}
+
+// Of the items that remain: how many there are, how many of them are starting and losable ones, and
+// how many bytes their rows have.
+pub struct Remaining {
+    pub items: usize,
+    pub starts: usize,
+    pub losses: usize,
+    pub bytes: usize,
+}
+
+// The keys of the first `count` items: each row is a line below the header.
+pub fn keys_of(s: &[u8], count: usize) -> Keys
+    requires { ⌜ HasLines (now s) count ⌝ }
+    ensures { λ r. ⌜ KeysOf (now (s .entry)) count r ⌝ }
+{
+    let mut low = [0u64; 64];
+    let mut high = [0u64; 64];
+    let mut from = [0usize; 65];
+    let mut at = sheet_fields::find(s, 0, sheet_fields::LF) + 1;
+    for v in 0..count {
+        let end = sheet_fields::find(s, at, sheet_fields::LF);
+        let item = sheet_rows::read_item(&s[at..end]);
+        let key = item.key;
+        low[v] = key.low;
+        high[v] = key.high;
+        from[v] = at;
+        at = end + 1;
+    }
+    from[count] = at;
+    Keys { low, high, from }
+}
+
+// For each of the second sheet's `count` items its number in the first sheet, or the first sheet's
+// number of items where it is not there.
+pub fn places_of(first: Keys, known: usize, second: Keys, count: usize) -> [usize; 64]
+    requires { ⌜ (known ≤ 64) × (count ≤ 64) ⌝ }
+    ensures { λ r. ⌜ PlacesOf first known second count r ⌝ }
+{
+    let low = first.low;
+    let high = first.high;
+    let mut places = [0usize; 64];
+    for j in 0..count {
+        let key = Key {
+            low: second.low[j],
+            high: second.high[j],
+        };
+        places[j] = sheet_rows::find_name(&low, &high, known, key);
+    }
+    places
+}
+
+fn kind_code(k: Kind) -> u64
+    ensures { λ r. ⌜ r ≡ kindCode k ⌝ }
+{
+    match k {
+        Kind::Credential => 0,
+        Kind::Account => 1,
+    }
+}
+
+fn amount_of(v: Value) -> u64
+    ensures { λ r. ⌜ r ≡ amount v ⌝ }
+{
+    match v {
+        Value::Blank => 0,
+        Value::Of(n) => n,
+    }
+}
+
+// A blank and 0 are not the same.
+fn same_value(a: Value, b: Value) -> bool
+    ensures { λ r. ⌜ Decides (a ≡ b) r ⌝ }
+{
+    if sheet_rows::count_value(a) == sheet_rows::count_value(b) {
+        amount_of(a) == amount_of(b)
+    } else {
+        false
+    }
+}
+
+// Do two vertices agree in kind, start, loss and rank?
+fn same_vertex(a: Vertex, b: Vertex) -> bool
+    ensures { λ r. ⌜ Decides (a ≡ b) r ⌝ }
+{
+    let kind = a.kind;
+    let start = a.start;
+    let loss = a.loss;
+    let other_kind = b.kind;
+    let other_start = b.start;
+    let other_loss = b.loss;
+    if kind_code(kind) != kind_code(other_kind) {
+        return false;
+    }
+    if !same_value(start, other_start) {
+        return false;
+    }
+    if !same_value(loss, other_loss) {
+        return false;
+    }
+    a.rank == b.rank
+}
+
+// Does each of the second sheet's `count` items that is in the first sheet agree with the one there?
+pub fn all_agree(
+    first: [Vertex; 64],
+    known: usize,
+    second: [Vertex; 64],
+    count: usize,
+    places: [usize; 64],
+) -> bool
+    requires { ⌜ (known ≤ 64) × (count ≤ 64) ⌝ }
+    ensures { λ r. ⌜ Decides (AllAgree first known second count places) r ⌝ }
+{
+    for j in 0..count {
+        let place = places[j];
+        if place < known {
+            let a = first[place];
+            let b = second[j];
+            if !same_vertex(a, b) {
+                return false;
+            }
+        }
+    }
+    true
+}
+
+// One item more, with the bytes of its row.
+fn with_item(r: Remaining, x: Vertex, size: usize) -> Remaining
+    requires { ⌜ Small r size ⌝ }
+    ensures { λ q. ⌜ WithItem r x size q ⌝ }
+{
+    let start = x.start;
+    let loss = x.loss;
+    let starts = r.starts + sheet_rows::count_value(start);
+    let losses = r.losses + sheet_rows::count_value(loss);
+    Remaining {
+        items: r.items + 1,
+        starts,
+        losses,
+        bytes: r.bytes + size,
+    }
+}
+
+// Counts the items that are not among the first sheet's `known`.
+pub fn count_remaining(
+    vertices: [Vertex; 64],
+    count: usize,
+    places: [usize; 64],
+    known: usize,
+    from: [usize; 65],
+) -> Remaining
+    requires { ⌜ Rising from count ⌝ }
+    ensures { λ r. ⌜ CountsRemaining vertices count places known from r ⌝ }
+{
+    let mut r = Remaining {
+        items: 0,
+        starts: 0,
+        losses: 0,
+        bytes: 0,
+    };
+    for j in 0..count {
+        if known <= places[j] {
+            let x = vertices[j];
+            let size = from[j + 1] - from[j];
+            r = with_item(r, x, size);
+        }
+    }
+    r
+}

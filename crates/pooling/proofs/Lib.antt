@@ -1,0 +1,4 @@
+pub mod Sheets
+pub mod Texts
+pub mod Plans
+pub mod Calls

@@ -145,11 +145,13 @@ fn ask_place(s: Setup, from: usize, to: usize, colour: usize) -> u64
 fn redraw(s: Setup, graph: Graph, recovery: Graph) -> Setup
     ensures { λ r. ⌜ Drawn s graph recovery r ⌝ }
 {
-    let held = s.held;
-    let mut next = s;
-    next.graph = graph;
-    next.recovery = recovery;
-    hold(next, held, held)
+    let closed = closures::closure(false, graph, s.held);
+    let opened = closed.set;
+    let mut r = s;
+    r.graph = graph;
+    r.recovery = recovery;
+    r.opened = opened;
+    r
 }
 
 // The graph with an edge more.

@@ -1,14 +1,25 @@
 use borrow.Author.Needs.{needs}
+use mathlib.Core.Path.{refl}
+use Rattle.derivations.specs.Access.{access}
+use Rattle.derivations.proofs.Graphs.{access-lawful}
+use Rattle.derivations.proofs.Passes.{passes-closure}
 use Rattle.living.proofs.redraw.Statement.{statement}
 use Rattle.living.proofs.redraw.Tie as tie
 
-hold-requires : tie.Need-hold-requires
-hold-requires c κs = search needs
+closure-requires : tie.Need-closure-requires
+closure-requires c κs = search needs
 
 returns : tie.Need-returns
 returns c =
-    let h = c .hold .ensures in
-    record { count = h .count; vertices = h .vertices; isGraph = h .graph; isRecovery = h .recovery; held = h .isHeld; opened = h .opened }
+    let l = c .before in
+    record {
+      count = refl;
+      vertices = refl;
+      isGraph = refl;
+      isRecovery = refl;
+      held = refl;
+      opened = passes-closure (access _) (access-lawful _) (l .closure .result .passes) _ _ (l .closure .ensures);
+    }
 
 pub redraw-spec : {M : Type 1} → statement M
-redraw-spec = tie.close (tie.spec hold-requires returns)
+redraw-spec = tie.close (tie.spec closure-requires returns)

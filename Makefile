@@ -44,7 +44,7 @@ SECONDS = 60
 fuzz:
 	@bash scripts/fuzz.sh $(SECONDS) $(SEED)
 
-# The proved code beside the same algorithm in Rust; writes docs/PERFORMANCE.md. On a machine with nothing else to do.
+# The proved code beside the same algorithm in Rust; writes docs/PERFORMANCE.md and records/performance.md. On a machine with nothing else to do.
 bench:
 	@bash scripts/bench.sh
 

@@ -1,5 +1,5 @@
 /* A worked example of include/portal.h. Reads a sheet, prints the opening sets of an account by name with the way in of each,
- * says what to harden so that no way in is left, and marks a handed-in list:
+ * says what to harden so that no way in is left, marks a handed-in list, and redraws the setup:
  *
  *     portal SHEET ACCOUNT [SET ...]     a set is names joined by '+', and '-' is the empty set
  *
@@ -133,6 +133,62 @@ static void print_marks(uint64_t account, const uint64_t *handed, size_t count)
            m.repeated, m.shut, m.loose, m.missing, portal_is_full(m) ? "full" : "not full");
 }
 
+static void print_held(const char *what)
+{
+    printf("%s: held ", what);
+    print_set(setup[PORTAL_HELD]);
+    printf(", open ");
+    print_set(setup[PORTAL_OPENED]);
+    printf("\n");
+}
+
+/* An edge more, from an item that is not open, in a colour by which the account is: that colour is then harder, and the account may shut.
+ * Where there is no such item or colour, nothing is drawn; a refused call leaves the setup as it was. */
+static void draw_edge(uint64_t account)
+{
+    uint64_t open = setup[PORTAL_OPENED], from = 0, colour = 0;
+    while (from < setup[PORTAL_COUNT] && open >> from & 1)
+        from++;
+    while (colour < PORTAL_COLOURS && (setup[PORTAL_ROW(account, colour)] == 0 || setup[PORTAL_ROW(account, colour)] & ~open))
+        colour++;
+    if (from == setup[PORTAL_COUNT] || colour == PORTAL_COLOURS)
+        return;
+    uint64_t number = portal_add_edge(setup, PORTAL_SETUP_WORDS, from, account, colour, 0);
+    if (number != 0) {
+        printf("no edge is added: %s\n", portal_refusal_text(number));
+        return;
+    }
+    printf("an edge from ");
+    print_name(from);
+    printf(" in colour %u", (unsigned)colour);
+    print_held(" added");
+    number = portal_remove_edge(setup, PORTAL_SETUP_WORDS, from, account, colour);
+    if (number != 0)
+        stop("remove an edge", number);
+    print_held("removed again");
+}
+
+/* A lab redraws while it talks: a set is taken in, an edge is added and removed, and the set is taken out. The calls work on the
+ * setup's buffer, in which what is open is always what the held items open in the drawing as it is. */
+static void redraw(uint64_t account, uint64_t set)
+{
+    for (uint64_t item = 0; item < setup[PORTAL_COUNT]; item++)
+        if (set >> item & 1) {
+            uint64_t number = portal_take_in(setup, PORTAL_SETUP_WORDS, item);
+            if (number != 0)
+                stop("take in", number);
+        }
+    print_held("taken in");
+    draw_edge(account);
+    for (uint64_t item = 0; item < setup[PORTAL_COUNT]; item++)
+        if (set >> item & 1) {
+            uint64_t number = portal_take_out(setup, PORTAL_SETUP_WORDS, item);
+            if (number != 0)
+                stop("take out", number);
+        }
+    print_held("taken out");
+}
+
 int main(int argc, char **argv)
 {
     if (argc < 3) {
@@ -152,6 +208,7 @@ int main(int argc, char **argv)
         print_set(sets[i]);
         print_way(account, sets[i]);
     }
+    uint64_t first = lists.openings == 0 ? 0 : sets[0];
     print_cuts(account);
 
     size_t count = (size_t)argc - 3;
@@ -162,5 +219,7 @@ int main(int argc, char **argv)
         handed[i] = set_named(argv[i + 3]);
     print_marks(account, handed, count);
     free(handed);
+    if (first != 0)
+        redraw(account, first);
     return 0;
 }

@@ -198,8 +198,8 @@ static inline const char *portal_refusal_text(uint64_t number)
  * is one; the item's other colours stay. */
 #define PORTAL_RECOVERY(v, c) (769 + 8 * (v) + (c))
 /* The items that are held, and those that they open. The calls that redraw a setup keep the two together, and portal_read writes 0 for
- * both; in a setup in which the second is anything else than what the first opens, every call answers 12. No call but these four heeds
- * what is held: the others ask the sets that they are given. */
+ * both; where the second is anything else than what the first opens, every call on the setup answers 12, portal_hand_in after it has
+ * asked 25. No call but these four heeds what is held: the others ask the sets that they are given. */
 #define PORTAL_HELD 1281
 #define PORTAL_OPENED 1282
 /* "-": no value. A place behind the last item has kind 0, PORTAL_BLANK twice, rank 0 and empty rows. */

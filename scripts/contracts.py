@@ -2,19 +2,23 @@
 """Checks what the contracts of all crates have.
 
 Every public function and method says something of its result (`ensures`). A crate whose line in crates.txt has no comment
-with the word `inner` is offered to callers: none of its public functions asks something of them (`requires`).
-A body has at most 40 lines. The proof of a loop says the loop's invariant in plain words: by a comment line right above
-`Inv-loop`, or by the file's first comment, which then has the word `invariant`. The exit status is 1 where something of
-this does not hold.
+with the word `inner` is offered to callers: none of its public functions asks something of them (`requires`), and none has an inner
+definition in its contract, which a caller would then have to believe. A body has at most 40 lines. The proof of a loop says the loop's
+invariant in plain words: by a comment line right above `Inv-loop`, or by the file's first comment, which then has the word `invariant`.
+Of every edit that is to be refused the old texts stand just once in their files: one that does not fit is refused for nothing. The exit
+status is 1 where something of this does not hold.
 """
 import re
 import sys
 from pathlib import Path
 
+from edit_files import BadEdit, edited
+
 ROOT = Path(__file__).resolve().parent.parent
 LONGEST = 40
 LITERAL = re.compile(r"""b"(?:[^"\\]|\\.)*"|b'(?:[^'\\]|\\.)*'""")
 HEAD = re.compile(r'^\s*(pub\s+)?(?:extern\s+"C"\s+)?fn\s+(\w+)')
+INNER = re.compile(r"^ghost use Rattle·[\w·]+\.specs\.Inner[\w.]*\.\{([^}]*)\};", re.M)
 INVARIANT = re.compile(r"^(?:abbrev\s+|unfoldable\s+)?Inv-loop\S*\s+:")
 WORDS = re.compile(r"^--\s+[\w`]")
 
@@ -64,6 +68,29 @@ def functions(lines):
         yield start + 1, bool(found.group(1)), found.group(2), head, max(at - first - 2, 0)
 
 
+def inner_names(text):
+    """The inner definitions that a source brings in."""
+    return {name.strip() for names in INNER.findall(text) for name in names.split(",")}
+
+
+def named_in_contract(head, names):
+    """Those of the names that the clauses of a function's head have."""
+    clauses = re.split(r"^\s*(?:requires|ensures)\b", head, maxsplit=1, flags=re.M)[1:]
+    return sorted(names & set(re.findall(r"[\w′-]+", " ".join(clauses))))
+
+
+def edit_faults():
+    """The edits that cannot be made."""
+    faults, count = [], 0
+    for path in sorted([*ROOT.glob("crates/*/must-fail/*.edit"), *ROOT.glob("crates/*/mutations/*.edit")]):
+        count += 1
+        try:
+            edited(path, path.parent.parent)
+        except BadEdit as why:
+            faults.append(f"{path.relative_to(ROOT)}: {why}")
+    return faults, count
+
+
 def invariants(lines):
     """Yields (line number, whether a comment says it in words) of each loop's invariant in a proof."""
     head = ""
@@ -80,8 +107,9 @@ def main():
     inner = inner_crates()
     faults, public_count, count = [], 0, 0
     for path in sorted(ROOT.glob("crates/*/src/**/*.rt")):
-        crate = path.relative_to(ROOT).parts[1]
-        for line, public, name, head, length in functions(lines_of(path.read_text(encoding="utf-8"))):
+        crate, text = path.relative_to(ROOT).parts[1], path.read_text(encoding="utf-8")
+        hidden = set() if crate in inner else inner_names(text)
+        for line, public, name, head, length in functions(lines_of(text)):
             count += 1
             public_count += public
             place = f"{path.relative_to(ROOT)}:{line}: {name}"
@@ -89,6 +117,8 @@ def main():
                 faults.append(f"{place}: a public function without an `ensures`")
             if public and crate not in inner and re.search(r"^\s*requires\b", head, re.M):
                 faults.append(f"{place}: a `requires` in a crate that is offered")
+            if public:
+                faults += [f"{place}: its contract has the inner definition {one}" for one in named_in_contract(head, hidden)]
             if length > LONGEST:
                 faults.append(f"{place}: {length} lines")
     loops = 0
@@ -97,12 +127,14 @@ def main():
             loops += 1
             if not said:
                 faults.append(f"{path.relative_to(ROOT)}:{line}: no line says the loop's invariant")
+    found, edits = edit_faults()
+    faults += found
     for fault in faults:
         print(fault)
-    print(f"contracts: {count} functions, {public_count} public, {loops} loops, {len(faults)} faults")
-    if count == 0 or loops == 0:
-        print("contracts: no function was found, or no loop")
-    return 1 if faults or count == 0 or loops == 0 else 0
+    print(f"contracts: {count} functions, {public_count} public, {loops} loops, {edits} edits, {len(faults)} faults")
+    if 0 in (count, loops, edits):
+        print("contracts: no function was found, or no loop, or no edit")
+    return 1 if faults or 0 in (count, loops, edits) else 0
 
 
 if __name__ == "__main__":

@@ -2,8 +2,8 @@
 """Holds include/portal.h to the sources and to the documents.
 
 Every exported function of the portal's crates has its prototype, with the same names and the types that C has for them, in
-order; every struct that is handed back has its fields, here and in tests/product; the version, the places of a setup's words, the blank,
-the largest sheet and name, the bytes of a pooled sheet, the longest list, the number of kinds and the places of a bag are the sources', and the manual pages have the version; the refusals' names and sentences are those of docs/TERMS.md and of man/portal.3; README.md and man/portal.3 name every call, and above
+order; every struct that is handed back has its fields, here and in tests/product; the version, the places of a setup's words, the blank, never,
+the most items and colours, the largest value, sheet and name, the bytes of a pooled sheet, the longest list, the number of kinds and the places of a bag are the sources', and the manual pages have the version; the refusals' names and sentences are those of docs/TERMS.md and of man/portal.3; README.md and man/portal.3 name every call, and above
 each prototype stands a comment. Else the exit status is 1.
 """
 import re
@@ -129,21 +129,28 @@ told = dict(re.findall(r"^      (\w+) = .*wordAt words \(1 \+ 4 \* v((?: \+ \d)?
 for field in ("kind", "start", "loss", "rank"):
     at = 1 + int(told[field].removeprefix(" + ") or 0)
     faults += [f"PORTAL_{field.upper()} does not begin at {at}"] * (macro(header, f"PORTAL_{field.upper()}") != f"({at} + 4 * (v))")
-longest = {"PORTAL_MAX_SHEET": ("sheet", "MAX_BYTES"), "PORTAL_MAX_NAME": ("sheet_fields", "NAME_BYTES")}
-for name, (crate, bound) in longest.items():
+bounds = {
+    "PORTAL_MAX_ITEMS": ("vertex_set", "VERTICES"),
+    "PORTAL_COLOURS": ("successors", "COLOURS"),
+    "PORTAL_MAX_SHEET": ("setup", "MAX_BYTES"),
+    "PORTAL_MAX_NAME": ("sheet_fields", "NAME_BYTES"),
+    "PORTAL_MAX_LIST": ("antichains", "MOST_SETS"),
+    "PORTAL_KINDS": ("attackers", "KINDS"),
+    "PORTAL_BAG_PLACES": ("multisets", "MOST_VALUES"),
+}
+for name, (crate, bound) in bounds.items():
     faults += [f"{name} is another number"] * (macro(header, name) != str(constant(read(f"crates/{crate}/src/lib.rt"), bound)))
 largest = constant(read("crates/setup/src/lib.rt"), "MAX_VALUE")
 faults += ["PORTAL_MAX_VALUE is another number"] * (macro(header, "PORTAL_MAX_VALUE") != f"UINT64_C({largest})")
 faults += ["man/report.1 has another largest value"] * (f"0 to {largest:,}" not in read("man/report.1"))
-ways = re.search(r"^const WAYS: \[u64; 15\] = \[(.*?)\];", read("crates/antichains/src/lib.rt"), re.M | re.S).group(1)
-faults += ["PORTAL_MAX_LIST is not the last number of WAYS"] * (macro(header, "PORTAL_MAX_LIST") != parts(ways)[-1])
-faults += ["PORTAL_KINDS is another number"] * (macro(header, "PORTAL_KINDS") != str(constant(read("crates/attackers/src/lib.rt"), "KINDS")))
-faults += ["PORTAL_BAG_PLACES is another number"] * (macro(header, "PORTAL_BAG_PLACES") != str(constant(read("crates/multisets/src/lib.rt"), "MOST_VALUES")))
+never = constant(read("crates/scores/src/lib.rt"), "NEVER")
+faults += ["PORTAL_NEVER is another number"] * (macro(header, "PORTAL_NEVER") != f"(UINT64_C(1) << {never.bit_length() - 1})" or never.bit_count() != 1)
 enough = re.search(r"^poolBytes = (\d+)$", read("crates/pool_format/specs/Meaning.antt"), re.M).group(1)
 faults += ["PORTAL_POOL_BYTES is another number"] * (macro(header, "PORTAL_POOL_BYTES") != enough)
 faults += ["tests/product has another number of bytes for a pooled sheet"] * (str(constant(read("tests/product/src/lib.rs"), "POOL_BYTES")) != enough)
 # The opened set is the last word.
-lengths = {macro(header, "PORTAL_SETUP_WORDS"), str(opened + 1), *(str(constant(sources[name], "SETUP_WORDS")) for name in ("portal_reading", "portal_living"))}
+stated = re.search(r"^setupWords = (\d+)$", read("crates/portal_setup/specs/Words.antt"), re.M).group(1)
+lengths = {macro(header, "PORTAL_SETUP_WORDS"), str(opened + 1), stated}
 faults += [f"a setup has {' and '.join(sorted(lengths))} words"] * (len(lengths) != 1)
 faults += ["PORTAL_VERSION is another number"] * (macro(header, "PORTAL_VERSION") != str(constant(reading, "VERSION")))
 major, minor, patch = (constant(reading, "VERSION") // unit % 100 for unit in (10_000, 100, 1))

@@ -1,16 +1,22 @@
 #!/usr/bin/env python3
-"""Checks docs/INDEX.md, and the line counts in docs/TRUST.md, against the tree.
+"""Checks docs/INDEX.md, and the line counts in docs/TRUST.md, against the tree, and the believed names against each other.
+
+`index.py --write` first puts the rows of docs/TRUST.md's list of what must be believed right. scripts/belief.py checks that list: line
+counts and texts are the files' own, a file stands behind those that it uses, and the statements above the list cite each definition in it.
 
 What stands in backquotes in the index is a path, or a name directly behind a path or behind another of its names: the file
 defines it, or the directory has an edit of that name. Every row of a table names a path, and every public function of a crate
-that is offered (crates.txt, no comment with the word `inner`) stands in the index. Else the exit status is 1.
+that is offered (crates.txt, no comment with the word `inner`) stands in the index. And a name that must be believed means one thing:
+no two crates define it. Else the exit status is 1.
 """
 import re
 import sys
 from pathlib import Path
 
+import belief
+
 ROOT = Path(__file__).resolve().parent.parent
-FEWEST = {"files": 100, "names": 250, "public functions": 40, "line counts": 20}
+FEWEST = {"files": 100, "names": 250, "public functions": 40, "line counts": 20, "believed names": 500}
 DEFINES = {
     ".antt": r"^\s*(?:(?:abbrev|unfoldable) (?:pub )?|pub (?:record |data )?){}(?=[ \n])",
     ".rt": r'^\s*(?:pub )?(?:extern "C" )?(?:fn|struct|enum) {}\b',
@@ -31,6 +37,15 @@ def defines(path, name):
     return re.search(DEFINES.get(Path(path).suffix, "(?!)").format(re.escape(name)), text, re.M) is not None
 
 
+def two_meanings(believed):
+    """The public names that the definitions of two crates share, with the files, and how many names there are."""
+    places = {}
+    for file in sorted(believed):
+        for name in re.findall(r"^(?:(?:abbrev|unfoldable) )?pub (?:record |data )?([^\s:({]+)", read(f"crates/{file}"), re.M):
+            places.setdefault(name, {}).setdefault(file.split("/")[0], file)
+    return [f"{name} means two things: {' and '.join(by.values())}" for name, by in sorted(places.items()) if len(by) > 1], len(places)
+
+
 index, faults, files, names, path, end = read("docs/INDEX.md"), [], set(), set(), "", 0
 for found in re.finditer(r"`([^`\n]*)`", index):
     token, directly, end = found.group(1), index[end : found.start()] in (" ", "\n"), found.end()
@@ -48,20 +63,22 @@ for crate in re.findall(r"^(\w+):(?!.*#.*\binner\b)", read("crates.txt"), re.M):
         place = str(source.relative_to(ROOT))
         calls += [(place, call) for call in re.findall(r'^\s*pub (?:extern "C" )?fn (\w+)', read(place), re.M)]
 faults += [f"{call} of {place} is not in the index" for place, call in calls if (place, call) not in names]
-counts = re.findall(r"^\| `([\w/]+\.antt)` \| (\d+) \|", read("docs/TRUST.md"), re.M)
-for file, count in counts:
-    lines = read(f"crates/{file}").count("\n") if (ROOT / "crates" / file).is_file() else "no"
-    faults += [f"docs/TRUST.md: {file} has {lines} lines, not {count}"] * (str(lines) != count)
+if "--write" in sys.argv:
+    belief.write()
+counts = belief.listed()
+faults += belief.faults()
 # What must be believed is told from inner definitions by its place: TRUST.md lists just the files outside of the modules Inner, but for
 # those of the worked examples, which are what the definitions are held to.
 believed = {str(p.relative_to(ROOT / "crates")) for p in ROOT.glob("crates/*/specs/*.antt") if p.stem not in ("Lib", "Inner")}
 believed -= {file for file in believed if file.startswith("worked_examples/")}
-faults += [f"docs/TRUST.md does not list {file}" for file in sorted(believed - {file for file, _ in counts})]
-faults += [f"docs/TRUST.md lists {file}, which is inner" for file, _ in counts if file not in believed]
+faults += [f"docs/TRUST.md does not list {file}" for file in sorted(believed - set(counts))]
+faults += [f"docs/TRUST.md lists {file}, which is inner" for file in counts if file not in believed]
 # None of them cites an inner one, but for the statement that the printed parts are the whole report, as TRUST.md says.
 citing = {file for file in believed if "specs.Inner" in read(f"crates/{file}")} - {"report_writer/specs/Whole.antt"}
 faults += [f"{file} rests on an inner definition" for file in sorted(citing)]
-numbers = dict(zip(FEWEST, (len(files), len(names), len(calls), len(counts))))
+twice, believed_names = two_meanings(believed)
+faults += twice
+numbers = dict(zip(FEWEST, (len(files), len(names), len(calls), len(counts), believed_names)))
 faults += [f"only {numbers[what]} {what}" for what in FEWEST if numbers[what] < FEWEST[what]]
 print(*(f"index: {fault}\n" for fault in faults), sep="", end="")
 print("index:", ", ".join(f"{n} {what}" for what, n in numbers.items()) + f", {len(faults)} faults")

@@ -2,7 +2,8 @@
 """Holds crates.txt, the map of the crates, to the sources, and README.md's picture of the layers to crates.txt.
 
     map.py            checks: every crate stands below its heading with a line that says what it holds, behind the crates that it
-                      depends on; it depends on just those that its files name; README.md shows the picture made from it
+                      depends on; it depends on just those that its files name; README.md shows the picture made from it, and the
+                      column `crate` of its tables names crates alone
     map.py --write    writes the dependencies and the picture
 """
 import re
@@ -74,6 +75,20 @@ def faults_of(layers):
     return faults
 
 
+def strangers(readme, names):
+    """What the columns `crate` of README.md's tables have in backquotes that is no crate: a table ends with the first line that is no row."""
+    column, found = None, []
+    for line in readme.splitlines():
+        cells = [cell.strip() for cell in line.split("|")] if line.startswith("|") else []
+        if "crate" in cells:
+            column = cells.index("crate")
+        elif not cells:
+            column = None
+        elif column is not None:
+            found += [name for name in re.findall(r"`([^`]+)`", cells[column]) if name not in names]
+    return found
+
+
 def with_picture(readme, layers):
     """README.md with the picture between its two marks."""
     before, _, rest = readme.partition(BEGIN)
@@ -103,7 +118,9 @@ def main(words):
         write(read_map())
     layers = read_map()
     readme = (ROOT / "README.md").read_text(encoding="utf-8")
+    names = {name for _, crates in layers for name, *_ in crates}
     faults = faults_of(layers) + ["README.md's picture is not that of crates.txt"] * (with_picture(readme, layers) != readme)
+    faults += [f"README.md has {name} in a column of crates, and there is no such crate" for name in strangers(readme, names)]
     for fault in faults:
         print(f"map: {fault}")
     print(f"map: {sum(len(crates) for _, crates in layers)} crates in {len(layers)} layers, {len(faults)} faults")

@@ -1,11 +1,13 @@
 #!/usr/bin/env python3
 """Mutation testing of the proved code: edits one operand at a time, and sees that the prover refuses each edit.
 
-    python3 scripts/mutate.py            all crates whose sources, or those of crates below them, have changed since they were tried
-    python3 scripts/mutate.py bases      this crate
+    python3 scripts/mutate.py                    all crates whose sources, or those of crates below them, have changed since they were tried
+    python3 scripts/mutate.py bases              this crate
+    python3 scripts/mutate.py --written [bases]  of all such crates, or of this one, the edits in the folder `mutations` alone
 
 The crates are copied to target/mutate, so that nothing of the project is changed. records/mutation.md is both the record that is
-read and the one that is written. The exit status is 1 where an edit was not refused and scripts/survivors.txt does not say why.
+read and the one that is written. The exit status is 1 where an edit was not refused and scripts/survivors.txt does not say why, and
+where a written edit did not reach the prover, so that nothing was refused.
 """
 import datetime
 import hashlib
@@ -18,6 +20,7 @@ import sys
 import time
 from dataclasses import dataclass, field
 
+from edit_files import BadEdit, edited, replacements
 from edits import ROOT, all_edits, functions_of, next_edit, shapes_of
 
 # Counts as a part of every crate's sources: a new number has all crates tried again.
@@ -59,6 +62,21 @@ class Trial:
         self.edit = next_edit(self.function, self.left, [edit for edit, _, _ in self.results + self.shaped])
         self.left.remove(self.edit)
         self.tries += 1
+
+
+@dataclass
+class Section:
+    """What the record has of a crate: the sum of the sources on which all of its edits were tried, the date, and its rows. `again` has
+    sum and date of a later run of the written edits alone. A sum is empty where there was no such run."""
+
+    total: str = ""
+    date: str = ""
+    rows: list = field(default_factory=list)
+    again: tuple = ("", "")
+
+    def is_of(self, total, alone):
+        """Were the crate's edits, or the written ones alone, tried on the sources with this sum?"""
+        return self.total == total or alone and self.again[0] == total
 
 
 def dependencies():
@@ -306,12 +324,14 @@ def run_batch(crate, batch):
                 batch = [t for t in batch if t is not trial]
 
 
-def try_crate(crate, table, shapes):
-    """Tries the edits of a crate's functions and constants."""
-    items = items_of(crate)
-    if not any(not item.constant for item in items):
-        return []
-    start_crate(crate, table)
+def has_functions(crate):
+    """Has the crate code of its own? The others have definitions and theorems, of which written edits tell."""
+    return any(not item.constant for item in items_of(crate))
+
+
+def try_functions(crate, shapes):
+    """Tries the edits of a crate's functions and constants; of a crate without functions none."""
+    items = items_of(crate) if has_functions(crate) else []
     reached = calls_of(items)
     trials = [Trial(item, all_edits(item, shapes)) for item in items]
     waiting = [t for t in trials if t.wants()]
@@ -327,25 +347,33 @@ def try_crate(crate, table, shapes):
     return trials
 
 
+def verdict_of(said):
+    """What a run says of a written edit: refused, survived, or rejected, where the prover did not get to see it."""
+    if re.search(r"^logic=not-proved", said, re.M):
+        return "refused"
+    return "survived" if re.search(r"^logic=", said, re.M) else "rejected"
+
+
 def try_written(crate):
     """Tries the edits that are written by hand, one by one; gives their rows."""
-    rows = []
+    rows, home = [], SCRATCH / "crates" / crate
     for path in written_edits(crate):
         lay_edits(crate, [])
-        lines = path.read_text(encoding="utf-8").splitlines()
-        name, old, new = (next(line[len(key) :] for line in lines if line.startswith(key)) for key in ("file: ", "old: ", "new: "))
-        home = SCRATCH / "crates" / crate / name
-        text = home.read_text(encoding="utf-8")
-        if text.count(old) != 1:
-            sys.exit(f"mutate: {path.relative_to(ROOT)}: the old text stands {text.count(old)} times in {name}")
-        home.write_text(text.replace(old, new), encoding="utf-8")
-        said = run_dev(crate)
+        try:
+            texts = edited(path, home)
+        except BadEdit as why:
+            sys.exit(f"mutate: {path.relative_to(ROOT)}: {why}")
         # what lies in src/ is laid anew for each edit, what lies in specs/ is not
-        home.write_text(text, encoding="utf-8")
+        before = {file: (home / file).read_text(encoding="utf-8") for file in texts}
+        for file, text in texts.items():
+            (home / file).write_text(text, encoding="utf-8")
+        said = run_dev(crate)
+        for file, text in before.items():
+            (home / file).write_text(text, encoding="utf-8")
         keep_said(crate, said)
-        verdict = "refused" if re.search(r"^logic=not-proved", said, re.M) else "survived" if re.search(r"^logic=", said, re.M) else "rejected"
+        old, new = ("; ".join(code(pair[at].strip()) for pair in replacements(path)) for at in (1, 2))
         places = [f"{error.group(3)}:{error.group(4)}" for error in ERROR.finditer(said)]
-        rows.append([f"edit {path.stem}", "-", code(old.strip()), code(new.strip()), verdict, places[0] if places else "-"])
+        rows.append([f"edit {path.stem}", "-", old, new, verdict_of(said), places[0] if places else "-"])
     return rows
 
 
@@ -367,19 +395,21 @@ def rows_of(trials):
 
 
 def read_record():
-    """The sections of the record: by crate its sum, its date and its rows."""
-    sections, crate = {}, None
+    """The sections of the record, by crate."""
+    sections, section = {}, None
     for line in RECORD.read_text(encoding="utf-8").splitlines() if RECORD.is_file() else []:
         found = re.fullmatch(r"### (\w+)", line)
         if found:
-            crate = found.group(1)
+            section = sections[found.group(1)] = Section()
         elif line.startswith("## "):
-            crate = None
-        stated = re.fullmatch(r"Sources (\w+), (\S+)\.", line)
-        if crate and stated:
-            sections[crate] = (stated.group(1), stated.group(2), [])
-        if crate in sections and line.startswith("| ") and not line.startswith("| function |"):
-            sections[crate][2].append([cell.strip() for cell in re.split(r"(?<!\\)\|", line)[1:-1]])
+            section = None
+        tried, again = re.fullmatch(r"Sources (\w+), (\S+)\.", line), re.fullmatch(r"Written edits alone: sources (\w+), (\S+)\.", line)
+        if section and tried:
+            section.total, section.date = tried.groups()
+        if section and again:
+            section.again = again.groups()
+        if section and line.startswith("| ") and not line.startswith("| function |"):
+            section.rows.append([cell.strip() for cell in re.split(r"(?<!\\)\|", line)[1:-1]])
     return sections
 
 
@@ -387,14 +417,16 @@ def read_notes():
     """What is said of survivors: lines `CRATE FUNCTION: WHY`, or `CRATE FUNCTION: AFTER => WHY` of one edit."""
     notes = {}
     for line in NOTES.read_text(encoding="utf-8").splitlines() if NOTES.is_file() else []:
-        found = re.fullmatch(r"(\w+) ((?:const )?\w+(?:::\w+)*): (?:`(.*)` => )?(.*)", line)
+        found = re.fullmatch(r"(\w+) ((?:const |edit )?\w+(?:::\w+)*): (?:`(.*)` => )?(.*)", line)
         if found and not line.startswith("#"):
             notes[(found.group(1), found.group(2), found.group(3))] = found.group(4)
     return notes
 
 
 def note_of(notes, crate, row):
-    """What is said of a survivor, or nothing."""
+    """What is said of an edit that was not refused, or nothing; of one that did not reach the prover nothing can be said."""
+    if row[4] == "rejected":
+        return ""
     after = row[3].strip("`").replace("\\|", "|")
     return notes.get((crate, row[0], after)) or notes.get((crate, row[0], None)) or ""
 
@@ -405,8 +437,9 @@ def items_of(crate):
 
 
 def untried(sections, order):
-    """The crates with functions that the record does not have."""
-    return [crate for crate in order if crate not in sections and any(not item.constant for item in items_of(crate))]
+    """The crates that have functions or written edits and were never tried whole."""
+    never = [crate for crate in order if crate not in sections or not sections[crate].total]
+    return [crate for crate in never if has_functions(crate) or written_edits(crate)]
 
 
 def was_tried(row):
@@ -417,7 +450,8 @@ def was_tried(row):
 def few_of(sections):
     """The functions with fewer edits than wanted, by crate, but for those that are walked."""
     few = []
-    for crate, (_, _, rows) in sections.items():
+    for crate, section in sections.items():
+        rows = section.rows
         names = list(dict.fromkeys(row[0] for row in rows if not row[0].startswith(("const ", "edit ")) and row[4] != "walked"))
         short = [(name, sum(row[0] == name and was_tried(row) for row in rows)) for name in names]
         short = [f"`{name}` {count}" for name, count in short if count < WANTED]
@@ -429,73 +463,95 @@ def few_of(sections):
 HEAD = """# Mutation testing: the record
 
 Written by `scripts/mutate.py` (`make mutate`); docs/TESTING.md says what is done and what it shows. {date}: {functions} functions and
-{constants} constants of {crates} crates, {edits} edits, {refused} refused ({shape} of them by shape), {survived} not refused. {walked} functions
+{constants} constants of {crates} crates, {edits} edits, {written} of them written by hand, {refused} refused ({shape} of them by shape), {survived} not. {walked} functions
 are walked: their proofs go through the code statement by statement, so that any edit is refused by shape, whatever it means, and tells
 nothing. None of them is tried; they decide nothing, and what they call does.
 
 "Where" is the place of the first error about the edited function, or `search` where it has no proof file and the prover finds no proof by
 itself. A crate is tried again when its own files, or the code or definitions of a crate below it, have changed: the sum beside its name
-tells; "moved" says that its functions were tried in the crates that became its modules. Not tried yet: {untried}.
+tells; "moved" says that its functions were tried in the crates that became its modules. A second sum is that of a later run of the
+written edits alone (`mutate.py --written`). Not tried yet: {untried}.
 """
 
 
+def not_refused(sections, notes):
+    """The edits that were not refused, each with what is said of it: survivors, and those that did not reach the prover."""
+    rows = [(crate, row) for crate, section in sections.items() for row in section.rows]
+    return [(crate, row, note_of(notes, crate, row)) for crate, row in rows if row[4] in ("survived", "rejected")]
+
+
 def write_record(sections, order, notes):
-    """Writes the record; gives the number of survivors of which nothing is said."""
+    """Writes the record; gives the edits that were not refused and of which nothing is said."""
     sections = {crate: sections[crate] for crate in order if crate in sections}
-    everything = [(crate, row) for crate, (_, _, rows) in sections.items() for row in rows]
-    tried = [(crate, row) for crate, row in everything if was_tried(row)]
-    survivors = [(crate, row, note_of(notes, crate, row)) for crate, row in tried if row[4] == "survived"]
+    everything = [(crate, row) for crate, section in sections.items() for row in section.rows]
+    tried = [row for _, row in everything if was_tried(row)]
+    left = not_refused(sections, notes)
     items = {(crate, row[0]) for crate, row in everything}
     counts = {
-        "date": max((date for _, date, _ in sections.values()), default="-"),
+        "date": max((date for section in sections.values() for date in (section.date, section.again[1])), default="-"),
         "functions": sum(not name.startswith(("const ", "edit ")) for _, name in items),
         "constants": sum(name.startswith("const ") for _, name in items),
         "crates": len(sections),
         "edits": len(tried),
-        "refused": sum(row[4].startswith("refused") for _, row in tried),
-        "survived": len(survivors),
+        "written": sum(row[0].startswith("edit ") for row in tried),
+        "refused": sum(row[4].startswith("refused") for row in tried),
+        "survived": len(left),
         "untried": ", ".join(f"`{crate}`" for crate in untried(sections, order)) or "none",
-        "shape": sum(row[4] == "refused by shape" for _, row in tried),
+        "shape": sum(row[4] == "refused by shape" for row in tried),
         "walked": sum(row[4] == "walked" for _, row in everything),
     }
     lines = [HEAD.format(**counts), "## Not refused", "", "| crate | function | before | after | why |", "|---|---|---|---|---|"]
-    lines += [f"| {crate} | {row[0]} | {row[2]} | {row[3]} | {note or '**open**'} |" for crate, row, note in survivors]
+    lines += [f"| {crate} | {row[0]} | {row[2]} | {row[3]} | {note or '**open**: ' + row[4]} |" for crate, row, note in left]
     lines += ["", "## Functions with fewer than three edits", "", "They have no other operand that can be changed and stays well typed.", ""]
     lines += few_of(sections) + ["", "## All edits", ""]
-    for crate, (total, date, rows) in sections.items():
-        lines += [f"### {crate}", "", f"Sources {total}, {date}.", ""]
+    for crate, section in sections.items():
+        lines += [f"### {crate}", ""]
+        lines += [f"Sources {section.total}, {section.date}.", ""] * bool(section.total)
+        lines += [f"Written edits alone: sources {section.again[0]}, {section.again[1]}.", ""] * bool(section.again[0])
         lines += ["| function | line | before | after | result | where |", "|---|---|---|---|---|---|"]
-        lines += ["| " + " | ".join(row) + " |" for row in rows] + [""]
+        lines += ["| " + " | ".join(row) + " |" for row in section.rows] + [""]
     RECORD.write_text("\n".join(lines).rstrip() + "\n", encoding="utf-8")
-    return sum(not note for _, _, note in survivors)
+    return [(crate, row) for crate, row, note in left if not note]
 
 
-def main():
+def try_crate(crate, table, shapes, total, alone):
+    """Tries a crate's edits, or the written ones alone; gives its section of the record. Rows of edits that are not tried stay."""
+    start_crate(crate, table)
+    today = datetime.date.today().isoformat()
+    if alone and has_functions(crate):
+        before = read_record().get(crate, Section())
+        kept = [row for row in before.rows if not row[0].startswith("edit ")]
+        return Section(before.total, before.date, kept + try_written(crate), (total, today))
+    return Section(total, today, rows_of(try_functions(crate, shapes)) + try_written(crate))
+
+
+def main(words):
     table = dependencies()
     order = [name for name in table if name not in LEFT_OUT]
-    asked = [name for name in sys.argv[1:] if name]
+    alone, asked = "--written" in words, [name for name in words if name and name != "--written"]
     unknown = [name for name in asked if name not in order]
     if unknown:
         sys.exit(f"mutate: no such crate: {' '.join(unknown)}")
     shapes = shapes_of(order)
     for crate in asked or order:
         total = sum_of(crate, table)
-        if not asked and read_record().get(crate, ("",))[0] == total:
+        done = not asked and read_record().get(crate, Section()).is_of(total, alone)
+        if done or not (written_edits(crate) or has_functions(crate) and not alone):
             continue
         began = time.time()
-        trials = try_crate(crate, table, shapes)
-        if trials:
-            rows = rows_of(trials) + try_written(crate)
-            sections = read_record()
-            sections[crate] = (total, datetime.date.today().isoformat(), rows)
-            write_record(sections, order, read_notes())
-            survived = sum(row[4] == "survived" for row in rows)
-            count = sum(was_tried(row) for row in rows)
-            print(f"mutate: {crate}: {count} edits, {survived} not refused, {time.time() - began:.0f} s", flush=True)
-    open_ones = write_record(read_record(), order, read_notes())
-    print(f"mutate: {open_ones} survivors of which nothing is said")
-    return 1 if open_ones else 0
+        section = try_crate(crate, table, shapes, total, alone)
+        sections = read_record()
+        sections[crate] = section
+        write_record(sections, order, read_notes())
+        tried = [row for row in section.rows if was_tried(row) and (row[0].startswith("edit ") or not alone)]
+        left = sum(not row[4].startswith("refused") for row in tried)
+        print(f"mutate: {crate}: {len(tried)} edits, {left} not refused, {time.time() - began:.0f} s", flush=True)
+    left = write_record(read_record(), order, read_notes())
+    for crate, row in left:
+        print(f"mutate: {crate}: {row[0]}, {row[3]}: " + ("nothing is said of it" if row[4] == "survived" else "it did not reach the prover"))
+    print(f"mutate: {len(left)} edits were not refused and nothing is said of them")
+    return 1 if left else 0
 
 
 if __name__ == "__main__":
-    sys.exit(main())
+    sys.exit(main(sys.argv[1:]))

@@ -1,7 +1,8 @@
 #!/usr/bin/env python3
 """Proves a crate and what it stands on, and shows on standard error how far it is: prove.py NAME LOG.
 
-What `rt check` prints goes to the file LOG, and is shown where it fails. Nothing is shown where all was proved before.
+What `rt check` prints goes to the file LOG, and is shown where it fails. Where some crate was never proved, a line says at once how
+many there are. Nothing is shown where all was proved before.
 """
 import re
 import subprocess
@@ -24,8 +25,16 @@ def stands_on(name):
     return reached
 
 
+def never_proved(crates):
+    """Is there a crate without the stamp that `rt` leaves for a proved one?"""
+    return any(not (ROOT / "target" / "stamp" / crate).is_file() for crate in crates)
+
+
 def main(name, log):
-    count, done = len(stands_on(name)), 0
+    crates = stands_on(name)
+    count, done = len(crates), 0
+    if never_proved(crates):
+        print(f"{name}: crate 0 of {count}", file=sys.stderr, flush=True)
     with open(log, "w", encoding="utf-8") as out:
         check = subprocess.Popen(["rt", "check", name], cwd=ROOT, stdout=subprocess.PIPE, stderr=subprocess.STDOUT, text=True)
         for line in check.stdout:

@@ -83,8 +83,8 @@ static void try_score(void)
     expect("never", score(ALONE, 0), PORTAL_NEVER);
     expect("empty sheet", portal_score(NULL, 0, 0), PORTAL_NEVER + PORTAL_NO_TEXT);
     expect("no header", score("names\n", 0), PORTAL_NEVER + PORTAL_HEADER);
-    expect("14 of the largest value", score(LARGEST, 14), UINT64_C(56000000000));
-    expect("one of the largest value", score(LARGEST, 16), UINT64_C(4000000000));
+    expect("14 of the largest value", score(LARGEST, 14), 14 * PORTAL_MAX_VALUE);
+    expect("one of the largest value", score(LARGEST, 16), PORTAL_MAX_VALUE);
     expect("a value too large", score(BEYOND, 0), PORTAL_NEVER + PORTAL_FORM);
     expect("is a value", (uint64_t)portal_is_value(score(SHEET, 4)), 1);
     expect("is never", (uint64_t)portal_is_never(score(ALONE, 0)), 1);
@@ -98,8 +98,8 @@ static void try_risk(void)
     expect("risk of mail", risk(SHEET, 3), 1);
     expect("no such item, far off", risk(SHEET, UINT64_MAX), PORTAL_NEVER + PORTAL_NO_ITEM);
     expect("never lost", risk(ALONE, 0), PORTAL_NEVER);
-    expect("the loss of one of the largest value", risk(LARGEST, 14), UINT64_C(4000000000));
-    expect("the loss of 14 of the largest value", risk(LARGEST, 16), UINT64_C(56000000000));
+    expect("the loss of one of the largest value", risk(LARGEST, 14), PORTAL_MAX_VALUE);
+    expect("the loss of 14 of the largest value", risk(LARGEST, 16), 14 * PORTAL_MAX_VALUE);
     expect("a loss too large", risk(LOSS_BEYOND, 0), PORTAL_NEVER + PORTAL_FORM);
 }
 
@@ -516,6 +516,8 @@ static void try_held(void)
 {
     uint64_t stale[WORDS], held[WORDS], sets[4];
     uint8_t items[1], colours[1], list[5] = { 0, 0, 0, 0, 0 };
+    struct portal_record records[1];
+    memset(records, 0, sizeof records);
     memcpy(stale, ring, sizeof ring);
     stale[PORTAL_OPENED] = 3;
     expect("a ring that holds itself up", portal_check(stale, WORDS), PORTAL_NO_SETUP);
@@ -535,10 +537,13 @@ static void try_held(void)
     expect("lists", portal_lists(stale, WORDS, 0, sets, 4).number, PORTAL_NO_SETUP);
     expect("cut sets", portal_cut_sets(stale, WORDS, 0, sets, 4).number, PORTAL_NO_SETUP);
     expect("next opening", portal_next_opening(stale, WORDS, 0, 0).number, PORTAL_NO_SETUP);
+    expect("bag score", portal_bag_score(stale, WORDS, 0, sets, 4, NULL, 0).number, PORTAL_NO_SETUP);
     expect("score", portal_setup_score(stale, WORDS, 0).number, PORTAL_NO_SETUP);
     expect("risk", portal_setup_risk(stale, WORDS, 0).number, PORTAL_NO_SETUP);
     expect("marks", portal_mark_openings(stale, WORDS, 0, NULL, 0).number, PORTAL_NO_SETUP);
     expect("marks", portal_mark_lockouts(stale, WORDS, 0, NULL, 0).number, PORTAL_NO_SETUP);
+    expect("hand in", portal_hand_in(stale, WORDS, records, 1, 0, 7, 0, false, NULL, 0).number, PORTAL_NO_SETUP);
+    expect("hand in, 25 first", portal_hand_in(stale, WORDS, records, 1, 2, 7, 0, false, NULL, 0).number, PORTAL_OVERFULL);
     expect("backdoor", portal_backdoor(stale, WORDS, 0).number, PORTAL_NO_SETUP);
     expect("idle", portal_idle(stale, WORDS, 0).number, PORTAL_NO_SETUP);
     expect("out of rank", portal_out_of_rank(stale, WORDS, 0, 0).number, PORTAL_NO_SETUP);

@@ -1,4 +1,6 @@
 """Alters each definition of declared.txt in definitions.py and asks the examples of examples.py again."""
+import ast
+import collections
 import re
 import subprocess
 import sys
@@ -51,7 +53,7 @@ def looked_for(block):
 
 # Files that stand on those of the scratch crate.
 ABOVE = """
-quick_yes/Agrees answers/Demand3 sheet_format/Meaning histories/Histories histories/NoHeed portal/Portal demands/OneAnswer demands/Outcomes demands/Sheets demands/Register demands/Living pool_format/Call pool_format/Meaning demands/Pools demands/Demands reference/Meaning
+quick_yes/Agrees answers/Demand3 sheet_format/Meaning histories/Histories histories/NoHeed portal/Portal demands/OneAnswer demands/Outcomes demands/Sheets demands/Register demands/Living demands/Pools demands/Demands reference/Meaning
 report_text/Meaning written/Rows report_writer/Inner/Steps report_writer/Whole portal_closures/Check portal_living/Living demands/OneResult
 """.split()
 # What Whole cites of the report's steps, with the same type and nothing known: no alteration is about it, and what it says need not be believed.
@@ -87,12 +89,27 @@ def typed():
     return bad
 
 
+def bound_twice():
+    """The names of functions and values that examples.py binds twice, and the names that it gives to two examples."""
+    names, asked = [], [name for group in examples.examples(module(SOURCE)).values() for name, _, _ in group]
+    for node in ast.parse((blocks.HERE / "examples.py").read_text()).body:
+        if isinstance(node, ast.FunctionDef):
+            names.append(node.name)
+        elif isinstance(node, (ast.Import, ast.ImportFrom)):
+            names += [alias.asname or alias.name for alias in node.names]
+        elif isinstance(node, ast.Assign):
+            names += [found.id for target in node.targets for found in ast.walk(target) if isinstance(found, ast.Name)]
+    return sorted(name for kind in (names, asked) for name, many in collections.Counter(kind).items() if many > 1)
+
+
 def main(words):
     record = "--record" in words
     only = [w for w in words if not w.startswith("--")]
     found = blocks.read(DATA)
-    groups = re.findall(r"^def (\w+)", (blocks.HERE / "examples.py").read_text(), re.M)
-    assert len(groups) == len(set(groups)), "a group of examples hides another one of its name"
+    twice = bound_twice()
+    if twice:
+        print("names that examples.py gives twice:", ", ".join(twice))
+        return 1
     if not only:
         wrong = noticing(module(SOURCE))
         if wrong:

@@ -1,4 +1,4 @@
-"""The declarative definitions in Python, one function for each, by the names and in the order of docs/TRUST.md.
+"""The declarative definitions in Python, one function for each, by their names; docs/TRUST.md lists their files.
 
 A record is the conjunction of its fields, in order; `→` is `implies`, `⊎` is `or`, `×` is `and`. A quantifier over numbers, sets, lists or steps
 runs over a finite part of them, the `world` of an example, which examples.py makes wide enough: beyond the setup's own vertices and colours
@@ -110,6 +110,12 @@ def Ordered(l):
     return all(implies(lambda: Listed(l[1:], y), lambda: Before(l[0], y)) for y in world.sets) and Ordered(l[1:])
 
 
+def Rising(l):
+    if not l:
+        return True
+    return all(implies(lambda: Listed(l[1:], y), lambda: l[0] < y) for y in l) and Rising(l[1:])
+
+
 def ListsExactly(P, l):
     sound = all(implies(lambda: Listed(l, x), lambda: P(x)) for x in world.sets)
     whole = all(implies(lambda: P(x), lambda: Listed(l, x)) for x in world.sets)
@@ -124,6 +130,9 @@ def Smallest(P, x):
 
 
 # ---- setup/Setup
+
+
+noItems = Setup(count=0, vertices=(unusedVertex,) * 64, graph=emptyGraph, recovery=emptyGraph)
 
 
 def Edge(g, f, v, c):
@@ -169,7 +178,7 @@ def ChosenSet(loss, s, r):
 
 
 def InRange(x):
-    return x is None or x <= 4000000000
+    return x is None or x <= largest
 
 
 def ValidVertex(x):
@@ -185,14 +194,14 @@ def WellFormed(s):
         cache[key] = (
             Shaped(s)
             and 0 < s.count
-            and s.count <= 64
+            and s.count <= mostItems
             and all(implies(lambda: v < s.count, lambda: ValidVertex(vertexAt(s, v))) for v in world.vertices)
             and all(implies(lambda: v < 64 and s.count <= v, lambda: vertexAt(s, v) == unusedVertex) for v in world.vertices)
             and all(implies(lambda: Edge(s.graph, f, v, c), lambda: f < s.count and v < s.count) for f, v, c in edges())
             and all(implies(lambda: Edge(s.recovery, f, v, c), lambda: Edge(s.graph, f, v, c)) for f, v, c in edges())
-            and edgeCount(s.graph) <= 256
-            and chosenCount(False, s) <= 14
-            and chosenCount(True, s) <= 14
+            and edgeCount(s.graph) <= mostEdges
+            and chosenCount(False, s) <= mostChosen
+            and chosenCount(True, s) <= mostChosen
             and Inside(s, s.held)
             and AccessFrom(s.graph, s.held, s.opened)
         )
@@ -273,19 +282,19 @@ def HoldCall(call, v, s, number, t):
 def Placed(s, f, v, c):
     source = f < s.count
     to = v < s.count
-    colour = c <= 7
+    colour = c <= highestColour
     return source and to and colour
 
 
 def AddCall(f, v, c, m, s, number, t):
     malformed = implies(lambda: not WellFormed(s), lambda: Back(12, s, number, t))
     noVertex = implies(lambda: WellFormed(s) and (s.count <= f or s.count <= v), lambda: Back(13, s, number, t))
-    noColour = implies(lambda: WellFormed(s) and f < s.count and v < s.count and 7 < c, lambda: Back(18, s, number, t))
+    noColour = implies(lambda: WellFormed(s) and f < s.count and v < s.count and highestColour < c, lambda: Back(18, s, number, t))
     placed = lambda: WellFormed(s) and Placed(s, f, v, c)
     there = implies(lambda: placed() and Edge(s.graph, f, v, c), lambda: Back(19, s, number, t))
-    full = implies(lambda: placed() and not Edge(s.graph, f, v, c) and 256 <= edgeCount(s.graph), lambda: Back(7, s, number, t))
+    full = implies(lambda: placed() and not Edge(s.graph, f, v, c) and mostEdges <= edgeCount(s.graph), lambda: Back(7, s, number, t))
     done = implies(
-        lambda: placed() and not Edge(s.graph, f, v, c) and edgeCount(s.graph) < 256, lambda: Done(AddEdge(f, v, c, m), s, number, t)
+        lambda: placed() and not Edge(s.graph, f, v, c) and edgeCount(s.graph) < mostEdges, lambda: Done(AddEdge(f, v, c, m), s, number, t)
     )
     return malformed and noVertex and noColour and there and full and done
 
@@ -293,7 +302,7 @@ def AddCall(f, v, c, m, s, number, t):
 def RemoveCall(f, v, c, s, number, t):
     malformed = implies(lambda: not WellFormed(s), lambda: Back(12, s, number, t))
     noVertex = implies(lambda: WellFormed(s) and (s.count <= f or s.count <= v), lambda: Back(13, s, number, t))
-    noColour = implies(lambda: WellFormed(s) and f < s.count and v < s.count and 7 < c, lambda: Back(18, s, number, t))
+    noColour = implies(lambda: WellFormed(s) and f < s.count and v < s.count and highestColour < c, lambda: Back(18, s, number, t))
     placed = lambda: WellFormed(s) and Placed(s, f, v, c)
     missing = implies(lambda: placed() and not Edge(s.graph, f, v, c), lambda: Back(20, s, number, t))
     done = implies(lambda: placed() and Edge(s.graph, f, v, c), lambda: Done(RemoveEdge(f, v, c), s, number, t))
@@ -351,6 +360,13 @@ def SameList(n, n_, v, v_, x, x_):
     answer = Same(n, n_, v, v_)
     list_ = x == x_
     return answer and list_
+
+
+def SameLists(n, n_, v, v_, x, x_, y, y_):
+    answer = Same(n, n_, v, v_)
+    first = x == x_
+    second = y == y_
+    return answer and first and second
 
 
 def Inside(s, set_):
@@ -462,10 +478,6 @@ def lockout(g):
     return Rule(("lockout", mark(g)), list(world.vertices), adds=lambda v: v, allowed=lambda lost, v: Shuts(g, lost, v))
 
 
-def HasLockout(g, lost, v):
-    return Derivation(lockout(g), lost, v)
-
-
 def LockoutFrom(g, s, r):
     return Closure(lockout(g), s, r)
 
@@ -554,7 +566,7 @@ def SumsHold(setups):
     return all(
         implies(
             lambda: WellFormed(s) and all(implies(lambda: Member(x, v), lambda: Chosen(loss, s, v)) for v in world.vertices),
-            lambda: sumOf(loss, s, x) <= 14 * 4000000000 and sumOf(loss, s, x) < never,
+            lambda: sumOf(loss, s, x) <= mostChosen * largest and sumOf(loss, s, x) < never,
         )
         for loss in (False, True)
         for s in setups
@@ -577,18 +589,6 @@ def Score(loss, s, g, target, r):
 
 def ScoreOver(loss, s, l, r):
     return LeastOver(lambda x: Listed(l, x), lambda x: sumOf(loss, s, x), r)
-
-
-def Values(loss, s, r):
-    long = len(r) == 64
-    each = all(getD(r, v, 0) == pointsAt(loss, s, v) for v in world.vertices)
-    return long and each
-
-
-def ScoreBoth(loss, s, g, target, r):
-    all_ = Score(loss, s, g, target, r)
-    base = all(implies(lambda: Base(loss, s, g, target, l), lambda: ScoreOver(loss, s, l, r)) for l in world.lists)
-    return all_ and base
 
 
 # ---- bases/Marks
@@ -837,7 +837,7 @@ def MarksCall(loss, s, target, handed, number, values):
 def RecordOf(s, student, target, loss, handed, r):
     isStudent = r.student == student
     isTarget = r.target == target
-    isWay = r.way == wayNumber(loss)
+    isWay = r.way == wayCode(loss)
     if not (isStudent and isTarget and isWay):
         return False
     key = ("record", mark(s), target, loss, tuple(handed), r)
@@ -972,16 +972,10 @@ def Entries(s, P, ts, rs):
     return Entry(s, P, ts[0], rs[0]) and Entries(s, P, ts[1:], rs[1:])
 
 
-def TimesRise(ts):
-    if not ts:
-        return True
-    return all(implies(lambda: Listed(ts[1:], u), lambda: ts[0] < u) for u in world.times) and TimesRise(ts[1:])
-
-
 def IsOf(r, x):
     student = r.student == x.student
     target = r.target == x.target
-    way = r.way == wayNumber(x.loss)
+    way = r.way == wayCode(x.loss)
     return student and target and way
 
 
@@ -991,7 +985,7 @@ def Held(rs, x):
 
 def RegisterHolds(s, P, records):
     many = itertools.product(world.times, repeat=len(records))
-    times = any(TimesRise(list(ts)) and Entries(s, P, list(ts), records) for ts in many)
+    times = any(Rising(list(ts)) and Entries(s, P, list(ts), records) for ts in many)
     whole = all(implies(lambda: P(t, x), lambda: Held(records, x)) for t in world.times for x in world.attempts)
     return times and whole
 
@@ -1028,7 +1022,7 @@ def Sperner():
 
 def HalfAtBounds():
     none = choose(0, 0 // 2) == 1
-    fourteen = choose(14, 14 // 2) == 3432
+    fourteen = choose(14, 14 // 2) == mostSets
     return none and fourteen
 
 
@@ -1072,7 +1066,7 @@ def ForecastHolds(asked):
 
 def LongestBase(setups):
     return all(
-        implies(lambda: WellFormed(s) and Base(loss, s, s.graph, target, l), lambda: len(l) <= 3432)
+        implies(lambda: WellFormed(s) and Base(loss, s, s.graph, target, l), lambda: len(l) <= mostSets)
         for loss in (False, True)
         for s in setups
         for target in range(s.count)
@@ -1091,14 +1085,14 @@ def CountedOnce(s, target):
 KINDS = range(8)
 
 
-def AtMost(a, b):
+def KindAtMost(a, b):
     locations = location(a) <= location(b)
     skills = skill(a) <= skill(b)
     return locations and skills
 
 
 def Weaker(a, b):
-    atMost = AtMost(a, b)
+    atMost = KindAtMost(a, b)
     other = a != b
     return atMost and other
 
@@ -1110,7 +1104,7 @@ def OfBase(s, kinds, target, k):
     return cache[key]
 
 
-def InScore(s, kinds, target, k):
+def KindInScore(s, kinds, target, k):
     is_ = OfBase(s, kinds, target, k)
     none = is_ and all(implies(lambda: OfBase(s, kinds, target, j), lambda: not Weaker(j, k)) for j in KINDS)
     return is_ and none
@@ -1119,17 +1113,17 @@ def InScore(s, kinds, target, k):
 def GetsIn(s, kinds, target, t):
     key = ("gets in", mark(s), tuple(kinds), target, t)
     if key not in cache:
-        cache[key] = HasAccess(s.graph, lambda v: Chosen(False, s, v) and AtMost(entry(kinds, v), t), target)
+        cache[key] = HasAccess(s.graph, lambda v: Chosen(False, s, v) and KindAtMost(entry(kinds, v), t), target)
     return cache[key]
 
 
 def AtOrAbove(r, t):
-    return any(Member(r, attacker) and AtMost(attacker, t) for attacker in KINDS)
+    return any(Member(r, attacker) and KindAtMost(attacker, t) for attacker in KINDS)
 
 
 def AttackerScore(s, kinds, target, r):
-    each = all(Iff(Member(r, k), InScore(s, kinds, target, k)) for k in KINDS)
-    none = implies(lambda: not any(InScore(s, kinds, target, k) for k in KINDS), lambda: r == 0)
+    each = all(Iff(Member(r, k), KindInScore(s, kinds, target, k)) for k in KINDS)
+    none = implies(lambda: not any(KindInScore(s, kinds, target, k) for k in KINDS), lambda: r == 0)
     intruders = each and all(Iff(AtOrAbove(r, t), GetsIn(s, kinds, target, t)) for t in range(6))
     return each and none and intruders
 
@@ -1154,18 +1148,18 @@ def NobodyIn(asked):
     )
 
 
-def ScoreAtMost(p, q):
+def KindsAtMost(p, q):
     return all(implies(lambda: Member(q, u), lambda: AtOrAbove(p, u)) for u in KINDS)
 
 
-def Sound(s, kinds, a, b, p, q):
+def KindsSound(s, kinds, a, b, p, q):
     return implies(
         lambda: WellFormed(s)
         and EntriesFit(s, kinds)
         and AttackerScore(s, kinds, a, p)
         and AttackerScore(s, kinds, b, q)
         and all(implies(lambda: TargetSet(False, s, s.graph, b, x), lambda: TargetSet(False, s, s.graph, a, x)) for x in world.sets),
-        lambda: ScoreAtMost(p, q),
+        lambda: KindsAtMost(p, q),
     )
 
 
@@ -1282,7 +1276,7 @@ def CutsMeetBase(asked):
 
 
 def LongestCuts(asked):
-    return all(implies(lambda: WellFormed(s) and CutList(s, target, cuts), lambda: len(cuts) <= 3432) for s, target, cuts in asked)
+    return all(implies(lambda: WellFormed(s) and CutList(s, target, cuts), lambda: len(cuts) <= mostSets) for s, target, cuts in asked)
 
 
 # ---- cut_sets/Answers
@@ -1315,8 +1309,8 @@ def Pairing(m, n):
 
 
 def BagAtMost(m, n):
-    first = len(m) <= 14
-    second = len(n) <= 14
+    first = len(m) <= mostValues
+    second = len(n) <= mostValues
     return first and second and Pairing(m, n)
 
 
@@ -1390,12 +1384,12 @@ def OneArrangement(lists):
 
 
 def FourteenPlaces(lists):
-    return all(implies(lambda: len(m) <= 14, lambda: len(placesOf(m)) == 14) for m in lists)
+    return all(implies(lambda: len(m) <= mostValues, lambda: len(placesOf(m)) == mostValues) for m in lists)
 
 
 def WrittenApart(lists):
     return all(
-        implies(lambda: len(m) <= 14 and len(n) <= 14 and len(m) == len(n) and placesOf(m) == placesOf(n), lambda: SameMultiset(m, n))
+        implies(lambda: len(m) <= mostValues and len(n) <= mostValues and len(m) == len(n) and placesOf(m) == placesOf(n), lambda: SameMultiset(m, n))
         for m in lists
         for n in lists
     )
@@ -1471,7 +1465,7 @@ def BagsApart(asked):
 
 def AreBags(asked):
     return all(
-        implies(lambda: WellFormed(s) and MinimalSet(False, s, s.graph, target, x), lambda: len(multisetOf(s, x)) <= 14)
+        implies(lambda: WellFormed(s) and MinimalSet(False, s, s.graph, target, x), lambda: len(multisetOf(s, x)) <= mostValues)
         for s, target in asked
         for x in world.sets
     )
@@ -1485,7 +1479,7 @@ def NoLonger(asked):
 
 
 def LongestScore(asked):
-    return all(implies(lambda: WellFormed(s) and MultisetScore(s, target, l), lambda: len(l) <= 3432) for s, target, l in asked)
+    return all(implies(lambda: WellFormed(s) and MultisetScore(s, target, l), lambda: len(l) <= mostSets) for s, target, l in asked)
 
 
 def ForecastEnough(asked):
@@ -1519,11 +1513,11 @@ def BagsSound(asked):
 
 def MultisetsWritten(s, l, number, values, places, places_, lengths, lengths_):
     room = implies(
-        lambda: 14 * len(l) <= len(places) and len(l) <= len(lengths),
+        lambda: mostValues * len(l) <= len(places) and len(l) <= len(lengths),
         lambda: number == 0 and values == [len(l)] and places_ == written(allPlaces(s, l), places) and lengths_ == written(allLengths(s, l), lengths),
     )
     short = implies(
-        lambda: len(places) < 14 * len(l) or len(lengths) < len(l),
+        lambda: len(places) < mostValues * len(l) or len(lengths) < len(l),
         lambda: Refuses(15, number, values) and Untouched(places, places_, lengths, lengths_),
     )
     return room and short
@@ -1540,13 +1534,6 @@ def MultisetsCall(s, target, number, values, places, places_, lengths, lengths_)
         ),
     )
     return malformed and noTarget and answers
-
-
-def SameLists(n, n_, v, v_, x, x_, y, y_):
-    answer = Same(n, n_, v, v_)
-    first = x == x_
-    second = y == y_
-    return answer and first and second
 
 
 def OneMultisetsAnswer(s, target, a, b, answers):
@@ -1709,22 +1696,22 @@ def ValidItem(x):
 def ValidEdge(items, e):
     source = Known(items, e.source)
     to = Known(items, e.to)
-    colour = e.colour <= 7
+    colour = e.colour <= highestColour
     return source and to and colour
 
 
 def Valid(d):
     return (
         1 <= len(d.items)
-        and len(d.items) <= 64
+        and len(d.items) <= mostItems
         and Each(ValidItem, d.items)
         and Apart(SameName, d.items)
-        and startCount(d.items) <= 14
-        and lossCount(d.items) <= 14
+        and startCount(d.items) <= mostChosen
+        and lossCount(d.items) <= mostChosen
         and Each(lambda e: ValidEdge(d.items, e), d.edges)
         and Apart(SameEdge, d.edges)
-        and len(d.edges) <= 256
-        and len(render(d)) <= 16384
+        and len(d.edges) <= mostEdges
+        and len(render(d)) <= mostBytes
     )
 
 
@@ -1832,7 +1819,7 @@ def FirstNo(asked, q):
 def TooLong(s, q, k):
     number = q == 1
     line = k == 0
-    long = 16384 < len(s)
+    long = mostBytes < len(s)
     return number and line and long
 
 
@@ -1888,7 +1875,7 @@ def Accepted(s):
 
 
 def EmptySetup():
-    return setupOf(noRows) == Setup(0, (unusedVertex,) * 64, emptyGraph, emptyGraph)
+    return setupOf(noRows) == noItems
 
 
 def Refused(s, numbers, lines):
@@ -1976,7 +1963,8 @@ def SameAnswers(s, t, target, set_, among):
     cuts = too(lambda x, n, v: CutsCall(x, target, n, v, [], []), among)
     attackers = too(lambda x, n, v: AttackerCall(x, target, [0] * 5, n, v), among)
     multisets = too(lambda x, n, v: MultisetsCall(x, target, n, v, [], [], [], []), among)
-    lists = way and quick and bases and score and marks and forecast and next_ and cuts and attackers and multisets
+    handIn = too(lambda x, n: HandInCall(x, 0, 7, target, False, [2], Registered(n, 0), [], []), [(12,), (13,), (26,)])
+    lists = way and quick and bases and score and marks and forecast and next_ and cuts and attackers and multisets and handIn
     return closure and lost and lists and backdoor and idle and pair
 
 
@@ -2147,11 +2135,11 @@ def Agree(xs, ys):
 
 
 def Fits(p):
-    most = len(p.items) <= 64
-    starts = startCount(p.items) <= 14
-    losses = lossCount(p.items) <= 14
-    many = len(p.edges) <= 256
-    colours = Each(lambda x: x.colour <= 7, p.edges)
+    most = len(p.items) <= mostItems
+    starts = startCount(p.items) <= mostChosen
+    losses = lossCount(p.items) <= mostChosen
+    many = len(p.edges) <= mostEdges
+    colours = Each(lambda x: x.colour <= highestColour, p.edges)
     return most and starts and losses and many and colours
 
 
@@ -2285,6 +2273,23 @@ def PoolDetermined(a, b, entry, answers, docs):
     )
 
 
+# ---- pool/Printed: the answers with their buffers are among those that are handed in
+
+
+def refusalLine(sheet, number, line):
+    return lineText([list(b"pool: refused"), decimal(sheet), decimal(number), decimal(line)])
+
+
+def Printed(first, second, printed, said, answers, docs):
+    return any(
+        PoolCall(first, second, answer, entry, exit, docs)
+        and answer.number != 24
+        and implies(lambda: answer.number == 0, lambda: IsPooled(first, second, printed, docs) and said == [])
+        and implies(lambda: answer.number != 0, lambda: printed == [] and said == refusalLine(answer.sheet, answer.number, answer.line))
+        for answer, entry, exit in answers
+    )
+
+
 # ---- demands/Pools
 
 
@@ -2350,18 +2355,11 @@ def OneLostAnswer(s, set_, answers):
     )
 
 
-def SameWay(n, n_, v, v_, x, x_, y, y_):
-    answer = Same(n, n_, v, v_)
-    vertices = x == x_
-    colours = y == y_
-    return answer and vertices and colours
-
-
 def OneWayAnswer(s, target, set_, a, b, answers):
     return all(
         implies(
             lambda: WayCall(s, target, set_, n, v, a, x, b, y) and WayCall(s, target, set_, n_, v_, a, x_, b, y_),
-            lambda: SameWay(n, n_, v, v_, x, x_, y, y_),
+            lambda: SameLists(n, n_, v, v_, x, x_, y, y_),
         )
         for n, v, x, y in answers
         for n_, v_, x_, y_ in answers
@@ -2431,7 +2429,7 @@ def SettledWay(s, target, set_, number, values, entry, exit, entry_, exit_, answ
     outcome = Outcome([12, 13, 14, 15], number, values, [entry, entry_], [exit, exit_])
     meets = WayCall(s, target, set_, number, values, entry, exit, entry_, exit_)
     only = all(
-        implies(lambda: WayCall(s, target, set_, n, v, entry, x, entry_, y), lambda: SameWay(n, number, v, values, x, exit, y, exit_))
+        implies(lambda: WayCall(s, target, set_, n, v, entry, x, entry_, y), lambda: SameLists(n, number, v, values, x, exit, y, exit_))
         for n, v, x, y in answers
     )
     return outcome and meets and only
@@ -2490,6 +2488,19 @@ def SettledCall(call, s, number, t, answers):
     return outcome and meets and only
 
 
+def SettledCalls(call, s, answers):
+    return all(implies(lambda: CallOf(call, s, number, t), lambda: SettledCall(call, s, number, t, answers)) for number, t in answers)
+
+
+def LivingMeaning(texts, runs, ends, changes, setups, target, set_, among):
+    fresh = FreshHoldsNothing(texts)
+    opened = OpenedAlways(runs, ends)
+    nothing = NothingChanges(setups, changes)
+    reached = Question12(ends, runs)
+    unheeded = NoHeed(setups, target, set_, among)
+    return fresh and opened and nothing and reached and unheeded
+
+
 def LivingDemand1(s, item, source, to, colour, mark, r, answers):
     takenIn = SettledCall(TakeIn(item), s, *r[0], answers)
     takenOut = SettledCall(TakeOut(item), s, *r[1], answers)
@@ -2510,7 +2521,6 @@ def LivingDemand2(s, item, source, to, colour, mark, r):
 
 
 sheetNumbers = [1, 2, 3, 4, 5, 6, 7, 8, 9, 10, 11]
-noItems = Setup(count=0, vertices=(unusedVertex,) * 64, graph=emptyGraph, recovery=emptyGraph)
 
 
 def RowsOf(text, d):
@@ -2642,12 +2652,13 @@ def Demand1(text, item, s, set_, target, other, opened, locked, kinds, vertices,
     handIn = SettledHandIns(*among.handIns)
     withdraw = SettledWithdrawals(*among.withdrawals)
     pool = SettledPools(*among.pools)
+    living = SettledCalls(*among.calls)
     bagAtMost = SettledBags(opened, locked, r.bagAtMost)
     bagScore = SettledBagScore(s, target, *r.bagScore, parts, parts_, lengths, lengths_, among.bags)
     sets = closure and lost and way and quick
     lists = bases and score and risk and openings and lockouts
     ahead = forecast and next_ and bagAtMost and bagScore
-    return sets and lists and backdoor and idle and pair and formed and reading and portalScore and portalRisk and ahead and cuts and attackers and handIn and withdraw and pool
+    return sets and lists and backdoor and idle and pair and formed and reading and portalScore and portalRisk and ahead and cuts and attackers and handIn and withdraw and pool and living
 
 
 def Demand2(text, item, s, set_, target, other, opened, locked, kinds, vertices, vertices_, colours, colours_, list_, exit, harden, harden_, parts, parts_, lengths, lengths_, r, among):
@@ -2674,12 +2685,13 @@ def Demand2(text, item, s, set_, target, other, opened, locked, kinds, vertices,
     next_ = NextCall(s, target, set_, *r.next)
     register = RegisterLaw(*among.afternoons)
     pool = PoolMeaning(*among.meaning)
+    living = LivingMeaning(*among.living)
     bagAtMost = Decides(BagAtMost(opened, locked), r.bagAtMost)
     bagScore = MultisetsCall(s, target, *r.bagScore, parts, parts_, lengths, lengths_)
     sets = closure and lost and way and quick
     lists = bases and score and risk and openings and lockouts
     ahead = forecast and next_ and bagAtMost and bagScore
-    return sets and lists and backdoor and idle and pair and formed and reading and asked and portalScore and portalRisk and ahead and cuts and attackers and register and pool
+    return sets and lists and backdoor and idle and pair and formed and reading and asked and portalScore and portalRisk and ahead and cuts and attackers and register and pool and living
 
 
 # ---- reference/Meaning
@@ -2716,12 +2728,6 @@ def Meaning(s, g, handed):
 
 
 # ---- report_text/Meaning
-
-
-def Rising(l):
-    if not l:
-        return True
-    return all(implies(lambda: Listed(l[1:], w), lambda: l[0] < w) for w in world.vertices) and Rising(l[1:])
 
 
 def ReportMeaning(s):
@@ -2822,11 +2828,11 @@ def Told(Call, number, fields, candidates):
 
 def ReadingCall(text, number, line, entry, exit):
     refused_ = implies(lambda: readSheet(text).number != 0, lambda: number == readSheet(text).number)
-    short = implies(lambda: readSheet(text).number == 0 and len(entry) < 1283, lambda: number == 15)
-    accepted_ = implies(lambda: readSheet(text).number == 0 and 1283 <= len(entry), lambda: number == 0)
+    short = implies(lambda: readSheet(text).number == 0 and len(entry) < setupWords, lambda: number == 15)
+    accepted_ = implies(lambda: readSheet(text).number == 0 and setupWords <= len(entry), lambda: number == 0)
     lined = line == readSheet(text).line
-    room = implies(lambda: 1283 <= len(entry), lambda: exit == written(wordsOf(readSheet(text).setup), entry))
-    untouched = implies(lambda: len(entry) < 1283, lambda: exit == entry)
+    room = implies(lambda: setupWords <= len(entry), lambda: exit == written(wordsOf(readSheet(text).setup), entry))
+    untouched = implies(lambda: len(entry) < setupWords, lambda: exit == entry)
     return refused_ and short and accepted_ and lined and room and untouched
 
 
@@ -2842,7 +2848,7 @@ def NameCall(text, item, number, start, size):
 
 def SaysSetup(texts, numbers, lines, entry, exits):
     return all(
-        implies(lambda: ReadingCall(text, number, line, entry, exit) and 1283 <= len(entry), lambda: setupIn(exit) == readSheet(text).setup)
+        implies(lambda: ReadingCall(text, number, line, entry, exit) and setupWords <= len(entry), lambda: setupIn(exit) == readSheet(text).setup)
         for text in texts
         for number in numbers
         for line in lines
@@ -2864,8 +2870,8 @@ def CheckCall(s, r):
 
 def PutBack(n, t, number, entry, exit):
     refused_ = implies(lambda: n != 0, lambda: number == n and exit == entry)
-    short = implies(lambda: n == 0 and len(entry) < 1283, lambda: number == 15 and exit == entry)
-    room = implies(lambda: n == 0 and 1283 <= len(entry), lambda: number == 0 and exit == written(wordsOf(t), entry))
+    short = implies(lambda: n == 0 and len(entry) < setupWords, lambda: number == 15 and exit == entry)
+    room = implies(lambda: n == 0 and setupWords <= len(entry), lambda: number == 0 and exit == written(wordsOf(t), entry))
     return refused_ and short and room
 
 
@@ -2909,7 +2915,7 @@ def OneResultOnSetups(words, set_, target, other, sets, kinds, a, b, numbers, re
             lambda: len(f) == len(f_)
             and Told(lambda n, v: WayCall(s, target, set_, n, v, a, x, a, y), n, f, values)
             and Told(lambda n, v: WayCall(s, target, set_, n, v, a, x_, a, y_), n_, f_, values),
-            lambda: SameWay(n, n_, f, f_, x, x_, y, y_),
+            lambda: SameLists(n, n_, f, f_, x, x_, y, y_),
         )
         for n, f, x, y in ways
         for n_, f_, x_, y_ in ways

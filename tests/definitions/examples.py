@@ -219,6 +219,10 @@ def of_sets(D):
         ("not ordered: 3, 4", lambda: D.Ordered([3, 4]), False),
         ("not ordered: 4, 5, 3", lambda: D.Ordered([4, 5, 3]), False),
         ("not ordered: twice", lambda: D.Ordered([4, 4]), False),
+        ("rising", lambda: D.Rising([0, 2, 3]), True),
+        ("not rising", lambda: D.Rising([0, 3, 1]), False),
+        ("not rising: twice", lambda: D.Rising([0, 2, 2]), False),
+        ("not rising: the last below the first", lambda: D.Rising([1, 2, 0]), False),
     ]
 
 
@@ -286,9 +290,6 @@ def of_parts(D):
         ("inside: order", lambda: D.Inside(bench, 16), True),
         ("not inside: item 5", lambda: D.Inside(bench, 32), False),
         ("not inside: item 63", lambda: D.Inside(bench, 2**63 + 1), False),
-        ("values: bench's starts", lambda: D.Values(False, bench, [1, 1, 3] + [0] * 61), True),
-        ("not values: its losses", lambda: D.Values(False, bench, [2, 1, 2] + [0] * 61), False),
-        ("not values: 63 of them", lambda: D.Values(False, bench, [1, 1, 3] + [0] * 60), False),
         ("once: 4, 3", lambda: D.Once([4, 3]), True),
         ("not once: 4, 3, 4", lambda: D.Once([4, 3, 4]), False),
         ("lists exactly: 1, 2", lambda: D.ListsExactly(lambda x: x in (2, 1), [1, 2]), True),
@@ -324,8 +325,6 @@ def of_derivations(D):
         ("not shuts: token, which has no colour", lambda: D.Shuts(G, held(63), 2), False),
         ("access: order from mailpw", lambda: D.HasAccess(G, held(2), ORDER), True),
         ("not access: order from token", lambda: D.HasAccess(G, held(4), ORDER), False),
-        ("lockout: order without ordpw, mailpw", lambda: D.HasLockout(G, held(3), ORDER), True),
-        ("not lockout: order without mailpw", lambda: D.HasLockout(G, held(2), ORDER), False),
         ("B1", lambda: D.AccessFrom(G, 0, 0), True),
         ("not B1: all", lambda: D.AccessFrom(G, 0, 31), False),
         ("B2", lambda: D.AccessFrom(G, 2, 26), True),
@@ -411,8 +410,6 @@ def of_scores(D):
         ("score over none", lambda: D.ScoreOver(False, bench, [], never), True),
         ("not score over none: 2^62 + 1", lambda: D.ScoreOver(False, bench, [], 2**62 + 1), False),
         ("not score over none: 0", lambda: D.ScoreOver(False, bench, [], 0), False),
-        ("score, both ways", lambda: D.ScoreBoth(False, bench, G, ORDER, 1), True),
-        ("not score, both ways: 4", lambda: D.ScoreBoth(False, bench, G, ORDER, 4), False),
     ]
 
 
@@ -584,16 +581,16 @@ def of_attackers(D):
     six = [6, 0, 0, 0, 0]
     call = lambda *a: lambda: D.AttackerCall(*a)
     return [
-        ("at most: remote none and local none", lambda: D.AtMost(0, 3), True),
-        ("at most: itself", lambda: D.AtMost(4, 4), True),
-        ("not at most: local none and remote expert", lambda: D.AtMost(3, 2), False),
-        ("not at most: expert and some", lambda: D.AtMost(2, 4), False),
+        ("at most: remote none and local none", lambda: D.KindAtMost(0, 3), True),
+        ("at most: itself", lambda: D.KindAtMost(4, 4), True),
+        ("not at most: local none and remote expert", lambda: D.KindAtMost(3, 2), False),
+        ("not at most: expert and some", lambda: D.KindAtMost(2, 4), False),
         ("weaker: remote none than local none", lambda: D.Weaker(0, 3), True),
         ("not weaker: itself", lambda: D.Weaker(3, 3), False),
         ("of base: ordpw and token", lambda: D.OfBase(bench, APART, ORDER, 4), True),
         ("not of base: all three", lambda: D.OfBase(bench, APART, ORDER, 5), False),
-        ("in score: the lower", lambda: D.InScore(bench, UNLIKE, ORDER, 1), True),
-        ("not in score: the higher", lambda: D.InScore(bench, UNLIKE, ORDER, 4), False),
+        ("in score: the lower", lambda: D.KindInScore(bench, UNLIKE, ORDER, 1), True),
+        ("not in score: the higher", lambda: D.KindInScore(bench, UNLIKE, ORDER, 4), False),
         ("gets in: remote expert", lambda: D.GetsIn(bench, APART, ORDER, 2), True),
         ("not gets in: remote with some skill", lambda: D.GetsIn(bench, APART, ORDER, 1), False),
         ("not gets in: by items that do not start", lambda: D.GetsIn(bench, UNREAD, ORDER, 0), False),
@@ -608,9 +605,9 @@ def of_attackers(D):
         ("not fit: 6", lambda: D.EntriesFit(bench, six), False),
         ("six kinds", lambda: D.SixKinds(asked), True),
         ("nobody in", lambda: D.NobodyIn(asked), True),
-        ("score at most: remote some, and those above", lambda: D.ScoreAtMost(2, 20), True),
-        ("not score at most: the other way round", lambda: D.ScoreAtMost(20, 2), False),
-        ("sound: order and mail", lambda: D.Sound(bench, APART, ORDER, MAIL, 20, 4), True),
+        ("score at most: remote some, and those above", lambda: D.KindsAtMost(2, 20), True),
+        ("not score at most: the other way round", lambda: D.KindsAtMost(20, 2), False),
+        ("sound: order and mail", lambda: D.KindsSound(bench, APART, ORDER, MAIL, 20, 4), True),
         ("call: kinds for order", call(bench, ORDER, APART, 0, [20]), True),
         ("not call: kinds, all who get in", call(bench, ORDER, APART, 0, [52]), False),
         ("call: kinds, 12", call(EMPTY, 0, [], 12, []), True),
@@ -795,10 +792,6 @@ def of_bag_scores(D):
         ("call: bags, 13", lambda: call(13, [], lent, lent, room, room, target=6), True),
         ("call: bags, 12", lambda: call(12, [], lent, lent, room, room, s=EMPTY), True),
         ("not call: bags, 13 for 12", lambda: call(13, [], lent, lent, room, room, s=EMPTY), False),
-        ("same lists: others", lambda: D.SameLists(0, 0, [2], [2], rows, rows, [1], [1]), True),
-        ("not same lists: places", lambda: D.SameLists(0, 0, [2], [2], rows, lent, [1], [1]), False),
-        ("not same lists: lengths", lambda: D.SameLists(0, 0, [2], [2], rows, rows, [1], [2]), False),
-        ("not same lists: number", lambda: D.SameLists(0, 1, [2], [2], rows, rows, [1], [1]), False),
         ("one answer: bags of t", lambda: D.OneMultisetsAnswer(bags, t, lent, room, answers), True),
         ("settled: bags of t", lambda: D.SettledBagScore(bags, t, 0, [2], lent, rows + [9], room, [1, 2, 7], answers), True),
         ("settled: bags of t, 15", lambda: D.SettledBagScore(bags, t, 15, [], short, short, room, room, [(15, [], short, room), (15, [], lent, room), (13, [], short, room)]), True),
@@ -948,9 +941,6 @@ def of_register(D):
         ("entries", lambda: D.Entries(bench, stands(5), [0, 1, 3], [R_ONE, R_ANOTHER, R_LOCKS]), True),
         ("not entries: one too few", lambda: D.Entries(bench, stands(5), [0, 1], [R_ONE, R_ANOTHER, R_LOCKS]), False),
         ("not entries: one too many", lambda: D.Entries(bench, stands(5), [0, 1, 3], [R_ONE, R_ANOTHER]), False),
-        ("rising", lambda: D.TimesRise([0, 1, 3]), True),
-        ("not rising", lambda: D.TimesRise([0, 3, 1]), False),
-        ("not rising: twice", lambda: D.TimesRise([0, 0]), False),
         ("is of", lambda: D.IsOf(R_ONE, BOTH), True),
         ("not is of: another student", lambda: D.IsOf(R_ANOTHER, BOTH), False),
         ("not is of: another target", lambda: D.IsOf(R_ELSEWHERE, BOTH), False),
@@ -1093,6 +1083,7 @@ def of_living(D):
         ("refusals: of adding", lambda: D.refusals(ADD) == [12, 13, 18, 19, 7] and D.refusals(OFF) == [12, 13, 18, 20] and D.refusals(IN) == [12, 13], True),
         ("settled call: take in", lambda: D.SettledCall(IN, bench, 0, TAKEN, answers), True),
         ("settled call: 13", lambda: D.SettledCall(D.TakeIn(5), bench, 13, bench, answers), True),
+        ("settled: every call", lambda: D.SettledCalls(IN, bench, answers), True),
         ("not settled call: another number", lambda: D.SettledCall(D.TakeIn(5), bench, 12, bench, answers), False),
         ("refused back: 19", lambda: D.RefusedBack(ADD, bench, 19, bench), True),
         ("not refused back: 19, and another setup", lambda: D.RefusedBack(ADD, bench, 19, TAKEN), False),
@@ -1159,9 +1150,10 @@ def of_same(D):
         ("same", lambda: D.Same(0, 0, [1], [1]), True),
         ("not same: numbers", lambda: D.Same(0, 1, [1], [1]), False),
         ("not same: values", lambda: D.Same(0, 0, [1], [2]), False),
-        ("same way: not with other items", lambda: D.SameWay(0, 0, [], [], [1], [2], [], []), False),
-        ("same way: not with other colours", lambda: D.SameWay(0, 0, [], [], [1], [1], [1], [2]), False),
-        ("same way", lambda: D.SameWay(0, 0, [], [], [1], [1], [1], [1]), True),
+        ("not same lists: the first", lambda: D.SameLists(0, 0, [], [], [1], [2], [], []), False),
+        ("not same lists: the second", lambda: D.SameLists(0, 0, [], [], [1], [1], [1], [2]), False),
+        ("not same lists: the number", lambda: D.SameLists(0, 1, [], [], [1], [1], [1], [1]), False),
+        ("same lists", lambda: D.SameLists(0, 0, [], [], [1], [1], [1], [1]), True),
         ("same list: not with another list", lambda: D.SameList(0, 0, [], [], [1], [2]), False),
         ("same list", lambda: D.SameList(0, 0, [], [], [1], [1]), True),
         ("list written: two of three places", lambda: D.ListWritten([7, 8], [2], 0, [2], LENT[:3], [7, 8, 92]), True),
@@ -1323,7 +1315,7 @@ def of_demands(D):
 Answers = namedtuple(
     "Answers", "closure lost way bases score risk openings lockouts backdoor idle pair formed reading portalScore portalRisk forecast quick cuts attackers next bagAtMost bagScore"
 )
-Among = namedtuple("Among", "answers ways lists cuts bags texts docs readings numbers handIns withdrawals afternoons pools meaning")
+Among = namedtuple("Among", "answers ways lists cuts bags texts docs readings numbers handIns withdrawals afternoons pools meaning calls living")
 
 
 def of_both_demands(D):
@@ -1349,7 +1341,10 @@ def of_both_demands(D):
     lent_bytes = [35] * len(both)
     pools = [(first, second, lent_bytes, LABS, [(Pooled(0, 0, 0, len(both)), both), (Pooled(24, 0, 0, 0), lent_bytes)])]
     pools += [(first, second, [(Pooled(0, 0, 0, len(both)), lent_bytes, both)], LABS, [list(b"g")], [(first, second, both)])]
-    among = Among(answers, ways, lists, cuts, scores, [(t, [], [], []) for t in (sheet, render(DOC))], [BENCH_DOC, DOC], readings, [0, 1, 3, 13, never, never + 5, never + 13], *registers, *pools)
+    changed = [(0, TAKEN), (0, bench), (13, bench)]
+    lives = [(text(BENCH), [], [], []), (text(BENCH), [D.TakeIn(1)], [0], [bench, TAKEN])]
+    living = [(D.TakeIn(1), bench, changed), ([text(BENCH)], lives, [bench, TAKEN], changed, [bench, TAKEN], ORDER, 2, [(0, [26, 3]), (0, [1])])]
+    among = Among(answers, ways, lists, cuts, scores, [(t, [], [], []) for t in (sheet, render(DOC))], [BENCH_DOC, DOC], readings, [0, 1, 3, 13, never, never + 5, never + 13], *registers, *pools, *living)
     asked = lambda t, i, s, set_, v, w: [t, i, s, set_, v, w, [2], [3, 6], APART, lent]
     listed = [out, [2, 5, 3, 6], lent, [3, 6], [9] * 14, one_bag, [9], [1]]
     kept = [[9] * 14, [9] * 14, [9], [9]]
@@ -1431,9 +1426,6 @@ def of_spare(D):
         ("unmixed prints: a mixed colour", lambda: D.UnmixedPrints(text(MIXED)), True),
         ("unmixed prints: colours with and without recovery", lambda: D.UnmixedPrints(text(SPARE)), True),
         ("unmixed prints: a refused sheet", lambda: D.UnmixedPrints(REFUSED["refused 5"][0]), True),
-        ("rising", lambda: D.Rising([0, 2, 3]), True),
-        ("not rising: twice", lambda: D.Rising([0, 2, 2]), False),
-        ("not rising: the last below the first", lambda: D.Rising([1, 2, 0]), False),
     ]
 
 
@@ -1637,6 +1629,11 @@ def of_pools(D):
         ("not pooling law: the first sheet's edge lost", lambda: D.PoolingLaw(a, n, n), False),
         ("not pooling law: the second sheet's edge lost", lambda: D.PoolingLaw(n, a, n), False),
         ("pooling", lambda: D.Pooling(asked, docs), True),
+        ("printed: a storeroom", lambda: D.Printed(a, b, both, [], [(yes, lent, end)], docs), True),
+        ("not printed: a sheet and a line", lambda: D.Printed(a, b, both, [10], [(yes, lent, end)], docs), False),
+        ("not printed: 22 and a sheet", lambda: D.Printed(a, r, both, text(["pool: refused 0 22 0"]), [(no(22), lent, lent)], docs), False),
+        ("printed: the second refused", lambda: D.Printed(a, bad, [], text(["pool: refused 2 4 2"]), [(no(4, 2, 2), lent, lent)], docs), True),
+        ("not printed: 24", lambda: D.Printed(a, b, [], text(["pool: refused 0 24 0"]), [(no(24), lent[:10], lent[:10])], docs), False),
         ("not same pool: another answer", lambda: D.SamePool(yes, no(22), lent, lent), False),
         ("not same pool: another buffer", lambda: D.SamePool(yes, yes, lent, end), False),
         ("determined: pooled", lambda: D.PoolDetermined(a, b, lent, answers, docs), True),

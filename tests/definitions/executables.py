@@ -21,7 +21,21 @@ Attempt = namedtuple("Attempt", "student target loss handed")
 Made = namedtuple("Made", "call answer exit")
 
 Credential, Account = "Credential", "Account"
+
+# ---- bounds: setup/Bounds, scores/Never, antichains/Antichains, multisets/Multisets, portal_setup/Words
+
+mostItems = 64
+mostName = 16
+largest = 4000000000
+highest = 9
+highestColour = 7
+mostEdges = 256
+mostChosen = 14
+mostBytes = 16384
 never = 2**62
+mostSets = 3432
+mostValues = 14
+setupWords = 1283
 
 
 def getD(l, i, default):
@@ -90,7 +104,7 @@ def choose(n, k):
     return choose(n - 1, k - 1) + choose(n - 1, k)
 
 
-def wayNumber(loss):
+def wayCode(loss):
     return 1 if loss else 0
 
 
@@ -177,7 +191,7 @@ def highestFirst(l):
 
 
 def placesOf(m):
-    return highestFirst(m) + [0] * (14 - len(m))
+    return highestFirst(m) + [0] * (mostValues - len(m))
 
 
 def multisetOf(s, x):
@@ -221,7 +235,7 @@ def fieldsOf(line):
 
 
 def isName(f):
-    return 1 <= len(f) <= 16 and all(97 <= b <= 122 or 48 <= b <= 57 or b == 95 for b in f)
+    return 1 <= len(f) <= mostName and all(97 <= b <= 122 or 48 <= b <= 57 or b == 95 for b in f)
 
 
 def isNumberTo(most, f):
@@ -240,7 +254,7 @@ def decimal(n):
 
 
 def isValue(f):
-    return f == [45] or isNumberTo(4000000000, f)
+    return f == [45] or isNumberTo(largest, f)
 
 
 def fieldValue(f):
@@ -312,7 +326,7 @@ def setupOf(d):
 
 
 def question1(s):
-    return len(s) <= 16384
+    return len(s) <= mostBytes
 
 
 def question2(s):
@@ -345,17 +359,17 @@ def isKnown(xs, n):
 
 def itemQuestions(d, fs):
     x = itemOf(fs)
-    form = isName(field(fs, 0)) and field(fs, 1) in ([97], [99]) and isValue(field(fs, 2)) and isValue(field(fs, 3)) and isNumberTo(9, field(fs, 4))
-    bounds = len(d.items) + 1 <= 64 and startCount(d.items) + given(x.start) <= 14 and lossCount(d.items) + given(x.loss) <= 14
+    form = isName(field(fs, 0)) and field(fs, 1) in ([97], [99]) and isValue(field(fs, 2)) and isValue(field(fs, 3)) and isNumberTo(highest, field(fs, 4))
+    bounds = len(d.items) + 1 <= mostItems and startCount(d.items) + given(x.start) <= mostChosen and lossCount(d.items) + given(x.loss) <= mostChosen
     return [Asked(4, question4(5, fs)), Asked(5, form), Asked(6, not isKnown(d.items, x.name)), Asked(7, bounds)]
 
 
 def edgeQuestions(d, fs):
     e = edgeOf(fs)
-    form = isName(field(fs, 0)) and isName(field(fs, 1)) and isNumberTo(7, field(fs, 2)) and isNumberTo(1, field(fs, 3))
+    form = isName(field(fs, 0)) and isName(field(fs, 1)) and isNumberTo(highestColour, field(fs, 2)) and isNumberTo(1, field(fs, 3))
     known = isKnown(d.items, e.source) and isKnown(d.items, e.to)
     repeated = any((x.source, x.to, x.colour) == (e.source, e.to, e.colour) for x in d.edges)
-    return [Asked(4, question4(4, fs)), Asked(5, form), Asked(8, known), Asked(9, not repeated), Asked(7, len(d.edges) + 1 <= 256)]
+    return [Asked(4, question4(4, fs)), Asked(5, form), Asked(8, known), Asked(9, not repeated), Asked(7, len(d.edges) + 1 <= mostEdges)]
 
 
 def questionsOf(phase, d, line):

@@ -16,7 +16,7 @@ vertex_set/Set vertex_set/Order
 setup/Bounds setup/Setup setup/Calls
 derivations/Derivation derivations/Access derivations/Lockout derivations/Both derivations/Passes derivations/Way
 formed/WellFormed living/Calls
-bases/Base bases/Score bases/Marks
+scores/Never bases/Base bases/Score bases/Marks
 access/Answers quick_yes/Answers answers/Answers
 antichains/Antichains forecasts/Forecast forecasts/Answers cut_sets/Cuts cut_sets/Answers
 attackers/Attackers attackers/Answers
@@ -24,7 +24,7 @@ multisets/Multisets multisets/Meaning multiset_scores/Scores multiset_scores/Ans
 next_sets/Next next_sets/Answers next_sets/Walks
 records/Records register/Calls register/Afternoon
 sheet_format/Text sheet_format/Fields sheet_format/Rows sheet_format/Stated sheet_format/Questions sheet_format/Read sheet_format/Names
-pool_format/Rows
+pool_format/Rows pool_format/Call pool_format/Meaning pool/Printed
 findings/Findings findings/Answers
 reference/Tests reference/Closures reference/Bases
 report_text/Rows report_text/Report report_text/Unmixed

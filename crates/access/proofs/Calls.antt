@@ -1,7 +1,7 @@
 -- The questions 12 to 15 in their order.
 -- Assumes nothing.
 use mathlib.Core.Path.{_≡_, refl, sym, ap, subst, _∙_}
-use mathlib.Core.List.{List, [], _∷_}
+use mathlib.Core.List.{List, [], _∷_, cons≢nil}
 use mathlib.Core.Logic.{_⊎_, ⊎-elim}
 use Prim.Native.Nat.{ℕ, _≤_, _<_, _^_}
 use native.Mathlib.Omega.{arith}
@@ -12,8 +12,8 @@ use Rattle.vertex_set.proofs.Sets.{member-below, some-member}
 use Rattle.setup.specs.declared.Graph.{Graph}
 use Rattle.setup.specs.declared.Setup.{Setup}
 use Rattle.formed.specs.WellFormed.{WellFormed}
-use Rattle.setup.specs.Calls.{Inside, Untouched}
-use Rattle.setup.proofs.Calls.{refuses}
+use Rattle.setup.specs.Calls.{Inside}
+use Rattle.setup.proofs.Calls.{refuses, untouched}
 use Rattle.derivations.specs.Derivation.{Vertices, Rule}
 use Rattle.derivations.specs.Access.{Step, access, HasAccess}
 use Rattle.derivations.specs.Lockout.{lockout}
@@ -35,10 +35,6 @@ inside-iff s set b h bel =
       to = λ w. record { each = λ v m. bel .each v .to (w .each v m) .0 };
       from = λ i. record { each = λ v m. bel .each v .from (i .each v m, member-below 64 set v h m) };
     }
-
--- an answer has values, and a refusal has none
-pub values-or-none : {x : ℕ} {l : List ℕ} → x ∷ l ≡ [] → ⊥
-values-or-none {x = x} {l = l} e = let z : _≡_ {A = ℕ} 0 1 = cc in omega arith
 
 -- ---- closure and lost set
 
@@ -81,8 +77,8 @@ module _ (s : Setup) (set : ℕ) (a : ClosureAnswer) (c : Closes (lockout (s .gr
   pub lost-told : (r : VertexSet) (n : ℕ) → a ≡ Opened r n → LostCall s set 0 (r .0 ∷ [])
   lost-told r n e =
       record {
-        malformed = λ d. absurd (values-or-none (sym v ∙ c .malformed d .empty));
-        outside = λ w o. absurd (values-or-none (sym v ∙ c .outside w o .empty));
+        malformed = λ d. absurd (cons≢nil (sym v ∙ c .malformed d .empty));
+        outside = λ w o. absurd (cons≢nil (sym v ∙ c .outside w o .empty));
         answers = λ w i.
             let b = c .answers w i in
             let q : r .0 ∷ n ∷ [] ≡ b .0 ∷ b .1 ∷ [] = sym v ∙ b .3 in
@@ -98,11 +94,8 @@ module _ (s : Setup) (set : ℕ) (a : ClosureAnswer) (c : Closes (lockout (s .gr
       record {
         malformed = λ d. record { numbered = sym (ap closureNumber e) ∙ c .malformed d .numbered; empty = refl };
         outside = λ w o. record { numbered = sym (ap closureNumber e) ∙ c .outside w o .numbered; empty = refl };
-        answers = λ w i. absurd (values-or-none (sym (c .answers w i .3) ∙ ap closureValues e));
+        answers = λ w i. absurd (cons≢nil (sym (c .answers w i .3) ∙ ap closureValues e));
       }
-
-untouched : (entry entry′ : List ℕ) → Untouched entry entry entry′ entry′
-untouched entry entry′ = record { first = refl; second = refl }
 
 -- ---- shut, the way in, or no room for it
 

@@ -12,7 +12,7 @@ use Rattle.setup.specs.declared.Setup.{Setup}
 use Rattle.formed.specs.WellFormed.{WellFormed}
 use Rattle.setup.proofs.Calls.{refuses, list-short, list-room}
 use Rattle.families.specs.Inner.Family.{size}
-use Rattle.bases.specs.Score.{ScoreBoth}
+use Rattle.bases.specs.Inner.Readers.{ScoreBoth}
 use Rattle.answers.specs.Answers.{BasesWritten, BasesCall, ScoreCall, MarksCall}
 use Rattle.answers.specs.Inner.{BasesTaken, MarksTaken}
 use Rattle.answers.specs.declared.Marks.{Marks}

@@ -22,35 +22,42 @@ use Rattle.answers.specs.declared.MarksAnswer.the-variants as marks
 
 -- ---- document 01's number and values for each case of an answer
 
+-- The number for both lists: 0, or that of the refusal.
 abbrev pub basesNumber : BasesAnswer → ℕ
 basesNumber (bases.Counts n m) = 0
 basesNumber (bases.Refused q) = q
 
+-- The values for both lists: the lengths of the opening list and of the lockout list, and none for a refusal.
 abbrev pub basesValues : BasesAnswer → List ℕ
 basesValues (bases.Counts n m) = n ∷ m ∷ []
 basesValues (bases.Refused q) = []
 
+-- The number for the score: 0, or that of the refusal.
 abbrev pub scoreNumber : ScoreAnswer → ℕ
 scoreNumber (score.Score r) = 0
 scoreNumber (score.Refused q) = q
 
+-- The values for the score: the score alone, and none for a refusal.
 abbrev pub scoreValues : ScoreAnswer → List ℕ
 scoreValues (score.Score r) = r .0 ∷ []
 scoreValues (score.Refused q) = []
 
+-- The number for the risk: 0, or that of the refusal.
 abbrev pub riskNumber : RiskAnswer → ℕ
 riskNumber (risk.Risk r) = 0
 riskNumber (risk.Refused q) = q
 
+-- The values for the risk: the risk alone, and none for a refusal.
 abbrev pub riskValues : RiskAnswer → List ℕ
 riskValues (risk.Risk r) = r .0 ∷ []
 riskValues (risk.Refused q) = []
 
+-- The number for marks: 0, or that of the refusal.
 abbrev pub marksNumber : MarksAnswer → ℕ
 marksNumber (marks.Marked m) = 0
 marksNumber (marks.Refused q) = q
 
--- right, repeated, shut, loose, missing
+-- The values for marks: right, repeated, shut, loose and missing, and none for a refusal.
 abbrev pub marksValues : MarksAnswer → List ℕ
 marksValues (marks.Marked m) = m .right ∷ m .repeated ∷ m .shut ∷ m .loose ∷ m .missing ∷ []
 marksValues (marks.Refused q) = []
@@ -62,7 +69,7 @@ marksValues (marks.Refused q) = []
 abbrev pub BasesWritten : List ℕ → List ℕ → ℕ → List ℕ → List ℕ → List ℕ → Type 0
 BasesWritten opening lockout number values entry exit = ListWritten (opening ++ lockout) (length opening ∷ length lockout ∷ []) number values entry exit
 
--- 12, 13, 15.
+-- Both lists: refused with 12, 13 or 15, else both lengths, and the sets in the lent list.
 pub record BasesCall (s : Setup) (target number : ℕ) (values entry exit : List ℕ) : Type 0 where
   pub malformed : (WellFormed s → ⊥) → Refuses 12 number values × (exit ≡ entry)
   pub noTarget : WellFormed s → s .count ≤ target → Refuses 13 number values × (exit ≡ entry)

@@ -1,18 +1,12 @@
 -- What the inner functions ask and answer. Nothing of this has to be believed: no contract of an offered call cites it.
 use mathlib.Core.Bool.{Bool, true, false}
 use mathlib.Core.List.{List}
-use Prim.Native.Nat.{ℕ, _<_}
+use Prim.Native.Nat.{ℕ}
 use Rattle.setup.specs.declared.Setup.{Setup}
-use Rattle.formed.specs.WellFormed.{WellFormed}
 use Rattle.bases.specs.Base.{Base}
 use Rattle.bases.specs.Marks.{Counts}
 use Rattle.answers.specs.declared.Marks.{Marks}
 use Rattle.answers.specs.Answers.{BasesWritten}
-
--- Questions 12 and 13 have been asked.
-pub record Asked (s : Setup) (target : ℕ) : Type 0 where
-  pub formed : WellFormed s
-  pub vertex : target < s .count
 
 pub record BasesTaken (s : Setup) (target number : ℕ) (values entry exit : List ℕ) : Type 0 where
   pub opening : List ℕ

@@ -4,7 +4,8 @@ ghost use mathlib.Core.Bool.{true, false};
 ghost use Prim.Native.Nat.{_-_, _<_};
 ghost use Rattle.answers.specs.Answers.{basesNumber, basesValues, BasesCall, scoreNumber, scoreValues, riskNumber, riskValues, ScoreCall, marksNumber, marksValues, MarksCall};
 ghost use Rattle.answers.specs.Demand3.{Demand3};
-ghost use Rattle.answers.specs.Inner.{Asked, BasesTaken, MarksTaken};
+ghost use Rattle.formed.specs.Inner.Answerable.{Answerable};
+ghost use Rattle.answers.specs.Inner.{BasesTaken, MarksTaken};
 use families::WORDS;
 use scores::RecoverabilityScore;
 use scores::SecurityScore;
@@ -25,8 +26,8 @@ pub enum RiskAnswer {
     Refused(u64),
 }
 
-// The five counts of a handed-in list, by document 01's names: a shut set is no access set (lockout
-// set), a loose set is not minimal.
+// The five counts of a handed-in list, by document 01's names: a shut set is no access set or, for
+// lockouts, no lockout set, and a loose set is not minimal.
 pub struct Marks {
     pub right: usize,
     pub repeated: usize,
@@ -43,7 +44,7 @@ pub enum MarksAnswer {
 // Both lists of a target of a well-formed setup. Their lengths are known before a set is written,
 // so that a lent list which is too short stays as it was.
 fn write_bases(s: Setup, target: usize, out: &mut [u64]) -> BasesAnswer
-    requires { ⌜ Asked s target ⌝ }
+    requires { ⌜ Answerable s target ⌝ }
     ensures { λ r. ⌜ BasesTaken s target (basesNumber r) (basesValues r) (now (out .entry)) (now (out .exit)) ⌝ }
 {
     let graph = s.graph;
@@ -118,7 +119,7 @@ fn left_of(a: usize, b: usize) -> usize
 
 // The marks of a list that is handed in for a target of a well-formed setup.
 fn take_marks(loss: bool, s: Setup, target: usize, handed: &[u64]) -> Marks
-    requires { ⌜ Asked s target ⌝ }
+    requires { ⌜ Answerable s target ⌝ }
     ensures { λ r. ⌜ MarksTaken loss s target (now (handed .entry)) r ⌝ }
 {
     let graph = s.graph;

@@ -22,7 +22,7 @@ gap [] = 0
 gap (false ∷ w) = suc (gap w)
 gap (true ∷ w) = gap w - 1
 
--- Is a 1 matched, before so many 0s that are not?
+-- Is a 1 matched, where the 1s behind it leave this number of 0s unmatched? It is, unless the number is 0.
 matched : ℕ → Bool
 matched zero = false
 matched (suc g) = true

@@ -23,7 +23,11 @@ pub record Antichain (l : List ℕ) : Type 0 where
 abbrev pub Sperner : Type 0
 Sperner = (t : ℕ) (l : List ℕ) → ((x : ℕ) → Listed l x → Within x t) → Antichain l → length l ≤ choose (ones t) (ones t / 2)
 
--- 1 way for no things, and 3,432 ways for 14 (document 02, point 10).
+-- The most sets of an antichain over 14 things (document 02, point 10).
+abbrev pub mostSets : ℕ
+mostSets = 3432
+
+-- 1 way for no things, and 3,432 ways for 14.
 pub record HalfAtBounds : Type 0 where
   pub none : choose 0 (0 / 2) ≡ 1
-  pub fourteen : choose 14 (14 / 2) ≡ 3432
+  pub fourteen : choose 14 (14 / 2) ≡ mostSets

@@ -4,6 +4,9 @@ ghost use mathlib.Core.Path.{_≡_};
 ghost use Prim.Native.Nat.{_/_, _≤_};
 ghost use Rattle.antichains.specs.Antichains.{choose};
 
+// The most sets of an antichain over 14 things (document 02, point 10).
+pub const MOST_SETS: usize = 3432;
+
 // The numbers of ways to choose n / 2, rounded down, of n things, for n up to 14.
 const WAYS: [u64; 15] = [
     1,
@@ -20,7 +23,7 @@ const WAYS: [u64; 15] = [
     462,
     924,
     1716,
-    3432,
+    MOST_SETS as u64,
 ];
 
 // The number of ways to choose n / 2, rounded down, of n things.

@@ -17,7 +17,7 @@ use Rattle.derivations.proofs.Rules.{monotone}
 use Rattle.derivations.proofs.Graphs.{access-lawful}
 use Rattle.successors.specs.Inner.{VertexOf, Without}
 use Rattle.successors.proofs.Members.{Passed, passed-none, passed-more, passed-all, left-within}
-use Rattle.attackers.specs.Inner.{BothAtMost, FitOver, Holds, HeldBy, Opens}
+use Rattle.attackers.specs.Inner.{BothAtMost, FitOver, Holds, HeldBy, KindOpens}
 
 module _ (kinds : List ℕ) (initial : ℕ) (word : initial < 2 ^ 64) where
   pub fit-done : ((i : ℕ) → i < 64 → Member initial i × (6 ≤ getD kinds i 0) → ⊥) → FitOver kinds initial
@@ -76,7 +76,7 @@ module _ (kinds : List ℕ) (initial t : ℕ) where
 
 -- what the held vertices open
 pub opens-decided : (g : Graph) (kinds : List ℕ) (initial target t held : ℕ) (r : Bool) → HeldBy kinds initial t held
-    → Decides (HasAccess g (Member held) target) r → Decides (Opens g kinds initial target t) r
+    → Decides (HasAccess g (Member held) target) r → Decides (KindOpens g kinds initial target t) r
 opens-decided g kinds initial target t held r h d =
     let more = monotone (access g) (access-lawful g) in
     decide-iff (record {

@@ -7,7 +7,7 @@ use native.Mathlib.Omega.{arith}
 use Rattle.vertex_set.specs.Set.{Member, Inserted}
 use Rattle.vertex_set.proofs.Cases.{same-or}
 use Rattle.vertex_set.proofs.Sets.{none-in-zero}
-use Rattle.attackers.specs.Attackers.{AtMost}
+use Rattle.attackers.specs.Attackers.{KindAtMost}
 use Rattle.attackers.specs.Inner.{BothAtMost, BothWeaker, SomeWeaker, Lowest}
 use Rattle.attackers.proofs.Table.{at-most-refl, at-most-trans, at-most-le}
 
@@ -53,7 +53,7 @@ module _ (P : ℕ → Type 0) where
               (λ e. (omega arith, subst P (sym e) o)) (taken k m);
           lowest = λ k j m oj w. ⊎-elim (λ p. h .lowest k j p oj w) (λ e. new j oj (subst (BothWeaker j) e w)) (taken k m);
           cover = λ j l oj. ⊎-elim
-              (λ e. (t, i .taken (omega arith) t .from (inr refl), record { first = small; second = omega (arith, e); is = subst (AtMost t) (sym e) (at-most-refl t) }))
+              (λ e. (t, i .taken (omega arith) t .from (inr refl), record { first = small; second = omega (arith, e); is = subst (KindAtMost t) (sym e) (at-most-refl t) }))
               (λ d. let c = h .cover j (omega (arith, d)) oj in (c .0, i .taken (omega arith) (c .0) .from (inl (c .1)), c .2)) (same-or j t);
         }
       where

@@ -13,23 +13,22 @@ use Rattle.vertex_set.proofs.Sets.{some-member, none-in-zero, bounded-by-member
 use Rattle.setup.specs.declared.Setup.{Setup}
 use Rattle.setup.specs.Setup.{given, valueOf, vertexAt, Chosen, ChosenSet}
 use Rattle.formed.specs.WellFormed.{WellFormed}
-use Rattle.derivations.specs.Access.{access, HasAccess}
-use Rattle.derivations.proofs.Rules.{monotone}
-use Rattle.derivations.proofs.Graphs.{access-lawful}
+use Rattle.derivations.specs.Access.{HasAccess}
+use Rattle.derivations.proofs.Closures.{opens-more}
 use Rattle.bases.specs.Base.{TargetSet, MinimalSet}
 use Rattle.reference.proofs.Tests.{by-decision}
 use Rattle.reference.proofs.Graphs.{own-graph, chosen-below}
 use Rattle.reference.proofs.Closures.{decide-derives}
 use Rattle.reference.proofs.Bases.{minimal-within}
-use Rattle.attackers.specs.Attackers.{AtMost, Weaker, attackerOf, OfBase, InScore, GetsIn, AttackerScore, EntriesFit, SixKinds, NobodyIn, Sound}
-use Rattle.attackers.specs.Inner.{Holds, Opens, LowestOpen}
+use Rattle.attackers.specs.Attackers.{KindAtMost, Weaker, attackerOf, OfBase, KindInScore, GetsIn, AttackerScore, EntriesFit, SixKinds, NobodyIn, KindsSound}
+use Rattle.attackers.specs.Inner.{Holds, KindOpens, LowestOpen}
 use Rattle.attackers.proofs.Table.{at-most-refl, at-most-trans, at-most-same, at-most-le, at-most-or}
 use Rattle.attackers.proofs.Scans.{taken-below}
 use Rattle.attackers.proofs.Sets.{attacker-small, each-at-most, least-attacker}
 
 module _ (s : Setup) (kinds : List ℕ) (target : ℕ) (w : WellFormed s) (fit : EntriesFit s kinds) where
   more : (P Q : ℕ → Type 0) → ((i : ℕ) → P i → Q i) → HasAccess (s .graph) P target → HasAccess (s .graph) Q target
-  more P Q h = monotone (access (s .graph)) (access-lawful (s .graph)) P Q h target
+  more P Q h = opens-more (s .graph) P Q h target
 
   low : (v : ℕ) → Chosen false s v → v < 64
   low v c = let l = chosen-below false s w v c in let m = w .most in omega arith
@@ -37,7 +36,7 @@ module _ (s : Setup) (kinds : List ℕ) (target : ℕ) (w : WellFormed s) (fit :
   -- ---- the initial vertices of at most the kind t, as a set
 
   Weak : ℕ → ℕ → Type 0
-  Weak t v = Chosen false s v × AtMost (getD kinds v 0) t
+  Weak t v = Chosen false s v × KindAtMost (getD kinds v 0) t
 
   weak-or : (t v : ℕ) → Weak t v ⊎ (Weak t v → ⊥)
   unfolding Weak
@@ -48,7 +47,7 @@ module _ (s : Setup) (kinds : List ℕ) (target : ℕ) (w : WellFormed s) (fit :
   items : ℕ → ℕ
   items t = taken-below (Weak t) (weak-or t) 64 (omega arith) .0
 
-  in-items : (t v : ℕ) → Iff (Member (items t) v) (Chosen false s v × AtMost (getD kinds v 0) t)
+  in-items : (t v : ℕ) → Iff (Member (items t) v) (Chosen false s v × KindAtMost (getD kinds v 0) t)
   unfolding Weak items
   in-items t v =
       let b = taken-below (Weak t) (weak-or t) 64 (omega arith) .1 in
@@ -57,8 +56,8 @@ module _ (s : Setup) (kinds : List ℕ) (target : ℕ) (w : WellFormed s) (fit :
   gets-in-or : (t : ℕ) → GetsIn s kinds target t ⊎ (GetsIn s kinds target t → ⊥)
   gets-in-or t =
       by-decision _ (decide-derives false s (s .graph) w (own-graph s w) target (items t))
-      (λ e d. inl (more (Member (items t)) (λ v. Chosen false s v × AtMost (getD kinds v 0) t) (λ v m. in-items t v .to m) d))
-      (λ e n. inr (λ g. n (more (λ v. Chosen false s v × AtMost (getD kinds v 0) t) (Member (items t)) (λ v p. in-items t v .from p) g)))
+      (λ e d. inl (more (Member (items t)) (λ v. Chosen false s v × KindAtMost (getD kinds v 0) t) (λ v m. in-items t v .to m) d))
+      (λ e n. inr (λ g. n (more (λ v. Chosen false s v × KindAtMost (getD kinds v 0) t) (Member (items t)) (λ v p. in-items t v .from p) g)))
 
   -- ---- kinds of the base, and who gets in
 
@@ -67,21 +66,21 @@ module _ (s : Setup) (kinds : List ℕ) (target : ℕ) (w : WellFormed s) (fit :
       subst (λ (j : ℕ). j < 6) (sym (q .attacker)) (attacker-small kinds (q .set) (λ v m. fit .each v (q .is .is .chosen v m)))
 
   -- an attacker of a set's own kind, or above it, gets in
-  set-gets-in : (x t : ℕ) → MinimalSet false s (s .graph) target x → AtMost (attackerOf kinds x) t → GetsIn s kinds target t
+  set-gets-in : (x t : ℕ) → MinimalSet false s (s .graph) target x → KindAtMost (attackerOf kinds x) t → GetsIn s kinds target t
   set-gets-in x t m a =
-      more (Member x) (λ v. Chosen false s v × AtMost (getD kinds v 0) t)
+      more (Member x) (λ v. Chosen false s v × KindAtMost (getD kinds v 0) t)
       (λ v k. (m .is .chosen v k, at-most-trans (getD kinds v 0) (attackerOf kinds x) t (each-at-most kinds x (λ v k. low v (m .is .chosen v k)) v k) a))
       (m .is .derives)
 
-  pub base-gets-in : (k t : ℕ) → OfBase s kinds target k → AtMost k t → GetsIn s kinds target t
-  base-gets-in k t q a = set-gets-in (q .set) t (q .is) (subst (λ (j : ℕ). AtMost j t) (q .attacker) a)
+  pub base-gets-in : (k t : ℕ) → OfBase s kinds target k → KindAtMost k t → GetsIn s kinds target t
+  base-gets-in k t q a = set-gets-in (q .set) t (q .is) (subst (λ (j : ℕ). KindAtMost j t) (q .attacker) a)
 
   -- one who gets in is at or above the kind of some set of the base
-  in-by-set : (t : ℕ) → GetsIn s kinds target t → (k : ℕ) × OfBase s kinds target k × AtMost k t
+  in-by-set : (t : ℕ) → GetsIn s kinds target t → (k : ℕ) × OfBase s kinds target k × KindAtMost k t
   in-by-set t g =
       let y = minimal-within false s (s .graph) target w (own-graph s w) (items t) (record {
         chosen = λ v m. in-items t v .to m .0;
-        derives = more (λ v. Chosen false s v × AtMost (getD kinds v 0) t) (Member (items t)) (λ v p. in-items t v .from p) g;
+        derives = more (λ v. Chosen false s v × KindAtMost (getD kinds v 0) t) (Member (items t)) (λ v p. in-items t v .from p) g;
       }) in
       (attackerOf kinds (y .0), record { set = y .0; is = y .2; attacker = refl }, least-attacker kinds (y .0) t (λ v m. in-items t v .to (y .1 .each v m) .1))
 
@@ -92,10 +91,10 @@ module _ (s : Setup) (kinds : List ℕ) (target : ℕ) (w : WellFormed s) (fit :
     pub able : GetsIn s kinds target k
     pub none : (j : ℕ) → j < 6 → GetsIn s kinds target j → Weaker j k → ⊥
 
-  pub score-lowest : (k : ℕ) → Iff (InScore s kinds target k) (Lowest k)
+  pub score-lowest : (k : ℕ) → Iff (KindInScore s kinds target k) (Lowest k)
   score-lowest k = record { to = to; from = from }
     where
-      to : InScore s kinds target k → Lowest k
+      to : KindInScore s kinds target k → Lowest k
       to h =
           record {
             able = base-gets-in k k (h .is) (at-most-refl k);
@@ -103,27 +102,27 @@ module _ (s : Setup) (kinds : List ℕ) (target : ℕ) (w : WellFormed s) (fit :
                 let q = in-by-set j g in
                 h .none (q .0) (q .1) (record {
                   atMost = at-most-trans (q .0) j k (q .2) (l .atMost);
-                  other = λ e. l .other (at-most-same j k (l .atMost) (subst (λ (i : ℕ). AtMost i j) e (q .2)));
+                  other = λ e. l .other (at-most-same j k (l .atMost) (subst (λ (i : ℕ). KindAtMost i j) e (q .2)));
                 });
           }
 
-      from : Lowest k → InScore s kinds target k
+      from : Lowest k → KindInScore s kinds target k
       from h =
           let q = in-by-set k (h .able) in
           let n : (j : ℕ) → OfBase s kinds target j → Weaker j k → ⊥ = λ j p. h .none j (base-small j p) (base-gets-in j j p (at-most-refl j)) in
           ⊎-elim (λ e. record { is = subst (OfBase s kinds target) e (q .1); none = n })
           (λ d. absurd (n (q .0) (q .1) (record { atMost = q .2; other = d }))) (same-or (q .0) k)
 
-  pub score-small : (k : ℕ) → InScore s kinds target k → k < 6
+  pub score-small : (k : ℕ) → KindInScore s kinds target k → k < 6
   score-small k h = base-small k (h .is)
 
-  in-below-or : (t k : ℕ) → (GetsIn s kinds target k × AtMost k t) ⊎ (GetsIn s kinds target k × AtMost k t → ⊥)
+  in-below-or : (t k : ℕ) → (GetsIn s kinds target k × KindAtMost k t) ⊎ (GetsIn s kinds target k × KindAtMost k t → ⊥)
   in-below-or t k = ⊎-elim (λ g. ⊎-elim (λ a. inl (g, a)) (λ n. inr (λ p. n (p .1))) (at-most-or k t)) (λ n. inr (λ p. n (p .0))) (gets-in-or k)
 
   -- below one who gets in there is a kind of the score: the one with the lowest number of those at most t that get in
-  score-below : (t : ℕ) → GetsIn s kinds target t → (k : ℕ) × InScore s kinds target k × AtMost k t
+  score-below : (t : ℕ) → GetsIn s kinds target t → (k : ℕ) × KindInScore s kinds target k × KindAtMost k t
   score-below t g =
-      let r = lowest (λ k. GetsIn s kinds target k × AtMost k t) (in-below-or t) t (g, at-most-refl t) in
+      let r = lowest (λ k. GetsIn s kinds target k × KindAtMost k t) (in-below-or t) t (g, at-most-refl t) in
       let k : ℕ = r .0 in (
         k,
         score-lowest k .from (record {
@@ -134,7 +133,7 @@ module _ (s : Setup) (kinds : List ℕ) (target : ℕ) (w : WellFormed s) (fit :
         r .1 .1,
       )
 
-  module _ (r : ℕ) (each : (k : ℕ) → Iff (Member r k) (InScore s kinds target k)) where
+  module _ (r : ℕ) (each : (k : ℕ) → Iff (Member r k) (KindInScore s kinds target k)) where
     -- the kinds of the score tell the rest
     pub score-whole : AttackerScore s kinds target r
     score-whole =
@@ -150,18 +149,18 @@ module _ (s : Setup) (kinds : List ℕ) (target : ℕ) (w : WellFormed s) (fit :
   -- ---- what the code works out
 
   module _ (initial r : ℕ) (c : ChosenSet false s initial) (h : LowestOpen (s .graph) kinds initial target r) where
-    opens-iff : (t : ℕ) → t < 6 → Iff (Opens (s .graph) kinds initial target t) (GetsIn s kinds target t)
+    opens-iff : (t : ℕ) → t < 6 → Iff (KindOpens (s .graph) kinds initial target t) (GetsIn s kinds target t)
     opens-iff t l =
         record {
-          to = more (Holds kinds initial t) (λ v. Chosen false s v × AtMost (getD kinds v 0) t) (λ v p. (c .each v .to (p .0), p .1 .is));
-          from = more (λ v. Chosen false s v × AtMost (getD kinds v 0) t) (Holds kinds initial t)
+          to = more (Holds kinds initial t) (λ v. Chosen false s v × KindAtMost (getD kinds v 0) t) (λ v p. (c .each v .to (p .0), p .1 .is));
+          from = more (λ v. Chosen false s v × KindAtMost (getD kinds v 0) t) (Holds kinds initial t)
               (λ v p. (c .each v .from (p .0), record { first = let f = fit .each v (p .0) in omega arith; second = l; is = p .1 }));
         }
 
     pub score-of : AttackerScore s kinds target r
     score-of = score-whole r (λ k. record { to = to k; from = from k })
       where
-        to : (k : ℕ) → Member r k → InScore s kinds target k
+        to : (k : ℕ) → Member r k → KindInScore s kinds target k
         to k m =
             let p = h .is k m in
             score-lowest k .from (record {
@@ -170,7 +169,7 @@ module _ (s : Setup) (kinds : List ℕ) (target : ℕ) (w : WellFormed s) (fit :
                   h .lowest k j m (opens-iff j b .from g) (record { atMost = record { first = b; second = p .0; is = l .atMost }; other = l .other });
             })
 
-        from : (k : ℕ) → InScore s kinds target k → Member r k
+        from : (k : ℕ) → KindInScore s kinds target k → Member r k
         from k i =
             let l = score-lowest k .to i in
             let b = score-small k i in
@@ -188,15 +187,15 @@ pub nobody-in : NobodyIn
 nobody-in s kinds target r w fit a =
     record {
       to = λ e d. let p = a .intruders 5 (omega arith) .from (all-in d) in none-in-zero (p .attacker) (subst (λ (x : ℕ). Member x (p .attacker)) e (p .member));
-      from = λ n. a .none (λ k i. n (monotone (access (s .graph)) (access-lawful (s .graph)) (Member (i .is .set)) (Chosen false s) (i .is .is .is .chosen) target (i .is .is .is .derives)));
+      from = λ n. a .none (λ k i. n (opens-more (s .graph) (Member (i .is .set)) (Chosen false s) (i .is .is .is .chosen) target (i .is .is .is .derives)));
     }
   where
     all-in : HasAccess (s .graph) (Chosen false s) target → GetsIn s kinds target 5
     all-in =
-        monotone (access (s .graph)) (access-lawful (s .graph)) (Chosen false s) (λ v. Chosen false s v × AtMost (getD kinds v 0) 5)
+        opens-more (s .graph) (Chosen false s) (λ v. Chosen false s v × KindAtMost (getD kinds v 0) 5)
         (λ v c. (c, let f = fit .each v c in record { locations = omega arith; skills = omega arith })) target
 
-pub sound : Sound
+pub sound : KindsSound
 sound s kinds a b p q w fit pa qb h u m =
     let i = qb .each u .to m in
     let x = h (i .is .set) (i .is .is .is) in
@@ -206,5 +205,5 @@ sound s kinds a b p q w fit pa qb h u m =
     -- who has the kind of a set that opens a gets in there
     base-set-in : (x : ℕ) → TargetSet false s (s .graph) a x → GetsIn s kinds a (attackerOf kinds x)
     base-set-in x t =
-        monotone (access (s .graph)) (access-lawful (s .graph)) (Member x) (λ v. Chosen false s v × AtMost (getD kinds v 0) (attackerOf kinds x))
+        opens-more (s .graph) (Member x) (λ v. Chosen false s v × KindAtMost (getD kinds v 0) (attackerOf kinds x))
         (λ v k. (t .chosen v k, each-at-most kinds x (λ v k. low s kinds a w fit v (t .chosen v k)) v k)) a (t .derives)

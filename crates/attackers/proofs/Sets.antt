@@ -10,7 +10,7 @@ use Rattle.vertex_set.specs.Set.{Member}
 use Rattle.vertex_set.proofs.Cases.{same-or}
 use Rattle.vertex_set.proofs.Digits.{digit, digit-lt}
 use Rattle.vertex_set.proofs.Sets.{member-or, not-member}
-use Rattle.attackers.specs.Attackers.{location, skill, AtMost, largestBelow, largestOver, attackerOf}
+use Rattle.attackers.specs.Attackers.{location, skill, KindAtMost, largestBelow, largestOver, attackerOf}
 
 -- ---- the largest value of a set
 
@@ -71,7 +71,7 @@ module _ (kinds : List ℕ) (x : ℕ) where
       let b = over-bound (λ v. skill (getD kinds v 0)) x 2 (λ v m. omega arith) in
       omega arith
 
-  pub each-at-most : ((v : ℕ) → Member x v → v < 64) → (v : ℕ) → Member x v → AtMost (getD kinds v 0) (attackerOf kinds x)
+  pub each-at-most : ((v : ℕ) → Member x v → v < 64) → (v : ℕ) → Member x v → KindAtMost (getD kinds v 0) (attackerOf kinds x)
   each-at-most low v m =
       let a = over-up (λ v. location (getD kinds v 0)) x v (low v m) m in
       let b = over-up (λ v. skill (getD kinds v 0)) x v (low v m) m in
@@ -79,7 +79,7 @@ module _ (kinds : List ℕ) (x : ℕ) where
       let q = parts .1 in
       record { locations = omega arith; skills = omega arith }
 
-  pub least-attacker : (t : ℕ) → ((v : ℕ) → Member x v → AtMost (getD kinds v 0) t) → AtMost (attackerOf kinds x) t
+  pub least-attacker : (t : ℕ) → ((v : ℕ) → Member x v → KindAtMost (getD kinds v 0) t) → KindAtMost (attackerOf kinds x) t
   least-attacker t h =
       let a = over-bound (λ v. location (getD kinds v 0)) x (location t) (λ v m. h v m .locations) in
       let b = over-bound (λ v. skill (getD kinds v 0)) x (skill t) (λ v m. h v m .skills) in

@@ -10,38 +10,38 @@ use lib.Dec.{eqb, leb}
 use lib.ListN.{getD}
 use borrow.Author.Tests.{eqb-true}
 use Rattle.vertex_set.specs.Set.{Decides}
-use Rattle.vertex_set.proofs.Decisions.{decide-iff, decide-leb}
-use Rattle.vertex_set.proofs.Shifts.{all, all-at}
-use Rattle.reference.proofs.Tests.{by-decision, decide-and}
-use Rattle.attackers.specs.Attackers.{location, skill, AtMost}
+use Rattle.vertex_set.proofs.Decisions.{decide-iff, decide-leb, decide-and}
+use Rattle.vertex_set.proofs.Shifts.{all, all-at, flag}
+use Rattle.reference.proofs.Tests.{by-decision}
+use Rattle.attackers.specs.Attackers.{location, skill, KindAtMost}
 use Rattle.attackers.specs.Inner.{BothAtMost}
 
 -- ---- the order
 
-pub at-most-refl : (a : ℕ) → AtMost a a
+pub at-most-refl : (a : ℕ) → KindAtMost a a
 at-most-refl a = record { locations = omega arith; skills = omega arith }
 
-pub at-most-trans : (a b c : ℕ) → AtMost a b → AtMost b c → AtMost a c
+pub at-most-trans : (a b c : ℕ) → KindAtMost a b → KindAtMost b c → KindAtMost a c
 at-most-trans a b c p q =
     let w = p .locations in let x = p .skills in let y = q .locations in let z = q .skills in record { locations = omega arith; skills = omega arith }
 
-pub at-most-same : (a b : ℕ) → AtMost a b → AtMost b a → a ≡ b
+pub at-most-same : (a b : ℕ) → KindAtMost a b → KindAtMost b a → a ≡ b
 at-most-same a b p q = let w = p .locations in let x = p .skills in let y = q .locations in let z = q .skills in omega arith
 
 -- what is at most as a kind is at most as a number
-pub at-most-le : (a b : ℕ) → AtMost a b → a ≤ b
+pub at-most-le : (a b : ℕ) → KindAtMost a b → a ≤ b
 at-most-le a b h = let p = h .locations in let q = h .skills in omega arith
 
 -- both parts compared
 abbrev bothParts : ℕ → ℕ → Bool
 bothParts a b = leb (location a) (location b) && leb (skill a) (skill b)
 
-both-parts : (a b : ℕ) → Decides (AtMost a b) (bothParts a b)
+both-parts : (a b : ℕ) → Decides (KindAtMost a b) (bothParts a b)
 both-parts a b =
     decide-iff (record { to = λ p. record { locations = p .0; skills = p .1 }; from = λ h. (h .locations, h .skills) })
     (decide-and _ _ (decide-leb (location a) (location b)) (decide-leb (skill a) (skill b)))
 
-pub at-most-or : (a b : ℕ) → AtMost a b ⊎ (AtMost a b → ⊥)
+pub at-most-or : (a b : ℕ) → KindAtMost a b ⊎ (KindAtMost a b → ⊥)
 at-most-or a b = by-decision (bothParts a b) (both-parts a b) (λ e h. inl h) (λ e n. inr n)
 
 -- ---- the table, as the code has it
@@ -58,10 +58,6 @@ table =
 
 abbrev entry : ℕ → ℕ → Bool
 entry a b = getD (getD table a []) b false
-
-abbrev flag : Bool → ℕ
-flag true = 1
-flag false = 0
 
 same-flag : (p q : Bool) → flag p ≡ flag q → p ≡ q
 same-flag true true e = refl

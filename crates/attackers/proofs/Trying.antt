@@ -1,4 +1,4 @@
--- Kinds tried in an order in which each tells of as many others as it can: those that get in, and those that do not, tell of all six.
+-- Kinds tried in an order in which each settles as many others as it can: those that get in, and those that do not, settle all six.
 -- Assumes nothing.
 use mathlib.Core.Path.{_≡_, refl, sym, subst}
 use mathlib.Core.List.{List, [], _∷_}
@@ -16,7 +16,7 @@ use Rattle.setup.specs.declared.Graph.{Graph}
 use Rattle.derivations.specs.Access.{access}
 use Rattle.derivations.proofs.Rules.{monotone}
 use Rattle.derivations.proofs.Graphs.{access-lawful}
-use Rattle.attackers.specs.Inner.{BothAtMost, Holds, Opens, Known, Lowest, LowestOpen}
+use Rattle.attackers.specs.Inner.{BothAtMost, Holds, KindOpens, KindSettled, Lowest, LowestOpen}
 use Rattle.attackers.proofs.Table.{at-most-refl, at-most-le}
 use Rattle.attackers.proofs.Lowering.{both-trans, weaker-less}
 
@@ -45,21 +45,21 @@ in-order k l = (
 both-refl : (k : ℕ) → k < 6 → BothAtMost k k
 both-refl k l = record { first = l; second = l; is = at-most-refl k }
 
-known-more : (able unable able′ unable′ t : ℕ) → Within able able′ → Within unable unable′ → Known able unable t → Known able′ unable′ t
+known-more : (able unable able′ unable′ t : ℕ) → Within able able′ → Within unable unable′ → KindSettled able unable t → KindSettled able′ unable′ t
 known-more able unable able′ unable′ t a u k =
-    record { attacker = k .attacker; tells = ⊎-elim (λ p. inl (a .each (k .attacker) (p .0), p .1)) (λ p. inr (u .each (k .attacker) (p .0), p .1)) (k .tells) }
+    record { attacker = k .attacker; settles = ⊎-elim (λ p. inl (a .each (k .attacker) (p .0), p .1)) (λ p. inr (u .each (k .attacker) (p .0), p .1)) (k .settles) }
 
 module _ (g : Graph) (kinds : List ℕ) (initial target : ℕ) where
   -- who is above one that gets in gets in
-  opens-up : (j t : ℕ) → BothAtMost j t → Opens g kinds initial target j → Opens g kinds initial target t
+  opens-up : (j t : ℕ) → BothAtMost j t → KindOpens g kinds initial target j → KindOpens g kinds initial target t
   opens-up j t b =
       monotone (access g) (access-lawful g) (Holds kinds initial j) (Holds kinds initial t) (λ v p. (p .0, both-trans (getD kinds v 0) j t (p .1) b)) target
 
-  -- The kinds of able open the target, those of unable do not, and they tell of each kind at the places below n.
+  -- The kinds of able open the target, those of unable do not, and they settle each kind at the places below n.
   pub record Trying (n able unable : ℕ) : Type 0 where
-    pub opens : (k : ℕ) → Member able k → Opens g kinds initial target k
-    pub shut : (k : ℕ) → Member unable k → Opens g kinds initial target k → ⊥
-    pub known : (place : ℕ) → place < n → Known able unable (kindAt place)
+    pub opens : (k : ℕ) → Member able k → KindOpens g kinds initial target k
+    pub shut : (k : ℕ) → Member unable k → KindOpens g kinds initial target k → ⊥
+    pub known : (place : ℕ) → place < n → KindSettled able unable (kindAt place)
 
   pub trying-none : Trying 0 0 0
   trying-none = record { opens = λ k m. absurd (none-in-zero k m); shut = λ k m. absurd (none-in-zero k m); known = below-none _ }
@@ -68,30 +68,30 @@ module _ (g : Graph) (kinds : List ℕ) (initial target : ℕ) where
     low : kindAt n < 6
     low = kind-small n small
 
-    pub trying-known : Known able unable (kindAt n) → Trying (n + 1) able unable
+    pub trying-known : KindSettled able unable (kindAt n) → Trying (n + 1) able unable
     trying-known k = record { opens = h .opens; shut = h .shut; known = below-more _ n (h .known) k }
 
-    pub trying-able : (able′ : ℕ) → Opens g kinds initial target (kindAt n) → Inserted able (kindAt n) able′ → Trying (n + 1) able′ unable
+    pub trying-able : (able′ : ℕ) → KindOpens g kinds initial target (kindAt n) → Inserted able (kindAt n) able′ → Trying (n + 1) able′ unable
     trying-able able′ o i =
         record {
-          opens = λ k m. ⊎-elim (h .opens k) (λ e. subst (Opens g kinds initial target) (sym e) o) (taken k .to m);
+          opens = λ k m. ⊎-elim (h .opens k) (λ e. subst (KindOpens g kinds initial target) (sym e) o) (taken k .to m);
           shut = h .shut;
           known = below-more _ n
               (λ p l. known-more able unable able′ unable (kindAt p) (record { each = λ k m. taken k .from (inl m) }) (within-refl unable) (h .known p l))
-              (record { attacker = kindAt n; tells = inl (taken (kindAt n) .from (inr refl), both-refl (kindAt n) low) });
+              (record { attacker = kindAt n; settles = inl (taken (kindAt n) .from (inr refl), both-refl (kindAt n) low) });
         }
       where
         taken : (k : ℕ) → Iff (Member able′ k) (Member able k ⊎ (k ≡ kindAt n))
         taken = i .taken (omega (arith, low))
 
-    pub trying-unable : (unable′ : ℕ) → (Opens g kinds initial target (kindAt n) → ⊥) → Inserted unable (kindAt n) unable′ → Trying (n + 1) able unable′
+    pub trying-unable : (unable′ : ℕ) → (KindOpens g kinds initial target (kindAt n) → ⊥) → Inserted unable (kindAt n) unable′ → Trying (n + 1) able unable′
     trying-unable unable′ d i =
         record {
           opens = h .opens;
-          shut = λ k m. ⊎-elim (h .shut k) (λ e o. d (subst (Opens g kinds initial target) e o)) (taken k .to m);
+          shut = λ k m. ⊎-elim (h .shut k) (λ e o. d (subst (KindOpens g kinds initial target) e o)) (taken k .to m);
           known = below-more _ n
               (λ p l. known-more able unable able unable′ (kindAt p) (within-refl able) (record { each = λ k m. taken k .from (inl m) }) (h .known p l))
-              (record { attacker = kindAt n; tells = inr (taken (kindAt n) .from (inr refl), both-refl (kindAt n) low) });
+              (record { attacker = kindAt n; settles = inr (taken (kindAt n) .from (inr refl), both-refl (kindAt n) low) });
         }
       where
         taken : (k : ℕ) → Iff (Member unable′ k) (Member unable k ⊎ (k ≡ kindAt n))
@@ -114,8 +114,8 @@ module _ (g : Graph) (kinds : List ℕ) (initial target : ℕ) where
       }
     where
       -- one that was tried and gets in is at most j, if j gets in
-      below : (j : ℕ) → j < 6 → Opens g kinds initial target j → (i : ℕ) × Member able i × BothAtMost i j
+      below : (j : ℕ) → j < 6 → KindOpens g kinds initial target j → (i : ℕ) × Member able i × BothAtMost i j
       below j l o =
           let p = in-order j l in
-          let k = subst (Known able unable) (p .2) (h .known (p .0) (p .1)) in
-          ⊎-elim (λ x. (k .attacker, x .0, x .1)) (λ x. absurd (h .shut (k .attacker) (x .0) (opens-up j (k .attacker) (x .1) o))) (k .tells)
+          let k = subst (KindSettled able unable) (p .2) (h .known (p .0) (p .1)) in
+          ⊎-elim (λ x. (k .attacker, x .0, x .1)) (λ x. absurd (h .shut (k .attacker) (x .0) (opens-up j (k .attacker) (x .1) o))) (k .settles)

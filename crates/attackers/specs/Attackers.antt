@@ -22,13 +22,13 @@ abbrev pub skill : ℕ → ℕ
 skill k = k % 3
 
 -- One kind is at most another if both parts are (document 003, definition 15).
-pub record AtMost (a b : ℕ) : Type 0 where
+pub record KindAtMost (a b : ℕ) : Type 0 where
   pub locations : location a ≤ location b
   pub skills : skill a ≤ skill b
 
 -- One kind is below another: at most it, and not the same.
 pub record Weaker (a b : ℕ) : Type 0 where
-  pub atMost : AtMost a b
+  pub atMost : KindAtMost a b
   pub other : a ≡ b → ⊥
 
 -- ---- the kind of a set
@@ -54,25 +54,25 @@ pub record OfBase (s : Setup) (kinds : List ℕ) (target k : ℕ) : Type 0 where
   pub is : MinimalSet false s (s .graph) target set
   pub attacker : k ≡ attackerOf kinds set
 
--- k is a kind of the score: one over the access base, and no other of them is below (document 003, definition 17).
-pub record InScore (s : Setup) (kinds : List ℕ) (target k : ℕ) : Type 0 where
+-- k is a kind of the score: one over the access base, and none of the other kinds over the base is below it (document 003, definition 17).
+pub record KindInScore (s : Setup) (kinds : List ℕ) (target k : ℕ) : Type 0 where
   pub is : OfBase s kinds target k
   pub none : (j : ℕ) → OfBase s kinds target j → Weaker j k → ⊥
 
 -- An attacker of kind t gets in: the initial vertices of at most that kind open the target.
 abbrev pub GetsIn : Setup → List ℕ → ℕ → ℕ → Type 0
-GetsIn s kinds target t = HasAccess (s .graph) (λ v. Chosen false s v × AtMost (getD kinds v 0) t) target
+GetsIn s kinds target t = HasAccess (s .graph) (λ v. Chosen false s v × KindAtMost (getD kinds v 0) t) target
 
 -- The kind t is above some kind of the score r, or equal to it.
 pub record AtOrAbove (r t : ℕ) : Type 0 where
   pub attacker : ℕ
   pub member : Member r attacker
-  pub atMost : AtMost attacker t
+  pub atMost : KindAtMost attacker t
 
--- r is the score, as the sum of 2^k over its kinds: 0 for none. And of the six kinds, those get in that are at or above one of the score.
+-- r is the score, as the sum of 2^k over its kinds: 0 for none. Of the six kinds exactly those at or above a kind of the score get in.
 pub record AttackerScore (s : Setup) (kinds : List ℕ) (target r : ℕ) : Type 0 where
-  pub each : (k : ℕ) → Iff (Member r k) (InScore s kinds target k)
-  pub none : ((k : ℕ) → InScore s kinds target k → ⊥) → r ≡ 0
+  pub each : (k : ℕ) → Iff (Member r k) (KindInScore s kinds target k)
+  pub none : ((k : ℕ) → KindInScore s kinds target k → ⊥) → r ≡ 0
   pub intruders : (t : ℕ) → t < 6 → Iff (AtOrAbove r t) (GetsIn s kinds target t)
 
 -- Question 17: the entry of each initial vertex is one of the six kinds. Other entries may be anything.
@@ -85,17 +85,17 @@ pub record EntriesFit (s : Setup) (kinds : List ℕ) : Type 0 where
 abbrev pub SixKinds : Type 0
 SixKinds = (s : Setup) (kinds : List ℕ) (target r : ℕ) → WellFormed s → EntriesFit s kinds → AttackerScore s kinds target r → r < 64
 
--- It is 0 exactly where nobody gets in: where all initial vertices together do not open the target.
+-- A score is 0 exactly where nobody gets in: where all initial vertices together do not open the target.
 abbrev pub NobodyIn : Type 0
 NobodyIn = (s : Setup) (kinds : List ℕ) (target r : ℕ) → WellFormed s → EntriesFit s kinds → AttackerScore s kinds target r
     → Iff (r ≡ 0) (HasAccess (s .graph) (Chosen false s) target → ⊥)
 
 -- One score is at most another: for each kind of the other, it has one that is at most that (document 003, definition 16).
-abbrev pub ScoreAtMost : ℕ → ℕ → Type 0
-ScoreAtMost p q = (u : ℕ) → Member q u → AtOrAbove p u
+abbrev pub KindsAtMost : ℕ → ℕ → Type 0
+KindsAtMost p q = (u : ℕ) → Member q u → AtOrAbove p u
 
 -- The scores are sound (document 003, definition 10 and theorem 5): where every set of initial vertices that opens b opens a, the score of a is at
 -- most that of b.
-abbrev pub Sound : Type 0
-Sound = (s : Setup) (kinds : List ℕ) (a b p q : ℕ) → WellFormed s → EntriesFit s kinds → AttackerScore s kinds a p → AttackerScore s kinds b q
-    → ((x : ℕ) → TargetSet false s (s .graph) b x → TargetSet false s (s .graph) a x) → ScoreAtMost p q
+abbrev pub KindsSound : Type 0
+KindsSound = (s : Setup) (kinds : List ℕ) (a b p q : ℕ) → WellFormed s → EntriesFit s kinds → AttackerScore s kinds a p → AttackerScore s kinds b q
+    → ((x : ℕ) → TargetSet false s (s .graph) b x → TargetSet false s (s .graph) a x) → KindsAtMost p q

@@ -7,13 +7,13 @@ use lib.ListN.{getD}
 use Rattle.vertex_set.specs.Set.{Member, Iff}
 use Rattle.setup.specs.declared.Graph.{Graph}
 use Rattle.derivations.specs.Access.{HasAccess}
-use Rattle.attackers.specs.Attackers.{AtMost}
+use Rattle.attackers.specs.Attackers.{KindAtMost}
 
 -- a and b are two of the six kinds, and a is at most b.
 pub record BothAtMost (a b : ℕ) : Type 0 where
   pub first : a < 6
   pub second : b < 6
-  pub is : AtMost a b
+  pub is : KindAtMost a b
 
 -- a and b are two of the six kinds, and a is below b.
 pub record BothWeaker (a b : ℕ) : Type 0 where
@@ -33,17 +33,17 @@ pub record HeldBy (kinds : List ℕ) (initial t r : ℕ) : Type 0 where
   pub each : (v : ℕ) → Iff (Member r v) (Holds kinds initial t v)
 
 -- Those of these vertices whose kind is at most t open the target.
-abbrev pub Opens : Graph → List ℕ → ℕ → ℕ → ℕ → Type 0
-Opens g kinds initial target t = HasAccess g (Holds kinds initial t) target
+abbrev pub KindOpens : Graph → List ℕ → ℕ → ℕ → ℕ → Type 0
+KindOpens g kinds initial target t = HasAccess g (Holds kinds initial t) target
 
--- The kind j tells of the kind t: it gets in and is at most t, or it does not and t is at most it.
-abbrev pub Tells : ℕ → ℕ → ℕ → ℕ → Type 0
-Tells able unable j t = (Member able j × BothAtMost j t) ⊎ (Member unable j × BothAtMost t j)
+-- The kind j settles the kind t: it gets in and is at most t, or it does not and t is at most it.
+abbrev pub Settles : ℕ → ℕ → ℕ → ℕ → Type 0
+Settles able unable j t = (Member able j × BothAtMost j t) ⊎ (Member unable j × BothAtMost t j)
 
--- Some kind tells of the kind t.
-pub record Known (able unable t : ℕ) : Type 0 where
+-- Some kind settles the kind t.
+pub record KindSettled (able unable t : ℕ) : Type 0 where
   pub attacker : ℕ
-  pub tells : Tells able unable attacker t
+  pub settles : Settles able unable attacker t
 
 -- Of the six kinds in the set, some is below k.
 pub record SomeWeaker (set k : ℕ) : Type 0 where
@@ -59,4 +59,4 @@ pub record Lowest (P : ℕ → Type 0) (r : ℕ) : Type 0 where
 
 -- r has the lowest kinds whose vertices open the target.
 abbrev pub LowestOpen : Graph → List ℕ → ℕ → ℕ → ℕ → Type 0
-LowestOpen g kinds initial target r = Lowest (Opens g kinds initial target) r
+LowestOpen g kinds initial target r = Lowest (KindOpens g kinds initial target) r

@@ -6,12 +6,13 @@ ghost use Rattle.vertex_set.specs.Set.{Member, Decides};
 ghost use Rattle.derivations.specs.Access.{HasAccess};
 ghost use Rattle.successors.specs.Inner.{Successors};
 ghost use Rattle.attackers.specs.Answers.{attackerNumber, attackerValues, AttackerCall};
-ghost use Rattle.attackers.specs.Inner.{BothAtMost, BothWeaker, FitOver, HeldBy, Tells, Known, SomeWeaker, Lowest, LowestOpen};
+ghost use Rattle.attackers.specs.Inner.{BothAtMost, BothWeaker, FitOver, HeldBy, Settles, KindSettled, SomeWeaker, Lowest, LowestOpen};
 use setup::Graph;
 use setup::Setup;
 use vertex_set::VertexSet;
 
-// A kind's number is 3 times the location (0 remote, 1 local) plus the skill (0 none, 1 some, 2 expert).
+// There are six kinds. A kind's number is 3 times the location (0 remote, 1 local) plus the skill
+// (0 none, 1 some, 2 expert).
 const KINDS: usize = 6;
 
 // Row a, column b: is the kind a at most the kind b? It is if both parts are.
@@ -24,7 +25,7 @@ const AT_MOST: [[bool; 6]; 6] = [
     [false, false, false, false, false, true],
 ];
 
-// The order in which the kinds are tried: one in the middle first, which tells of most others.
+// The order in which the kinds are tried: one in the middle first, which settles most others.
 const ORDER: [usize; 6] = [4, 1, 3, 0, 5, 2];
 
 pub enum AttackerAnswer {
@@ -104,18 +105,18 @@ fn reaches(graph: Graph, list: &[u64], set: VertexSet, target: usize) -> bool
         let v = successors::lowest(left);
         left = successors::without(left, v);
         let rows = graph.rows[v];
-        if closures::lowest_colour(rows, held) < 8 {
+        if closures::lowest_colour(rows, held) < successors::COLOURS {
             held = held.insert(v);
-            // Of those not left, only a vertex that needs v can be opened now.
+            // Of the vertices outside `left`, only one that needs v can be opened now.
             left = (left | list[v]) & !held.0;
         }
     }
 }
 
-// Does the kind j, if it was tried, tell of the kind t? Who is above one that gets in gets in, and
-// who is below one that does not does not.
-fn tells(able: VertexSet, unable: VertexSet, j: usize, t: usize) -> bool
-    ensures { λ r. ⌜ Decides (Tells (able .0) (unable .0) j t) r ⌝ }
+// Does the kind j, if it was tried, settle the kind t? Whoever is above a kind that gets in gets
+// in too; below a kind that does not, nobody does.
+fn settles(able: VertexSet, unable: VertexSet, j: usize, t: usize) -> bool
+    ensures { λ r. ⌜ Decides (Settles (able .0) (unable .0) j t) r ⌝ }
 {
     if able.has(j) {
         if at_most(j, t) {
@@ -128,12 +129,12 @@ fn tells(able: VertexSet, unable: VertexSet, j: usize, t: usize) -> bool
     false
 }
 
-// Does some kind that was tried tell of the kind t?
+// Does some kind that was tried settle the kind t?
 fn is_known(able: VertexSet, unable: VertexSet, t: usize) -> bool
-    ensures { λ r. ⌜ Decides (Known (able .0) (unable .0) t) r ⌝ }
+    ensures { λ r. ⌜ Decides (KindSettled (able .0) (unable .0) t) r ⌝ }
 {
     for j in 0..6usize {
-        if tells(able, unable, j, t) {
+        if settles(able, unable, j, t) {
             return true;
         }
     }
@@ -181,8 +182,8 @@ fn lowest_of(able: VertexSet) -> VertexSet
     found
 }
 
-// The lowest of the six kinds whose initial vertices open the target. A kind of which one that was
-// tried tells is not tried: four are tried at most, and two where nobody gets in.
+// The lowest of the six kinds whose initial vertices open the target. A kind is not tried where an
+// earlier try settles it: four are tried at most, and two where nobody gets in.
 fn lowest_kinds(graph: Graph, kinds: &[u8], initial: VertexSet, target: usize) -> VertexSet
     ensures { λ r. ⌜ LowestOpen graph (now (kinds .entry)) (initial .0) target (r .0) ⌝ }
 {

@@ -34,7 +34,7 @@ use Rattle.tables.proofs.Tables.{derivation-rising}
 use Rattle.bases.specs.Inner.Readers.{BothFamilies}
 use Rattle.bases.proofs.Formed.{few}
 use Rattle.bases.specs.Base.{TargetSet, MinimalSet, Base}
-use Rattle.bases.specs.Score.{sumOf, never, Score}
+use Rattle.bases.specs.Score.{sumOf, Score}
 
 -- minimal masks have no bit beyond the chosen vertices
 pub on-chosen : (loss : Bool) (g : Graph) (target chosen : ℕ) (f m : List ℕ) → FamilyOf (ruleOf loss g) chosen target f → MinimalMembers f m → OnChosen chosen m
@@ -88,12 +88,12 @@ module _ (loss : Bool) (s : Setup) (g : Graph) (target chosen : ℕ) (ch : Chose
     pub score-of : (r : ℕ) (value : ℕ → ℕ) → ((x : ℕ) → sumOver value x ≡ sumOf loss s x) → LeastSum chosen f value r → Score loss s g target r
     score-of r value same h =
         record {
-          none = λ n. h .never (λ m l i. n (spread 64 chosen m) (set m (spread 64 chosen m) l i (set-of chosen m fits)));
+          none = λ n. h .none (λ m l i. n (spread 64 chosen m) (set m (spread 64 chosen m) l i (set-of chosen m fits)));
           some = λ x t. let k = mask x t in h .below (k .mask) (k .is .room) (k .member);
           least = λ x t.
               let k = mask x t in
               subst (λ (n : ℕ). r ≤ n) (same x) (h .least (k .mask) x (k .is .room) (k .member) (k .is .of (target-has x .to t .0)));
-          reached = λ l. ⊎-elim (λ e. found (e .0) (e .1) (e .2)) (λ n. absurd (let z = h .never n in omega arith)) (search-below (In f) (in-or f) masks);
+          reached = λ l. ⊎-elim (λ e. found (e .0) (e .1) (e .2)) (λ n. absurd (let z = h .none n in omega arith)) (search-below (In f) (in-or f) masks);
         }
       where
         mask : (x : ℕ) → TargetSet loss s g target x → MaskFor f chosen x

@@ -7,7 +7,7 @@ use mathlib.Core.Logic.{_⊎_, ⊎-elim}
 use Prim.Native.Nat.{ℕ, suc, _*_, _/_, _≤_, _<_}
 use native.Mathlib.Omega.{arith}
 use lib.Count.{ones}
-use lib.ListN.{length, getD, List·getD-eq-default}
+use lib.ListN.{length, getD}
 use Rattle.vertex_set.specs.Set.{Member}
 use Rattle.vertex_set.specs.Order.{sumBelow, sumOver}
 use Rattle.vertex_set.proofs.Cases.{less-or}
@@ -21,7 +21,9 @@ use Rattle.setup.specs.declared.Vertex.{Vertex}
 use Rattle.setup.specs.declared.Setup.{Setup}
 use Rattle.setup.specs.Setup.{given, valueOf, vertexAt, unusedVertex, total, chosenCount, ChosenSet}
 use Rattle.formed.specs.WellFormed.{InRange, ValidVertex, WellFormed}
-use Rattle.bases.specs.Score.{points, pointsAt, sumOf, never, SumsHold}
+use Rattle.formed.proofs.Facts.{not-in-use}
+use Rattle.scores.specs.Never.{never}
+use Rattle.bases.specs.Score.{points, pointsAt, sumOf, SumsHold}
 
 pub few : (loss : Bool) (s : Setup) (chosen : ℕ) → WellFormed s → ChosenSet loss s chosen → ones chosen ≤ 14
 few false s chosen w c = let a = w .initial in let b = c .size in omega arith
@@ -32,23 +34,20 @@ in-range Blank h = omega arith
 in-range (Of n) h = h
 
 -- a place not in use has no value
-outside : (s : Setup) → WellFormed s → (v : ℕ) → s .count ≤ v → vertexAt s v ≡ unusedVertex
-outside s w v l = ⊎-elim (λ k. w .unused v k l) (λ k. List·getD-eq-default (s .vertices) unusedVertex (let p = w .shaped .places in omega arith)) (less-or v 64)
+pub blank : (loss : Bool) → points (valueOf loss unusedVertex) ≡ 0
+blank false = refl
+blank true = refl
 
 pub points-range : (loss : Bool) (s : Setup) → WellFormed s → (v : ℕ) → pointsAt loss s v ≤ largest
 points-range loss s w v =
     ⊎-elim
     (λ l. in-range (valueOf loss (vertexAt s v)) (range loss (w .used v l)))
-    (λ l. let e = ap (λ (x : Vertex). points (valueOf loss x)) (outside s w v l) ∙ blank loss in omega arith)
+    (λ l. let e = ap (λ (x : Vertex). points (valueOf loss x)) (not-in-use s w v l) ∙ blank loss in omega arith)
     (less-or v (s .count))
   where
     range : (b : Bool) → ValidVertex (vertexAt s v) → InRange (valueOf b (vertexAt s v))
     range false h = h .start
     range true h = h .loss
-
-    blank : (b : Bool) → points (valueOf b unusedVertex) ≡ 0
-    blank false = refl
-    blank true = refl
 
 -- the sum of chosen vertices, over the list of all
 sum-chosen : (loss : Bool) (l : List Vertex) (x : ℕ) → ((v : ℕ) → points (valueOf loss (getD l v unusedVertex)) ≤ largest)

@@ -1,18 +1,20 @@
 -- A list filled from the front, and the values of all vertices.
 -- Assumes nothing.
-use mathlib.Core.Path.{_≡_, refl, sym, ap, subst, _∙_}
-use mathlib.Core.Bool.{Bool, true, false}
+use mathlib.Core.Path.{_≡_, sym, ap, _∙_}
+use mathlib.Core.Bool.{Bool}
 use mathlib.Core.List.{List}
 use mathlib.Core.Logic.{_⊎_, ⊎-elim}
 use Prim.Native.Nat.{ℕ, _+_, _≤_, _<_}
 use native.Mathlib.Omega.{arith}
 use lib.ListN.{length, getD, set, length-set, List·getD-eq-default}
-use lib.Seq.{getD-set-same, getD-set-other}
-use Rattle.vertex_set.proofs.Cases.{same-or, less-or}
+use Rattle.vertex_set.proofs.Cases.{less-or}
+use Rattle.vertex_set.proofs.Filling.{fill-more}
 use Rattle.setup.specs.declared.Vertex.{Vertex}
 use Rattle.setup.specs.declared.Setup.{Setup}
 use Rattle.setup.specs.Setup.{valueOf, unusedVertex}
-use Rattle.bases.specs.Score.{points, pointsAt, Values}
+use Rattle.bases.specs.Inner.Readers.{Values}
+use Rattle.bases.specs.Score.{points, pointsAt}
+use Rattle.bases.proofs.Formed.{blank}
 
 -- ---- a list filled from the front
 
@@ -28,10 +30,7 @@ pub filled-more : (g : ℕ → ℕ) (long n x : ℕ) (out : List ℕ) → n < lo
 filled-more g long n x out l b e =
     record {
       words = length-set out n x ∙ b .words;
-      each = λ i k. ⊎-elim
-          (λ q. subst (λ (j : ℕ). getD (set out n x) j 0 ≡ g j) (sym q) (getD-set-same out n x 0 (let w = b .words in omega arith) ∙ e))
-          (λ q. getD-set-other out n i x 0 q ∙ b .each i (omega (arith, q)))
-          (same-or i n);
+      each = fill-more 0 (λ i y. y ≡ g i) out n x (let w = b .words in omega arith) (b .each) e;
     }
 
 -- ---- values
@@ -39,11 +38,7 @@ filled-more g long n x out l b e =
 pub values-all : (loss : Bool) (s : Setup) (r : List ℕ) → length (s .vertices) ≡ 64 → FilledBelow (pointsAt loss s) 64 64 r → Values loss s r
 values-all loss s r long b = record { long = b .words; each = λ v. ⊎-elim (b .each v) (outside v) (less-or v 64) }
   where
-    blanks : (l : Bool) → points (valueOf l unusedVertex) ≡ 0
-    blanks true = refl
-    blanks false = refl
-
     outside : (v : ℕ) → 64 ≤ v → getD r v 0 ≡ pointsAt loss s v
     outside v k =
         List·getD-eq-default r 0 (let w = b .words in omega arith)
-        ∙ sym (ap (λ (x : Vertex). points (valueOf loss x)) (List·getD-eq-default (s .vertices) unusedVertex (omega arith)) ∙ blanks loss)
+        ∙ sym (ap (λ (x : Vertex). points (valueOf loss x)) (List·getD-eq-default (s .vertices) unusedVertex (omega arith)) ∙ blank loss)

@@ -2,10 +2,10 @@
 use mathlib.Core.Path.{_≡_}
 use mathlib.Core.Bool.{Bool}
 use mathlib.Core.List.{List}
-use Prim.Native.Nat.{ℕ, _*_, _^_, _≤_, _<_}
-use lib.ListN.{length, getD}
+use Prim.Native.Nat.{ℕ, _*_, _≤_, _<_}
 use Rattle.vertex_set.specs.Set.{Member}
 use Rattle.vertex_set.specs.Order.{Listed, sumOver}
+use Rattle.scores.specs.Never.{never}
 use Rattle.setup.specs.Bounds.{largest, mostChosen}
 use Rattle.setup.specs.declared.Value.{Value}
 use Rattle.setup.specs.declared.Value.the-variants.{Blank, Of}
@@ -13,7 +13,7 @@ use Rattle.setup.specs.declared.Graph.{Graph}
 use Rattle.setup.specs.declared.Setup.{Setup}
 use Rattle.setup.specs.Setup.{valueOf, vertexAt, Chosen}
 use Rattle.formed.specs.WellFormed.{WellFormed}
-use Rattle.bases.specs.Base.{TargetSet, Base}
+use Rattle.bases.specs.Base.{TargetSet}
 
 -- The number of a value; a blank has none, and counts as 0 where it is asked.
 abbrev pub points : Value → ℕ
@@ -27,10 +27,6 @@ pointsAt loss s v = points (valueOf loss (vertexAt s v))
 -- The sum of the values of the vertices of x.
 abbrev pub sumOf : Bool → Setup → ℕ → ℕ
 sumOf loss s x = sumOver (pointsAt loss s) x
-
--- "Never", the score of an account that no set opens: a number above every sum.
-abbrev pub never : ℕ
-never = 2 ^ 62
 
 -- Every sum holds (document 02, point 5): whichever initial (losable) vertices of a well-formed setup are added up, their sum is at most that
 -- of the most vertices with the largest value, and below never.
@@ -52,13 +48,3 @@ Score loss s g target r = LeastOver (TargetSet loss s g target) (sumOf loss s) r
 -- r is the score over a list of sets: never where the list is empty, else the least sum over its sets.
 abbrev pub ScoreOver : Bool → Setup → List ℕ → ℕ → Type 0
 ScoreOver loss s l r = LeastOver (Listed l) (sumOf loss s) r
-
--- r has the values of all vertices.
-pub record Values (loss : Bool) (s : Setup) (r : List ℕ) : Type 0 where
-  pub long : length r ≡ 64
-  pub each : (v : ℕ) → getD r v 0 ≡ pointsAt loss s v
-
--- r is the score, over all sets and so over the base.
-pub record ScoreBoth (loss : Bool) (s : Setup) (g : Graph) (target r : ℕ) : Type 0 where
-  pub all : Score loss s g target r
-  pub base : (l : List ℕ) → Base loss s g target l → ScoreOver loss s l r

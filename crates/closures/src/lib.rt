@@ -23,7 +23,7 @@ pub fn lowest_colour(rows: Rows, held: VertexSet) -> usize
             }
         }
     }
-    8
+    successors::COLOURS
 }
 
 // Has a vertex with these rows a colour, and does each of its colours need a lost vertex?
@@ -44,19 +44,20 @@ fn all_broken(rows: Rows, lost: VertexSet) -> bool
     coloured
 }
 
-// Is a vertex with these rows opened by what is held or, for a loss, lost once this is lost?
+// Is a vertex with these rows opened by what is held or, with `loss`, lost once the vertices of
+// `held` are?
 fn admits(loss: bool, rows: Rows, held: VertexSet) -> bool
     ensures { λ r. ⌜ Decides (Admits loss rows (Member (held .0))) r ⌝ }
 {
     if loss {
         all_broken(rows, held)
     } else {
-        lowest_colour(rows, held) < 8
+        lowest_colour(rows, held) < successors::COLOURS
     }
 }
 
 // The vertices outside of `grown` that need one of the vertices which `grown` has and `held` has
-// not. No other vertex can be admitted by the one set and not by the other.
+// not. No other vertex outside of `grown` can be admitted by `grown` and not by `held`.
 pub fn to_look_at(list: &[u64], held: VertexSet, grown: VertexSet) -> u64
     requires { ⌜ length (now list) ≡ 64 ⌝ }
     ensures { λ r. ⌜ ToLookAt (now (list .entry)) (held .0) (grown .0) r ⌝ }

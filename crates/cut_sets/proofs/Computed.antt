@@ -10,7 +10,7 @@ use lib.Dec.{eqb}
 use lib.ListN.{length}
 use Rattle.vertex_set.specs.Set.{Meets, ProperlyWithin, Decides, Iff}
 use Rattle.vertex_set.specs.Order.{Listed, Before, Smallest, ListsExactly}
-use Rattle.vertex_set.proofs.Decisions.{decide-yes, decide-iff, decide-eqb}
+use Rattle.vertex_set.proofs.Decisions.{decide-yes, decide-iff, decide-eqb, decide-not, decide-and}
 use Rattle.vertex_set.proofs.Lists.{exactly-same}
 use Rattle.vertex_set.proofs.Sorted.{sorted-ordered}
 use Rattle.setup.specs.declared.Setup.{Setup}
@@ -18,10 +18,9 @@ use Rattle.formed.specs.WellFormed.{WellFormed}
 use Rattle.forecasts.proofs.Bounds.{chosen-set}
 use Rattle.reference.specs.Tests.{filtered, isWithin, isMeeting}
 use Rattle.reference.specs.Bases.{setsOf, baseOf}
-use Rattle.reference.proofs.Tests.{decide-not, decide-and, decide-within, decide-meeting, listed-filtered, sorted-filtered}
-use Rattle.reference.proofs.Graphs.{own-graph}
+use Rattle.reference.proofs.Tests.{decide-within, decide-meeting, listed-filtered, sorted-filtered}
 use Rattle.reference.proofs.Sets.{listed-sets, sorted-sets}
-use Rattle.reference.proofs.Bases.{base-of}
+use Rattle.reference.proofs.Bases.{own-base}
 use Rattle.cut_sets.specs.Cuts.{CutSet, CutList, MeetsEvery, Transversal}
 use Rattle.cut_sets.proofs.Sets.{iff-sym}
 use Rattle.cut_sets.proofs.Duality.{smallest-meet}
@@ -115,5 +114,5 @@ cuts-of s target w =
     let c = chosen-set false s w in
     let l : List ℕ = baseOf false s (s .graph) target in
     exactly-same (Smallest (Transversal s l)) (Smallest (CutSet s target)) (transversalsOf s l)
-    (λ x. iff-sym (smallest-meet s target (c .0) w (c .1) l (base-of false s (s .graph) target w (own-graph s w)) x))
+    (λ x. iff-sym (smallest-meet s target (c .0) w (c .1) l (own-base false s target w) x))
     (transversals-of s w l)

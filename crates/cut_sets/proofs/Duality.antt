@@ -14,11 +14,12 @@ use Rattle.vertex_set.proofs.Sets.{member-or, in-and, meets-test, meets-not}
 use Rattle.setup.specs.declared.Setup.{Setup}
 use Rattle.setup.specs.Setup.{Chosen, ChosenSet}
 use Rattle.formed.specs.WellFormed.{WellFormed}
+use Rattle.derivations.proofs.Closures.{opens-more}
 use Rattle.bases.specs.Base.{Derives, TargetSet, MinimalSet, Base}
 use Rattle.reference.proofs.Graphs.{own-graph}
 use Rattle.reference.proofs.Bases.{minimal-within}
 use Rattle.cut_sets.specs.Cuts.{CutSet, CutList, MeetsEvery, Transversal}
-use Rattle.cut_sets.proofs.Sets.{smallest-same, opens-more, rest, in-rest, rest-opens, derives-or, cut-within}
+use Rattle.cut_sets.proofs.Sets.{smallest-same, rest, in-rest, rest-opens, derives-or, cut-within}
 
 meets-or : (a b : ℕ) → Meets a b ⊎ (Meets a b → ⊥)
 meets-or a b = ⊎-elim (λ e. inr (meets-not a b e)) (λ n. inl (meets-test a b n)) (same-or (bitAnd a b) 0)

@@ -16,6 +16,7 @@ use Rattle.setup.specs.declared.Setup.{Setup}
 use Rattle.setup.specs.Setup.{Chosen, ChosenSet}
 use Rattle.formed.specs.WellFormed.{WellFormed}
 use Rattle.derivations.specs.Access.{HasAccess}
+use Rattle.derivations.proofs.Closures.{opens-more}
 use Rattle.families.specs.Inner.Family.{familyWords, masks, MinimalMembers, size}
 use Rattle.families.specs.Inner.Masks.{placeAmong, Picked}
 use Rattle.families.specs.Inner.Exact.{FamilyOf}
@@ -28,7 +29,7 @@ use Rattle.duals.specs.Inner.{Dual}
 use Rattle.bases.proofs.Formed.{few}
 use Rattle.cut_sets.specs.Cuts.{CutSet, CutList}
 use Rattle.cut_sets.specs.Inner.{CutFamily}
-use Rattle.cut_sets.proofs.Sets.{smallest-same, opens-more, initial-fits}
+use Rattle.cut_sets.proofs.Sets.{smallest-same, initial-fits}
 
 module _ (s : Setup) (target initial : ℕ) (w : WellFormed s) (ch : ChosenSet false s initial) where
   -- The initial vertices that are not held do not open the target.

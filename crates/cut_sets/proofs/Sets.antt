@@ -10,16 +10,13 @@ use lib.Bits.{bitAnd}
 use Rattle.vertex_set.specs.Set.{Member, Within, Iff}
 use Rattle.vertex_set.specs.Order.{Smallest}
 use Rattle.vertex_set.proofs.Cases.{same-or}
-use Rattle.vertex_set.proofs.Sets.{in-and, in-less, within-le, none-in-zero, some-member, same-set, bounded-by-members}
+use Rattle.vertex_set.proofs.Sets.{in-and, in-less, within-le, none-in-zero, same-set, bounded-by-members}
 use Rattle.vertex_set.proofs.Subsets.{minimal-below}
-use Rattle.setup.specs.declared.Graph.{Graph}
 use Rattle.setup.specs.declared.Setup.{Setup}
-use Rattle.setup.specs.Setup.{row, Chosen, ChosenSet}
+use Rattle.setup.specs.Setup.{Chosen, ChosenSet}
 use Rattle.formed.specs.WellFormed.{WellFormed}
-use Rattle.derivations.specs.Derivation.{Vertices}
-use Rattle.derivations.specs.Access.{access, HasAccess}
-use Rattle.derivations.proofs.Rules.{monotone, least}
-use Rattle.derivations.proofs.Graphs.{access-lawful}
+use Rattle.derivations.specs.Access.{HasAccess}
+use Rattle.derivations.proofs.Closures.{opens-more, nothing-opens}
 use Rattle.bases.specs.Base.{Derives}
 use Rattle.reference.proofs.Tests.{by-decision}
 use Rattle.reference.proofs.Graphs.{own-graph, chosen-below}
@@ -36,15 +33,6 @@ smallest-same P Q i x =
       to = λ h. record { is = i x .to (h .is); none = λ y p q. h .none y p (i y .from q) };
       from = λ h. record { is = i x .from (h .is); none = λ y p q. h .none y p (i y .to q) };
     }
-
--- who holds more opens more
-pub opens-more : (g : Graph) (P Q : Vertices) → ((i : ℕ) → P i → Q i) → (v : ℕ) → HasAccess g P v → HasAccess g Q v
-opens-more g P Q h v d = monotone (access g) (access-lawful g) P Q h v d
-
--- who holds nothing opens nothing
-pub nothing-opens : (g : Graph) (P : Vertices) → ((i : ℕ) → P i → ⊥) → (v : ℕ) → HasAccess g P v → ⊥
-nothing-opens g P none v d =
-    least (access g) (access-lawful g) P (λ i. ⊥) none (λ e o. let m = some-member (row g (e .vertex) (e .colour)) (o .coloured) in o .complete (m .0) (m .1)) v d
 
 -- ---- the empty set, and all initial vertices
 

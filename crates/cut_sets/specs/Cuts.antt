@@ -11,6 +11,7 @@ use Rattle.setup.specs.Setup.{Chosen}
 use Rattle.formed.specs.WellFormed.{WellFormed}
 use Rattle.derivations.specs.Access.{HasAccess}
 use Rattle.bases.specs.Base.{Base}
+use Rattle.antichains.specs.Antichains.{mostSets}
 use Rattle.forecasts.specs.Forecast.{Forecast}
 
 -- x is a cut set of the target: a set of initial vertices without which the rest of them do not open it. The vertices of x stay in the graph,
@@ -32,23 +33,23 @@ pub record Transversal (s : Setup) (l : List ℕ) (x : ℕ) : Type 0 where
   pub chosen : (v : ℕ) → Member x v → Chosen false s v
   pub meets : MeetsEvery (Listed l) x
 
--- What the smallest cut sets are to the access base, and the access base to them.
+-- How the smallest cut sets and the access base determine each other.
 pub record Duality (s : Setup) (target : ℕ) (cuts : List ℕ) : Type 0 where
-  -- they are exactly the smallest sets of initial vertices that meet every set of the access base
+  -- the smallest cut sets are exactly the smallest sets of initial vertices that meet every set of the access base
   pub transversals : (l : List ℕ) → Base false s (s .graph) target l → ListsExactly (Smallest (Transversal s l)) cuts
   -- the smallest sets that meet every cut set are the access base again, and so are the smallest that meet every listed one
   pub again : (l : List ℕ) → Base false s (s .graph) target l → ListsExactly (Smallest (MeetsEvery (CutSet s target))) l
   pub againListed : (l : List ℕ) → Base false s (s .graph) target l → ListsExactly (Smallest (MeetsEvery (Listed cuts))) l
   -- where nothing opens the target, the one smallest cut set is the empty one
   pub empty : (HasAccess (s .graph) (Chosen false s) target → ⊥) → cuts ≡ 0 ∷ []
-  -- there is always one
+  -- the list is never empty
   pub some : 0 < length cuts
-  -- and the forecast for the access base is enough for them too
+  -- the forecast for the access base is enough for the list of cut sets too
   pub forecast : (counted n : ℕ) → Forecast s target counted n → length cuts ≤ n
 
 -- ---- theorems
 
--- All of this holds of every target of every well-formed setup.
+-- The duality holds of every target of every well-formed setup.
 abbrev pub DualityHolds : Type 0
 DualityHolds = (s : Setup) (target : ℕ) (cuts : List ℕ) → WellFormed s → CutList s target cuts → Duality s target cuts
 
@@ -58,4 +59,4 @@ CutsMeetBase = (s : Setup) (target : ℕ) (l : List ℕ) → WellFormed s → Ba
 
 -- No list of cut sets of a well-formed setup has more than 3,432 sets.
 abbrev pub LongestCuts : Type 0
-LongestCuts = (s : Setup) (target : ℕ) (cuts : List ℕ) → WellFormed s → CutList s target cuts → length cuts ≤ 3432
+LongestCuts = (s : Setup) (target : ℕ) (cuts : List ℕ) → WellFormed s → CutList s target cuts → length cuts ≤ mostSets

@@ -1,26 +1,21 @@
 -- What the inner functions ask and answer. Nothing of this has to be believed: the contract of the call does not cite it.
 use mathlib.Core.Path.{_≡_}
 use mathlib.Core.List.{List, [], _∷_}
-use Prim.Native.Nat.{ℕ, _≤_, _<_}
+use Prim.Native.Nat.{ℕ, _≤_}
 use lib.Count.{ones}
 use lib.ListN.{length}
+use Rattle.setup.specs.Bounds.{mostChosen}
 use Rattle.setup.specs.declared.Setup.{Setup}
 use Rattle.setup.specs.Calls.{ListWritten}
-use Rattle.formed.specs.WellFormed.{WellFormed}
 use Rattle.families.specs.Inner.Family.{familyWords, size}
 use Rattle.families.specs.Inner.Exact.{OnChosen}
 use Rattle.family_lists.specs.Inner.Lists.{ListOf}
 use Rattle.cut_sets.specs.Cuts.{CutList, Duality}
 
--- Questions 12 and 13 have been asked.
-pub record Asked (s : Setup) (target : ℕ) : Type 0 where
-  pub formed : WellFormed s
-  pub vertex : target < s .count
-
 -- The family m has n members, and their sets in order are the smallest cut sets of the target.
 pub record CutFamily (s : Setup) (target initial : ℕ) (m : List ℕ) (n : ℕ) : Type 0 where
   pub words : length m ≡ familyWords
-  pub few : ones initial ≤ 14
+  pub few : ones initial ≤ mostChosen
   pub exact : OnChosen initial m
   pub count : size m ≡ n
   pub cuts : List ℕ

@@ -4,7 +4,8 @@
 ghost use mathlib.Core.Bool.{false};
 ghost use Rattle.bases.specs.Inner.Readers.{CanList};
 ghost use Rattle.cut_sets.specs.Answers.{cutsNumber, cutsValues, CutsCall};
-ghost use Rattle.cut_sets.specs.Inner.{Asked, CutFamily, CutsTaken};
+ghost use Rattle.formed.specs.Inner.Answerable.{Answerable};
+ghost use Rattle.cut_sets.specs.Inner.{CutFamily, CutsTaken};
 use families::WORDS;
 use setup::Setup;
 use vertex_set::VertexSet;
@@ -30,7 +31,7 @@ fn cut_family(s: Setup, target: usize, initial: VertexSet, out: &mut [u64]) -> u
 // The smallest cut sets of a target of a well-formed setup. Their number is known before a set is
 // written, so that a lent list which is too short stays as it was.
 fn write_cuts(s: Setup, target: usize, out: &mut [u64]) -> CutsAnswer
-    requires { ⌜ Asked s target ⌝ }
+    requires { ⌜ Answerable s target ⌝ }
     ensures { λ r. ⌜ CutsTaken s target (cutsNumber r) (cutsValues r) (now (out .entry)) (now (out .exit)) ⌝ }
 {
     let initial = setup::chosen(s, false);

@@ -10,6 +10,7 @@ use Rattle.demands.specs.declared.Answers.{Answers}
 use Rattle.demands.specs.Demands.{Demand1, Demand2}
 use Rattle.demands.proofs.Register.{hand-in-demands, withdraw-demands}
 use Rattle.demands.proofs.Pools.{settled-pool}
+use Rattle.demands.proofs.Living.{settled-calls}
 use Rattle.demands.proofs.Outcomes.{settled-closure, settled-lost, settled-score, settled-marks, settled-finding, settled-forecast, settled-quick, settled-attackers, settled-next, settled-lists, settled-cuts, settled-way, settled-question-12, settled-bags, settled-bag-score}
 use Rattle.demands.proofs.Sheets.{settled-reading, settled-portal}
 
@@ -41,6 +42,7 @@ one-of-two {text = text} {item = item} {s = s} {set = set} {target = target} {ot
       handIn = hand-in-demands;
       withdraw = withdraw-demands;
       pool = settled-pool;
+      living = settled-calls;
       bagAtMost = settled-bags opened locked (r .bags .compared) (d .bagAtMost);
       bagScore = settled-bag-score s target _ _ _ _ _ _ (d .bagScore);
     }

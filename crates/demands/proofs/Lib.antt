@@ -4,6 +4,5 @@ pub mod OneAnswer
 pub mod Outcomes
 pub mod OneResult
 pub mod Sheets
-pub mod Stable
 pub mod Register
 pub mod Pools

@@ -8,16 +8,20 @@ use Prim.Native.Nat.{ℕ}
 use Rattle.vertex_set.specs.Order.{Listed}
 use Rattle.vertex_set.proofs.Cases.{less-or, same-or}
 use Rattle.vertex_set.proofs.Sets.{member-or}
+use Rattle.vertex_set.proofs.Stable.{by-cases}
 use Rattle.setup.specs.Bounds.{mostEdges}
 use Rattle.setup.specs.declared.Setup.{Setup}
 use Rattle.setup.specs.Setup.{row, edgeCount}
 use Rattle.formed.specs.WellFormed.{WellFormed}
-use Rattle.living.specs.Calls.{Call, TakeIn, TakeOut, AddEdge, RemoveEdge, Back, Done, CallOf}
+use Rattle.living.specs.Calls.{Call, TakeIn, TakeOut, AddEdge, RemoveEdge, Back, CallOf}
 use Rattle.living.proofs.Setups.{stable-setup}
-use Rattle.living.proofs.Unique.{by-place, one-living-answer}
+use Rattle.living.proofs.Unique.{by-place, one-living-answer, nothing-changes}
+use Rattle.sheet_format.proofs.Question12.{fresh-holds-nothing}
+use Rattle.histories.proofs.Runs.{opened-always}
+use Rattle.histories.proofs.Reaching.{question-12}
+use Rattle.histories.proofs.Heed.{no-heed}
 use Rattle.demands.specs.declared.LivingAnswers.{LivingAnswers}
-use Rattle.demands.specs.Living.{refusals, RefusedBack, SettledCall, LivingDemand1, LivingDemand2}
-use Rattle.demands.proofs.Stable.{by-cases}
+use Rattle.demands.specs.Living.{refusals, RefusedBack, SettledCall, SettledCalls, LivingMeaning, LivingDemand1, LivingDemand2}
 use Rattle.demands.proofs.Outcomes.{listed-dec}
 
 module _ (s : Setup) (n : ℕ) (t : Setup) where
@@ -66,6 +70,13 @@ module _ (s : Setup) (n : ℕ) (t : Setup) where
         meets = a;
         only = λ m u b. one-living-answer c s m n u t b a;
       }
+
+pub settled-calls : SettledCalls
+settled-calls c s n t a = settled s n t c a
+
+pub living-meaning : LivingMeaning
+living-meaning =
+    record { fresh = fresh-holds-nothing; opened = opened-always; nothing = nothing-changes; reached = question-12; unheeded = no-heed }
 
 pub living-one-of-two : {s : Setup} {item from to colour : ℕ} {mark : Bool} {r : LivingAnswers} → LivingDemand2 s item from to colour mark r
     → LivingDemand1 s item from to colour mark r

@@ -6,15 +6,17 @@ use mathlib.Core.Bool.{true, false}
 use mathlib.Core.List.{List, [], _∷_, _++_}
 use mathlib.Core.Logic.{_⊎_, inl, inr, ⊎-elim}
 use mathlib.Core.HLevel.{Stable}
-use Prim.Native.Nat.{ℕ, _≤_, _<_}
+use Prim.Native.Nat.{ℕ, _<_}
 use lib.ListN.{length}
 use Rattle.vertex_set.specs.Set.{Member}
 use Rattle.vertex_set.specs.Order.{Smallest}
 use Rattle.vertex_set.proofs.Cases.{less-or}
 use Rattle.vertex_set.proofs.Lists.{exactly-unique}
-use Rattle.setup.specs.declared.Setup.{Setup}
+use Rattle.vertex_set.proofs.Stable.{stable-list, by-cases}
+use Rattle.setup.proofs.Calls.{same-stable, alike, refused, lists-stable, lists-untouched, lists-refused}
 use Rattle.formed.specs.WellFormed.{WellFormed}
-use Rattle.setup.specs.Calls.{Refuses, Same, SameList, Inside, Untouched, ListWritten}
+use Rattle.formed.proofs.Asking.{by-target}
+use Rattle.setup.specs.Calls.{Refuses, Same, SameList, SameLists, Inside, ListWritten}
 use Rattle.derivations.specs.Access.{Step, access, HasAccess}
 use Rattle.derivations.specs.Lockout.{lockout}
 use Rattle.derivations.proofs.Passes.{passes-unique}
@@ -24,26 +26,7 @@ use Rattle.answers.specs.Answers.{BasesWritten}
 use Rattle.cut_sets.specs.Cuts.{CutSet}
 use Rattle.derivations.proofs.Closures.{closure-unique}
 use Rattle.reference.proofs.Unique.{base-unique, score-unique, counts-unique}
-use Rattle.demands.specs.OneAnswer.{OneClosureAnswer, OneLostAnswer, SameWay, OneWayAnswer, OneBasesAnswer, OneCutsAnswer, OneScoreAnswer, OneMarksAnswer}
-use Rattle.demands.proofs.Stable.{stable-number, stable-list, by-cases}
-
--- Questions 12 and 13, which all calls with a target ask first.
-pub by-target : (s : Setup) (target : ℕ) {Q : Type 0} → Stable Q → ((WellFormed s → ⊥) → Q) → (WellFormed s → s .count ≤ target → Q)
-    → (WellFormed s → target < s .count → Q) → Q
-by-target s target stable malformed noTarget answers =
-    by-cases (WellFormed s) stable (λ w. ⊎-elim (answers w) (noTarget w) (less-or target (s .count))) malformed
-
-module _ {n n′ : ℕ} {v v′ : List ℕ} where
-  same-stable : Stable (Same n n′ v v′)
-  same-stable k =
-      record { number = stable-number n n′ (λ j. k (λ h. j (h .number))); values = stable-list v v′ (λ j. k (λ h. j (h .values))) }
-
-  -- two answers with the same number and the same values
-  alike : {q : ℕ} {x : List ℕ} → n ≡ q → v ≡ x → n′ ≡ q → v′ ≡ x → Same n n′ v v′
-  alike e f e′ f′ = record { number = e ∙ sym e′; values = f ∙ sym f′ }
-
-  refused : {q : ℕ} → Refuses q n v → Refuses q n′ v′ → Same n n′ v v′
-  refused a b = alike (a .numbered) (a .empty) (b .numbered) (b .empty)
+use Rattle.demands.specs.OneAnswer.{OneClosureAnswer, OneLostAnswer, OneWayAnswer, OneBasesAnswer, OneCutsAnswer, OneScoreAnswer, OneMarksAnswer}
 
 -- ---- closure and lost set, score and risk, marks
 
@@ -141,46 +124,32 @@ one-cuts-answer s target n n′ v v′ a x x′ c d =
 -- ---- the way in
 
 module _ {n n′ : ℕ} {v v′ x x′ y y′ : List ℕ} where
-  way-stable : Stable (SameWay n n′ v v′ x x′ y y′)
-  way-stable k =
-      record {
-        answer = same-stable (λ j. k (λ h. j (h .answer)));
-        vertices = stable-list x x′ (λ j. k (λ h. j (h .vertices)));
-        colours = stable-list y y′ (λ j. k (λ h. j (h .colours)));
-      }
-
-  way-untouched : {a b : List ℕ} → Same n n′ v v′ → Untouched a x b y → Untouched a x′ b y′ → SameWay n n′ v v′ x x′ y y′
-  way-untouched h p q = record { answer = h; vertices = p .first ∙ sym (q .first); colours = p .second ∙ sym (q .second) }
-
-  way-refused : {q : ℕ} {a b : List ℕ} → Refuses q n v × Untouched a x b y → Refuses q n′ v′ × Untouched a x′ b y′ → SameWay n n′ v v′ x x′ y y′
-  way-refused p q = way-untouched (refused (p .0) (q .0)) (p .1) (q .1)
-
-  way-written : (d : List Step) (a b : List ℕ) → WayWritten d n v a x b y → WayWritten d n′ v′ a x′ b y′ → SameWay n n′ v v′ x x′ y y′
+  way-written : (d : List Step) (a b : List ℕ) → WayWritten d n v a x b y → WayWritten d n′ v′ a x′ b y′ → SameLists n n′ v v′ x x′ y y′
   way-written d a b p q =
       ⊎-elim (λ k. short (inl k)) (λ k. ⊎-elim (λ j. short (inr j)) (λ j. fit (p .room k j) (q .room k j)) (less-or (length b) (length d))) (less-or (length a) (length d))
     where
-      short : (length a < length d) ⊎ (length b < length d) → SameWay n n′ v v′ x x′ y y′
-      short k = way-refused (p .short k) (q .short k)
+      short : (length a < length d) ⊎ (length b < length d) → SameLists n n′ v v′ x x′ y y′
+      short k = lists-refused (p .short k) (q .short k)
 
-      fit : {m : ℕ} {u z t : List ℕ} → (n ≡ m) × (v ≡ u) × (x ≡ z) × (y ≡ t) → (n′ ≡ m) × (v′ ≡ u) × (x′ ≡ z) × (y′ ≡ t) → SameWay n n′ v v′ x x′ y y′
-      fit e f = record { answer = alike (e .0) (e .1) (f .0) (f .1); vertices = e .2 ∙ sym (f .2); colours = e .3 ∙ sym (f .3) }
+      fit : {m : ℕ} {u z t : List ℕ} → (n ≡ m) × (v ≡ u) × (x ≡ z) × (y ≡ t) → (n′ ≡ m) × (v′ ≡ u) × (x′ ≡ z) × (y′ ≡ t) → SameLists n n′ v v′ x x′ y y′
+      fit e f = record { answer = alike (e .0) (e .1) (f .0) (f .1); first = e .2 ∙ sym (f .2); second = e .3 ∙ sym (f .3) }
 
 pub one-way-answer : OneWayAnswer
 one-way-answer s target set n n′ v v′ a x x′ b y y′ c d =
-    by-target s target way-stable (λ m. way-refused (c .malformed m) (d .malformed m)) (λ w o. way-refused (c .noTarget w o) (d .noTarget w o))
-    (λ w l. by-cases (Inside s set) way-stable
-    (λ i. by-cases (HasAccess (s .graph) (Member set) target) way-stable (found w l i) (shut w l i))
-    (λ o. way-refused (c .outside w l o) (d .outside w l o)))
+    by-target s target lists-stable (λ m. lists-refused (c .malformed m) (d .malformed m)) (λ w o. lists-refused (c .noTarget w o) (d .noTarget w o))
+    (λ w l. by-cases (Inside s set) lists-stable
+    (λ i. by-cases (HasAccess (s .graph) (Member set) target) lists-stable (found w l i) (shut w l i))
+    (λ o. lists-refused (c .outside w l o) (d .outside w l o)))
   where
-    found : WellFormed s → target < s .count → Inside s set → HasAccess (s .graph) (Member set) target → SameWay n n′ v v′ x x′ y y′
+    found : WellFormed s → target < s .count → Inside s set → HasAccess (s .graph) (Member set) target → SameLists n n′ v v′ x x′ y y′
     found w l i h =
         let p = c .found w l i h in
         let q = d .found w l i h in
         let e = way-unique (s .graph) target (Member set) (q .0) (p .0) (q .1) (p .1) in
         way-written (p .0) a b (p .2) (subst (λ (k : List Step). WayWritten k n′ v′ a x′ b y′) e (q .2))
 
-    shut : WellFormed s → target < s .count → Inside s set → (HasAccess (s .graph) (Member set) target → ⊥) → SameWay n n′ v v′ x x′ y y′
+    shut : WellFormed s → target < s .count → Inside s set → (HasAccess (s .graph) (Member set) target → ⊥) → SameLists n n′ v v′ x x′ y y′
     shut w l i h =
         let p = c .shut w l i h in
         let q = d .shut w l i h in
-        way-untouched (alike (p .0) (p .1) (q .0) (q .1)) (p .2) (q .2)
+        lists-untouched (alike (p .0) (p .1) (q .0) (q .1)) (p .2) (q .2)

@@ -18,8 +18,8 @@ use Rattle.multiset_scores.proofs.Unique.{one-multisets-answer}
 use Rattle.setup.specs.Calls.{Same}
 use Rattle.demands.proofs.Register.{one-hand-in-answer}
 use Rattle.demands.proofs.OneAnswer.{one-closure-answer, one-lost-answer, one-way-answer, one-bases-answer, one-cuts-answer, one-score-answer, one-marks-answer}
-use Rattle.demands.proofs.Stable.{stable-number, by-cases}
-use Rattle.portal_setup.specs.Words.{setupIn}
+use Rattle.vertex_set.proofs.Stable.{stable-number, by-cases}
+use Rattle.portal_setup.specs.Words.{setupWords, setupIn}
 use Rattle.portal_living.proofs.Saying.{one-living-result}
 use Rattle.portal_results.specs.Told.{filled, Told}
 use Rattle.pool_format.proofs.Meaning.{pool-determined}
@@ -51,7 +51,7 @@ one-result-on-setups words =
       lost = λ set. one-result _ (one-lost-answer s set);
       wayIn =
           λ target set n n′ f f′ a x x′ b y y′ e t t′. let d = one-way-answer s target set n n′ (t .values) (t′ .values) a x x′ b y y′ (t .call) (t′ .call) in
-          record { answer = same-fields e t t′ (d .answer); vertices = d .vertices; colours = d .colours };
+          record { answer = same-fields e t t′ (d .answer); first = d .first; second = d .second };
       lists =
           λ target n n′ f f′ a x x′ e t t′. let d = one-bases-answer s target n n′ (t .values) (t′ .values) a x x′ (t .call) (t′ .call) in
           record { answer = same-fields e t t′ (d .answer); list = d .list };
@@ -84,10 +84,10 @@ one-result-on-sheets text =
       reading =
           λ n n′ l l′ a x x′ p q. (
             by-cases (readSheet text .number ≡ 0) (stable-number n n′)
-                (λ z. ⊎-elim (λ k. p .short z k ∙ sym (q .short z k)) (λ k. p .accepted z k ∙ sym (q .accepted z k)) (less-or (length a) 1283))
+                (λ z. ⊎-elim (λ k. p .short z k ∙ sym (q .short z k)) (λ k. p .accepted z k ∙ sym (q .accepted z k)) (less-or (length a) setupWords))
                 (λ z. p .refused z ∙ sym (q .refused z)),
             p .lined ∙ sym (q .lined),
-            ⊎-elim (λ k. p .untouched k ∙ sym (q .untouched k)) (λ k. p .room k ∙ sym (q .room k)) (less-or (length a) 1283),
+            ⊎-elim (λ k. p .untouched k ∙ sym (q .untouched k)) (λ k. p .room k ∙ sym (q .room k)) (less-or (length a) setupWords),
           );
       name =
           λ item n n′ p p′ k k′ a b. (

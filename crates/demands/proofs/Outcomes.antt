@@ -4,7 +4,7 @@
 use mathlib.Core.Path.{_≡_, refl, ap}
 use mathlib.Core.Bool.{Bool}
 use mathlib.Core.HLevel.{Stable, dec→stable}
-use mathlib.Core.List.{List, [], _∷_, _++_, List-discrete}
+use mathlib.Core.List.{List, [], _∷_, _++_, List-discrete, cons≢nil}
 use mathlib.Core.Logic.{inl, inr, ⊎-elim}
 use Prim.Native.Nat.{ℕ, _*_}
 use native.Mathlib.Decide.{ℕ-discrete}
@@ -35,12 +35,13 @@ use Rattle.quick_yes.proofs.Unique.{one-quick-answer}
 use Rattle.next_sets.specs.Next.{OfInitial}
 use Rattle.next_sets.specs.Answers.{NextCall}
 use Rattle.next_sets.proofs.Unique.{one-next-answer}
-use Rattle.multisets.specs.Multisets.{AtMost}
+use Rattle.multisets.specs.Multisets.{BagAtMost}
 use Rattle.multisets.proofs.Meaning.{one-at-most-answer}
 use Rattle.multiset_scores.specs.Answers.{MultisetsWritten, MultisetsCall}
 use Rattle.multiset_scores.proofs.Unique.{one-multisets-answer}
-use Rattle.demands.proofs.Stable.{stable-number, by-cases}
-use Rattle.demands.proofs.OneAnswer.{by-target, one-closure-answer, one-lost-answer, one-way-answer, one-bases-answer, one-cuts-answer, one-score-answer, one-marks-answer}
+use Rattle.vertex_set.proofs.Stable.{stable-number, by-cases}
+use Rattle.formed.proofs.Asking.{by-target}
+use Rattle.demands.proofs.OneAnswer.{one-closure-answer, one-lost-answer, one-way-answer, one-bases-answer, one-cuts-answer, one-score-answer, one-marks-answer}
 use Rattle.demands.specs.Outcomes.{Outcome, Settled, SettledWay, SettledList, SettledBags, SettledBagScore, SettledQuestion12}
 
 pub listed-dec : (l : List ℕ) (x : ℕ) → Dec (Listed l x)
@@ -51,9 +52,6 @@ listed-dec (y ∷ l) x = first (ℕ-discrete x y) (listed-dec l x)
     first (yes e) d = yes (inl e)
     first (no n) (yes h) = yes (inr h)
     first (no n) (no m) = no (⊎-elim n m)
-
-cons-nil : (x : ℕ) (l : List ℕ) → x ∷ l ≡ [] → ⊥
-cons-nil x l e = let z : _≡_ {A = ℕ} 0 1 = cc in omega arith
 
 module _ {numbers : List ℕ} {number : ℕ} {entry exit : List (List ℕ)} where
   outcome-stable : (values : List ℕ) → Stable (Outcome numbers number values entry exit)
@@ -67,13 +65,13 @@ module _ {numbers : List ℕ} {number : ℕ} {entry exit : List (List ℕ)} wher
   outcome-stable (x ∷ l) k =
       inl
       (record {
-        zero = stable-number number 0 (λ d. k (⊎-elim (λ a. d (a .zero)) (λ r. cons-nil x l (r .none))));
-        some = cons-nil x l;
+        zero = stable-number number 0 (λ d. k (⊎-elim (λ a. d (a .zero)) (λ r. cons≢nil (r .none))));
+        some = λ e. cons≢nil e;
       })
 
   module _ {values : List ℕ} where
     answered : {x : ℕ} {l : List ℕ} → number ≡ 0 → values ≡ x ∷ l → Outcome numbers number values entry exit
-    answered {x = x} {l = l} z e = inl (record { zero = z; some = rw e (cons-nil x l) })
+    answered z e = inl (record { zero = z; some = rw e (λ h. cons≢nil h) })
 
     refused : {q : ℕ} → Listed numbers q → exit ≡ entry → Refuses q number values → Outcome numbers number values entry exit
     refused h k r = inr (record { listed = rw (r .numbered) h; none = r .empty; kept = k })
@@ -263,5 +261,5 @@ settled-question-12 s answer d = record { meets = d; only = λ b e. decided-once
 
 -- ---- two bags compared
 
-pub settled-bags : (bag above : List ℕ) (answer : Bool) → Decides (AtMost bag above) answer → SettledBags bag above answer
+pub settled-bags : (bag above : List ℕ) (answer : Bool) → Decides (BagAtMost bag above) answer → SettledBags bag above answer
 settled-bags bag above answer d = record { meets = d; only = λ b e. one-at-most-answer bag above b answer e d }

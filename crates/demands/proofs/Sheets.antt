@@ -2,14 +2,14 @@
 -- Assumes nothing.
 use mathlib.Core.Path.{_≡_, refl, sym, ap, subst, _∙_}
 use mathlib.Core.Bool.{Bool, true}
-use mathlib.Core.List.{List, [], _∷_, map}
+use mathlib.Core.List.{List, [], _∷_}
 use mathlib.Core.Logic.{_⊎_, inl, inr, ⊎-elim}
 use Prim.Native.Nat.{ℕ, zero, suc, _+_, _≤_, _<_}
 use native.Mathlib.Omega.{arith}
-use lib.ListN.{length, getD}
+use lib.ListN.{length}
 use Rattle.vertex_set.specs.Order.{Listed}
 use Rattle.vertex_set.proofs.Cases.{same-or, less-or, false-true}
-use Rattle.bases.specs.Score.{never}
+use Rattle.scores.specs.Never.{never}
 use Rattle.sheet_format.specs.declared.Reading.{Reading}
 use Rattle.sheet_format.specs.Fields.{isName}
 use Rattle.sheet_format.specs.Rows.{ItemRow, Doc, Each, ValidItem, setupOf}
@@ -18,7 +18,7 @@ use Rattle.sheet_format.specs.Stated.{StandsAt, Stated}
 use Rattle.sheet_format.specs.Names.{nameOf, nameStart}
 use Rattle.sheet_format.specs.Meaning.{Accepted, Refused}
 use Rattle.sheet_format.proofs.Meaning.{accepted-of-valid, valid-of-accepted, refusal-law, refusal-unique, empty-setup, accepted-or-refused}
-use Rattle.sheet_format.proofs.Stated.{stands-below, at-place, stated-by-rows}
+use Rattle.sheet_format.proofs.Stated.{stands-below, at-place, stated-by-rows, name-in}
 use Rattle.sheet.proofs.Names.{refused-none, beyond-none, name-none, start-none, names-of-rows, name-places}
 use Rattle.reference.proofs.Unique.{score-unique}
 use Rattle.portal.specs.Portal.{PortalCall}
@@ -106,11 +106,6 @@ module _ (text : List ℕ) (r : Reading) (h : Reads text r) where
 
 -- ---- an item's name
 
-name-at : (xs : List ItemRow) (i : ℕ) (x : ItemRow) → StandsAt xs i x → getD (map (λ (y : ItemRow). y .name) xs) i [] ≡ x .name
-name-at [] i x h = absurd h
-name-at (y ∷ ys) zero x h = ap (λ (z : ItemRow). z .name) h
-name-at (y ∷ ys) (suc i) x h = name-at ys i x h
-
 -- a name has a byte
 name-some : (xs : List ItemRow) (i : ℕ) (x : ItemRow) → Each ValidItem xs → StandsAt xs i x → x .name ≡ [] → ⊥
 unfolding isName
@@ -137,7 +132,7 @@ module _ (text : List ℕ) (item : ℕ) where
     named =
         record {
           name = λ d h x j.
-              e ∙ ap (λ (t : List ℕ). nameOf t item) (h .written) ∙ names-of-rows d (h .valid) item (stands-below (d .items) item x j) ∙ name-at (d .items) item x j;
+              e ∙ ap (λ (t : List ℕ). nameOf t item) (h .written) ∙ names-of-rows d (h .valid) item (stands-below (d .items) item x j) ∙ name-in (d .items) item x j;
           place = λ d h x j. f ∙ ap (λ (t : List ℕ). sheet + nameStart t item) (h .written) ∙ ap (λ (n : ℕ). sheet + n) (name-places d (h .valid) item x j .begins);
           beyond = λ d h l. let c = count-is d h in let b = beyond-none text item (readSheet text) refl (omega arith) in
               (e ∙ sym (name-none text item b), f ∙ sym (start-none text item sheet b));

@@ -1,7 +1,7 @@
--- Demands 1 and 2: what the offered calls answer, all of them on one input. Each is the contract of a function that makes the calls; the name of
--- an item, a part of the sheet, is handed back by a function of its own (`SettledName`, `Named`), and so are the answers of the class register's calls,
--- which are lent records (`HandInDemands`, `WithdrawDemands`), and so are the setups that the calls of a setup
--- that lives hand back (specs/Living.antt), and the pooled sheet of two sheets (`SettledPool`, `PoolsAsStated`).
+-- Demands 1 and 2: what the offered calls answer, all of them on one input. Each demand is the contract of a function that makes the calls.
+-- Some calls are made by functions of their own. An item's name is a part of the sheet: `SettledName`, `Named`. The class register's calls are lent
+-- records: `HandInDemands`, `WithdrawDemands`. The calls on a setup that lives hand setups back: specs/Living.antt. Pooling is asked of two sheets:
+-- `SettledPool`, `PoolsAsStated`.
 use mathlib.Core.Path.{_≡_}
 use mathlib.Core.Bool.{true, false}
 use mathlib.Core.List.{List, [], _∷_}
@@ -17,7 +17,7 @@ use Rattle.quick_yes.specs.Answers.{quickNumber, quickValues, QuickCall}
 use Rattle.cut_sets.specs.Answers.{cutsNumber, cutsValues, CutsCall}
 use Rattle.next_sets.specs.Answers.{nextNumber, nextValues, NextCall}
 use Rattle.register.specs.Afternoon.{RegisterLaw}
-use Rattle.multisets.specs.Multisets.{AtMost}
+use Rattle.multisets.specs.Multisets.{BagAtMost}
 use Rattle.multiset_scores.specs.Answers.{multisetNumber, multisetValues, MultisetsCall}
 use Rattle.sheet_format.specs.Read.{readSheet}
 use Rattle.histories.specs.Histories.{Reached}
@@ -25,6 +25,7 @@ use Rattle.portal.specs.Portal.{PortalCall}
 use Rattle.demands.specs.declared.Answers.{Answers}
 use Rattle.demands.specs.Register.{SettledHandIns, SettledWithdrawals}
 use Rattle.demands.specs.Pools.{SettledPools, PoolMeaning}
+use Rattle.demands.specs.Living.{SettledCalls, LivingMeaning}
 use Rattle.demands.specs.Outcomes.{Settled, SettledWay, SettledList, SettledBags, SettledBagScore, SettledQuestion12}
 use Rattle.demands.specs.Sheets.{Reads, SettledReading, SettledPortal}
 
@@ -66,6 +67,8 @@ pub record Demand1 (text : List ℕ) (item : ℕ) (s : Setup) (set target other 
   pub withdraw : SettledWithdrawals
   -- pooling, for every answer that the call may give: 1 to 11 of either sheet, 22, 23, 24
   pub pool : SettledPools
+  -- a setup that lives, for every answer that a call may give: 12, 13; 12, 13, 18, 19, 7; 12, 13, 18, 20
+  pub living : SettledCalls
   -- one list at most another as bags: yes or no, here of the two handed-in lists; the bag score: 12, 13, 15
   pub bagAtMost : SettledBags opened locked (r .bags .compared)
   pub bagScore : SettledBagScore s target (multisetNumber (r .bags .score)) (multisetValues (r .bags .score)) parts parts′ lengths lengths′
@@ -112,7 +115,9 @@ pub record Demand2 (text : List ℕ) (item : ℕ) (s : Setup) (set target other 
   pub register : RegisterLaw
   -- colours are renamed to the lowest free one; the pooled sheet is a sheet with the items of both, and opens what either opened
   pub pool : PoolMeaning
+  -- after every list of calls on a setup that lives the opened set is what the held items open in the drawing as it then is; no other call heeds it
+  pub living : LivingMeaning
   -- whether both lists have at most 14 values, and those of the one can be paired, one to one, with values of the other that are at least as high
-  pub bagAtMost : Decides (AtMost opened locked) (r .bags .compared)
+  pub bagAtMost : Decides (BagAtMost opened locked) (r .bags .compared)
   -- the bags of start values over the opening list to which no different one is at most, each once
   pub bagScore : MultisetsCall s target (multisetNumber (r .bags .score)) (multisetValues (r .bags .score)) parts parts′ lengths lengths′

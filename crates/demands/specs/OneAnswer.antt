@@ -1,10 +1,9 @@
--- For each kind of answer: what two answers that meet the contract have in common, which is all.
-use mathlib.Core.Path.{_≡_}
+-- Two answers that meet a call's contract are the same, lent lists included.
 use mathlib.Core.Bool.{Bool}
 use mathlib.Core.List.{List}
 use Prim.Native.Nat.{ℕ}
 use Rattle.setup.specs.declared.Setup.{Setup}
-use Rattle.setup.specs.Calls.{Same, SameList}
+use Rattle.setup.specs.Calls.{Same, SameList, SameLists}
 use Rattle.access.specs.Answers.{ClosureCall, LostCall, WayCall}
 use Rattle.answers.specs.Answers.{BasesCall, ScoreCall, MarksCall}
 use Rattle.cut_sets.specs.Answers.{CutsCall}
@@ -18,14 +17,9 @@ abbrev pub OneLostAnswer : Type 0
 OneLostAnswer = (s : Setup) (set n n′ : ℕ) (v v′ : List ℕ) → LostCall s set n v → LostCall s set n′ v′ → Same n n′ v v′
 
 -- The way in, with both lent lists.
-pub record SameWay (n n′ : ℕ) (v v′ x x′ y y′ : List ℕ) : Type 0 where
-  pub answer : Same n n′ v v′
-  pub vertices : x ≡ x′
-  pub colours : y ≡ y′
-
 abbrev pub OneWayAnswer : Type 0
 OneWayAnswer = (s : Setup) (target set n n′ : ℕ) (v v′ a x x′ b y y′ : List ℕ)
-    → WayCall s target set n v a x b y → WayCall s target set n′ v′ a x′ b y′ → SameWay n n′ v v′ x x′ y y′
+    → WayCall s target set n v a x b y → WayCall s target set n′ v′ a x′ b y′ → SameLists n n′ v v′ x x′ y y′
 
 -- Both lists, with the lent list.
 abbrev pub OneBasesAnswer : Type 0

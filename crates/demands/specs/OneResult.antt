@@ -15,9 +15,8 @@ use Rattle.next_sets.specs.Answers.{NextCall}
 use Rattle.records.specs.declared.Record.{Record}
 use Rattle.records.specs.declared.Registered.{Registered}
 use Rattle.register.specs.Calls.{HandInCall}
-use Rattle.multiset_scores.specs.Answers.{MultisetsCall, SameLists}
-use Rattle.setup.specs.Calls.{Same, SameList}
-use Rattle.demands.specs.OneAnswer.{SameWay}
+use Rattle.multiset_scores.specs.Answers.{MultisetsCall}
+use Rattle.setup.specs.Calls.{Same, SameList, SameLists}
 use Rattle.demands.specs.Register.{SameCall}
 use Rattle.portal_setup.specs.Words.{setupIn}
 use Rattle.portal_results.specs.Told.{Told}
@@ -29,7 +28,7 @@ use Rattle.pool_format.specs.declared.Pooled.{Pooled}
 use Rattle.pool_format.specs.Call.{PoolCall}
 use Rattle.pool_format.specs.Meaning.{SamePool}
 
--- Two structs that tell an answer of the call in as many fields are the same.
+-- Two structs with equally many fields that tell an answer of the call are the same.
 abbrev pub OneResult : (ℕ → List ℕ → Type 0) → Type 0
 OneResult Call = (n n′ : ℕ) (f f′ : List ℕ) → length f ≡ length f′ → Told Call n f → Told Call n′ f′ → Same n n′ f f′
 
@@ -41,7 +40,7 @@ pub record OneResultOnSetups (words : List ℕ) : Type 0 where
   pub wayIn : (target set n n′ : ℕ) (f f′ a x x′ b y y′ : List ℕ) → length f ≡ length f′
       → Told (λ number values. WayCall (setupIn words) target set number values a x b y) n f
       → Told (λ number values. WayCall (setupIn words) target set number values a x′ b y′) n′ f′
-      → SameWay n n′ f f′ x x′ y y′
+      → SameLists n n′ f f′ x x′ y y′
   pub lists : (target n n′ : ℕ) (f f′ a x x′ : List ℕ) → length f ≡ length f′
       → Told (λ number values. BasesCall (setupIn words) target number values a x) n f
       → Told (λ number values. BasesCall (setupIn words) target number values a x′) n′ f′

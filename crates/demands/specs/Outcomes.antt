@@ -7,12 +7,11 @@ use Prim.Native.Nat.{ℕ}
 use Rattle.vertex_set.specs.Set.{Decides}
 use Rattle.vertex_set.specs.Order.{Listed}
 use Rattle.setup.specs.declared.Setup.{Setup}
-use Rattle.setup.specs.Calls.{Same, SameList}
+use Rattle.setup.specs.Calls.{Same, SameList, SameLists}
 use Rattle.histories.specs.Histories.{Reached}
 use Rattle.access.specs.Answers.{WayCall}
-use Rattle.multisets.specs.Multisets.{AtMost}
-use Rattle.multiset_scores.specs.Answers.{MultisetsCall, SameLists}
-use Rattle.demands.specs.OneAnswer.{SameWay}
+use Rattle.multisets.specs.Multisets.{BagAtMost}
+use Rattle.multiset_scores.specs.Answers.{MultisetsCall}
 
 -- An answer: number 0, with its values.
 pub record Answered (number : ℕ) (values : List ℕ) : Type 0 where
@@ -39,7 +38,7 @@ pub record Settled (numbers : List ℕ) (Call : ℕ → List ℕ → Type 0) (nu
 pub record SettledWay (s : Setup) (target set number : ℕ) (values entry exit entry′ exit′ : List ℕ) : Type 0 where
   pub outcome : Outcome (12 ∷ 13 ∷ 14 ∷ 15 ∷ []) number values (entry ∷ entry′ ∷ []) (exit ∷ exit′ ∷ [])
   pub meets : WayCall s target set number values entry exit entry′ exit′
-  pub only : (n : ℕ) (v x y : List ℕ) → WayCall s target set n v entry x entry′ y → SameWay n number v values x exit y exit′
+  pub only : (n : ℕ) (v x y : List ℕ) → WayCall s target set n v entry x entry′ y → SameLists n number v values x exit y exit′
 
 -- A call that is lent one list, of which it says how it ends, has an outcome that meets its contract, and no second one: 12, 13, 15.
 pub record SettledList (Call : ℕ → List ℕ → List ℕ → Type 0) (number : ℕ) (values entry exit : List ℕ) : Type 0 where
@@ -49,8 +48,8 @@ pub record SettledList (Call : ℕ → List ℕ → List ℕ → Type 0) (number
 
 -- The comparison of two bags is yes or no, one of them, and no refusal.
 pub record SettledBags (bag above : List ℕ) (answer : Bool) : Type 0 where
-  pub meets : Decides (AtMost bag above) answer
-  pub only : (b : Bool) → Decides (AtMost bag above) b → b ≡ answer
+  pub meets : Decides (BagAtMost bag above) answer
+  pub only : (b : Bool) → Decides (BagAtMost bag above) b → b ≡ answer
 
 -- The bag score, with its two lent lists, has an outcome that meets its contract, and no second one: 12, 13, 15.
 pub record SettledBagScore (s : Setup) (target number : ℕ) (values parts parts′ lengths lengths′ : List ℕ) : Type 0 where

@@ -18,13 +18,13 @@ pub record PoolAnswered (first second : List ℕ) (r : Pooled) (entry exit : Lis
   pub text : IsPooled first second (take (r .size) exit)
   pub behind : drop (r .size) exit ≡ drop (r .size) entry
 
--- Or a refusal: of a sheet, 1 to 11; or of both together, 22 to 24, with line 0 and neither sheet named. The length is 0, and the buffer as it was.
+-- A refusal: of a sheet, 1 to 11; or of both together, 22 to 24, with line 0 and neither sheet named. The length is 0, and the buffer as it was.
 pub record PoolRefusal (r : Pooled) (entry exit : List ℕ) : Type 0 where
   pub asked : (Listed sheetNumbers (r .number) × ((r .sheet ≡ 1) ⊎ (r .sheet ≡ 2))) ⊎ (Listed (22 ∷ 23 ∷ 24 ∷ []) (r .number) × (r .sheet ≡ 0) × (r .line ≡ 0))
   pub size : r .size ≡ 0
   pub buffer : exit ≡ entry
 
--- Demand 1: one of these, as the contract says, and no second answer or buffer meets the contract.
+-- Demand 1: an answer or a refusal, as the contract says, and no second answer or buffer meets the contract.
 pub record SettledPool (first second : List ℕ) (r : Pooled) (entry exit : List ℕ) : Type 0 where
   pub outcome : PoolAnswered first second r entry exit ⊎ PoolRefusal r entry exit
   pub meets : PoolCall first second r entry exit

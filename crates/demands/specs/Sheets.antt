@@ -4,12 +4,11 @@ use mathlib.Core.Bool.{Bool}
 use mathlib.Core.List.{List, [], _∷_, _++_}
 use mathlib.Core.Logic.{_⊎_}
 use Prim.Native.Nat.{ℕ, _+_, _≤_}
-use lib.ListN.{length, replicate, take}
+use lib.ListN.{length, take}
 use Rattle.vertex_set.specs.Set.{Iff}
 use Rattle.vertex_set.specs.Order.{Listed}
-use Rattle.setup.specs.declared.Setup.{Setup}
-use Rattle.setup.specs.Setup.{unusedVertex, emptyGraph, noVertices}
-use Rattle.bases.specs.Score.{never}
+use Rattle.setup.specs.Setup.{noItems}
+use Rattle.scores.specs.Never.{never}
 use Rattle.sheet_format.specs.declared.Reading.{Reading}
 use Rattle.sheet_format.specs.Rows.{ItemRow, Doc, firstHeader, itemLines, Valid, render, setupOf}
 use Rattle.sheet_format.specs.Stated.{StandsAt, Stated}
@@ -20,10 +19,6 @@ use Rattle.portal.specs.Portal.{PortalCall}
 abbrev pub sheetNumbers : List ℕ
 sheetNumbers = 1 ∷ 2 ∷ 3 ∷ 4 ∷ 5 ∷ 6 ∷ 7 ∷ 8 ∷ 9 ∷ 10 ∷ 11 ∷ []
 
--- The setup of 0 items with no place in use.
-abbrev pub noItems : Setup
-noItems = record { count = 0; vertices = replicate 64 unusedVertex; graph = emptyGraph; recovery = emptyGraph; held = noVertices; opened = noVertices }
-
 -- The rows d are valid, and the text is their written form.
 pub record RowsOf (text : List ℕ) (d : Doc) : Type 0 where
   pub valid : Valid d
@@ -31,6 +26,8 @@ pub record RowsOf (text : List ℕ) (d : Doc) : Type 0 where
 
 -- ---- the reading
 
+-- r is the reading of the text: number 0 exactly where the text is the written form of some valid rows, with line 0 and the setup that they state;
+-- else the refusal of its first no.
 pub record Reads (text : List ℕ) (r : Reading) : Type 0 where
   -- number 0 exactly where the text is the written form of some valid rows
   pub accepted : Iff (r .number ≡ 0) ((d : Doc) × RowsOf text d)

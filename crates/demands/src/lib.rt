@@ -8,7 +8,7 @@ ghost use mathlib.Core.Bool.{true, false};
 ghost use Rattle.vertex_set.specs.Set.{Decides};
 ghost use Rattle.access.specs.Answers.{closureNumber, closureValues, ClosureCall, lostNumber, lostValues, LostCall, wayNumber, wayValues, WayCall};
 ghost use Rattle.quick_yes.specs.Answers.{quickNumber, quickValues, QuickCall};
-ghost use Rattle.multisets.specs.Multisets.{AtMost};
+ghost use Rattle.multisets.specs.Multisets.{BagAtMost};
 ghost use Rattle.multiset_scores.specs.Answers.{multisetNumber, multisetValues, MultisetsCall};
 ghost use Rattle.findings.specs.Answers.{findingNumber, findingValues, BackdoorCall, IneffectiveCall, InconsistentCall};
 ghost use Rattle.sheet_format.specs.Read.{readSheet};
@@ -157,7 +157,7 @@ fn ask_bags(
     parts: &mut [u64],
     lengths: &mut [u64],
 ) -> BagAnswers
-    ensures compared { λ r. ⌜ Decides (AtMost (now (bag .entry)) (now (above .entry))) (r .compared) ⌝ }
+    ensures compared { λ r. ⌜ Decides (BagAtMost (now (bag .entry)) (now (above .entry))) (r .compared) ⌝ }
     ensures score { λ r. ⌜ MultisetsCall s target (multisetNumber (r .score)) (multisetValues (r .score)) (now (parts .entry)) (now (parts .exit)) (now (lengths .entry)) (now (lengths .exit)) ⌝ }
 {
     let compared = multisets::multiset_at_most(bag, above);

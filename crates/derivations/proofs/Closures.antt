@@ -1,35 +1,32 @@
--- Closures as sets: each set has one, nothing opens nothing, and with one vertex more one may go on from what is open.
+-- Who holds more opens more, and who holds nothing opens nothing. Closures as sets: each set has one, and with one vertex more one may go on from
+-- what is open.
 -- Assumes nothing.
 use mathlib.Core.Path.{_≡_}
 use mathlib.Core.Logic.{_⊎_, inl, inr, ⊎-elim}
 use Prim.Native.Nat.{ℕ}
 use Rattle.vertex_set.specs.Set.{Member, Iff}
-use Rattle.vertex_set.proofs.Sets.{none-in-zero, some-member, same-set}
+use Rattle.vertex_set.proofs.Sets.{none-in-zero, some-member, one-set}
 use Rattle.setup.specs.declared.Graph.{Graph}
 use Rattle.derivations.specs.Derivation.{Vertices, Rule, Derivation, Closure}
-use Rattle.derivations.specs.Access.{Step, Opens, access, AccessFrom}
+use Rattle.setup.specs.Setup.{row}
+use Rattle.derivations.specs.Access.{access, HasAccess, AccessFrom}
 use Rattle.derivations.proofs.Rules.{Lawful, held, monotone, least, union}
 use Rattle.derivations.proofs.Graphs.{access-lawful}
 
 pub closure-unique : (rule : Rule) (set t u : ℕ) → Closure rule set t → Closure rule set u → t ≡ u
-closure-unique rule set t u a b =
-    same-set t u (record { each = λ v m. b .each v .from (a .each v .to m) }) (record { each = λ v m. a .each v .from (b .each v .to m) })
+closure-unique rule set t u a b = one-set (Derivation rule (Member set)) t u (a .each) (b .each)
+
+-- who holds more opens more
+pub opens-more : (g : Graph) (P Q : Vertices) → ((i : ℕ) → P i → Q i) → (v : ℕ) → HasAccess g P v → HasAccess g Q v
+opens-more g P Q h v d = monotone (access g) (access-lawful g) P Q h v d
 
 -- who holds nothing opens nothing: an empty row is no colour
-pub none-opens : (g : Graph) → AccessFrom g 0 0
-none-opens g =
-    record {
-      each = λ v. record {
-        to = λ m. absurd (none-in-zero v m);
-        from = λ d. absurd (least (access g) (access-lawful g) (Member 0) Nothing none-in-zero shut v d);
-      };
-    }
-  where
-    Nothing : Vertices
-    Nothing i = ⊥
+pub nothing-opens : (g : Graph) (P : Vertices) → ((i : ℕ) → P i → ⊥) → (v : ℕ) → HasAccess g P v → ⊥
+nothing-opens g P none v d =
+    least (access g) (access-lawful g) P (λ i. ⊥) none (λ e o. let m = some-member (row g (e .vertex) (e .colour)) (o .coloured) in o .complete (m .0) (m .1)) v d
 
-    shut : (e : Step) → Opens g Nothing e → ⊥
-    shut e o = let m = some-member _ (o .coloured) in o .complete (m .0) (m .1)
+pub none-opens : (g : Graph) → AccessFrom g 0 0
+none-opens g = record { each = λ v. record { to = λ m. absurd (none-in-zero v m); from = λ d. absurd (nothing-opens g (Member 0) none-in-zero v d) } }
 
 -- Where t is the closure of s, and both take in v, the closures of the two are one.
 pub closure-on : (r : Rule) → Lawful r → (s t v s′ t′ u : ℕ) → Closure r s t

@@ -6,7 +6,7 @@ use Prim.Native.Nat.{ℕ, zero, suc, _+_, _≤_, _<_}
 use native.Mathlib.Omega.{arith}
 use Rattle.vertex_set.specs.Set.{Member, Within, countOutside}
 use Rattle.vertex_set.proofs.Outside.{outside-falls}
-use Rattle.vertex_set.proofs.Sets.{same-set}
+use Rattle.vertex_set.proofs.Sets.{same-set, one-set}
 use Rattle.derivations.specs.Derivation.{Rule, Derivation, Closure}
 use Rattle.derivations.specs.Passes.{Allows, Pass, Passes}
 use Rattle.derivations.proofs.Rules.{Lawful, held, monotone, closed, least, twice}
@@ -18,8 +18,7 @@ module _ (r : Rule) where
   pass-grows s t p = record { each = λ v m. p .each v .from (inl m) }
 
   pub pass-unique : (s t t′ : ℕ) → Pass r s t → Pass r s t′ → t ≡ t′
-  pass-unique s t t′ p q =
-      same-set t t′ (record { each = λ v m. q .each v .from (p .each v .to m) }) (record { each = λ v m. p .each v .from (q .each v .to m) })
+  pass-unique s t t′ p q = one-set (λ v. Member s v ⊎ Allows r (Member s) v) t t′ (p .each) (q .each)
 
   -- ---- the number of passes and where they lead
 

@@ -11,15 +11,16 @@ pub record Step : Type 0 where
   pub vertex : ℕ
   pub colour : ℕ
 
--- The vertex's row of that colour is not empty, and lies within what is held.
+-- The row of the step's vertex and colour is not empty, and lies within what is held.
 pub record Opens (g : Graph) (held : Vertices) (e : Step) : Type 0 where
   pub coloured : row g (e .vertex) (e .colour) ≡ 0 → ⊥
   pub complete : (i : ℕ) → Member (row g (e .vertex) (e .colour)) i → held i
 
+-- The rule of access: a step adds its vertex, and is allowed where what is held opens that vertex by the step's colour.
 abbrev pub access : Graph → Rule
 access g = record { Step = Step; adds = λ e. e .vertex; Allowed = Opens g }
 
--- v can be opened by who holds these vertices.
+-- v can be opened by whoever holds these vertices.
 abbrev pub HasAccess : Graph → Vertices → ℕ → Type 0
 HasAccess g held v = Derivation (access g) held v
 

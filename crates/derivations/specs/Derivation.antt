@@ -5,7 +5,7 @@ use mathlib.Core.Logic.{_⊎_}
 use Prim.Native.Nat.{ℕ}
 use Rattle.vertex_set.specs.Set.{Member, Iff}
 
--- The vertices that a rule holds true of, at some moment.
+-- A collection of vertices, as a predicate: what is held, or what is lost.
 abbrev pub Vertices : Type 1
 Vertices = ℕ → Type 0
 

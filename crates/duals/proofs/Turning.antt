@@ -1,6 +1,6 @@
 -- A word turned round by six exchanges of lanes, and the words of a dual family.
 -- Assumes nothing.
-use mathlib.Core.Path.{_≡_, refl, sym, subst, _∙_}
+use mathlib.Core.Path.{_≡_, refl, subst, _∙_}
 use mathlib.Core.Bool.{true, cond}
 use mathlib.Core.List.{List}
 use mathlib.Core.Logic.{inl, inr, ⊎-elim}
@@ -9,14 +9,13 @@ use native.Mathlib.Omega.{arith}
 use lib.Bits.{bitAnd, bitOr}
 use lib.Dec.{eqb, ltb, leb}
 use lib.ListN.{length, getD, set, length-set}
-use lib.Seq.{getD-set-same, getD-set-other}
 use borrow.Author.Tests.{eqb-true, ltb-true, leb-true, eq-eqb, ne-eqb}
 use Rattle.vertex_set.specs.Set.{Member, Iff}
-use Rattle.vertex_set.proofs.Cases.{same-or}
 use Rattle.vertex_set.proofs.Decisions.{iff-refl, iff-trans}
 use Rattle.vertex_set.proofs.Digits.{digit}
 use Rattle.vertex_set.proofs.Sets.{member-or, not-member, in-and, in-or, in-not}
 use Rattle.vertex_set.proofs.Shifts.{in-low, in-high, in-shifted, all, all-at}
+use Rattle.vertex_set.proofs.Filling.{fill-more}
 use Rattle.families.specs.Inner.Family.{In}
 use Rattle.duals.specs.Inner.{TurnedRound, DualWord, Dual}
 
@@ -138,9 +137,7 @@ pub below-more : (f g : List ℕ) (b r : ℕ) → b < 256 → DualBelow f g b �
 below-more f g b r l p w =
     record {
       words = length-set g b r ∙ p .words;
-      done = λ k h. ⊎-elim
-          (λ e. subst (λ (j : ℕ). DualWord f j (getD (set g b r) j 0)) (sym e) (rw (getD-set-same g b r 0 (let z = p .words in omega arith)) w))
-          (λ n. rw (getD-set-other g b k r 0 n) (p .done k (omega (arith, n)))) (same-or k b);
+      done = fill-more 0 (DualWord f) g b r (let z = p .words in omega arith) (p .done) w;
     }
 
 pub below-all : (f g : List ℕ) (b : ℕ) → 256 ≤ b → DualBelow f g b → Dual f g

@@ -113,13 +113,6 @@ minimal-members f g w =
       };
     }
 
--- the word b is written, after those before it
-pub word-more : (f out : List ℕ) (b r : ℕ) → b < length out → ((k : ℕ) → k < b → LeastWord f k (getD out k 0)) → LeastWord f b r
-    → (k : ℕ) → k < b + 1 → LeastWord f k (getD (set out b r) k 0)
-word-more f out b r h p l k lt =
-    ⊎-elim (λ e. subst (λ (j : ℕ). LeastWord f j (getD (set out b r) j 0)) (sym e) (rw (getD-set-same out b r 0 h) l))
-    (λ n. rw (getD-set-other out b k r 0 n) (p k (omega arith))) (same-or k b)
-
 -- ---- minimal members in place, from the last word down
 
 -- Word b is judged by words of numbers up to b alone.

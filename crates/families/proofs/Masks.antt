@@ -13,7 +13,7 @@ use Rattle.vertex_set.specs.Set.{Member, Within, ProperlyWithin, Iff}
 use Rattle.vertex_set.specs.Order.{Before}
 use Rattle.vertex_set.proofs.Cases.{same-or, less-or}
 use Rattle.vertex_set.proofs.Digits.{digit, digit-lt, digit-first, digit-suc}
-use Rattle.vertex_set.proofs.Sets.{member-below, none-in-zero, same-set}
+use Rattle.vertex_set.proofs.Sets.{member-below, none-in-zero, same-set, ones-zero, one-set}
 use Rattle.vertex_set.proofs.Places.{in-first, in-later, places, places-odd, places-even, places-none, lowest}
 use Rattle.vertex_set.proofs.Shifts.{low-first, low-half}
 use Rattle.families.specs.Inner.Masks.{placeAmong, Picked, SetOfMask, MaskOf}
@@ -33,10 +33,6 @@ place-even c v e = let r = place-suc c v in omega arith
 
 place-odd : (c v : ℕ) → c % 2 ≡ 1 → placeAmong c (suc v) ≡ suc (placeAmong (c / 2) v)
 place-odd c v e = let r = place-suc c v in omega arith
-
-ones-zero : ones 0 ≡ 0
-unfolding ones
-ones-zero = refl
 
 -- ---- the set of a mask
 
@@ -116,8 +112,7 @@ pub set-of : (c m : ℕ) → c < 2 ^ 64 → SetOfMask c m (spread 64 c m)
 set-of c m h = record { each = λ v. in-spread 64 c m v h }
 
 pub set-unique : (c m x y : ℕ) → SetOfMask c m x → SetOfMask c m y → x ≡ y
-set-unique c m x y p q =
-    same-set x y (record { each = λ v i. q .each v .from (p .each v .to i) }) (record { each = λ v i. p .each v .from (q .each v .to i) })
+set-unique c m x y p q = one-set (Picked c m) x y (p .each) (q .each)
 
 pub set-is : (c m x : ℕ) → c < 2 ^ 64 → SetOfMask c m x → x ≡ spread 64 c m
 set-is c m x h p = set-unique c m x (spread 64 c m) p (set-of c m h)

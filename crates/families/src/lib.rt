@@ -4,13 +4,15 @@ ghost use mathlib.Core.Path.{_≡_};
 ghost use Prim.Native.Nat.{_≤_, _<_};
 ghost use lib.ListN.{length};
 ghost use lib.Count.{ones};
-ghost use Rattle.families.specs.Inner.Family.{familyWords, size, MinimalMembers};
+ghost use Rattle.families.specs.Inner.Family.{familyWords, maskBits, size, MinimalMembers};
 ghost use Rattle.families.specs.Inner.Masks.{MaskOf};
 ghost use Rattle.families.specs.Inner.Steps.{StepsInWord, StepsToWord, LeastWord};
 use vertex_set::VertexSet;
 
-// A family has 256 words of 64 bits, a bit for each of 2^14 masks.
+// A family has 256 words of 64 bits, a bit for each of 2^14 masks. The number of masks is no mask.
 pub const WORDS: usize = 256;
+
+pub const MASKS: usize = WORDS * 64;
 
 // The number of the family's members.
 pub fn count_members(f: &[u64]) -> usize
@@ -24,7 +26,7 @@ pub fn count_members(f: &[u64]) -> usize
     n
 }
 
-// The lanes whose number is that of a lane in x with one bit more.
+// The lanes whose numbers are those of x's lanes with one more bit set.
 fn steps_in_word(x: u64) -> u64
     ensures { λ r. ⌜ StepsInWord x r ⌝ }
 {
@@ -37,7 +39,7 @@ fn steps_in_word(x: u64) -> u64
     a | b | c | d | e | g
 }
 
-// The lanes that are in some word of the family whose number is b without one of its bits.
+// The lanes that the family has in a word whose number is b less one of its bits.
 fn steps_to_word(f: &[u64], b: usize) -> u64
     requires { ⌜ length (now f) ≡ familyWords ⌝ }
     requires { ⌜ b < familyWords ⌝ }
@@ -92,7 +94,7 @@ pub fn keep_minimal(f: &mut [u64])
 
 // The mask of a set x of chosen vertices, gathered from the lowest chosen vertex to the highest.
 pub fn mask_of(chosen: VertexSet, x: u64) -> usize
-    requires { ⌜ ones (chosen .0) ≤ 14 ⌝ }
+    requires { ⌜ ones (chosen .0) ≤ maskBits ⌝ }
     ensures { λ r. ⌜ MaskOf (chosen .0) x r ⌝ }
 {
     let one: u64 = 1;

@@ -1,7 +1,7 @@
 -- Writing a family's members by size: the lanes of each size, and the loops that append their sums to a list.
 -- Assumes nothing.
 use mathlib.Core.Path.{_≡_, refl, sym, ap, _∙_, subst}
-use mathlib.Core.Bool.{Bool, true, false}
+use mathlib.Core.Bool.{Bool, true}
 use mathlib.Core.Logic.{⊎-elim}
 use mathlib.Core.List.{List, [], _∷_, _++_, map, map-map, map-append, append-nil, append-assoc}
 use Prim.Native.Nat.{ℕ, _+_, _-_, _*_, _/_, _%_, _^_, _≤_, _<_}
@@ -18,7 +18,7 @@ use Rattle.vertex_set.proofs.Cases.{byTest, same-or}
 use Rattle.vertex_set.proofs.Digits.{digit}
 use Rattle.vertex_set.proofs.Sets.{none-in-zero}
 use Rattle.vertex_set.proofs.Places.{places, places-none, places-and, listed-places, length-places, isIn, lowest}
-use Rattle.vertex_set.proofs.Shifts.{all, all-at}
+use Rattle.vertex_set.proofs.Shifts.{all, all-at, flag}
 use Rattle.vertex_set.proofs.Sorted.{map-same, only-append, only-map, only-same}
 use Rattle.written.specs.Inner.{Wrote}
 use Rattle.written.proofs.Writing.{Writing, writing-part, writing-room, writing-end, wrote-one}
@@ -30,10 +30,6 @@ abbrev pub layers : List ℕ
 layers =
     0x0000_0000_0000_0001 ∷ 0x0000_0001_0001_0116 ∷ 0x0001_0116_0116_1668 ∷ 0x0116_1668_1668_6880 ∷ 0x1668_6880_6880_8000
     ∷ 0x6880_8000_8000_0000 ∷ 0x8000_0000_0000_0000 ∷ []
-
-abbrev flag : Bool → ℕ
-flag true = 1
-flag false = 0
 
 -- At each k below 7 and each lane: the lane is in the layer k exactly if its number has k bits.
 abbrev right : ℕ → ℕ → Bool

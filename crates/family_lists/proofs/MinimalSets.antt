@@ -17,7 +17,7 @@ unfolding sumOver
 least-of-minimal c f g value r h q s =
     let down : (m : ℕ) → m < 16384 → In f m → (k : ℕ) × (k < 16384) × Within k m × In g k = above-minimal f g q in
     record {
-      never = λ none. s .never (λ m l i. none m l (q .least m l .to i .is));
+      none = λ no. s .none (λ m l i. no m l (q .least m l .to i .is));
       below = λ m l i. let k = down m l i in s .below (k .0) (k .1) (k .3);
       reached = λ m l i.
           let k = down m l i in

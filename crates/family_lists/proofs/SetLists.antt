@@ -3,12 +3,12 @@
 use mathlib.Core.Path.{_≡_, sym, ap, _∙_, subst}
 use mathlib.Core.List.{List, _++_, map, map-append}
 use Prim.Native.Nat.{ℕ, suc, _+_, _-_, _/_, _%_, _^_, _≤_, _<_}
-use native.Mathlib.Nat.{lt-of-le-of-lt, zero-add}
+use native.Mathlib.Nat.{lt-of-le-of-lt}
 use native.Mathlib.Numerals.{add-one}
 use native.Mathlib.Omega.{arith}
 use lib.Count.{ones, ones-le}
-use lib.ListN.{length, drop, length-map}
-use lib.Seq.{sets, sets-eq}
+use lib.ListN.{length, length-map}
+use lib.Seq.{sets}
 use Rattle.vertex_set.specs.Order.{Listed, Before, sumOver}
 use Rattle.vertex_set.proofs.Sets.{member-below, within-le}
 use Rattle.vertex_set.proofs.Sorted.{listed-map, listed-of-map, map-same, sorted-map, sorted-ordered}
@@ -20,7 +20,7 @@ use Rattle.families.proofs.Masks.{spread, set-of, set-before, set-within}
 use Rattle.sums.specs.Inner.Sums.{sumAt, WeightsOf, SumsFit, SumTable}
 use Rattle.sums.proofs.Weights.{at-split}
 use Rattle.written.specs.Inner.{Wrote}
-use Rattle.written.proofs.Writing.{Writing, writing-part, writing-room, writing-end}
+use Rattle.written.proofs.Writing.{Writing, writing-part, writing-room, writing-end, wrote-front}
 use Rattle.family_lists.specs.Inner.Lists.{ListOf, WroteSets}
 use Rattle.family_lists.specs.Inner.Tables.{TablesFit, sumBy, rising, ofSize, bySize}
 use Rattle.family_lists.proofs.Order.{listed-members, sorted-rising, Words, length-rising, member-small, listed-by-size, sorted-by-size, length-by-size}
@@ -110,11 +110,8 @@ tables-fit ws low high p q f a b =
 
 -- ---- set numbers as sums
 
-spread-small : (c m : ℕ) → c < 2 ^ 64 → spread 64 c m < 2 ^ 64
+pub spread-small : (c m : ℕ) → c < 2 ^ 64 → spread 64 c m < 2 ^ 64
 spread-small c m h = lt-of-le-of-lt (within-le (spread 64 c m) c (set-within c m (spread 64 c m) (set-of c m h))) h
-
-sets-front : (xs entry : List ℕ) → length xs ≤ length entry → sets entry 0 xs ≡ xs ++ drop (length xs) entry
-sets-front xs entry h = sets-eq xs entry 0 (omega arith) ∙ ap (λ (n : ℕ). xs ++ drop n entry) (zero-add (length xs))
 
 module _ (value : ℕ → ℕ) (one : (v : ℕ) → v < 64 → value v ≡ 2 ^ v) (c : ℕ) (h : c < 2 ^ 64) (ws : List ℕ) (w : WeightsOf c value ws) where
   pub number-sum : (m : ℕ) → sumAt ws m ≡ spread 64 c m
@@ -140,5 +137,5 @@ module _ (value : ℕ → ℕ) (one : (v : ℕ) → v < 64 → value v ≡ 2 ^ v
         is = list-of c f h e o;
         count = omega (arith, l .next);
         all = sym n;
-        wrote = l .exit ∙ sets-front (setsOf c f) entry (omega arith);
+        wrote = wrote-front entry (setsOf c f) after r (omega arith) l;
       }

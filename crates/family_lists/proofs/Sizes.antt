@@ -4,7 +4,7 @@ use mathlib.Core.Path.{_≡_, refl, sym, ap, _∙_, subst}
 use mathlib.Core.Bool.{Bool, true, false}
 use mathlib.Core.Logic.{_⊎_, inl, inr, ⊎-elim}
 use mathlib.Core.List.{List, [], _∷_, _++_, map}
-use Prim.Native.Nat.{ℕ, zero, suc, _+_, _*_, _/_, _%_, _^_, _<_}
+use Prim.Native.Nat.{ℕ, _+_, _*_, _/_, _%_, _^_, _<_}
 use native.Mathlib.Omega.{arith}
 use lib.Bits.{bitAnd, bitOr}
 use lib.Count.{ones, ones-le}
@@ -15,6 +15,7 @@ use Rattle.vertex_set.specs.Order.{Listed}
 use Rattle.vertex_set.proofs.Cases.{same-or, false-true}
 use Rattle.vertex_set.proofs.Sets.{none-in-zero, member-below, in-or, meets-test, meets-not}
 use Rattle.vertex_set.proofs.Sorted.{listed-append}
+use Rattle.vertex_set.proofs.Lists.{zeros}
 use Rattle.families.specs.Inner.Family.{In}
 use Rattle.written.specs.Inner.{Wrote}
 use Rattle.written.proofs.Writing.{wrote-none}
@@ -42,11 +43,6 @@ InWord f ws k i = (b : ℕ) × Listed ws b × (ones b ≡ k) × Member (getD f b
 -- At k stand these lanes.
 pub record Joining (f ws joined : List ℕ) : Type 0 where
   pub each : (k i : ℕ) → Iff (Member (getD joined k 0) i) (InWord f ws k i)
-
-zeros : (n k : ℕ) → getD {A = ℕ} (replicate n 0) k 0 ≡ 0
-zeros zero k = refl
-zeros (suc n) zero = refl
-zeros (suc n) (suc k) = zeros n k
 
 pub joining-none : (f : List ℕ) (n : ℕ) → Joining f [] (replicate n 0)
 joining-none f n =

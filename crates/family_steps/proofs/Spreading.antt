@@ -6,10 +6,10 @@ use native.Mathlib.Nat.{pow-suc}
 use native.Mathlib.Omega.{arith}
 use lib.Count.{trailingZeros}
 use lib.Pow.{shl-exact}
-use Rattle.vertex_set.proofs.Sets.{within-le}
 use Rattle.vertex_set.proofs.Places.{member-le, lowest-member, lowest}
 use Rattle.families.specs.Inner.Masks.{SetOfMask}
-use Rattle.families.proofs.Masks.{spread, spread-even, spread-odd, by-parity, set-of, set-within}
+use Rattle.families.proofs.Masks.{spread, spread-even, spread-odd, by-parity, set-of}
+use Rattle.family_lists.proofs.SetLists.{spread-small}
 
 -- The lowest chosen vertex stands for the mask's lowest bit.
 abbrev LowestTaken : ℕ → ℕ → ℕ → Type 0
@@ -57,9 +57,6 @@ pub record Spreading (c m rest bits set : ℕ) : Type 0 where
 pub spreading-none : (c m : ℕ) → c < 2 ^ 64 → Spreading c m c m 0
 spreading-none c m h = record { small = h; value = omega arith }
 
-spread-bound : (c m : ℕ) → c < 2 ^ 64 → spread 64 c m < 2 ^ 64
-spread-bound c m h = let l = within-le (spread 64 c m) c (set-within c m (spread 64 c m) (set-of c m h)) in omega arith
-
 module _ (c m rest bits set : ℕ) (g : Spreading c m rest bits set) (n : rest ≡ 0 → ⊥) where
   -- the bit's vertex, as the machine shifts it
   shifted : (bits % 2 * 2 ^ trailingZeros 64 rest) % 2 ^ 64 ≡ bits % 2 * 2 ^ trailingZeros 64 rest
@@ -68,7 +65,7 @@ module _ (c m rest bits set : ℕ) (g : Spreading c m rest bits set) (n : rest �
   pub spreading-fits : c < 2 ^ 64 → set + (bits % 2 * 2 ^ trailingZeros 64 rest) % 2 ^ 64 < 2 ^ 64
   spreading-fits h =
       let t = lowest-taken 64 rest bits (g .small) n in
-      let b = spread-bound c m h in
+      let b = spread-small c m h in
       let v = g .value in
       rw shifted (omega arith)
 

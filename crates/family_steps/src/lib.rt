@@ -6,11 +6,9 @@ ghost use lib.ListN.{length};
 ghost use Rattle.families.specs.Inner.Family.{familyWords, masks};
 ghost use Rattle.families.specs.Inner.Masks.{SetOfMask};
 ghost use Rattle.family_steps.specs.Inner.{LanesFrom, FirstOfSize, NextMember};
+use families::MASKS;
 use families::WORDS;
 use vertex_set::VertexSet;
-
-// A family has a bit for each of 2^14 masks; this number is no mask.
-pub const MASKS: usize = 16_384;
 
 // The most bits that a mask has, and one more.
 const SIZES: usize = 15;

@@ -29,14 +29,15 @@ pub fn copy_in(d: &mut [u64], s: &[u64])
     }
 }
 
-// The bits of both words or, with any, of either.
+// The bits that both words have or, with `any`, that one of them has.
 fn merged(any: bool, x: u64, y: u64) -> u64
     ensures { λ r. ⌜ r ≡ mergedWord any x y ⌝ }
 {
     if any { x | y } else { x & y }
 }
 
-// The family keeps the masks that the other has or, with any, gains them.
+// The family keeps only the masks that the other has too or, with `any`, gains those that the other
+// has.
 pub fn merge_in(any: bool, d: &mut [u64], s: &[u64])
     requires { ⌜ length (now d) ≡ familyWords ⌝ }
     requires { ⌜ length (now s) ≡ familyWords ⌝ }

@@ -4,7 +4,7 @@ use mathlib.Core.Path.{_≡_, sym, subst, _∙_}
 use mathlib.Core.Bool.{Bool, true, false}
 use Prim.Native.Nat.{ℕ}
 use Rattle.vertex_set.specs.Set.{Member}
-use Rattle.vertex_set.proofs.Sets.{same-set}
+use Rattle.vertex_set.proofs.Sets.{same-set, one-set}
 use Rattle.setup.specs.declared.Graph.{Graph}
 use Rattle.setup.specs.declared.Setup.{Setup}
 use Rattle.setup.specs.Setup.{row, Edge, WithoutRecovery}
@@ -82,9 +82,7 @@ pub without-alike : (s : Setup) (g g′ : Graph) → WithoutRecovery s g → Wit
 without-alike s g g′ a b =
     record {
       needs = λ f v c u m. tt;
-      same = λ v c u. same-set (row g v c) (row g′ v c)
-          (record { each = λ f m. b .each f v c .from (a .each f v c .to m) })
-          (record { each = λ f m. a .each f v c .from (b .each f v c .to m) });
+      same = λ v c u. one-set _ (row g v c) (row g′ v c) (λ f. a .each f v c) (λ f. b .each f v c);
     }
 
 -- it is the setup's own where no recovery edge is on the way

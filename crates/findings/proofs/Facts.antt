@@ -14,7 +14,8 @@ use Rattle.setup.specs.Setup.{vertexAt, Edge, WithoutRecovery}
 use Rattle.formed.specs.WellFormed.{WellFormed}
 use Rattle.derivations.specs.Derivation.{Vertices}
 use Rattle.bases.specs.Base.{TargetSet}
-use Rattle.bases.specs.Score.{never, Score}
+use Rattle.scores.specs.Never.{never}
+use Rattle.bases.specs.Score.{Score}
 use Rattle.findings.specs.Findings.{Compared, FindsBackdoor, FindsIneffective, FindsInconsistent}
 use Rattle.findings.specs.Answers.{yesNo, FindingCall, BackdoorCall, IneffectiveCall, InconsistentCall}
 use Rattle.findings.proofs.Alike.{score-alike, recovery-alike}

@@ -16,7 +16,8 @@ use Rattle.derivations.specs.Access.{Step, Opens, access, HasAccess}
 use Rattle.derivations.proofs.Rules.{held, closed, least}
 use Rattle.derivations.proofs.Graphs.{access-lawful}
 use Rattle.bases.specs.Base.{TargetSet}
-use Rattle.bases.specs.Score.{never, Score}
+use Rattle.scores.specs.Never.{never}
+use Rattle.bases.specs.Score.{Score}
 use Rattle.findings.specs.Findings.{Compared, NoEasierRoute}
 
 module _ (s : Setup) (g : Graph) (h : WithoutRecovery s g) where

@@ -2,19 +2,19 @@
 -- Assumes nothing.
 use mathlib.Core.Path.{_≡_, refl, sym, ap, subst, _∙_}
 use mathlib.Core.Bool.{Bool, true, false}
-use mathlib.Core.HLevel.{dec→stable}
-use mathlib.Core.List.{List, [], _∷_, List-discrete}
+use mathlib.Core.List.{List, [], _∷_}
 use mathlib.Core.Logic.{_⊎_, inl, inr, ⊎-elim}
 use Prim.Native.Nat.{ℕ, _≤_, _<_}
-use native.Mathlib.Decide.{ℕ-discrete}
 use Rattle.vertex_set.specs.Set.{Decides}
 use Rattle.vertex_set.specs.Order.{Listed}
 use Rattle.vertex_set.proofs.Cases.{less-or}
 use Rattle.vertex_set.proofs.Decisions.{decide-iff}
+use Rattle.vertex_set.proofs.Stable.{by-cases}
 use Rattle.setup.specs.declared.Setup.{Setup}
 use Rattle.setup.specs.Setup.{vertexAt}
 use Rattle.formed.specs.WellFormed.{WellFormed}
-use Rattle.setup.specs.Calls.{Refuses, Same}
+use Rattle.setup.specs.Calls.{Same}
+use Rattle.setup.proofs.Calls.{same-stable, alike, refused}
 use Rattle.bases.specs.Score.{Score}
 use Rattle.reference.proofs.Unique.{score-unique}
 use Rattle.findings.specs.Findings.{Compared, FindsBackdoor, FindsIneffective, FindsInconsistent}
@@ -80,9 +80,6 @@ all-below n (x ∷ vertices) = first (less-or x n) (all-below n vertices)
 
 module _ (Finds : Bool → Type 0) (unique : (b b′ : Bool) → Finds b → Finds b′ → b ≡ b′) (s : Setup) (vertices : List ℕ) where
   module _ (n n′ : ℕ) (v v′ : List ℕ) (a : FindingCall Finds s vertices n v) (b : FindingCall Finds s vertices n′ v′) where
-    refused : {q : ℕ} → Refuses q n v → Refuses q n′ v′ → Same n n′ v v′
-    refused p q = record { number = p .numbered ∙ sym (q .numbered); values = p .empty ∙ sym (q .empty) }
-
     formed : WellFormed s → Same n n′ v v′
     formed w = ⊎-elim answered (λ h. refused (a .noVertex w (h .0) (h .1) (h .2)) (b .noVertex w (h .0) (h .1) (h .2))) (all-below (s .count) vertices)
       where
@@ -91,18 +88,10 @@ module _ (Finds : Bool → Type 0) (unique : (b b′ : Bool) → Finds b → Fin
             let p = a .answers w l in
             let q = b .answers w l in
             let e = unique (p .0) (q .0) (p .3) (q .3) in
-            record { number = p .1 ∙ sym (q .1); values = p .2 ∙ ap (λ (x : Bool). yesNo x ∷ []) e ∙ sym (q .2) }
+            alike (p .1) (p .2) (q .1) (q .2 ∙ ap (λ (x : Bool). yesNo x ∷ []) (sym e))
 
-    -- equations of numbers and of lists are decided, so that question 12 need not be
     pub one-finding-answer : Same n n′ v v′
-    one-finding-answer =
-        record {
-          number = dec→stable (ℕ-discrete n n′) (λ d. d (refused′ (λ w. d (formed w .number)) .number));
-          values = dec→stable (List-discrete ℕ-discrete v v′) (λ d. d (refused′ (λ w. d (formed w .values)) .values));
-        }
-      where
-        refused′ : (WellFormed s → ⊥) → Same n n′ v v′
-        refused′ m = refused (a .malformed m) (b .malformed m)
+    one-finding-answer = by-cases (WellFormed s) same-stable formed (λ m. refused (a .malformed m) (b .malformed m))
 
 pub one-backdoor-answer : (s : Setup) (x n n′ : ℕ) (v v′ : List ℕ) → BackdoorCall s x n v → BackdoorCall s x n′ v′ → Same n n′ v v′
 one-backdoor-answer s x = one-finding-answer (FindsBackdoor s x) (backdoor-unique s x) s (x ∷ [])

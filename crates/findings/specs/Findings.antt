@@ -36,18 +36,21 @@ pub record Inconsistent (s : Setup) (v w r r′ : ℕ) : Type 0 where
 
 -- ---- the answers: there are scores r and r′, and the answer is yes exactly where they make the finding
 
+-- The answer is yes exactly where v has a backdoor (definition 26).
 pub record FindsBackdoor (s : Setup) (v : ℕ) (answer : Bool) : Type 0 where
   pub score : ℕ
   pub without : ℕ
   pub are : Compared false s v score without
   pub decides : Decides (Backdoor s v score without) answer
 
+-- The answer is yes exactly where v's recovery is ineffective (definition 27; document 01: idle).
 pub record FindsIneffective (s : Setup) (v : ℕ) (answer : Bool) : Type 0 where
   pub score : ℕ
   pub without : ℕ
   pub are : Compared true s v score without
   pub decides : Decides (IneffectiveRecovery s v score without) answer
 
+-- The answer is yes exactly where v and w are inconsistent (definition 28; document 01: out of rank).
 pub record FindsInconsistent (s : Setup) (v w : ℕ) (answer : Bool) : Type 0 where
   pub score : ℕ
   pub other : ℕ
@@ -57,8 +60,8 @@ pub record FindsInconsistent (s : Setup) (v w : ℕ) (answer : Bool) : Type 0 wh
 
 -- ---- without recovery no route is easier (document 02, point 3)
 
--- Who opens v without recovery opens it with recovery; so the security score without recovery is at least that with it. Where only the recovery edges
--- are taken out this is false: what is left of their colour takes less than before. Of losses nothing like it holds.
+-- Whoever opens v without recovery opens it with recovery; so the security score without recovery is at least that with it. Where only the recovery
+-- edges are taken out this is false: what is left of their colour takes less than before. Of losses nothing like it holds.
 pub record NoEasierRoute (s : Setup) : Type 1 where
   pub opens : (g : Graph) → WithoutRecovery s g → (held : Vertices) (v : ℕ) → HasAccess g held v → HasAccess (s .graph) held v
   pub score : (v r r′ : ℕ) → Compared false s v r r′ → r ≤ r′

@@ -2,7 +2,7 @@
 ghost use mathlib.Core.Bool.{true, false};
 ghost use Prim.Native.Nat.{_<_};
 ghost use Rattle.bases.specs.Score.{Score};
-ghost use Rattle.answers.specs.Inner.{Asked};
+ghost use Rattle.formed.specs.Inner.Answerable.{Answerable};
 ghost use Rattle.findings.specs.Findings.{FindsBackdoor, FindsIneffective, FindsInconsistent};
 ghost use Rattle.findings.specs.Answers.{findingNumber, findingValues, BackdoorCall, IneffectiveCall, InconsistentCall};
 use scores::RecoverabilityScore;
@@ -17,7 +17,7 @@ pub enum FindingAnswer {
 
 // The security score of v in the setup's own graph, or in the graph without recovery.
 fn security_in(s: Setup, graph: Graph, v: usize) -> SecurityScore
-    requires { ⌜ Asked s v ⌝ }
+    requires { ⌜ Answerable s v ⌝ }
     ensures { λ r. ⌜ Score false s graph v (r .0) ⌝ }
 {
     let r = bases::score_of(s, graph, false, v);
@@ -26,7 +26,7 @@ fn security_in(s: Setup, graph: Graph, v: usize) -> SecurityScore
 
 // The recoverability score of v in the setup's own graph, or in the graph without recovery.
 fn recoverability_in(s: Setup, graph: Graph, v: usize) -> RecoverabilityScore
-    requires { ⌜ Asked s v ⌝ }
+    requires { ⌜ Answerable s v ⌝ }
     ensures { λ r. ⌜ Score true s graph v (r .0) ⌝ }
 {
     let r = bases::score_of(s, graph, true, v);
@@ -34,7 +34,7 @@ fn recoverability_in(s: Setup, graph: Graph, v: usize) -> RecoverabilityScore
 }
 
 fn find_backdoor(s: Setup, v: usize) -> bool
-    requires { ⌜ Asked s v ⌝ }
+    requires { ⌜ Answerable s v ⌝ }
     ensures { λ r. ⌜ FindsBackdoor s v r ⌝ }
 {
     let graph = s.graph;
@@ -45,7 +45,7 @@ fn find_backdoor(s: Setup, v: usize) -> bool
 }
 
 fn find_ineffective(s: Setup, v: usize) -> bool
-    requires { ⌜ Asked s v ⌝ }
+    requires { ⌜ Answerable s v ⌝ }
     ensures { λ r. ⌜ FindsIneffective s v r ⌝ }
 {
     let graph = s.graph;
@@ -57,7 +57,7 @@ fn find_ineffective(s: Setup, v: usize) -> bool
 
 // The ranks are compared first: where v has not the higher rank, no score has to be worked out.
 fn find_inconsistent(s: Setup, v: usize, w: usize) -> bool
-    requires { ⌜ Asked s v × (w < s .count) ⌝ }
+    requires { ⌜ Answerable s v × (w < s .count) ⌝ }
     ensures { λ r. ⌜ FindsInconsistent s v w r ⌝ }
 {
     let graph = s.graph;

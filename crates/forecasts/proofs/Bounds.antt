@@ -13,7 +13,7 @@ use lib.ListN.{length}
 use Rattle.vertex_set.specs.Set.{Member, Within}
 use Rattle.vertex_set.specs.Order.{Listed}
 use Rattle.vertex_set.proofs.Cases.{same-or}
-use Rattle.vertex_set.proofs.Sets.{in-and, same-set, inserted-new}
+use Rattle.vertex_set.proofs.Sets.{in-and, inserted-new, one-set}
 use Rattle.vertex_set.proofs.Places.{ones-within}
 use Rattle.setup.specs.declared.Graph.{Graph}
 use Rattle.setup.specs.declared.Setup.{Setup}
@@ -116,8 +116,7 @@ longest-base loss s g target l w b = longest-chosen loss s l w (λ x m. b .sound
 -- ---- the counted set
 
 pub counted-once : CountedOnce
-counted-once s target r q a b =
-    same-set r q (record { each = λ v m. b .each v .from (a .each v .to m) }) (record { each = λ v m. a .each v .from (b .each v .to m) })
+counted-once s target r q a b = one-set (λ v. Chosen false s v × Reaches (s .graph) target v) r q (a .each) (b .each)
 
 module _ (s : Setup) (target initial found : ℕ) (i : ChosenSet false s initial) (r : ReachingSet (s .graph) target found) where
   pub counted-set : CountedSet s target (bitAnd initial found)

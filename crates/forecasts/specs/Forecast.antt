@@ -12,7 +12,7 @@ use Rattle.setup.specs.declared.Setup.{Setup}
 use Rattle.setup.specs.Setup.{Edge, Chosen}
 use Rattle.formed.specs.WellFormed.{WellFormed}
 use Rattle.bases.specs.Base.{Base}
-use Rattle.antichains.specs.Antichains.{choose}
+use Rattle.antichains.specs.Antichains.{choose, mostSets}
 
 -- v is the target, or has an edge to a vertex that reaches it. Colours are disregarded, and so is what else a colour needs.
 pub data Reaches (g : Graph) (target : ℕ) : ℕ → Type 0 where
@@ -33,13 +33,13 @@ pub record Forecast (s : Setup) (target counted n : ℕ) : Type 0 where
 
 -- ---- theorems
 
--- No access base of any setup, so none of an accepted one, is longer than the forecast, and each vertex of each set in it is counted.
+-- No access base of any setup, well formed or not, is longer than the forecast, and each vertex of each set in it is counted.
 abbrev pub ForecastHolds : Type 0
 ForecastHolds = (s : Setup) (target counted n : ℕ) → CountedSet s target counted → n ≡ choose (ones counted) (ones counted / 2) → Forecast s target counted n
 
 -- No access base and no lockout base of a well-formed setup, whatever the graph, has more than 3,432 sets.
 abbrev pub LongestBase : Type 0
-LongestBase = (loss : Bool) (s : Setup) (g : Graph) (target : ℕ) (l : List ℕ) → WellFormed s → Base loss s g target l → length l ≤ 3432
+LongestBase = (loss : Bool) (s : Setup) (g : Graph) (target : ℕ) (l : List ℕ) → WellFormed s → Base loss s g target l → length l ≤ mostSets
 
 -- There is one set of counted vertices.
 abbrev pub CountedOnce : Type 0

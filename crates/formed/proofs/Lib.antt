@@ -1,4 +1,6 @@
+pub mod Asking
 pub mod Edges
+pub mod Facts
 pub mod Holding
 pub mod Vertices
 pub mod Whole

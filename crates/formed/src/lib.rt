@@ -14,8 +14,6 @@ use setup::Value;
 use setup::Vertex;
 use vertex_set::VertexSet;
 
-const VERTICES: usize = 64;
-
 fn value_in_range(x: Value) -> bool
     ensures { λ r. ⌜ Decides (InRange x) r ⌝ }
 {
@@ -74,8 +72,9 @@ fn vertex_fits(count: usize, v: usize, x: Vertex) -> bool
     }
 }
 
-// What strays is gathered over all colours and looked at once: without a branch for each row the
-// compiler takes several rows at a time.
+// Is each row within the bound, and each recovery row within its row? What strays is gathered over
+// all colours and looked at once: without a branch for each row the compiler takes several rows at
+// a time.
 fn rows_fit(bound: VertexSet, rows: Rows, recovery: Rows) -> bool
     ensures { λ r. ⌜ Decides (RowsFit (bound .0) rows recovery) r ⌝ }
 {
@@ -130,7 +129,7 @@ fn graphs_fit(count: usize, graph: Graph, recovery: Graph) -> bool
             return false;
         }
     }
-    edges <= setup::MAX_EDGES
+    edges <= setup::MAX_EDGES as u32
 }
 
 fn count_given(x: Value) -> u32
@@ -158,14 +157,16 @@ fn vertices_fit(count: usize, vertices: [Vertex; 64]) -> bool
             return false;
         }
     }
-    if setup::MAX_CHOSEN < initial {
+    let most = setup::MAX_CHOSEN as u32;
+    if most < initial {
         return false;
     }
-    losable <= setup::MAX_CHOSEN
+    losable <= most
 }
 
-// Are only vertices of the setup held, and is `opened` what they open? A test for a closed set would
-// let in a ring that holds itself up. Nothing opens nothing, which spares most setups the passes.
+// Are only vertices of the setup held, and is `opened` what they open? A test for a closed set
+// would let in a ring that holds itself up. Where nothing is held nothing is open, so most setups
+// need no passes.
 fn holding_fits(count: usize, graph: Graph, held: VertexSet, opened: VertexSet) -> bool
     ensures { λ r. ⌜ Decides (HoldingFits count graph (held .0) (opened .0)) r ⌝ }
 {
@@ -190,7 +191,7 @@ pub fn well_formed(s: Setup) -> bool
     if count == 0 {
         return false;
     }
-    if VERTICES < count {
+    if setup::MAX_ITEMS < count {
         return false;
     }
     let graph = s.graph;

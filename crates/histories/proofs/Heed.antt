@@ -28,13 +28,17 @@ use Rattle.next_sets.proofs.Changes.{drawing-alone}
 use Rattle.cut_sets.specs.Cuts.{CutSet}
 use Rattle.cut_sets.specs.Answers.{CutsCall}
 use Rattle.cut_sets.proofs.Theorems.{duality-holds}
-use Rattle.attackers.specs.Attackers.{OfBase, InScore, AttackerScore}
+use Rattle.attackers.specs.Attackers.{OfBase, KindInScore, AttackerScore}
 use Rattle.attackers.specs.Answers.{AttackerCall}
 use Rattle.multisets.specs.Multisets.{placesOf}
 use Rattle.multiset_scores.specs.Scores.{multisetOf, FirstInScore, allPlaces, allLengths}
 use Rattle.multiset_scores.specs.Answers.{MultisetsCall}
+use Rattle.records.specs.declared.Record.{Record}
+use Rattle.records.specs.declared.Registered.{Registered}
+use Rattle.records.specs.Records.{RecordOf}
+use Rattle.register.specs.Calls.{HandInCall}
 use Rattle.histories.specs.NoHeed.{OnlyHolding, SameAnswers, NoHeed}
-use Rattle.histories.proofs.Reaching.{holding}
+use Rattle.setup.specs.Inner.{holding}
 
 -- ---- sets, lists and scores: count, vertices and graphs are the setup's own
 
@@ -178,7 +182,7 @@ smallest-cut s h o target x c =
 of-base : (s : Setup) (h o : VertexSet) (kinds : List ℕ) (target k : ℕ) → OfBase s kinds target k → OfBase (holding s h o) kinds target k
 of-base s h o kinds target k b = record { set = b .set; is = minimal-too s h o false (s .graph) target (b .set) (b .is); attacker = b .attacker }
 
-in-score : (s : Setup) (h o : VertexSet) (kinds : List ℕ) (target k : ℕ) → InScore s kinds target k → InScore (holding s h o) kinds target k
+in-score : (s : Setup) (h o : VertexSet) (kinds : List ℕ) (target k : ℕ) → KindInScore s kinds target k → KindInScore (holding s h o) kinds target k
 in-score s h o kinds target k c =
     record { is = of-base s h o kinds target k (c .is); none = λ j b. c .none j (of-base (holding s h o) (s .held) (s .opened) kinds target j b) }
 
@@ -356,6 +360,28 @@ module _ (s : Setup) (h o : VertexSet) (w : WellFormed s) (u : WellFormed (holdi
             );
       }
 
+  record-too : (student target : ℕ) (loss : Bool) (handed : List ℕ) (r : Record) → RecordOf s student target loss handed r
+      → RecordOf (holding s h o) student target loss handed r
+  record-too student target loss handed r c =
+      let back = once-too (holding s h o) (s .held) (s .opened) loss (s .graph) target handed in
+      record {
+        isStudent = c .isStudent;
+        isTarget = c .isTarget;
+        isWay = c .isWay;
+        counts = counts-too s h o loss (s .graph) target handed (r .right) (r .repeated) (r .shut) (r .loose) (r .missing) (c .counts);
+        full = record { to = λ f. once-too s h o loss (s .graph) target handed (c .full .to f); from = λ b. c .full .from (back b) };
+      }
+
+  hand-in-call : (used student target : ℕ) (loss : Bool) (handed : List ℕ) (r : Registered) (a x : List Record) → HandInCall s used student target loss handed r a x
+      → HandInCall (holding s h o) used student target loss handed r a x
+  hand-in-call used student target loss handed r a x c =
+      record {
+        overfull = c .overfull;
+        malformed = λ e m. absurd (m u);
+        noTarget = λ e z l. c .noTarget e w l;
+        answers = λ e z l. let k = c .answers e w l in (k .0, record-too student target loss handed (k .0) (k .1), k .2);
+      }
+
 same-answers : (s : Setup) (h o : VertexSet) → WellFormed s → WellFormed (holding s h o) → SameAnswers s (holding s h o)
 same-answers s h o w u =
     record {
@@ -374,6 +400,7 @@ same-answers s h o w u =
       cuts = cuts-call s h o w u;
       attackers = attacker-call s h o w u;
       multisets = multisets-call s h o w u;
+      handIn = hand-in-call s h o w u;
     }
 
 pub no-heed : NoHeed

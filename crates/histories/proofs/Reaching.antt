@@ -1,6 +1,6 @@
 -- Question 12: every well-formed setup is reached, by a sheet of the same drawing and by taking in what is held, one vertex after the other.
 -- Assumes nothing.
-use mathlib.Core.Path.{_≡_, refl, sym, ap, subst}
+use mathlib.Core.Path.{_≡_, refl, sym, subst}
 use mathlib.Core.Bool.{false}
 use mathlib.Core.List.{[], _∷_, _++_}
 use mathlib.Core.Logic.{inl, inr, ⊎-elim}
@@ -15,6 +15,7 @@ use Rattle.vertex_set.proofs.Decisions.{iff-refl}
 use Rattle.vertex_set.proofs.Sets.{member-or, none-in-zero, same-set, in-and, below-power}
 use Rattle.setup.specs.declared.Setup.{Setup}
 use Rattle.setup.specs.Setup.{chosenCount}
+use Rattle.setup.specs.Inner.{holding}
 use Rattle.formed.specs.WellFormed.{WellFormed}
 use Rattle.derivations.specs.Access.{access, AccessFrom}
 use Rattle.derivations.proofs.Closures.{closure-unique}
@@ -26,10 +27,6 @@ use Rattle.living.proofs.Calls.{hold-done}
 use Rattle.sheet_format.proofs.Question12.{question-12-sheets, yielded-formed}
 use Rattle.histories.specs.Histories.{Reached, Question12}
 use Rattle.histories.proofs.Runs.{follow, fresh-left, ran-more}
-
--- The setup s with another held and another opened set.
-abbrev pub holding : Setup → VertexSet → VertexSet → Setup
-holding s h o = record { count = s .count; vertices = s .vertices; graph = s .graph; recovery = s .recovery; held = h; opened = o }
 
 pub holding-formed : (s : Setup) (h o : VertexSet) → WellFormed s → ((v : ℕ) → Member (h .0) v → v < s .count) → AccessFrom (s .graph) (h .0) (o .0)
     → WellFormed (holding s h o)
@@ -63,7 +60,7 @@ further s t c n r a =
     }
 
 -- the setup with x held, and what x opens
-withHeld : Setup → ℕ → Setup
+abbrev pub withHeld : Setup → ℕ → Setup
 withHeld s x = holding s (record { 0 = x }) (record { 0 = closureOf false (s .count) (s .graph) x })
 
 module _ (s : Setup) (w : WellFormed s) where
@@ -85,14 +82,12 @@ module _ (s : Setup) (w : WellFormed s) where
       }
 
   part-formed : (k : ℕ) → k ≤ 64 → WellFormed (withHeld s (lower k))
-  unfolding withHeld
   part-formed k l = holding-formed s _ _ w (λ v m. w .holds .each v (in-lower k v l .to m .0)) (opens (lower k))
 
   -- one held vertex more
   takes : (k : ℕ) → suc k ≤ 64 → Member (s .held .0) k → CallOf (TakeIn k) (withHeld s (lower k)) 0 (withHeld s (lower (suc k)))
-  unfolding withHeld
   takes k l m =
-      hold-done (withHeld s (lower k)) k (TakeIn k) (withHeld s (lower (suc k))) (part-formed k (omega arith)) (w .holds .each k m)
+      hold-done (withHeld s (lower k)) k (TakeIn k) 0 (withHeld s (lower (suc k))) refl (part-formed k (omega arith)) (w .holds .each k m)
       (record {
         count = refl;
         vertices = refl;
@@ -133,7 +128,6 @@ module _ (s : Setup) (w : WellFormed s) where
       (record { each = λ i m. in-lower 64 i (omega arith) .from (m, lt-of-lt-of-le (w .holds .each i m) (w .most)) })
 
   unheld : withHeld s (lower 0) .held .0 ≡ 0
-  unfolding withHeld
   unheld = none
 
   reach : (k : ℕ) → k ≤ 64 → Reached (withHeld s (lower k))
@@ -148,7 +142,6 @@ module _ (s : Setup) (w : WellFormed s) where
 
   -- what is held opens what is opened, and so the setup is reached
   whole : withHeld s (s .held .0) ≡ s
-  unfolding withHeld
   whole =
       let o : closureOf false (s .count) (s .graph) (s .held .0) ≡ s .opened .0 =
       closure-unique (access (s .graph)) (s .held .0) (closureOf false (s .count) (s .graph) (s .held .0)) (s .opened .0) (opens (s .held .0)) (w .opens) in

@@ -14,6 +14,9 @@ use Rattle.next_sets.specs.Answers.{NextCall}
 use Rattle.cut_sets.specs.Answers.{CutsCall}
 use Rattle.attackers.specs.Answers.{AttackerCall}
 use Rattle.multiset_scores.specs.Answers.{MultisetsCall}
+use Rattle.records.specs.declared.Record.{Record}
+use Rattle.records.specs.declared.Registered.{Registered}
+use Rattle.register.specs.Calls.{HandInCall}
 
 -- Two setups that pass question 12 and differ in nothing but what is held and what it opens.
 pub record OnlyHolding (s t : Setup) : Type 0 where
@@ -24,7 +27,7 @@ pub record OnlyHolding (s t : Setup) : Type 0 where
   pub graph : s .graph ≡ t .graph
   pub recovery : s .recovery ≡ t .recovery
 
--- What each call may answer on the one, lent lists included, it may answer on the other; and each has one answer only.
+-- What each call may answer on the one, with all that is lent to it, it may answer on the other; and each has one answer only.
 pub record SameAnswers (s t : Setup) : Type 0 where
   pub closure : (set n : ℕ) (v : List ℕ) → ClosureCall s set n v → ClosureCall t set n v
   pub lost : (set n : ℕ) (v : List ℕ) → LostCall s set n v → LostCall t set n v
@@ -41,6 +44,9 @@ pub record SameAnswers (s t : Setup) : Type 0 where
   pub cuts : (target n : ℕ) (v a x : List ℕ) → CutsCall s target n v a x → CutsCall t target n v a x
   pub attackers : (target : ℕ) (kinds : List ℕ) (n : ℕ) (v : List ℕ) → AttackerCall s target kinds n v → AttackerCall t target kinds n v
   pub multisets : (target n : ℕ) (v a x b y : List ℕ) → MultisetsCall s target n v a x b y → MultisetsCall t target n v a x b y
+  pub handIn : (used student target : ℕ) (loss : Bool) (handed : List ℕ) (r : Registered) (a x : List Record)
+      → HandInCall s used student target loss handed r a x → HandInCall t used student target loss handed r a x
 
+-- Setups that differ only in what is held, and in what it opens, get the same answers.
 abbrev pub NoHeed : Type 0
 NoHeed = (s t : Setup) → OnlyHolding s t → SameAnswers s t

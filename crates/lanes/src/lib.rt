@@ -51,8 +51,8 @@ fn take_colour(w: &[u64], row: u64, loss: bool, out: &mut [u64])
     family_words::merge_in(!loss, out, &part);
 }
 
-// Each word of a family before any colour is taken in: gaining begins with no mask, keeping with
-// all.
+// Each word of a family before any colour is taken in: for access no mask, since colours add masks;
+// for lockout all, since colours take masks away.
 fn untaken(loss: bool) -> u64
     ensures { λ r. ⌜ r ≡ untakenWord loss ⌝ }
 {

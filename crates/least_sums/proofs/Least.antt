@@ -12,6 +12,7 @@ use Rattle.vertex_set.proofs.Cases.{less-or}
 use Rattle.vertex_set.proofs.Places.{places, places-none, lowest}
 use Rattle.vertex_set.proofs.Sorted.{listed-map, listed-of-map}
 use Rattle.vertex_set.proofs.Sums.{sum-bound}
+use Rattle.scores.specs.Never.{never}
 use Rattle.families.specs.Inner.Family.{In}
 use Rattle.families.proofs.Masks.{spread, set-of, set-within}
 use Rattle.family_lists.specs.Inner.Lists.{Summable, SumTables, SumOfMember, LeastSum, LeastBy}
@@ -65,7 +66,7 @@ seeking-end g y best rest least z p = sym (ap (λ (k : List ℕ). leastOf least 
 
 -- The sums of the words from b on are still to be looked at.
 abbrev pub Remaining : (ℕ → ℕ) → List ℕ → ℕ → ℕ → Type 0
-Remaining N f least b = leastOf least (map N (rising b (drop b f))) ≡ leastOf (2 ^ 62) (map N (rising 0 f))
+Remaining N f least b = leastOf least (map N (rising b (drop b f))) ≡ leastOf never (map N (rising 0 f))
 
 pub remaining-more : (N : ℕ → ℕ) (f : List ℕ) (least b next : ℕ) → b < length f → next ≡ leastOf least (map N (masksIn b (getD f b 0)))
     → Remaining N f least b → Remaining N f next (b + 1)
@@ -79,13 +80,13 @@ remaining-more N f least b next h e r =
 pub remaining-same : (N : ℕ → ℕ) (f : List ℕ) (least b : ℕ) → getD f b 0 ≡ 0 → least ≡ leastOf least (map N (masksIn b (getD f b 0)))
 remaining-same N f least b z = sym (ap (λ (k : List ℕ). leastOf least (map N (map (λ (i : ℕ). b * 64 + i) k))) (places-none 64 (getD f b 0) z))
 
-pub remaining-end : (N : ℕ → ℕ) (f : List ℕ) (least b : ℕ) → b ≡ length f → Remaining N f least b → least ≡ leastOf (2 ^ 62) (map N (rising 0 f))
+pub remaining-end : (N : ℕ → ℕ) (f : List ℕ) (least b : ℕ) → b ≡ length f → Remaining N f least b → least ≡ leastOf never (map N (rising 0 f))
 remaining-end N f least b e r = sym (ap (λ (k : List ℕ). leastOf least (map N k)) (rising-end f b e)) ∙ r
 
 -- ---- the least sum
 
 module _ (c : ℕ) (value : ℕ → ℕ) (h : c < 2 ^ 64) (s : Summable c value) (ws : List ℕ) (w : WeightsOf c value ws) where
-  -- every sum stays below 2 ^ 62
+  -- every sum stays below never
   value-bound : (m : ℕ) → sumAt ws m ≤ 64 * (2 ^ 56 - 1)
   unfolding sumOver
   value-bound m =
@@ -105,24 +106,24 @@ module _ (c : ℕ) (value : ℕ → ℕ) (h : c < 2 ^ 64) (s : Summable c value)
         sum = λ m x l o. tables-sum ws low high p q m l ∙ w .sum m x o;
       }
 
-pub least-sum : (f low high : List ℕ) (r : ℕ) → length f ≡ 256 → r ≡ leastOf (2 ^ 62) (map (sumBy low high) (rising 0 f)) → LeastBy f low high r
+pub least-sum : (f low high : List ℕ) (r : ℕ) → length f ≡ 256 → r ≡ leastOf never (map (sumBy low high) (rising 0 f)) → LeastBy f low high r
 least-sum f low high r words e = record { each = sums }
   where
     l : List ℕ
     l = map (sumBy low high) (rising 0 f)
 
-    some : (r ≡ 2 ^ 62) ⊎ Listed l r
-    some = subst (λ (x : ℕ). (x ≡ 2 ^ 62) ⊎ Listed l x) (sym e) (least-is l (2 ^ 62))
+    some : (r ≡ never) ⊎ Listed l r
+    some = subst (λ (x : ℕ). (x ≡ never) ⊎ Listed l x) (sym e) (least-is l never)
 
     among : (m : ℕ) → In f m → r ≤ sumBy low high m
     among m i =
         subst (λ (x : ℕ). x ≤ sumBy low high m) (sym e)
-        (least-listed l (2 ^ 62) (sumBy low high m) (listed-map (sumBy low high) (rising 0 f) m (listed-members f m .from i)))
+        (least-listed l never (sumBy low high m) (listed-map (sumBy low high) (rising 0 f) m (listed-members f m .from i)))
 
     sums : (c : ℕ) (value : ℕ → ℕ) → SumTables c value low high → LeastSum c f value r
     sums c value t =
         record {
-          never = λ none. ⊎-elim (λ z. z) (λ k. let m = found k in absurd (none (m .mask) (m .below) (m .is))) some;
+          none = λ no. ⊎-elim (λ z. z) (λ k. let m = found k in absurd (no (m .mask) (m .below) (m .is))) some;
           below = λ m b i. let a = among m i in let v = t .below m b in omega arith;
           reached = λ m b i. let a = among m i in let v = t .below m b in ⊎-elim (λ z. absurd (omega arith)) found some;
           least = λ m x b i o. let a = among m i in let v = t .sum m x b o in omega arith;

@@ -2,25 +2,27 @@
 -- Assumes nothing.
 use mathlib.Core.Path.{_≡_, refl, sym, ap, subst, _∙_}
 use mathlib.Core.Bool.{Bool, true, false}
+use mathlib.Core.List.{[]}
 use mathlib.Core.Logic.{_⊎_, inl, inr, ⊎-elim}
-use Prim.Native.Nat.{ℕ, _≤_, _<_}
+use Prim.Native.Nat.{ℕ, _<_}
 use native.Mathlib.Omega.{arith}
-use lib.ListN.{length}
+use lib.ListN.{length, set}
+use lib.Seq.{set-getD}
 use Rattle.vertex_set.specs.Set.{Member, Iff, Inserted}
 use Rattle.vertex_set.proofs.Cases.{byTest, false-true}
 use Rattle.vertex_set.proofs.Decisions.{iff-refl}
-use Rattle.setup.specs.declared.Vertex.{Vertex}
+use Rattle.setup.specs.declared.Rows.{Rows}
 use Rattle.setup.specs.declared.Graph.{Graph}
 use Rattle.setup.specs.declared.Setup.{Setup}
-use Rattle.setup.specs.Setup.{row, Edge, ShapedGraph, Shaped}
-use Rattle.setup.specs.Inner.{withRow}
+use Rattle.setup.specs.Setup.{rowOf, rowsAt, Edge, ShapedGraph, Shaped}
+use Rattle.setup.specs.Inner.{graphWithRow}
 use Rattle.setup.proofs.OneRow as one
 use Rattle.formed.specs.WellFormed.{WellFormed}
 use Rattle.derivations.specs.Access.{access, AccessFrom}
 use Rattle.derivations.proofs.Graphs.{access-lawful}
 use Rattle.derivations.proofs.Closures.{closure-on}
 use Rattle.living.specs.Calls.{TakeIn, TakeOut, AddEdge, RemoveEdge, IsEdge, Drawing, drawingOf, after, Redrawn, Placed}
-use Rattle.living.specs.Inner.{LetGo, RowPlace, EdgeMore, EdgeLess, MarkMore, Holds, Drawn}
+use Rattle.living.specs.Inner.{LetGo, RowPlace, rowsWith, RowsWithEdge, RowsWithoutEdge, RowsMarked, EdgeMore, EdgeLess, MarkMore, Holds, Drawn}
 
 -- two statements that follow from a third and it from them
 pub both : {P Q R : Type 0} → Iff P R → Iff Q R → Iff P Q
@@ -83,9 +85,12 @@ edge-is : (f v c a u b : ℕ) → IsEdge f v c a u b → (a ≡ f) × (u ≡ v) 
 edge-is f v c a u b e = (e .from, e .to, e .colour)
 
 module _ (g : Graph) (f v c : ℕ) (sh : ShapedGraph g) (p : RowPlace v c) where
+  row-shaped : (r : Graph) (x : ℕ) → r ≡ graphWithRow g v c x → ShapedGraph r
+  row-shaped r x e = subst ShapedGraph (sym e) (one.row-shaped g v c x sh (p .vertex) (p .colour))
+
   module _ (r : Graph) (h : EdgeMore g f v c r) where
     pub more-shaped : ShapedGraph r
-    more-shaped = subst ShapedGraph (sym (h .is)) (one.row-shaped g v c (h .needed) sh (p .vertex) (p .colour))
+    more-shaped = row-shaped r (h .needed) (h .is)
 
     pub more-edges : (a u b : ℕ) → Iff (Edge r a u b) (Edge g a u b ⊎ IsEdge f v c a u b)
     more-edges a u b =
@@ -98,7 +103,7 @@ module _ (g : Graph) (f v c : ℕ) (sh : ShapedGraph g) (p : RowPlace v c) where
 
   module _ (r : Graph) (h : EdgeLess g f v c r) where
     pub less-shaped : ShapedGraph r
-    less-shaped = subst ShapedGraph (sym (h .is)) (one.row-shaped g v c (h .needed) sh (p .vertex) (p .colour))
+    less-shaped = row-shaped r (h .needed) (h .is)
 
     pub less-edges : (a u b : ℕ) → Iff (Edge r a u b) (Edge g a u b × (IsEdge f v c a u b → ⊥))
     less-edges a u b =
@@ -132,20 +137,34 @@ module _ (g : Graph) (f v c : ℕ) (sh : ShapedGraph g) (p : RowPlace v c) where
               from = ⊎-elim (λ q. i .from q) (λ q. absurd (false-true (sym e ∙ q .1)));
             }
 
+-- ---- the rows of one vertex replaced
+
 -- what the code has made of a row
-pub more-of : (g : Graph) (f v c x n : ℕ) (r : Graph) → x ≡ row g v c → f < 64 → Inserted x f n → r ≡ withRow g v c n → EdgeMore g f v c r
-more-of g f v c x n r e l t is =
-    record { needed = n; each = λ i. subst (λ (y : ℕ). Iff (Member n i) (Member y i ⊎ (i ≡ f))) e (t .taken l i); is = is }
+pub rows-more : (rows : Rows) (f c n : ℕ) → f < 64 → Inserted (rowOf rows c) f n → RowsWithEdge rows f c (rowsWith rows c n)
+rows-more rows f c n l t = record { needed = n; each = t .taken l; is = refl }
 
-pub less-of : (g : Graph) (f v c x n : ℕ) (r : Graph) → x ≡ row g v c → LetGo x f n → r ≡ withRow g v c n → EdgeLess g f v c r
-less-of g f v c x n r e t is =
-    record { needed = n; each = λ i. subst (λ (y : ℕ). Iff (Member n i) (Member y i × (i ≡ f → ⊥))) e (t .each i); is = is }
+pub rows-less : (rows : Rows) (f c n : ℕ) → LetGo (rowOf rows c) f n → RowsWithoutEdge rows f c (rowsWith rows c n)
+rows-less rows f c n t = record { needed = n; each = t .each; is = refl }
 
-pub in-row : (g : Graph) (f v c x : ℕ) → x ≡ row g v c → Member x f → Edge g f v c
-in-row g f v c x e m = subst (λ (y : ℕ). Member y f) e m
+-- the graph with these rows of the vertex v
+abbrev pub withRows : Graph → ℕ → Rows → Graph
+withRows g v m = record { rows = set (g .rows) v m }
 
-pub not-in-row : (g : Graph) (f v c x : ℕ) → x ≡ row g v c → (Member x f → ⊥) → Edge g f v c → ⊥
-not-in-row g f v c x e n m = n (subst (λ (y : ℕ). Member y f) (sym e) m)
+module _ (g : Graph) (f v c : ℕ) (m : Rows) where
+  pub more-of : RowsWithEdge (rowsAt g v) f c m → EdgeMore g f v c (withRows g v m)
+  unfolding graphWithRow
+  more-of h = record { needed = h .needed; each = h .each; is = ap (withRows g v) (h .is) }
+
+  pub less-of : RowsWithoutEdge (rowsAt g v) f c m → EdgeLess g f v c (withRows g v m)
+  unfolding graphWithRow
+  less-of h = record { needed = h .needed; each = h .each; is = ap (withRows g v) (h .is) }
+
+  pub mark-of : (mark : Bool) → RowsMarked (rowsAt g v) f c mark m → MarkMore g f v c mark (withRows g v m)
+  mark-of mark h =
+      record {
+        marked = λ e. more-of (h .marked e);
+        unmarked = λ e. ap (withRows g v) (h .unmarked e) ∙ λ i. record { rows = set-getD (g .rows) v (record { needs = [] }) i };
+      }
 
 -- ---- the graphs redrawn
 

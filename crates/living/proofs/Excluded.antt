@@ -10,7 +10,8 @@ use Rattle.setup.specs.Bounds.{mostEdges}
 use Rattle.setup.specs.declared.Setup.{Setup}
 use Rattle.setup.specs.Setup.{Edge, edgeCount}
 use Rattle.formed.specs.WellFormed.{WellFormed}
-use Rattle.living.specs.Calls.{TakeIn, AddEdge, RemoveEdge, Placed, CallOf}
+use Rattle.derivations.specs.Access.{HasAccess}
+use Rattle.living.specs.Calls.{TakeIn, TakeOut, AddEdge, RemoveEdge, Placed, CallOf}
 
 module _ (s t : Setup) (w : WellFormed s) where
   -- 7 asked before 19: an edge that is there gets 19, in a full drawing too
@@ -29,3 +30,12 @@ module _ (s t : Setup) (w : WellFormed s) where
   -- a refusal that tidies: a mark is taken away where the edge is not there
   pub no-tidying : (f v c n : ℕ) → Placed s f v c → (Edge (s .graph) f v c → ⊥) → CallOf (RemoveEdge f v c) s n t → (t ≡ s → ⊥) → ⊥
   no-tidying f v c n q e a o = o (a .missing w q e .untouched)
+
+  -- an item that is dropped from the opened set with its own taking out, though others that are held open it
+  pub no-dropped-though-open : (v n : ℕ) → v < s .count → CallOf (TakeOut v) s n t → HasAccess (t .graph) (Member (t .held .0)) v → (Member (t .opened .0) v → ⊥) → ⊥
+  no-dropped-though-open v n l a d o = o (a .done w l .redrawn .opened .each v .from d)
+
+  -- a removal that only drops: an edge less can open more, and what the held items then open is in the opened set
+  pub no-only-dropping : (f v c n i : ℕ) → Placed s f v c → Edge (s .graph) f v c → CallOf (RemoveEdge f v c) s n t
+      → HasAccess (t .graph) (Member (t .held .0)) i → (Member (t .opened .0) i → ⊥) → ⊥
+  no-only-dropping f v c n i q e a d o = o (a .done w q e .redrawn .opened .each i .from d)

@@ -3,12 +3,10 @@
 use mathlib.Core.Path.{_≡_, refl, sym, subst}
 use mathlib.Core.Bool.{Bool}
 use mathlib.Core.Logic.{_⊎_, inl, inr, ⊎-elim}
-use Prim.Native.Nat.{ℕ, _+_, _-_, _^_, _≤_, _<_}
+use Prim.Native.Nat.{ℕ, _-_, _^_, _≤_, _<_}
 use native.Mathlib.Omega.{arith}
 use lib.Bits.{bitOr}
-use lib.Count.{ones}
-use Rattle.vertex_set.specs.declared.VertexSet.{VertexSet}
-use Rattle.vertex_set.specs.Set.{Member, Iff}
+use Rattle.vertex_set.specs.Set.{Iff}
 use Rattle.vertex_set.proofs.Cases.{less-or}
 use Rattle.vertex_set.proofs.Sets.{in-or, in-one, ones-or-one, member-or}
 use Rattle.vertex_set.proofs.Places.{in-removed, removed-within, ones-within}
@@ -16,7 +14,7 @@ use Rattle.setup.specs.Bounds.{mostEdges}
 use Rattle.setup.specs.declared.Graph.{Graph}
 use Rattle.setup.specs.declared.Setup.{Setup}
 use Rattle.setup.specs.Setup.{row, Edge, edgeCount, chosenCount}
-use Rattle.setup.specs.Inner.{withRow}
+use Rattle.setup.specs.Inner.{graphWithRow}
 use Rattle.setup.proofs.Graphs.{graph-same}
 use Rattle.setup.proofs.OneRow.{row-count}
 use Rattle.formed.specs.WellFormed.{WellFormed}
@@ -83,7 +81,7 @@ module _ (s t : Setup) (w : WellFormed s) where
     needed = row (s .graph) v c
 
     more : Graph
-    more = withRow (s .graph) v c (bitOr needed (2 ^ f))
+    more = graphWithRow (s .graph) v c (bitOr needed (2 ^ f))
 
     is-more : EdgeMore (s .graph) f v c more
     unfolding more needed
@@ -116,7 +114,7 @@ module _ (s t : Setup) (w : WellFormed s) where
         (more-few few))
 
     less : Graph
-    less = withRow (s .graph) v c (needed - 2 ^ f)
+    less = graphWithRow (s .graph) v c (needed - 2 ^ f)
 
     is-less : Edge (s .graph) f v c → EdgeLess (s .graph) f v c less
     unfolding less needed

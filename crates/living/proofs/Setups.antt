@@ -2,15 +2,14 @@
 -- Assumes nothing.
 use mathlib.Core.Path.{_≡_, refl, ap}
 use mathlib.Core.List.{List, []}
-use mathlib.Core.HLevel.{Stable, dec→stable}
+use mathlib.Core.HLevel.{Stable}
 use Prim.Native.Nat.{ℕ, suc}
-use native.Mathlib.Decide.{ℕ-discrete}
 use native.Mathlib.Omega.{arith}
 use lib.ListN.{length, getD}
 use lib.Seq.{ext-getD}
 use Rattle.vertex_set.specs.declared.VertexSet.{VertexSet}
+use Rattle.vertex_set.proofs.Stable.{stable-number}
 use Rattle.setup.specs.declared.Kind.{Kind}
-use Rattle.setup.specs.declared.Kind.the-variants.{Credential, Account}
 use Rattle.setup.specs.declared.Value.{Value}
 use Rattle.setup.specs.declared.Value.the-variants.{Blank, Of}
 use Rattle.setup.specs.declared.Vertex.{Vertex}
@@ -18,33 +17,19 @@ use Rattle.setup.specs.declared.Rows.{Rows}
 use Rattle.setup.specs.declared.Graph.{Graph}
 use Rattle.setup.specs.declared.Setup.{Setup}
 use Rattle.setup.specs.Setup.{unusedVertex}
-
-pub by-cases : (P : Type 0) {Q : Type 0} → Stable Q → (P → Q) → ((P → ⊥) → Q) → Q
-by-cases P stable yes-case no-case = stable (λ n. n (no-case (λ p. n (yes-case p))))
-
-pub stable-number : (a b : ℕ) → Stable (a ≡ b)
-stable-number a b = dec→stable (ℕ-discrete a b)
+use Rattle.setup.specs.Inner.{kindNumber}
+use Rattle.setup.proofs.KindNumbers.{kind-same}
 
 -- what a function tells of two things that cannot differ, it tells of both
 through : {A B : Type 0} (f : A → B) {a b : A} → (((a ≡ b) → ⊥) → ⊥) → ((f a ≡ f b) → ⊥) → ⊥
 through f k n = k (λ e. n (ap f e))
 
-stable-list : {A : Type 0} (z : A) → ((a b : A) → Stable (a ≡ b)) → (l k : List A) → Stable (l ≡ k)
-stable-list {A = A} z stable l k n =
+stable-places : {A : Type 0} (z : A) → ((a b : A) → Stable (a ≡ b)) → (l k : List A) → Stable (l ≡ k)
+stable-places {A = A} z stable l k n =
     ext-getD z l k (stable-number (length l) (length k) (through (λ (x : List A). length x) n))
     (λ i h. stable (getD l i z) (getD k i z) (through (λ (x : List A). getD x i z) n))
 
--- ---- kinds and values by number
-
-abbrev kindNumber : Kind → ℕ
-kindNumber Credential = 0
-kindNumber Account = 1
-
-kind-same : (a b : Kind) → kindNumber a ≡ kindNumber b → a ≡ b
-kind-same Credential Credential e = refl
-kind-same Credential Account e = absurd (omega arith)
-kind-same Account Credential e = absurd (omega arith)
-kind-same Account Account e = refl
+-- ---- values by number
 
 abbrev valueNumber : Value → ℕ
 valueNumber Blank = 0
@@ -74,12 +59,12 @@ stable-vertex a b n =
 
 stable-rows : (a b : Rows) → Stable (a ≡ b)
 stable-rows a b n =
-    let needs = stable-list 0 stable-number (a .needs) (b .needs) (through (λ (x : Rows). x .needs) n) in
+    let needs = stable-places 0 stable-number (a .needs) (b .needs) (through (λ (x : Rows). x .needs) n) in
     λ i. record { needs = needs i }
 
 stable-graph : (a b : Graph) → Stable (a ≡ b)
 stable-graph a b n =
-    let rows = stable-list (record { needs = [] }) stable-rows (a .rows) (b .rows) (through (λ (x : Graph). x .rows) n) in
+    let rows = stable-places (record { needs = [] }) stable-rows (a .rows) (b .rows) (through (λ (x : Graph). x .rows) n) in
     λ i. record { rows = rows i }
 
 stable-set : (a b : VertexSet) → Stable (a ≡ b)
@@ -90,7 +75,7 @@ stable-set a b n =
 pub stable-setup : (a b : Setup) → Stable (a ≡ b)
 stable-setup a b n =
     let count = stable-number (a .count) (b .count) (through (λ (x : Setup). x .count) n) in
-    let vertices = stable-list unusedVertex stable-vertex (a .vertices) (b .vertices) (through (λ (x : Setup). x .vertices) n) in
+    let vertices = stable-places unusedVertex stable-vertex (a .vertices) (b .vertices) (through (λ (x : Setup). x .vertices) n) in
     let graph = stable-graph (a .graph) (b .graph) (through (λ (x : Setup). x .graph) n) in
     let recovery = stable-graph (a .recovery) (b .recovery) (through (λ (x : Setup). x .recovery) n) in
     let held = stable-set (a .held) (b .held) (through (λ (x : Setup). x .held) n) in

@@ -8,7 +8,7 @@ use native.Mathlib.Omega.{arith}
 use Rattle.vertex_set.specs.Set.{Member, Iff}
 use Rattle.vertex_set.proofs.Cases.{less-or}
 use Rattle.vertex_set.proofs.Decisions.{iff-refl}
-use Rattle.vertex_set.proofs.Sets.{same-set, member-or}
+use Rattle.vertex_set.proofs.Sets.{member-or, one-set}
 use Rattle.setup.specs.Bounds.{mostEdges}
 use Rattle.setup.specs.declared.Graph.{Graph}
 use Rattle.setup.specs.declared.Setup.{Setup}
@@ -19,7 +19,8 @@ use Rattle.derivations.specs.Access.{access, AccessFrom}
 use Rattle.derivations.proofs.Closures.{closure-unique}
 use Rattle.living.specs.Calls.{Call, TakeIn, TakeOut, AddEdge, RemoveEdge, Drawing, drawingOf, after, Redrawn, Back, Done, Placed, CallOf, OneLivingAnswer, NothingChanges}
 use Rattle.living.proofs.Drawing.{both}
-use Rattle.living.proofs.Setups.{by-cases, stable-number, stable-setup}
+use Rattle.vertex_set.proofs.Stable.{by-cases, stable-number}
+use Rattle.living.proofs.Setups.{stable-setup}
 
 -- ---- there is one setup with given vertices and a given drawing
 
@@ -31,8 +32,7 @@ module _ (s : Setup) (d : Drawing) (t t′ : Setup) (a : Redrawn s d t) (b : Red
   same-recovery = graph-same (t .recovery) (t′ .recovery) (a .shaped .recovery) (b .shaped .recovery) (λ f v c. both (a .marks f v c) (b .marks f v c))
 
   same-held : t .held .0 ≡ t′ .held .0
-  same-held =
-      same-set (t .held .0) (t′ .held .0) (record { each = λ v m. b .held v .from (a .held v .to m) }) (record { each = λ v m. a .held v .from (b .held v .to m) })
+  same-held = one-set (d .Held) (t .held .0) (t′ .held .0) (a .held) (b .held)
 
   there : AccessFrom (t .graph) (t .held .0) (t′ .opened .0)
   there =

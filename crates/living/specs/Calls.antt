@@ -4,7 +4,7 @@ use mathlib.Core.Bool.{Bool, true}
 use mathlib.Core.Logic.{_⊎_}
 use Prim.Native.Nat.{ℕ, _≤_, _<_}
 use Rattle.vertex_set.specs.Set.{Member, Iff}
-use Rattle.setup.specs.Bounds.{mostEdges}
+use Rattle.setup.specs.Bounds.{highestColour, mostEdges}
 use Rattle.setup.specs.declared.Setup.{Setup}
 use Rattle.setup.specs.Setup.{Edge, edgeCount, Shaped}
 use Rattle.formed.specs.WellFormed.{WellFormed}
@@ -26,6 +26,7 @@ pub record Drawing : Type 1 where
   pub Marks : ℕ → ℕ → ℕ → Type 0
   pub Held : Vertices
 
+-- What is drawn and held in a setup.
 abbrev pub drawingOf : Setup → Drawing
 drawingOf s = record { Edges = Edge (s .graph); Marks = Edge (s .recovery); Held = Member (s .held .0) }
 
@@ -84,13 +85,13 @@ pub record HoldCall (c : Call) (v : ℕ) (s : Setup) (number : ℕ) (s′ : Setu
 pub record Placed (s : Setup) (f v c : ℕ) : Type 0 where
   pub from : f < s .count
   pub to : v < s .count
-  pub colour : c ≤ 7
+  pub colour : c ≤ highestColour
 
 -- Add: 12; 13, of both ends; 18, a colour above 7; 19, the edge is there, with either mark; 7, there are 256 already.
 pub record AddCall (f v c : ℕ) (m : Bool) (s : Setup) (number : ℕ) (s′ : Setup) : Type 0 where
   pub malformed : (WellFormed s → ⊥) → Back 12 s number s′
   pub noVertex : WellFormed s → (s .count ≤ f) ⊎ (s .count ≤ v) → Back 13 s number s′
-  pub noColour : WellFormed s → f < s .count → v < s .count → 7 < c → Back 18 s number s′
+  pub noColour : WellFormed s → f < s .count → v < s .count → highestColour < c → Back 18 s number s′
   pub there : WellFormed s → Placed s f v c → Edge (s .graph) f v c → Back 19 s number s′
   pub full : WellFormed s → Placed s f v c → (Edge (s .graph) f v c → ⊥) → mostEdges ≤ edgeCount (s .graph) → Back 7 s number s′
   pub done : WellFormed s → Placed s f v c → (Edge (s .graph) f v c → ⊥) → edgeCount (s .graph) < mostEdges → Done (AddEdge f v c m) s number s′
@@ -99,10 +100,11 @@ pub record AddCall (f v c : ℕ) (m : Bool) (s : Setup) (number : ℕ) (s′ : S
 pub record RemoveCall (f v c : ℕ) (s : Setup) (number : ℕ) (s′ : Setup) : Type 0 where
   pub malformed : (WellFormed s → ⊥) → Back 12 s number s′
   pub noVertex : WellFormed s → (s .count ≤ f) ⊎ (s .count ≤ v) → Back 13 s number s′
-  pub noColour : WellFormed s → f < s .count → v < s .count → 7 < c → Back 18 s number s′
+  pub noColour : WellFormed s → f < s .count → v < s .count → highestColour < c → Back 18 s number s′
   pub missing : WellFormed s → Placed s f v c → (Edge (s .graph) f v c → ⊥) → Back 20 s number s′
   pub done : WellFormed s → Placed s f v c → Edge (s .graph) f v c → Done (RemoveEdge f v c) s number s′
 
+-- The contract of each of the four calls: the setup before it, its number, and the setup after it.
 abbrev pub CallOf : Call → Setup → ℕ → Setup → Type 0
 CallOf (TakeIn v) = HoldCall (TakeIn v) v
 CallOf (TakeOut v) = HoldCall (TakeOut v) v

@@ -1,18 +1,20 @@
 // A setup that lives (document 02, point 8): calls that take a vertex into the held set or out of it,
 // and that add an edge or remove one. Each takes the setup and hands it back, with a number: 0, or
 // that of the refusal, and then the setup is the one that was handed in.
+//
+// A function copies what it is given by value, and a setup has 11 KB. So question 12 is asked in the
+// calls themselves, and its answer is handed on; where an edge changes, the rows of one vertex are
+// handed on, and no graph but the new ones.
 ghost use mathlib.Core.Path.{_≡_};
 ghost use Prim.Native.Nat.{_≤_};
-ghost use Rattle.setup.specs.Setup.{row, edgeCount};
-ghost use Rattle.setup.specs.Inner.{withRow};
+ghost use Rattle.vertex_set.specs.Set.{Decides};
+ghost use Rattle.setup.specs.Setup.{Edge, edgeCount};
 ghost use Rattle.living.specs.Calls.{TakeIn, TakeOut, AddEdge, RemoveEdge, CallOf};
-ghost use Rattle.living.specs.Inner.{LetGo, RowPlace, EdgePlace, Holds, Drawn, VertexAsked, PlaceAsked, EdgeMore, EdgeLess, MarkMore};
+ghost use Rattle.living.specs.Inner.{LetGo, RowPlace, EdgePlace, Holds, Drawn, VertexAsked, PlaceAsked, RowsWithEdge, RowsWithoutEdge, RowsMarked, Added, Removed};
 use setup::Graph;
+use setup::Rows;
 use setup::Setup;
 use vertex_set::VertexSet;
-
-// The highest colour.
-const MAX_COLOUR: usize = 7;
 
 pub struct Redrawing {
     pub number: u64,
@@ -29,24 +31,13 @@ fn let_go(s: VertexSet, v: usize) -> VertexSet
     s
 }
 
-fn row_of(graph: Graph, v: usize, colour: usize) -> VertexSet
-    requires { ⌜ RowPlace v colour ⌝ }
-    ensures { λ r. ⌜ r .0 ≡ row graph v colour ⌝ }
+fn has_edge(graph: Graph, from: usize, to: usize, colour: usize) -> bool
+    requires { ⌜ RowPlace to colour ⌝ }
+    ensures { λ r. ⌜ Decides (Edge graph from to colour) r ⌝ }
 {
-    let rows = graph.rows[v];
-    VertexSet(rows.needs[colour])
-}
-
-// The graph with another row of one colour of the vertex v.
-fn with_row(graph: Graph, v: usize, colour: usize, needed: VertexSet) -> Graph
-    requires { ⌜ RowPlace v colour ⌝ }
-    ensures { λ r. ⌜ r ≡ withRow graph v colour (needed .0) ⌝ }
-{
-    let mut rows = graph.rows[v];
-    rows.needs[colour] = needed.0;
-    let mut r = graph;
-    r.rows[v] = rows;
-    r
+    let rows = graph.rows[to];
+    let needed = VertexSet(rows.needs[colour]);
+    needed.has(from)
 }
 
 fn edge_count(graph: Graph) -> u32
@@ -60,25 +51,26 @@ fn edge_count(graph: Graph) -> u32
     edges
 }
 
-// The setup with another held set, and with what `start` opens as opened set.
-fn hold(s: Setup, held: VertexSet, start: VertexSet) -> Setup
-    ensures { λ r. ⌜ Holds s (held .0) (start .0) r ⌝ }
+// Accepts: the setup with this held set; its opened set is what `start` opens.
+fn hold(s: Setup, held: VertexSet, start: VertexSet) -> Redrawing
+    ensures { λ r. ⌜ (r .number ≡ 0) × Holds s (held .0) (start .0) (r .setup) ⌝ }
 {
     let graph = s.graph;
     let closed = closures::closure(false, graph, start);
     let opened = closed.set;
-    let mut r = s;
-    r.held = held;
-    r.opened = opened;
-    r
+    let mut setup = s;
+    setup.held = held;
+    setup.opened = opened;
+    Redrawing { number: 0, setup }
 }
 
 // Questions 12 and 13, where a vertex is named: the number of the first no, and 0 where there is none.
-fn ask_vertex(s: Setup, v: usize) -> u64
-    ensures { λ r. ⌜ VertexAsked s v r ⌝ }
+// `formed` is the answer to question 12.
+fn ask_vertex(formed: bool, count: usize, v: usize) -> u64
+    ensures { λ r. ⌜ VertexAsked formed count v r ⌝ }
 {
-    if formed::well_formed(s) {
-        if s.count <= v {
+    if formed {
+        if count <= v {
             return 13;
         }
         return 0;
@@ -90,7 +82,8 @@ fn ask_vertex(s: Setup, v: usize) -> u64
 pub fn take_in(s: Setup, v: usize) -> Redrawing
     ensures { λ r. ⌜ CallOf (TakeIn v) s (r .number) (r .setup) ⌝ }
 {
-    let asked = ask_vertex(s, v);
+    let formed = formed::well_formed(s);
+    let asked = ask_vertex(formed, s.count, v);
     if asked != 0 {
         return Redrawing {
             number: asked,
@@ -99,8 +92,7 @@ pub fn take_in(s: Setup, v: usize) -> Redrawing
     }
     let held = s.held.insert(v);
     let start = s.opened.insert(v);
-    let setup = hold(s, held, start);
-    Redrawing { number: 0, setup }
+    hold(s, held, start)
 }
 
 // Takes a vertex out of the held set. It may still be open, by what else is held: the passes start
@@ -108,7 +100,8 @@ pub fn take_in(s: Setup, v: usize) -> Redrawing
 pub fn take_out(s: Setup, v: usize) -> Redrawing
     ensures { λ r. ⌜ CallOf (TakeOut v) s (r .number) (r .setup) ⌝ }
 {
-    let asked = ask_vertex(s, v);
+    let formed = formed::well_formed(s);
+    let asked = ask_vertex(formed, s.count, v);
     if asked != 0 {
         return Redrawing {
             number: asked,
@@ -116,23 +109,22 @@ pub fn take_out(s: Setup, v: usize) -> Redrawing
         };
     }
     let held = let_go(s.held, v);
-    let setup = hold(s, held, held);
-    Redrawing { number: 0, setup }
+    hold(s, held, held)
 }
 
 // Questions 12, 13 of both ends, and 18, which come first where an edge is named: the number of the
-// first no, and 0 where there is none.
-fn ask_place(s: Setup, from: usize, to: usize, colour: usize) -> u64
-    ensures { λ r. ⌜ PlaceAsked s from to colour r ⌝ }
+// first no, and 0 where there is none. `formed` is the answer to question 12.
+fn ask_place(formed: bool, count: usize, from: usize, to: usize, colour: usize) -> u64
+    ensures { λ r. ⌜ PlaceAsked formed count from to colour r ⌝ }
 {
-    if formed::well_formed(s) {
-        if s.count <= from {
+    if formed {
+        if count <= from {
             return 13;
         }
-        if s.count <= to {
+        if count <= to {
             return 13;
         }
-        if MAX_COLOUR < colour {
+        if setup::MAX_COLOUR < colour {
             return 18;
         }
         return 0;
@@ -140,56 +132,93 @@ fn ask_place(s: Setup, from: usize, to: usize, colour: usize) -> u64
     12
 }
 
-// The setup with these graphs. An edge more can shut what was open, and an edge less can open more:
-// the passes start from what is held.
-fn redraw(s: Setup, graph: Graph, recovery: Graph) -> Setup
-    ensures { λ r. ⌜ Drawn s graph recovery r ⌝ }
+// Accepts: the setup with these graphs. An edge more can shut what was open, and an edge less can open
+// more: the passes start from what is held.
+fn redraw(s: Setup, graph: Graph, recovery: Graph) -> Redrawing
+    ensures { λ r. ⌜ (r .number ≡ 0) × Drawn s graph recovery (r .setup) ⌝ }
 {
     let closed = closures::closure(false, graph, s.held);
     let opened = closed.set;
-    let mut r = s;
-    r.graph = graph;
-    r.recovery = recovery;
-    r.opened = opened;
+    let mut setup = s;
+    setup.graph = graph;
+    setup.recovery = recovery;
+    setup.opened = opened;
+    Redrawing { number: 0, setup }
+}
+
+// The rows of a vertex with an edge more.
+fn with_edge(rows: Rows, from: usize, colour: usize) -> Rows
+    requires { ⌜ RowPlace from colour ⌝ }
+    ensures { λ r. ⌜ RowsWithEdge rows from colour r ⌝ }
+{
+    let needed = VertexSet(rows.needs[colour]);
+    let more = needed.insert(from);
+    let mut r = rows;
+    r.needs[colour] = more.0;
     r
 }
 
-// The graph with an edge more.
-fn with_edge(graph: Graph, from: usize, to: usize, colour: usize) -> Graph
-    requires { ⌜ EdgePlace from to colour ⌝ }
-    ensures { λ r. ⌜ EdgeMore graph from to colour r ⌝ }
+// The rows of a vertex without an edge, which need not be there.
+fn without_edge(rows: Rows, from: usize, colour: usize) -> Rows
+    requires { ⌜ RowPlace from colour ⌝ }
+    ensures { λ r. ⌜ RowsWithoutEdge rows from colour r ⌝ }
 {
-    let needed = row_of(graph, to, colour);
-    let more = needed.insert(from);
-    with_row(graph, to, colour, more)
-}
-
-// The graph without an edge, which need not be there.
-fn without_edge(graph: Graph, from: usize, to: usize, colour: usize) -> Graph
-    requires { ⌜ EdgePlace from to colour ⌝ }
-    ensures { λ r. ⌜ EdgeLess graph from to colour r ⌝ }
-{
-    let needed = row_of(graph, to, colour);
+    let needed = VertexSet(rows.needs[colour]);
     let less = let_go(needed, from);
-    with_row(graph, to, colour, less)
+    let mut r = rows;
+    r.needs[colour] = less.0;
+    r
 }
 
-// The recovery edges with one more where the mark is a yes.
-fn with_mark(recovery: Graph, from: usize, to: usize, colour: usize, rec: bool) -> Graph
-    requires { ⌜ EdgePlace from to colour ⌝ }
-    ensures { λ r. ⌜ MarkMore recovery from to colour rec r ⌝ }
+// The recovery edges of a vertex with one more where the mark is a yes.
+fn with_mark(marks: Rows, from: usize, colour: usize, rec: bool) -> Rows
+    requires { ⌜ RowPlace from colour ⌝ }
+    ensures { λ r. ⌜ RowsMarked marks from colour rec r ⌝ }
 {
     if rec {
-        return with_edge(recovery, from, to, colour);
+        return with_edge(marks, from, colour);
     }
-    recovery
+    marks
+}
+
+// Accepts: the setup with an edge more, and with its mark.
+fn draw_edge(s: Setup, from: usize, to: usize, colour: usize, rec: bool) -> Redrawing
+    requires { ⌜ EdgePlace from to colour ⌝ }
+    ensures { λ r. ⌜ (r .number ≡ 0) × Added s from to colour rec (r .setup) ⌝ }
+{
+    let mut graph = s.graph;
+    let rows = graph.rows[to];
+    let more = with_edge(rows, from, colour);
+    graph.rows[to] = more;
+    let mut recovery = s.recovery;
+    let marks = recovery.rows[to];
+    let marked = with_mark(marks, from, colour, rec);
+    recovery.rows[to] = marked;
+    redraw(s, graph, recovery)
+}
+
+// Accepts: the setup without an edge, and without its mark.
+fn erase_edge(s: Setup, from: usize, to: usize, colour: usize) -> Redrawing
+    requires { ⌜ EdgePlace from to colour ⌝ }
+    ensures { λ r. ⌜ (r .number ≡ 0) × Removed s from to colour (r .setup) ⌝ }
+{
+    let mut graph = s.graph;
+    let rows = graph.rows[to];
+    let less = without_edge(rows, from, colour);
+    graph.rows[to] = less;
+    let mut recovery = s.recovery;
+    let marks = recovery.rows[to];
+    let unmarked = without_edge(marks, from, colour);
+    recovery.rows[to] = unmarked;
+    redraw(s, graph, recovery)
 }
 
 // Adds an edge. A yes for `rec` marks it as a recovery edge, which stands in both graphs.
 pub fn add_edge(s: Setup, from: usize, to: usize, colour: usize, rec: bool) -> Redrawing
     ensures { λ r. ⌜ CallOf (AddEdge from to colour rec) s (r .number) (r .setup) ⌝ }
 {
-    let asked = ask_place(s, from, to, colour);
+    let formed = formed::well_formed(s);
+    let asked = ask_place(formed, s.count, from, to, colour);
     if asked != 0 {
         return Redrawing {
             number: asked,
@@ -197,31 +226,27 @@ pub fn add_edge(s: Setup, from: usize, to: usize, colour: usize, rec: bool) -> R
         };
     }
     let graph = s.graph;
-    let needed = row_of(graph, to, colour);
-    if needed.has(from) {
+    if has_edge(graph, from, to, colour) {
         return Redrawing {
             number: 19,
             setup: s,
         };
     }
-    if setup::MAX_EDGES <= edge_count(graph) {
+    if setup::MAX_EDGES as u32 <= edge_count(graph) {
         return Redrawing {
             number: 7,
             setup: s,
         };
     }
-    let recovery = s.recovery;
-    let more = with_edge(graph, from, to, colour);
-    let marked = with_mark(recovery, from, to, colour, rec);
-    let setup = redraw(s, more, marked);
-    Redrawing { number: 0, setup }
+    draw_edge(s, from, to, colour, rec)
 }
 
 // Removes an edge from both graphs, whatever its mark.
 pub fn remove_edge(s: Setup, from: usize, to: usize, colour: usize) -> Redrawing
     ensures { λ r. ⌜ CallOf (RemoveEdge from to colour) s (r .number) (r .setup) ⌝ }
 {
-    let asked = ask_place(s, from, to, colour);
+    let formed = formed::well_formed(s);
+    let asked = ask_place(formed, s.count, from, to, colour);
     if asked != 0 {
         return Redrawing {
             number: asked,
@@ -229,13 +254,8 @@ pub fn remove_edge(s: Setup, from: usize, to: usize, colour: usize) -> Redrawing
         };
     }
     let graph = s.graph;
-    let needed = row_of(graph, to, colour);
-    if needed.has(from) {
-        let recovery = s.recovery;
-        let less = without_edge(graph, from, to, colour);
-        let unmarked = without_edge(recovery, from, to, colour);
-        let setup = redraw(s, less, unmarked);
-        return Redrawing { number: 0, setup };
+    if has_edge(graph, from, to, colour) {
+        return erase_edge(s, from, to, colour);
     }
     Redrawing {
         number: 20,

@@ -15,7 +15,7 @@ use lib.Seq.{take-all, getD-set-same, getD-set-other}
 use Rattle.vertex_set.specs.Set.{Member, Within, Iff}
 use Rattle.vertex_set.specs.Order.{Listed}
 use Rattle.vertex_set.proofs.Cases.{same-or, false-true}
-use Rattle.vertex_set.proofs.Lists.{sorted-once}
+use Rattle.vertex_set.proofs.Lists.{sorted-once, zeros}
 use Rattle.vertex_set.proofs.Sets.{none-in-zero, in-and, in-or, in-one, shifted-one}
 use Rattle.families.specs.Inner.Family.{In, size}
 use Rattle.families.specs.Inner.Masks.{SetOfMask, MaskOf}
@@ -73,19 +73,14 @@ earlier-next l i h d =
     back : i - 1 + 1 ≡ i
     back = omega (arith, d)
 
-getD-zeros : (n k : ℕ) → _≡_ {A = ℕ} (getD (replicate n 0) k 0) 0
-getD-zeros zero k = refl
-getD-zeros (suc n) zero = refl
-getD-zeros (suc n) (suc k) = getD-zeros n k
-
 pub seen-none : (chosen : ℕ) → Seen chosen [] (replicate 256 0)
 unfolding In
 seen-none chosen =
     record {
       words = refl;
-      fits = λ i. rw (getD-zeros 256 i) (omega arith);
+      fits = λ i. rw (zeros 256 i) (omega arith);
       each = λ m. record {
-        to = λ h. absurd (none-in-zero (m % 64) (subst (λ (w : ℕ). Member w (m % 64)) (getD-zeros 256 (m / 64)) h));
+        to = λ h. absurd (none-in-zero (m % 64) (subst (λ (w : ℕ). Member w (m % 64)) (zeros 256 (m / 64)) h));
         from = λ h. absurd (h .listed);
       };
     }

@@ -13,7 +13,7 @@ use Rattle.vertex_set.specs.Set.{Within, Iff}
 use Rattle.vertex_set.specs.Order.{Listed}
 use Rattle.vertex_set.proofs.Cases.{same-or, byTest}
 use Rattle.vertex_set.proofs.Decisions.{iff-trans}
-use Rattle.vertex_set.proofs.Lists.{listed-or}
+use Rattle.vertex_set.proofs.Lists.{listed-or, place-of}
 use Rattle.vertex_set.proofs.Sets.{within-decided}
 use Rattle.setup.specs.declared.Graph.{Graph}
 use Rattle.setup.specs.declared.Setup.{Setup}
@@ -32,7 +32,6 @@ use Rattle.marking.specs.Inner.Counting.{Seen, meet, CanMark}
 use Rattle.marking.specs.Inner.Marking.{Markable, MarkedAll}
 use Rattle.marking.proofs.Seeing.{family-size, meet-size, size-of-sets}
 use Rattle.outsiders.proofs.Sizes.{size-none, size-same, size-more, size-join, size-le, size-unique, size-listed}
-use Rattle.outsiders.proofs.Values.{place-of}
 
 -- ---- how often marks are given
 

@@ -13,8 +13,9 @@ use Rattle.vertex_set.proofs.Cases.{false-true}
 use Rattle.vertex_set.proofs.Sorted.{only}
 use Rattle.families.specs.Inner.Family.{masks}
 use Rattle.family_lists.specs.Inner.Tables.{sumBy}
-use Rattle.multiset_keys.specs.Inner.{Key}
-use Rattle.multiset_keys.proofs.Lanes.{key-refl, key-trans, both-true, true-both}
+use Rattle.multiset_keys.specs.Inner.{CountKey}
+use Rattle.vertex_set.proofs.Decisions.{and-parts, and-both}
+use Rattle.multiset_keys.proofs.Lanes.{key-refl, key-trans}
 use Rattle.multiset_fronts.specs.Inner.{bothLe, Keyed, notAbove, Takes, TakenIn, KeysLe, Front, CanKeep, KeptLowest}
 use Rattle.multiset_fronts.proofs.Lists.{listed-take, listed-longer, sorted-place, take-more}
 use Rattle.multiset_fronts.proofs.Front.{front-same, front-more}
@@ -29,13 +30,13 @@ not-true false = record { to = λ e d. false-true d; from = λ n. refl }
 
 module _ (f g : ℕ → ℕ) where
   keys-refl : (x : ℕ) → KeysLe f g x x
-  keys-refl x = true-both _ _ (key-refl (f x)) (key-refl (g x))
+  keys-refl x = and-both _ _ (key-refl (f x)) (key-refl (g x))
 
   keys-trans : (x y z : ℕ) → KeysLe f g x y → KeysLe f g y z → KeysLe f g x z
   keys-trans x y z p q =
-      let a = both-true _ _ p in
-      let b = both-true _ _ q in
-      true-both _ _ (key-trans (f x) (f y) (f z) (a .0) (b .0)) (key-trans (g x) (g y) (g z) (a .1) (b .1))
+      let a = and-parts _ _ p in
+      let b = and-parts _ _ q in
+      and-both _ _ (key-trans (f x) (f y) (f z) (a .0) (b .0)) (key-trans (g x) (g y) (g z) (a .1) (b .1))
 
 -- Of the first i masks of the list, those of the lowest sets stand with their keys at the first places, and the others from i on where they stood.
 pub record Keeping (list : List ℕ) (f g : ℕ → ℕ) (i : ℕ) (kept low high : List ℕ) (count : ℕ) : Type 0 where
@@ -76,10 +77,10 @@ module _ (list : List ℕ) (n : ℕ) (low₁ high₁ low₂ high₂ : List ℕ) 
         comparable = record {
           room-low = omega (arith, can .few);
           room-high = omega (arith, can .few);
-          lows = λ j h. subst Key (sym (k .keyed .isLow j h)) (can .isFirst .keys (getD kept j 0) (kept-small e j h));
-          highs = λ j h. subst Key (sym (k .keyed .isHigh j h)) (can .isSecond .keys (getD kept j 0) (kept-small e j h));
-          first = subst Key (sym p) (can .isFirst .keys (getD kept i 0) next-small);
-          second = subst Key (sym q) (can .isSecond .keys (getD kept i 0) next-small);
+          lows = λ j h. subst CountKey (sym (k .keyed .isLow j h)) (can .isFirst .keys (getD kept j 0) (kept-small e j h));
+          highs = λ j h. subst CountKey (sym (k .keyed .isHigh j h)) (can .isSecond .keys (getD kept j 0) (kept-small e j h));
+          first = subst CountKey (sym p) (can .isFirst .keys (getD kept i 0) next-small);
+          second = subst CountKey (sym q) (can .isSecond .keys (getD kept i 0) next-small);
         };
         room = omega (arith, inside);
         room-low = omega (arith, can .few);

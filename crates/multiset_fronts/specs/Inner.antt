@@ -9,11 +9,8 @@ use Rattle.vertex_set.specs.Order.{Listed, Before}
 use Rattle.vertex_set.proofs.Sorted.{only, Sorted}
 use Rattle.families.specs.Inner.Family.{masks}
 use Rattle.family_lists.specs.Inner.Tables.{sumBy}
-use Rattle.multiset_keys.specs.Inner.{Key, keyLe, KeyTables}
-
--- The most sets that an access base has.
-abbrev pub mostSets : ℕ
-mostSets = 3432
+use Rattle.antichains.specs.Antichains.{mostSets}
+use Rattle.multiset_keys.specs.Inner.{CountKey, keyLe, KeyTables}
 
 -- Is the pair of keys a, b at most the pair c, d?
 abbrev pub bothLe : ℕ → ℕ → ℕ → ℕ → Bool
@@ -23,10 +20,10 @@ bothLe a b c d = keyLe a c && keyLe b d
 pub record Comparable (low high : List ℕ) (n a b : ℕ) : Type 0 where
   pub room-low : n ≤ length low
   pub room-high : n ≤ length high
-  pub lows : (i : ℕ) → i < n → Key (getD low i 0)
-  pub highs : (i : ℕ) → i < n → Key (getD high i 0)
-  pub first : Key a
-  pub second : Key b
+  pub lows : (i : ℕ) → i < n → CountKey (getD low i 0)
+  pub highs : (i : ℕ) → i < n → CountKey (getD high i 0)
+  pub first : CountKey a
+  pub second : CountKey b
 
 -- One of the first n pairs is at most a, b.
 pub record SomeBelow (low high : List ℕ) (n a b : ℕ) : Type 0 where

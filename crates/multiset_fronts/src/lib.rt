@@ -5,15 +5,13 @@ ghost use mathlib.Core.Path.{_≡_};
 ghost use Prim.Native.Nat.{_≤_};
 ghost use lib.ListN.{length};
 ghost use Rattle.vertex_set.specs.Set.{Decides};
-ghost use Rattle.multiset_keys.specs.Inner.{Key};
+ghost use Rattle.multiset_keys.specs.Inner.{CountKey};
 ghost use Rattle.multiset_fronts.specs.Inner.{bothLe, Comparable, SomeBelow, Dropped, Takes, TakenIn, CanKeep, KeptLowest};
-
-// No access base has more sets (document 02, point 10).
-pub const MOST_SETS: usize = 3432;
+use antichains::MOST_SETS;
 
 // Is the pair of keys a, b at most the pair c, d: at most in each lane of both?
 fn both_at_most(a: u64, b: u64, c: u64, d: u64) -> bool
-    requires { ⌜ Key a × Key b × Key c × Key d ⌝ }
+    requires { ⌜ CountKey a × CountKey b × CountKey c × CountKey d ⌝ }
     ensures { λ r. ⌜ r ≡ bothLe a b c d ⌝ }
 {
     if multiset_keys::key_at_most(a, c) {
@@ -35,9 +33,9 @@ fn some_below(low: &[u64], high: &[u64], n: usize, a: u64, b: u64) -> bool
     false
 }
 
-// Drops of the first n sets those that a, b is at most, and gives the count of those left. A set is
-// written to the next free place before it is known to stay; where it does not, the next one is
-// written there.
+// Of the first n sets drops those whose keys are at or above a, b, and gives the count of those
+// left. A set is written to the next free place before it is known to stay; where it does not, the
+// next one is written there.
 fn drop_above(
     kept: &mut [u64],
     low: &mut [u64],
@@ -89,9 +87,9 @@ fn take_in(
     left + 1
 }
 
-// Keeps of the first n masks of the list those of the lowest sets, at its front, and gives their count.
-// A mask's first key is found by the tables `low1` and `high1`, its second by the others. No more are
-// kept than were seen, so that no mask is overwritten before it was looked at.
+// Keeps of the first n masks of the list those of the lowest sets, at its front, and gives their
+// count. A mask's first key is found by the tables `low1` and `high1`, its second by the others. No
+// more are kept than were seen, so that no mask is overwritten before it is looked at.
 pub fn keep_lowest(
     list: &mut [u64],
     n: usize,

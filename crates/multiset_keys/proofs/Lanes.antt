@@ -1,7 +1,7 @@
 -- Lanes of 8 bits: packed lists compare lane by lane, and the free bits tell it by one subtraction.
 -- Assumes nothing.
 use mathlib.Core.Path.{_≡_, refl, sym, ap, _∙_}
-use mathlib.Core.Bool.{Bool, true, false, _&&_}
+use mathlib.Core.Bool.{true, false}
 use mathlib.Core.List.{List, [], _∷_, map}
 use mathlib.Core.Logic.{inl, inr, ⊎-elim}
 use Prim.Native.Nat.{ℕ, zero, suc, _+_, _-_, _*_, _/_, _%_, _^_, _≤_, _<_}
@@ -12,9 +12,9 @@ use lib.ListN.{length}
 use borrow.Author.Tests.{eq-eqb, ne-eqb}
 use Rattle.vertex_set.specs.Set.{Iff}
 use Rattle.vertex_set.specs.Order.{Listed}
-use Rattle.vertex_set.proofs.Cases.{byTest, less-or, same-or, false-true}
-use Rattle.vertex_set.proofs.Decisions.{decide-leb}
-use Rattle.multiset_keys.specs.Inner.{packed, lanesLe, SmallLanes, guards, Key, keyLe}
+use Rattle.vertex_set.proofs.Cases.{byTest, less-or, same-or}
+use Rattle.vertex_set.proofs.Decisions.{decide-leb, and-parts, and-both}
+use Rattle.multiset_keys.specs.Inner.{packed, lanesLe, SmallLanes, guards, CountKey, keyLe}
 
 -- ---- the test by the free bits
 
@@ -80,12 +80,12 @@ guards-tell (suc n) a b h k =
         strict : d ≤ c → (d + 128) - c < 128
         strict l = ⊎-elim (λ e. absurd (n (omega arith))) (λ e. omega (arith, e)) (same-or c d)
 
-pub key-tells : (a b : ℕ) → Key a → Key b → eqb (bitAnd ((b + guards 7) - a) (guards 7)) (guards 7) ≡ keyLe a b
-unfolding Key keyLe
+pub key-tells : (a b : ℕ) → CountKey a → CountKey b → eqb (bitAnd ((b + guards 7) - a) (guards 7)) (guards 7) ≡ keyLe a b
+unfolding CountKey keyLe
 key-tells a b h k = guards-tell 7 a b h k
 
-pub key-most : (a : ℕ) → Key a → a ≤ guards 7
-unfolding Key
+pub key-most : (a : ℕ) → CountKey a → a ≤ guards 7
+unfolding CountKey
 key-most a h = lanes-most 7 a h
 
 -- ---- an order
@@ -95,24 +95,17 @@ lanes-refl zero a = refl
 lanes-refl (suc n) a =
     byTest (leb (a % 256) (a % 256)) (λ t. rw t (lanes-refl n (a / 256))) (λ t. absurd (decide-leb (a % 256) (a % 256) .no t (omega arith)))
 
-pub both-true : (p q : Bool) → p && q ≡ true → (p ≡ true) × (q ≡ true)
-both-true true q e = (refl, e)
-both-true false q e = absurd (false-true e)
-
-pub true-both : (p q : Bool) → p ≡ true → q ≡ true → p && q ≡ true
-true-both p q e f = rw (e, f) refl
-
 leb-yes : (a b : ℕ) → a ≤ b → leb a b ≡ true
 leb-yes a b l = byTest (leb a b) (λ t. t) (λ t. absurd (decide-leb a b .no t l))
 
 lanes-trans : (n a b c : ℕ) → lanesLe n a b ≡ true → lanesLe n b c ≡ true → lanesLe n a c ≡ true
 lanes-trans zero a b c h k = refl
 lanes-trans (suc n) a b c h k =
-    let p = both-true _ _ h in
-    let q = both-true _ _ k in
+    let p = and-parts _ _ h in
+    let q = and-parts _ _ k in
     let x = decide-leb (a % 256) (b % 256) .yes (p .0) in
     let y = decide-leb (b % 256) (c % 256) .yes (q .0) in
-    true-both _ _ (leb-yes (a % 256) (c % 256) (omega arith)) (lanes-trans n (a / 256) (b / 256) (c / 256) (p .1) (q .1))
+    and-both _ _ (leb-yes (a % 256) (c % 256) (omega arith)) (lanes-trans n (a / 256) (b / 256) (c / 256) (p .1) (q .1))
 
 pub key-refl : (a : ℕ) → keyLe a a ≡ true
 unfolding keyLe
@@ -135,8 +128,8 @@ module _ (f g : ℕ → ℕ) (small : (t : ℕ) → f t < 128) (low : (t : ℕ) 
       let e : (f t + 256 * packed (map f l)) / 256 ≡ packed (map f l) = omega arith in
       (omega arith, rw e r)
 
-  pub packed-key : (l : List ℕ) → length l ≤ 7 → Key (packed (map f l))
-  unfolding Key
+  pub packed-key : (l : List ℕ) → length l ≤ 7 → CountKey (packed (map f l))
+  unfolding CountKey
   packed-key l h = packed-lanes 7 l h
 
   packed-le : (n : ℕ) (l : List ℕ) → length l ≤ n → Iff (lanesLe n (packed (map f l)) (packed (map g l)) ≡ true) ((t : ℕ) → Listed l t → f t ≤ g t)
@@ -152,8 +145,8 @@ module _ (f g : ℕ → ℕ) (small : (t : ℕ) → f t < 128) (low : (t : ℕ) 
       let d : (g t + 256 * packed (map g l)) % 256 ≡ g t = omega arith in
       rw (a, b, c, d)
       (record {
-        to = λ e u. let p = both-true _ _ e in ⊎-elim (λ q. rw q (decide-leb (f t) (g t) .yes (p .0))) (λ m. r .to (p .1) u m);
-        from = λ e. true-both _ _ (leb-yes _ _ (e t (inl refl))) (r .from (λ u m. e u (inr m)));
+        to = λ e u. let p = and-parts _ _ e in ⊎-elim (λ q. rw q (decide-leb (f t) (g t) .yes (p .0))) (λ m. r .to (p .1) u m);
+        from = λ e. and-both _ _ (leb-yes _ _ (e t (inl refl))) (r .from (λ u m. e u (inr m)));
       })
 
   pub packed-key-le : (l : List ℕ) → length l ≤ 7 → Iff (keyLe (packed (map f l)) (packed (map g l)) ≡ true) ((t : ℕ) → Listed l t → f t ≤ g t)

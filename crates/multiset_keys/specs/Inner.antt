@@ -33,26 +33,26 @@ guards zero = 0
 guards (suc n) = 128 + 256 * guards n
 
 -- a is a key: seven lanes, whose highest bits are free.
-unfoldable pub Key : ℕ → Type 0
-Key a = SmallLanes 7 a
+unfoldable pub CountKey : ℕ → Type 0
+CountKey a = SmallLanes 7 a
 
 -- Is each lane of the key a at most that of the key b?
 unfoldable pub keyLe : ℕ → ℕ → Bool
 keyLe a b = lanesLe 7 a b
 
 -- For each of the thresholds, 1 where the value is at or above it, else 0.
-abbrev pub marksOf : List ℕ → ℕ → List ℕ
-marksOf thresholds value = map (λ (t : ℕ). isHigh t value) thresholds
+abbrev pub highMarks : List ℕ → ℕ → List ℕ
+highMarks thresholds value = map (λ (t : ℕ). isHigh t value) thresholds
 
 -- The columns have for each vertex the key of its value alone.
 pub record Columns (values thresholds columns : List ℕ) : Type 0 where
   pub long : length columns ≡ 64
   pub few : length thresholds ≤ 7
-  pub each : (v : ℕ) → v < 64 → getD columns v 0 ≡ packed (marksOf thresholds (getD values v 0))
+  pub each : (v : ℕ) → v < 64 → getD columns v 0 ≡ packed (highMarks thresholds (getD values v 0))
 
 -- The key of a set: the sum of its vertices' columns.
-abbrev pub keyOf : List ℕ → ℕ → ℕ
-keyOf columns x = sumOver (λ (v : ℕ). getD columns v 0) x
+abbrev pub countKeyOf : List ℕ → ℕ → ℕ
+countKeyOf columns x = sumOver (λ (v : ℕ). getD columns v 0) x
 
 -- The two tables give for each mask the key of its set.
 pub record KeysOf (chosen : ℕ) (values thresholds low high : List ℕ) : Type 0 where
@@ -63,4 +63,4 @@ pub record KeysOf (chosen : ℕ) (values thresholds low high : List ℕ) : Type 
 -- What the two tables give for a mask is a key.
 pub record KeyTables (low high : List ℕ) : Type 0 where
   pub fit : TablesFit low high
-  pub keys : (m : ℕ) → m < masks → Key (sumBy low high m)
+  pub keys : (m : ℕ) → m < masks → CountKey (sumBy low high m)

@@ -5,10 +5,10 @@ ghost use mathlib.Core.Path.{_≡_};
 ghost use Prim.Native.Nat.{_≤_, _<_};
 ghost use lib.ListN.{length};
 ghost use lib.Count.{ones};
-ghost use Rattle.families.specs.Inner.Family.{masks};
+ghost use Rattle.families.specs.Inner.Family.{maskBits, masks};
 ghost use Rattle.family_lists.specs.Inner.Tables.{TablesFit, sumBy};
 ghost use Rattle.multisets.specs.Meaning.{isHigh};
-ghost use Rattle.multiset_keys.specs.Inner.{packed, marksOf, keyLe, Key, Columns, KeysOf};
+ghost use Rattle.multiset_keys.specs.Inner.{packed, highMarks, keyLe, CountKey, Columns, KeysOf};
 use vertex_set::VertexSet;
 
 // The free bits of the seven lanes.
@@ -24,10 +24,10 @@ fn is_high(threshold: u64, value: u64) -> u64
     0
 }
 
-// The key of one value, the last threshold first, so that each lane is pushed up by those before it.
+// The key of one value. The last threshold is taken first, so that it ends in the highest lane.
 fn column(value: u64, thresholds: &[u64]) -> u64
     requires { ⌜ length (now thresholds) ≤ 7 ⌝ }
-    ensures { λ r. ⌜ r ≡ packed (marksOf (now (thresholds .entry)) value) ⌝ }
+    ensures { λ r. ⌜ r ≡ packed (highMarks (now (thresholds .entry)) value) ⌝ }
 {
     let mut key: u64 = 0;
     let mut k = thresholds.len();
@@ -60,7 +60,7 @@ pub fn fill_keys(
     low: &mut [u64],
     high: &mut [u64],
 )
-    requires { ⌜ ones (chosen .0) ≤ 14 ⌝ }
+    requires { ⌜ ones (chosen .0) ≤ maskBits ⌝ }
     requires { ⌜ length (now thresholds) ≤ 7 ⌝ }
     requires { ⌜ length (now low) ≡ 128 ⌝ }
     requires { ⌜ length (now high) ≡ 128 ⌝ }
@@ -84,8 +84,8 @@ pub fn key_of(low: &[u64], high: &[u64], mask: u64) -> u64
 // Is each lane of the key a at most that of the key b? The free bits of b are set before a is taken
 // off, so that no lane borrows from the next, and a lane of a that is higher takes its free bit away.
 pub fn key_at_most(a: u64, b: u64) -> bool
-    requires { ⌜ Key a ⌝ }
-    requires { ⌜ Key b ⌝ }
+    requires { ⌜ CountKey a ⌝ }
+    requires { ⌜ CountKey b ⌝ }
     ensures { λ r. ⌜ r ≡ keyLe a b ⌝ }
 {
     ((b + GUARDS) - a) & GUARDS == GUARDS

@@ -3,29 +3,27 @@
 use mathlib.Core.Path.{_≡_, refl, ap, subst, _∙_}
 use mathlib.Core.Bool.{false}
 use mathlib.Core.List.{List, [], _∷_, map}
-use mathlib.Core.Logic.{_⊎_, inl, inr, ⊎-elim}
-use Prim.Native.Nat.{ℕ, zero, suc, _*_, _^_, _≤_, _<_}
+use mathlib.Core.Logic.{_⊎_, ⊎-elim}
+use Prim.Native.Nat.{ℕ, _*_, _^_, _≤_, _<_}
 use native.Mathlib.Omega.{arith}
 use lib.Count.{ones}
 use lib.ListN.{length, getD, take, length-map}
 use lib.Seq.{length-take-le}
-use Rattle.vertex_set.specs.Order.{Listed}
+use Rattle.vertex_set.proofs.Lists.{listed-at}
 use Rattle.setup.specs.declared.Setup.{Setup}
-use Rattle.setup.specs.Calls.{Untouched, written}
-use Rattle.setup.proofs.Calls.{refuses}
+use Rattle.setup.specs.Calls.{written}
+use Rattle.setup.proofs.Calls.{refuses, untouched}
 use Rattle.formed.specs.WellFormed.{WellFormed}
-use Rattle.bases.specs.Score.{Values}
+use Rattle.bases.specs.Inner.Readers.{Values}
 use Rattle.written.specs.Inner.{Wrote}
 use Rattle.multiset_fronts.proofs.Lists.{listed-take}
 use Rattle.multiset_rows.specs.Inner.{rowsOf, RowsFit}
-use Rattle.multiset_rows.proofs.Writing.{rows-long, wrote-front}
+use Rattle.written.proofs.Writing.{wrote-front}
+use Rattle.multiset_rows.proofs.Writing.{rows-long}
 use Rattle.multiset_scores.specs.Scores.{allPlaces, allLengths}
 use Rattle.multiset_scores.specs.Answers.{MultisetsCall}
 use Rattle.multiset_scores.specs.Inner.{ScoreFound, ScoreTaken}
 use Rattle.multiset_scores.proofs.Scores.{rows-places, ones-lengths}
-
-untouched : (a b : List ℕ) → Untouched a a b b
-untouched a b = record { first = refl; second = refl }
 
 module _ (s : Setup) (target : ℕ) (places lengths : List ℕ) where
   pub multisets-malformed : (WellFormed s → ⊥) → MultisetsCall s target 12 [] places places lengths lengths
@@ -70,12 +68,7 @@ module _ (s : Setup) (target : ℕ) (places lengths : List ℕ) where
     module _ (points : List ℕ) (p : Values false s points) (places′ : List ℕ) (r : ℕ) (a : Wrote places 0 (rowsOf (λ (v : ℕ). getD points v 0) (take n kept)) places′ r)
         (lengths′ : List ℕ) (q : ℕ) (b : Wrote lengths 0 (map ones (take n kept)) lengths′ q) (h : 14 * n ≤ length places) (k : n ≤ length lengths) where
       inside : (i : ℕ) → i < length (take n kept) → (getD (take n kept) i 0 < 2 ^ 64) × (ones (getD (take n kept) i 0) ≤ 14)
-      inside i l = f .few (getD (take n kept) i 0) (at (take n kept) i l)
-        where
-          at : (l : List ℕ) (i : ℕ) → i < length l → Listed l (getD l i 0)
-          at [] i h = absurd (omega arith)
-          at (x ∷ l) zero h = inl refl
-          at (x ∷ l) (suc i) h = inr (at l i (omega arith))
+      inside i l = f .few (getD (take n kept) i 0) (listed-at (take n kept) i l)
 
       rows : places′ ≡ written (allPlaces s (take n kept)) places
       rows =

@@ -9,15 +9,12 @@ use lib.Dec.{leb}
 use Rattle.vertex_set.specs.Set.{Iff, Decides}
 use Rattle.vertex_set.specs.Order.{Listed, Before, Ordered}
 use Rattle.vertex_set.proofs.Cases.{byTest, false-true}
-use Rattle.vertex_set.proofs.Decisions.{decide-yes, decide-iff, decide-leb}
+use Rattle.vertex_set.proofs.Decisions.{decide-yes, decide-iff, decide-leb, decide-and}
 use Rattle.vertex_set.proofs.Sorted.{listed-append, only}
 use Rattle.setup.specs.declared.Setup.{Setup}
 use Rattle.formed.specs.WellFormed.{WellFormed}
-use Rattle.bases.specs.Base.{Base}
 use Rattle.reference.specs.Bases.{baseOf}
-use Rattle.reference.proofs.Graphs.{own-graph}
-use Rattle.reference.proofs.Bases.{base-of}
-use Rattle.reference.proofs.Tests.{decide-and}
+use Rattle.reference.proofs.Bases.{own-base}
 use Rattle.multisets.specs.Multisets.{Pairing}
 use Rattle.multisets.specs.Meaning.{atLeast}
 use Rattle.multisets.proofs.Meaning.{reflexive, transitive, fewer-at}
@@ -129,15 +126,9 @@ module _ (s : Setup) where
   front-none = record { of = λ x h. h; least = λ x y h. absurd h; cover = λ y h. absurd h; ordered = tt }
 
   module _ (target : ℕ) (w : WellFormed s) where
-    base : Base false s (s .graph) target (baseOf false s (s .graph) target)
-    base = base-of false s (s .graph) target w (own-graph s w)
-
     pub front-of : Front (MultisetLe s) (baseOf false s (s .graph) target) (scoreOf s target)
     unfolding scoreOf
-    front-of = lowest-front (baseOf false s (s .graph) target) [] [] front-none (base .ordered)
-
-    pub base-listed : Base false s (s .graph) target (baseOf false s (s .graph) target)
-    base-listed = base
+    front-of = lowest-front (baseOf false s (s .graph) target) [] [] front-none (own-base false s target w .ordered)
 
     pub score-of : MultisetScore s target (scoreOf s target)
-    score-of = score-of-front s target (baseOf false s (s .graph) target) (scoreOf s target) base front-of
+    score-of = score-of-front s target (baseOf false s (s .graph) target) (scoreOf s target) (own-base false s target w) front-of

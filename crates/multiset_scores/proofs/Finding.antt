@@ -11,8 +11,8 @@ use lib.ListN.{length, getD, take, drop, set, length-append, length-map, length-
 use lib.Pow.{pow-mono}
 use lib.Seq.{take-append-seam, getD-set-other}
 use Rattle.vertex_set.specs.Set.{Iff}
-use Rattle.vertex_set.specs.Order.{Listed, Before, Ordered}
-use Rattle.vertex_set.proofs.Sorted.{listed-map, listed-of-map, Sorted, sorted-map, sorted-ordered}
+use Rattle.vertex_set.specs.Order.{Listed, Before}
+use Rattle.vertex_set.proofs.Sorted.{listed-map, listed-of-map, Sorted, sorted-map, sorted-ordered, ordered-sorted}
 use Rattle.setup.specs.declared.Setup.{Setup}
 use Rattle.setup.specs.Setup.{ChosenSet}
 use Rattle.formed.specs.WellFormed.{WellFormed}
@@ -22,14 +22,14 @@ use Rattle.families.proofs.Masks.{spread, spread-odd, set-of, set-is, set-befor
 use Rattle.family_lists.specs.Inner.Lists.{ListOf, Writable, WroteSets}
 use Rattle.family_lists.specs.Inner.Tables.{sumBy}
 use Rattle.bases.specs.Base.{Base}
-use Rattle.bases.specs.Score.{Values}
-use Rattle.bases.specs.Inner.Readers.{BaseFamily}
+use Rattle.bases.specs.Inner.Readers.{BaseFamily, Values}
 use Rattle.forecasts.proofs.Bounds.{longest-base}
 use Rattle.multiset_keys.proofs.Sums.{key-tables}
-use Rattle.multiset_fronts.specs.Inner.{mostSets, KeysLe, Front, CanKeep, KeptLowest}
+use Rattle.antichains.specs.Antichains.{mostSets}
+use Rattle.multiset_fronts.specs.Inner.{KeysLe, Front, CanKeep, KeptLowest}
 use Rattle.multiset_fronts.proofs.Front.{front-map}
 use Rattle.multiset_fronts.proofs.Lists.{take-more, take-stored}
-use Rattle.multiset_scores.specs.Inner.{ValuesLe, BothKeys, setsOf, CanCompare, ComparedLowest, Named, ScoreFound}
+use Rattle.multiset_scores.specs.Inner.{ValuesLe, BothKeys, setsOfMasks, CanCompare, ComparedLowest, SetsInPlace, ScoreFound}
 use Rattle.multiset_scores.proofs.Thresholds.{threshold, in-halves, masks-values}
 use Rattle.multiset_scores.proofs.Scores.{front-points, score-of-front, few-of-front}
 
@@ -73,7 +73,7 @@ module _ (list : List ℕ) (n initial : ℕ) (points low₁ high₁ low₂ high�
 -- The sets of the masks before place i stand there; from i on stand masks.
 pub record Naming (initial : ℕ) (kept₀ : List ℕ) (i : ℕ) (kept : List ℕ) : Type 0 where
   pub long : length kept ≡ length kept₀
-  pub done : take i kept ≡ setsOf initial (take i kept₀)
+  pub done : take i kept ≡ setsOfMasks initial (take i kept₀)
   pub rest : (j : ℕ) → i ≤ j → getD kept j 0 ≡ getD kept₀ j 0
 
 pub naming-none : (initial : ℕ) (kept : List ℕ) → Naming initial kept 0 kept
@@ -86,19 +86,15 @@ naming-more initial kept₀ i kept word l p x s =
       long = length-set kept i x ∙ p .long;
       done = take-stored kept i x (let e = p .long in omega arith)
           ∙ (ap (λ (q : List ℕ). q ++ (x ∷ [])) (p .done)
-          ∙ (ap (λ (z : ℕ). setsOf initial (take i kept₀) ++ (z ∷ [])) (set-is initial (getD kept i 0) x word s ∙ ap (spread 64 initial) (p .rest i (omega arith)))
-          ∙ (sym (map-append (spread 64 initial) (take i kept₀) (getD kept₀ i 0 ∷ [])) ∙ ap (setsOf initial) (sym (take-more kept₀ i l)))));
+          ∙ (ap (λ (z : ℕ). setsOfMasks initial (take i kept₀) ++ (z ∷ [])) (set-is initial (getD kept i 0) x word s ∙ ap (spread 64 initial) (p .rest i (omega arith)))
+          ∙ (sym (map-append (spread 64 initial) (take i kept₀) (getD kept₀ i 0 ∷ [])) ∙ ap (setsOfMasks initial) (sym (take-more kept₀ i l)))));
       rest = λ j h. getD-set-other kept i j x 0 (λ e. omega arith) ∙ p .rest j (omega arith);
     }
 
-pub naming-all : (initial : ℕ) (kept₀ : List ℕ) (n i : ℕ) (kept : List ℕ) → i ≡ n → Naming initial kept₀ i kept → Named initial kept₀ n kept
-naming-all initial kept₀ n i kept e p = record { are = subst (λ (j : ℕ). take j kept ≡ setsOf initial (take j kept₀)) e (p .done) }
+pub naming-all : (initial : ℕ) (kept₀ : List ℕ) (n i : ℕ) (kept : List ℕ) → i ≡ n → Naming initial kept₀ i kept → SetsInPlace initial kept₀ n kept
+naming-all initial kept₀ n i kept e p = record { are = subst (λ (j : ℕ). take j kept ≡ setsOfMasks initial (take j kept₀)) e (p .done) }
 
 -- ---- the base listed
-
-ordered-sorted : (l : List ℕ) → Ordered l → Sorted Before l
-ordered-sorted [] o = tt
-ordered-sorted (x ∷ l) o = (o .0, ordered-sorted l (o .1))
 
 -- over the first n vertices a mask of n bits stands for itself
 spread-none : (k m : ℕ) → spread k 0 m ≡ 0
@@ -145,7 +141,7 @@ module _ (s : Setup) (target initial : ℕ) (wf : WellFormed s) (word : initial 
     exact : (x : ℕ) → Listed (w .list) x → x < 2 ^ ones initial
     exact x h = let r = member x h in f .exact .below x (r .0) (r .1)
 
-    sets-listed : ListOf initial m (setsOf initial (w .list))
+    sets-listed : ListOf initial m (setsOfMasks initial (w .list))
     sets-listed =
         record {
           sound = λ x h.
@@ -155,19 +151,19 @@ module _ (s : Setup) (target initial : ℕ) (wf : WellFormed s) (word : initial 
           whole = λ x l i.
               let r = w .is .whole x l i in
               (spread 64 initial x, listed-map (spread 64 initial) (w .list) x (subst (Listed (w .list)) (own-set x (r .0) l (r .2)) (r .1)), set-of initial x word);
-          ordered = sorted-ordered (setsOf initial (w .list)) (sorted-map Before Before (spread 64 initial) (w .list)
+          ordered = sorted-ordered (setsOfMasks initial (w .list)) (sorted-map Before Before (spread 64 initial) (w .list)
               (λ x y i j. set-before initial x y _ _ word (exact x i) (exact y j) (set-of initial x word) (set-of initial y word))
               (ordered-sorted (w .list) (w .is .ordered)));
         }
 
-    base : Base false s (s .graph) target (setsOf initial (w .list))
-    base = f .each (setsOf initial (w .list)) sets-listed
+    base : Base false s (s .graph) target (setsOfMasks initial (w .list))
+    base = f .each (setsOfMasks initial (w .list)) sets-listed
 
     few-sets : n ≤ mostSets
     few-sets =
         let a = w .count in
         let b = length-map (w .list) (spread 64 initial) in
-        let c = longest-base false s (s .graph) target (setsOf initial (w .list)) wf base in omega arith
+        let c = longest-base false s (s .graph) target (setsOfMasks initial (w .list)) wf base in omega arith
 
     pub can-compare : CanCompare exit n initial
     can-compare =
@@ -183,15 +179,15 @@ module _ (s : Setup) (target initial : ℕ) (wf : WellFormed s) (word : initial 
     few-left points kept r c = let a = few-sets in let b = c .most in omega arith
 
     pub score-found : (points : List ℕ) → Values false s points → ChosenSet false s initial → (kept kept′ : List ℕ) (r : ℕ) → length kept′ ≡ mostSets
-        → ComparedLowest exit n initial points kept r → Named initial kept r kept′ → ScoreFound s target kept′ r
+        → ComparedLowest exit n initial points kept r → SetsInPlace initial kept r kept′ → ScoreFound s target kept′ r
     score-found points p ch kept kept′ r long c t =
-        let g : Front (ValuesLe points) (setsOf initial (w .list)) (take r kept′) =
-        subst (λ (l : List ℕ). Front (ValuesLe points) (setsOf initial l) (take r kept′)) listed
-        (subst (Front (ValuesLe points) (setsOf initial (take n exit))) (sym (t .are)) (c .front)) in
-        let h = front-points s points p (setsOf initial (w .list)) (take r kept′) g in
+        let g : Front (ValuesLe points) (setsOfMasks initial (w .list)) (take r kept′) =
+        subst (λ (l : List ℕ). Front (ValuesLe points) (setsOfMasks initial l) (take r kept′)) listed
+        (subst (Front (ValuesLe points) (setsOfMasks initial (take n exit))) (sym (t .are)) (c .front)) in
+        let h = front-points s points p (setsOfMasks initial (w .list)) (take r kept′) g in
         record {
           long = long;
           most = few-left points kept r c;
-          few = few-of-front s target (setsOf initial (w .list)) (take r kept′) base h initial ch word (f .few);
-          score = score-of-front s target (setsOf initial (w .list)) (take r kept′) base h;
+          few = few-of-front s target (setsOfMasks initial (w .list)) (take r kept′) base h initial ch word (f .few);
+          score = score-of-front s target (setsOfMasks initial (w .list)) (take r kept′) base h;
         }

@@ -17,7 +17,8 @@ use Rattle.vertex_set.proofs.Sorted.{sorted-ordered, before-one-way, map-same}
 use Rattle.setup.specs.declared.Setup.{Setup}
 use Rattle.setup.specs.Setup.{ChosenSet}
 use Rattle.bases.specs.Base.{Base}
-use Rattle.bases.specs.Score.{pointsAt, Values}
+use Rattle.bases.specs.Inner.Readers.{Values}
+use Rattle.bases.specs.Score.{pointsAt}
 use Rattle.multisets.specs.Multisets.{Pairing, SameMultiset, valuesBelow, valuesOver, placesOf}
 use Rattle.multisets.proofs.Meaning.{antisymmetric, same-pairing, same-turned}
 use Rattle.multisets.proofs.Sets.{length-over}

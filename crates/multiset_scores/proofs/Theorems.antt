@@ -19,18 +19,18 @@ use Rattle.bases.specs.Score.{pointsAt}
 use Rattle.bases.proofs.Formed.{few}
 use Rattle.forecasts.proofs.Bounds.{chosen-set, longest-base}
 use Rattle.reference.proofs.Graphs.{own-graph, chosen-below}
-use Rattle.reference.proofs.Bases.{minimal-within}
+use Rattle.reference.proofs.Bases.{minimal-within, own-base}
 use Rattle.multisets.specs.Multisets.{Pairing}
 use Rattle.multisets.proofs.Meaning.{transitive, same-turned}
 use Rattle.multisets.proofs.Sets.{values-within, length-over}
-use Rattle.multiset_scores.specs.Scores.{multisetOf, MultisetScore, FirstInScore, Covered, EachListed, Apart, AreBags, NoLonger, LongestScore, ForecastEnough, Sound}
-use Rattle.multiset_scores.proofs.Computed.{scoreOf, score-of, front-of, base-listed}
+use Rattle.multiset_scores.specs.Scores.{multisetOf, MultisetScore, FirstInScore, Covered, EachListed, BagsApart, AreBags, NoLonger, LongestScore, ForecastEnough, BagsSound}
+use Rattle.multiset_scores.proofs.Computed.{scoreOf, score-of, front-of}
 
 covered-minimal : (s : Setup) (target : ℕ) (l : List ℕ) → WellFormed s → MultisetScore s target l → (y : ℕ) → MinimalSet false s (s .graph) target y
     → (x : ℕ) × Listed l x × Pairing (multisetOf s x) (multisetOf s y)
 covered-minimal s target l w h y m =
     let e = exactly-unique (FirstInScore s target) (scoreOf s target) l (score-of s target w) h in
-    let c = front-of s target w .cover y (base-listed s target w .whole y m) in
+    let c = front-of s target w .cover y (own-base false s target w .whole y m) in
     (c .0, subst (λ (k : List ℕ). Listed k (c .0)) e (c .1), c .2)
 
 pub covered : Covered
@@ -44,7 +44,7 @@ each-listed s target l w h x i =
     let c = covered s target l w h x (i .is .is) in
     (c .0, c .1, i .least (c .0) (h .sound (c .0) (c .1) .score .is) (c .2))
 
-pub apart : Apart
+pub apart : BagsApart
 apart s target l h x y i j p =
     let fx = h .sound x i in
     let fy = h .sound y j in
@@ -68,17 +68,17 @@ no-longer s target l base h b = once-le l base (ordered-once l (h .ordered)) (λ
 
 pub longest-score : LongestScore
 longest-score s target l w h =
-    let b = base-listed s target w in
+    let b = own-base false s target w in
     let n = no-longer s target l _ h b in
     let m = longest-base false s (s .graph) target _ w b in
     omega arith
 
 pub forecast-enough : ForecastEnough
 forecast-enough s target counted n l w h f =
-    let b = base-listed s target w in
+    let b = own-base false s target w in
     let k = no-longer s target l _ h b in
     let m = f .enough _ b in
     omega arith
 
-pub sound : Sound
+pub sound : BagsSound
 sound s a b l k w p q opens y j = covered s a l w p y (opens y (q .sound y j .score .is .is))

@@ -1,7 +1,7 @@
 -- The values of all initial vertices are thresholds enough: at them keys compare as multisets do.
 -- Assumes nothing.
 use mathlib.Core.Path.{_≡_, refl, sym, ap, subst, _∙_}
-use mathlib.Core.List.{List, [], _∷_}
+use mathlib.Core.List.{List}
 use mathlib.Core.Logic.{_⊎_, inl, inr, ⊎-elim}
 use Prim.Native.Nat.{ℕ, zero, suc, _+_, _-_, _%_, _^_, _≤_, _<_}
 use native.Mathlib.Omega.{arith}
@@ -12,11 +12,12 @@ use lib.Seq.{take-all}
 use Rattle.vertex_set.specs.Set.{Member, Within, Iff}
 use Rattle.vertex_set.specs.Order.{Listed, sumOver}
 use Rattle.vertex_set.proofs.Cases.{byTest, less-or, same-or}
-use Rattle.vertex_set.proofs.Decisions.{decide-eqb}
+use Rattle.vertex_set.proofs.Decisions.{decide-eqb, and-parts, and-both}
 use Rattle.vertex_set.proofs.Digits.{digit}
 use Rattle.vertex_set.proofs.Sets.{member-below, in-one, ones-below-more}
 use Rattle.vertex_set.proofs.Sorted.{listed-append}
 use Rattle.vertex_set.proofs.Sums.{sum-removed, sum-none}
+use Rattle.vertex_set.proofs.Lists.{listed-at}
 use Rattle.families.specs.Inner.Family.{masks}
 use Rattle.families.specs.Inner.Masks.{placeAmong, Picked, SetOfMask}
 use Rattle.families.proofs.Exact.{place-lt}
@@ -26,8 +27,7 @@ use Rattle.sums.proofs.Weights.{at-none, at-removed}
 use Rattle.multisets.specs.Multisets.{valuesBelow, valuesOver}
 use Rattle.multisets.proofs.Pairs.{fewer-pairing, pairing-fewer}
 use Rattle.multisets.proofs.Meaning.{fewer-at}
-use Rattle.multiset_keys.specs.Inner.{Columns, keyOf}
-use Rattle.multiset_keys.proofs.Lanes.{both-true, true-both}
+use Rattle.multiset_keys.specs.Inner.{Columns, countKeyOf}
 use Rattle.multiset_keys.proofs.Sums.{keys-compare}
 use Rattle.multiset_fronts.specs.Inner.{KeysLe}
 use Rattle.multiset_scores.specs.Inner.{ValuesLe}
@@ -58,11 +58,6 @@ place-apart c u v m n e =
     (less-or u v)
 
 -- ---- each initial vertex's value is a threshold
-
-listed-at : (l : List ℕ) (i : ℕ) → i < length l → Listed l (getD l i 0)
-listed-at [] i h = absurd (omega arith)
-listed-at (x ∷ l) zero h = inl refl
-listed-at (x ∷ l) (suc i) h = inr (listed-at l i (omega arith))
 
 one-mask : (c v : ℕ) → Member c v → SetOfMask c (2 ^ placeAmong c v) (2 ^ v)
 unfolding Picked
@@ -123,9 +118,9 @@ value-listed value x z h = value-of value x 64 z h
 
 module _ (points low high first second : List ℕ) (a : Columns points low first) (b : Columns points high second) (initial : ℕ)
     (all : (v : ℕ) → Member initial v → Listed low (getD points v 0) ⊎ Listed high (getD points v 0)) where
-  keys-values : (x y : ℕ) → Within x initial → KeysLe (keyOf first) (keyOf second) x y → ValuesLe points x y
+  keys-values : (x y : ℕ) → Within x initial → KeysLe (countKeyOf first) (countKeyOf second) x y → ValuesLe points x y
   keys-values x y w h =
-      let p = both-true _ _ h in
+      let p = and-parts _ _ h in
       fewer-pairing (valuesOver (λ (v : ℕ). getD points v 0) x) (valuesOver (λ (v : ℕ). getD points v 0) y)
       (fewer-at (valuesOver (λ (v : ℕ). getD points v 0) x) (valuesOver (λ (v : ℕ). getD points v 0) y)
       (λ z m.
@@ -135,14 +130,14 @@ module _ (points low high first second : List ℕ) (a : Columns points low first
       (λ i. keys-compare points high second b x y .to (p .1) z (subst (Listed high) (sym (q .2)) i))
       (all (q .0) (w .each (q .0) (q .1)))) .each)
 
-  values-keys : (x y : ℕ) → ValuesLe points x y → KeysLe (keyOf first) (keyOf second) x y
+  values-keys : (x y : ℕ) → ValuesLe points x y → KeysLe (countKeyOf first) (countKeyOf second) x y
   values-keys x y h =
       let f = pairing-fewer (valuesOver (λ (v : ℕ). getD points v 0) x) (valuesOver (λ (v : ℕ). getD points v 0) y) h in
-      true-both _ _ (keys-compare points low first a x y .from (λ t i. f t)) (keys-compare points high second b x y .from (λ t i. f t))
+      and-both _ _ (keys-compare points low first a x y .from (λ t i. f t)) (keys-compare points high second b x y .from (λ t i. f t))
 
   -- so do the keys of masks, which tables give
-  module _ (f g : ℕ → ℕ) (same-first : (m : ℕ) → m < masks → f m ≡ keyOf first (spread 64 initial m))
-      (same-second : (m : ℕ) → m < masks → g m ≡ keyOf second (spread 64 initial m)) (word : initial < 2 ^ 64) where
+  module _ (f g : ℕ → ℕ) (same-first : (m : ℕ) → m < masks → f m ≡ countKeyOf first (spread 64 initial m))
+      (same-second : (m : ℕ) → m < masks → g m ≡ countKeyOf second (spread 64 initial m)) (word : initial < 2 ^ 64) where
     pub masks-values : (m k : ℕ) → m < masks → k < masks → Iff (KeysLe f g m k) (ValuesLe points (spread 64 initial m) (spread 64 initial k))
     masks-values m k l h =
         let w = set-within initial m (spread 64 initial m) (set-of initial m word) in

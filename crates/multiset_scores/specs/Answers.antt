@@ -5,7 +5,7 @@ use mathlib.Core.Logic.{_⊎_}
 use Prim.Native.Nat.{ℕ, _*_, _≤_, _<_}
 use lib.ListN.{length}
 use Rattle.setup.specs.declared.Setup.{Setup}
-use Rattle.setup.specs.Calls.{Refuses, Same, Untouched, written}
+use Rattle.setup.specs.Calls.{Refuses, SameLists, written, Untouched}
 use Rattle.formed.specs.WellFormed.{WellFormed}
 use Rattle.multisets.specs.Multisets.{mostValues}
 use Rattle.multiset_scores.specs.declared.MultisetAnswer.{MultisetAnswer}
@@ -35,12 +35,6 @@ pub record MultisetsCall (s : Setup) (target number : ℕ) (values places places
   pub noTarget : WellFormed s → s .count ≤ target → Refuses 13 number values × Untouched places places′ lengths lengths′
   pub answers : WellFormed s → target < s .count
       → (l : List ℕ) × MultisetScore s target l × MultisetsWritten s l number values places places′ lengths lengths′
-
--- Two answers are the same, and both lent lists end the same.
-pub record SameLists (n n′ : ℕ) (v v′ x x′ y y′ : List ℕ) : Type 0 where
-  pub answer : Same n n′ v v′
-  pub first : x ≡ x′
-  pub second : y ≡ y′
 
 -- Two answers that meet the contract, on the same setup, target and lent lists, are the same.
 abbrev pub OneMultisetsAnswer : Type 0

@@ -9,24 +9,21 @@ use Rattle.vertex_set.specs.Order.{Listed, Before}
 use Rattle.vertex_set.proofs.Sorted.{Sorted}
 use Rattle.families.proofs.Masks.{spread}
 use Rattle.sums.specs.Inner.Sums.{WeightsOf}
+use Rattle.setup.specs.Bounds.{mostChosen}
 use Rattle.setup.specs.declared.Setup.{Setup}
 use Rattle.setup.specs.Setup.{ChosenSet}
-use Rattle.formed.specs.WellFormed.{WellFormed}
-use Rattle.bases.specs.Score.{Values}
+use Rattle.formed.specs.Inner.Answerable.{Answerable}
+use Rattle.bases.specs.Inner.Readers.{Values}
 use Rattle.multisets.specs.Multisets.{Pairing, valuesOver}
 use Rattle.multiset_keys.specs.Inner.{KeysOf}
-use Rattle.multiset_fronts.specs.Inner.{mostSets, Front}
+use Rattle.antichains.specs.Antichains.{mostSets}
+use Rattle.multiset_fronts.specs.Inner.{Front}
 use Rattle.multiset_scores.specs.Scores.{multisetOf, MultisetScore}
 use Rattle.multiset_scores.specs.Answers.{MultisetsWritten}
 
--- Questions 12 and 13 have been asked.
-pub record Asked (s : Setup) (target : ℕ) : Type 0 where
-  pub formed : WellFormed s
-  pub vertex : target < s .count
-
 -- What finding the lowest sets asks for.
 pub record CanFind (s : Setup) (target initial : ℕ) (points kept : List ℕ) : Type 0 where
-  pub asked : Asked s target
+  pub asked : Answerable s target
   pub isChosen : ChosenSet false s initial
   pub values : Values false s points
   pub room : length kept ≡ mostSets
@@ -43,7 +40,7 @@ MultisetLe s x y = Pairing (multisetOf s x) (multisetOf s y)
 pub record CanCompare (list : List ℕ) (n initial : ℕ) : Type 0 where
   pub sets : n ≤ length list
   pub most : n ≤ mostSets
-  pub few : ones initial ≤ 14
+  pub few : ones initial ≤ mostChosen
   pub exact : (x : ℕ) → Listed (take n list) x → x < 2 ^ ones initial
   pub ordered : Sorted Before (take n list)
 
@@ -56,23 +53,23 @@ pub record BothKeys (initial : ℕ) (points low₁ high₁ low₂ high₂ : List
   pub second : KeysOf initial points (take 7 (drop 7 thresholds)) low₂ high₂
 
 -- The sets of masks, one after the other.
-abbrev pub setsOf : ℕ → List ℕ → List ℕ
-setsOf initial l = map (spread 64 initial) l
+abbrev pub setsOfMasks : ℕ → List ℕ → List ℕ
+setsOfMasks initial l = map (spread 64 initial) l
 
 -- The sets of the first r masks of `kept` are the lowest of those of the first n of the list.
 pub record ComparedLowest (list : List ℕ) (n initial : ℕ) (points kept : List ℕ) (r : ℕ) : Type 0 where
   pub most : r ≤ n
-  pub front : Front (ValuesLe points) (setsOf initial (take n list)) (setsOf initial (take r kept))
+  pub front : Front (ValuesLe points) (setsOfMasks initial (take n list)) (setsOfMasks initial (take r kept))
 
 -- In the place of each of the first n masks stands its set.
-pub record Named (initial : ℕ) (kept : List ℕ) (n : ℕ) (kept′ : List ℕ) : Type 0 where
-  pub are : take n kept′ ≡ setsOf initial (take n kept)
+pub record SetsInPlace (initial : ℕ) (kept : List ℕ) (n : ℕ) (kept′ : List ℕ) : Type 0 where
+  pub are : take n kept′ ≡ setsOfMasks initial (take n kept)
 
 -- The first n sets of `kept` are those of the score.
 pub record ScoreFound (s : Setup) (target : ℕ) (kept : List ℕ) (n : ℕ) : Type 0 where
   pub long : length kept ≡ mostSets
   pub most : n ≤ mostSets
-  pub few : (x : ℕ) → Listed (take n kept) x → (x < 2 ^ 64) × (ones x ≤ 14)
+  pub few : (x : ℕ) → Listed (take n kept) x → (x < 2 ^ 64) × (ones x ≤ mostChosen)
   pub score : MultisetScore s target (take n kept)
 
 pub record ScoreTaken (s : Setup) (target number : ℕ) (values places places′ lengths lengths′ : List ℕ) : Type 0 where

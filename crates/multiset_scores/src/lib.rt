@@ -4,10 +4,12 @@ ghost use mathlib.Core.Path.{_≡_};
 ghost use Prim.Native.Nat.{_≤_};
 ghost use lib.ListN.{length};
 ghost use lib.Count.{ones};
+ghost use Rattle.setup.specs.Bounds.{mostChosen};
+ghost use Rattle.formed.specs.Inner.Answerable.{Answerable};
 ghost use Rattle.multiset_scores.specs.Answers.{multisetNumber, multisetValues, MultisetsCall};
-ghost use Rattle.multiset_scores.specs.Inner.{Asked, BothKeys, CanCompare, ComparedLowest, Named, CanFind, ScoreFound, ScoreTaken};
+ghost use Rattle.multiset_scores.specs.Inner.{BothKeys, CanCompare, ComparedLowest, SetsInPlace, CanFind, ScoreFound, ScoreTaken};
+use antichains::MOST_SETS;
 use families::WORDS;
-use multiset_fronts::MOST_SETS;
 use multisets::MOST_VALUES;
 use setup::Setup;
 use vertex_set::VertexSet;
@@ -30,7 +32,7 @@ fn fill_tables(
     low2: &mut [u64],
     high2: &mut [u64],
 )
-    requires { ⌜ ones (initial .0) ≤ 14 ⌝ }
+    requires { ⌜ ones (initial .0) ≤ mostChosen ⌝ }
     requires { ⌜ (length (now low1) ≡ 128) × (length (now high1) ≡ 128) ⌝ }
     requires { ⌜ (length (now low2) ≡ 128) × (length (now high2) ≡ 128) ⌝ }
     ensures { λ _. ⌜ BothKeys (initial .0) points (now (low1 .exit)) (now (high1 .exit)) (now (low2 .exit)) (now (high2 .exit)) ⌝ }
@@ -63,7 +65,7 @@ fn lowest_of(kept: &mut [u64], n: usize, initial: VertexSet, points: [u64; 64]) 
 // In the place of each of the first n masks puts the set that it stands for.
 fn name_sets(kept: &mut [u64], n: usize, initial: VertexSet)
     requires { ⌜ n ≤ length (now kept) ⌝ }
-    ensures { λ _. ⌜ Named (initial .0) (now (kept .entry)) n (now (kept .exit)) ⌝ }
+    ensures { λ _. ⌜ SetsInPlace (initial .0) (now (kept .entry)) n (now (kept .exit)) ⌝ }
 {
     for i in 0..n {
         let mask = kept[i];
@@ -96,7 +98,7 @@ fn find_score(
 // The score of a target of a well-formed setup. Its number of multisets is known before a place is
 // written, so that lent lists of which one is too short stay as they were.
 fn write_score(s: Setup, target: usize, places: &mut [u64], lengths: &mut [u64]) -> MultisetAnswer
-    requires { ⌜ Asked s target ⌝ }
+    requires { ⌜ Answerable s target ⌝ }
     ensures { λ r. ⌜ ScoreTaken s target (multisetNumber r) (multisetValues r) (now (places .entry)) (now (places .exit)) (now (lengths .entry)) (now (lengths .exit)) ⌝ }
 {
     let initial = setup::chosen(s, false);

@@ -4,7 +4,7 @@ use mathlib.Core.Path.{_≡_, refl, sym, ap, _∙_}
 use mathlib.Core.List.{List, [], _∷_, _++_}
 use mathlib.Core.Logic.{inl, inr, ⊎-elim}
 use mathlib.Core.Bool.{Bool, true, false}
-use Prim.Native.Nat.{ℕ, suc, _+_, _-_, _≤_, _<_}
+use Prim.Native.Nat.{ℕ, _+_, _-_, _≤_, _<_}
 use native.Mathlib.Omega.{arith}
 use lib.ListN.{length, getD, take, replicate, length-append, length-replicate}
 use lib.Seq.{take-append-seam}
@@ -12,7 +12,8 @@ use Rattle.vertex_set.specs.Set.{Decides}
 use Rattle.vertex_set.specs.Order.{Listed}
 use Rattle.vertex_set.proofs.Cases.{same-or}
 use Rattle.vertex_set.proofs.Decisions.{decide-iff, iff-trans}
-use Rattle.multisets.specs.Multisets.{Pairing, AtMost, SameMultiset, mostValues, highestFirst, placesOf}
+use Rattle.vertex_set.proofs.Lists.{place-of}
+use Rattle.multisets.specs.Multisets.{Pairing, BagAtMost, SameMultiset, mostValues, highestFirst, placesOf}
 use Rattle.multisets.specs.Meaning.{atLeast, PairingCounts, PairingSorts, Reflexive, Transitive, Antisymmetric, OrderFree, OneAtMostAnswer, Arranges, OneArrangement, FourteenPlaces, WrittenApart}
 use Rattle.multisets.specs.Inner.{FewerThan}
 use Rattle.multisets.proofs.Counts.{gap, at-least-falls, take-lowest, none-high, same-of-counts, counts-of-same, at-least-all}
@@ -104,19 +105,13 @@ fewer-at m n h =
     in-middle : (l a : List ℕ) (x : ℕ) (b : List ℕ) → l ≡ a ++ (x ∷ b) → Listed l x
     in-middle l a x b e = rw e (middle a x b)
 
--- what stands in a list has a place there
-listed-place : (l : List ℕ) (x : ℕ) → Listed l x → (i : ℕ) × (i < length l) × (x ≡ getD l i 0)
-listed-place [] x h = absurd h
-listed-place (y ∷ l) x (inl e) = (0, omega arith, e)
-listed-place (y ∷ l) x (inr h) = let r = listed-place l x h in (suc (r .0), let q = r .1 in omega arith, r .2)
-
 pub one-at-most-answer : OneAtMostAnswer
 one-at-most-answer m n true true d e = refl
 one-at-most-answer m n true false d e = absurd (e .no refl (d .yes refl))
 one-at-most-answer m n false true d e = absurd (d .no refl (e .yes refl))
 one-at-most-answer m n false false d e = refl
 
-pub at-most-decided : (m n : List ℕ) → length m ≤ mostValues → length n ≤ mostValues → (r : Bool) → Decides (FewerThan m n) r → Decides (AtMost m n) r
+pub at-most-decided : (m n : List ℕ) → length m ≤ mostValues → length n ≤ mostValues → (r : Bool) → Decides (FewerThan m n) r → Decides (BagAtMost m n) r
 at-most-decided m n l k r d =
     decide-iff
     (record {
@@ -140,7 +135,7 @@ module _ (m n : List ℕ) where
 
   pub before-all : (i : ℕ) → length m ≤ i → FewerBefore m n i → FewerThan m n
   before-all i l b =
-      fewer-at m n (λ x h. let p = listed-place m x h in rw (p .2) (b .each (p .0) (let q = p .1 in omega arith)))
+      fewer-at m n (λ x h. let p = place-of m x h in rw (sym (p .2)) (b .each (p .0) (let q = p .1 in omega arith)))
 
   pub not-fewer : (t : ℕ) → atLeast n t < atLeast m t → FewerThan m n → ⊥
   not-fewer t l f = let h = f .each t in omega arith

@@ -20,7 +20,7 @@ pub record Pairing (m n : List ℕ) : Type 0 where
   pub high : (i : ℕ) → i < length m → getD m i 0 ≤ getD n (to i) 0
 
 -- Both lists are bags, and the one is at most the other. A longer list is no bag, whatever stands against it.
-pub record AtMost (m n : List ℕ) : Type 0 where
+pub record BagAtMost (m n : List ℕ) : Type 0 where
   pub first : length m ≤ mostValues
   pub second : length n ≤ mostValues
   pub pairing : Pairing m n

@@ -3,7 +3,7 @@
 // matter, and 0 is a value like any other.
 ghost use mathlib.Core.Path.{_≡_};
 ghost use Rattle.vertex_set.specs.Set.{Decides};
-ghost use Rattle.multisets.specs.Multisets.{AtMost};
+ghost use Rattle.multisets.specs.Multisets.{BagAtMost};
 ghost use Rattle.multisets.specs.Meaning.{atLeast};
 ghost use Rattle.multisets.specs.Inner.{FewerThan};
 
@@ -23,8 +23,8 @@ fn count_at_least(list: &[u64], t: u64) -> usize
     n
 }
 
-// Are there at no threshold more values at or above it in a than in b? The values of a are
-// enough thresholds: between two of them nothing of a is counted anew.
+// Has a, at every threshold, no more values at or above it than b? The values of a are thresholds
+// enough: above one and up to the next the count in a stays the same, and that in b never rises.
 fn is_fewer(a: &[u64], b: &[u64]) -> bool
     ensures { λ r. ⌜ Decides (FewerThan (now (a .entry)) (now (b .entry))) r ⌝ }
 {
@@ -42,7 +42,7 @@ fn is_fewer(a: &[u64], b: &[u64]) -> bool
 // Are both lists bags, and is a at most b: can the values of a be paired, one to one, with values
 // of b that are at least as high?
 pub fn multiset_at_most(a: &[u64], b: &[u64]) -> bool
-    ensures { λ r. ⌜ Decides (AtMost (now (a .entry)) (now (b .entry))) r ⌝ }
+    ensures { λ r. ⌜ Decides (BagAtMost (now (a .entry)) (now (b .entry))) r ⌝ }
 {
     if MOST_VALUES < a.len() {
         return false;

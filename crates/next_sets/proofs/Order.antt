@@ -9,15 +9,10 @@ use lib.Count.{ones}
 use Rattle.vertex_set.specs.Set.{Member}
 use Rattle.vertex_set.specs.Order.{Before}
 use Rattle.vertex_set.proofs.Cases.{same-or, less-or}
-use Rattle.vertex_set.proofs.Sets.{some-member, none-in-zero}
+use Rattle.vertex_set.proofs.Sets.{none-in-zero}
 use Rattle.vertex_set.proofs.Sorted.{not-before-self, before-one-way}
-use Rattle.setup.specs.declared.Graph.{Graph}
 use Rattle.setup.specs.declared.Setup.{Setup}
-use Rattle.setup.specs.Setup.{row}
-use Rattle.derivations.specs.Derivation.{Vertices}
-use Rattle.derivations.specs.Access.{access, HasAccess}
-use Rattle.derivations.proofs.Rules.{least}
-use Rattle.derivations.proofs.Graphs.{access-lawful}
+use Rattle.derivations.proofs.Closures.{nothing-opens}
 use Rattle.bases.specs.Base.{MinimalSet}
 use Rattle.next_sets.specs.Next.{NextSet}
 
@@ -53,12 +48,6 @@ next-unique s target last x y p q =
     (p .first y (q .is) (q .after))
 
 -- ---- the empty set
-
--- who holds nothing opens nothing
-nothing-opens : (g : Graph) (held : Vertices) → ((i : ℕ) → held i → ⊥) → (v : ℕ) → HasAccess g held v → ⊥
-nothing-opens g held none v d =
-    least (access g) (access-lawful g) held (λ i. ⊥) none
-    (λ e o. let m = some-member (row g (e .vertex) (e .colour)) (o .coloured) in o .complete (m .0) (m .1)) v d
 
 -- nothing comes before the empty set
 none-before-empty : (x : ℕ) → Before x 0 → ⊥

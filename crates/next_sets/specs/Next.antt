@@ -13,7 +13,7 @@ use Rattle.bases.specs.Base.{MinimalSet}
 pub record OfInitial (s : Setup) (x : ℕ) : Type 0 where
   pub each : (v : ℕ) → Member x v → Chosen false s v
 
--- x is the first set of the target's access base that comes after `last`. That set itself need not be in the base.
+-- x is the first set of the target's access base that comes after `last`. `last` itself need not be in the base.
 pub record NextSet (s : Setup) (target last x : ℕ) : Type 0 where
   pub is : MinimalSet false s (s .graph) target x
   pub after : Before last x

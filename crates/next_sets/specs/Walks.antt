@@ -32,7 +32,7 @@ KeepInitial initial (s ∷ moments) = ChosenSet false s initial × KeepInitial i
 
 -- ---- theorems
 
--- With no change in between, the sets shown from the empty set on up to "no more" are the whole access base, and the base is so shown.
+-- With no change in between, the sets shown from the empty set on up to "no more" are the whole access base, and the base is shown in this way.
 abbrev pub WholeWalk : Type 0
 WholeWalk = (s : Setup) (target : ℕ) → WellFormed s → target < s .count → (l : List ℕ) → Iff (Walk s target 0 l) (Base false s (s .graph) target l)
 
@@ -44,7 +44,7 @@ ShownRise = (target last : ℕ) (moments : List Setup) (l : List ℕ) → Shown 
 abbrev pub ShownEnd : Type 0
 ShownEnd = (target last initial : ℕ) (moments : List Setup) (l : List ℕ) → KeepInitial initial moments → Shown target last moments l → length l ≤ 2 ^ ones initial
 
--- The answer depends on count, vertices and graph alone, not on recovery marks nor on anything else that a setup may come to carry.
+-- The answer depends on count, vertices and graph alone, not on recovery marks, nor on what is held and opened.
 abbrev pub DrawingAlone : Type 0
 DrawingAlone = (s t : Setup) (target last n : ℕ) (v : List ℕ) → WellFormed s → WellFormed t
     → s .count ≡ t .count → s .vertices ≡ t .vertices → s .graph ≡ t .graph → NextCall s target last n v → NextCall t target last n v

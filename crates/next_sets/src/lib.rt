@@ -7,8 +7,8 @@ ghost use Rattle.setup.specs.Setup.{ChosenSet};
 ghost use mathlib.Core.Bool.{false};
 ghost use Rattle.next_sets.specs.Answers.{nextNumber, nextValues, NextCall};
 ghost use Rattle.next_sets.specs.Inner.{Found};
+use families::MASKS;
 use families::WORDS;
-use family_steps::MASKS;
 use setup::Setup;
 use vertex_set::VertexSet;
 

@@ -11,11 +11,10 @@ use Rattle.io.specs.Counts.{Counts}
 use Rattle.written.specs.Inner.{Wrote}
 use Rattle.written.specs.Rows.{RowWritten}
 use Rattle.written.proofs.Rows.{row-written}
-use Rattle.sheet_format.specs.declared.Reading.{Reading}
 use Rattle.sheet_format.specs.Fields.{decimal}
 use Rattle.sheet_format.specs.Rows.{lineText, render}
 use Rattle.sheet_format.specs.Read.{readSheet}
-use Rattle.sheet_format.proofs.Meaning.{accepted-or-refused}
+use Rattle.sheet_format.proofs.Meaning.{number-most}
 use Rattle.sheet_format.proofs.Numbers.{decimal-length}
 use Rattle.writing.specs.Inner.{ended}
 use Rattle.pool_format.specs.declared.Pooled.{Pooled}
@@ -25,7 +24,7 @@ use Rattle.pool_format.specs.Meaning.{poolBytes}
 use Rattle.pool_format.proofs.Deciding.{agree-or, fits-or}
 use Rattle.pool_format.proofs.PooledRows.{pooled-valid}
 use Rattle.pool_format.proofs.Meaning.{always-enough, HasRows, rows-or, pooled-text}
-use Rattle.pool.specs.Inner.{refusalLine, Tells}
+use Rattle.pool.specs.Printed.{refusalLine, Printed}
 
 -- ---- the line of a refusal
 
@@ -62,13 +61,6 @@ row-taken entry row exit r w = let e : r ≡ length row = omega (arith, w .many)
 
 -- ---- what the call answers
 
-most-number : (s : List ℕ) → readSheet s .number ≤ 11
-most-number s =
-    ⊎-elim
-    (λ a. let z = ap (λ (r : Reading). r .number) (a .reading) in omega arith)
-    (λ r. let z = ap (λ (x : Reading). x .number) (r .reading) in let m = r .most in omega arith)
-    (accepted-or-refused .either s)
-
 -- A refusal, of another number than 24; or a text that is written.
 record Refuses (r : Pooled) (entry exit : List ℕ) : Type 0 where
   number : ℕ
@@ -98,9 +90,9 @@ module _ (a b : List ℕ) (r : Pooled) (entry exit : List ℕ) (c : PoolCall a b
       ⊎-elim
       (λ p. ⊎-elim
       (λ q. from-rows (p .0) (q .0) (c .pools (p .0 .doc) (q .0 .doc) (p .0 .valid) (q .0 .valid) (p .0 .text) (q .0 .text)))
-      (λ q. inl (record { number = readSheet b .number; sheet = 2; line = readSheet b .line; refused = c .refusedSecond (p .1) q; other = λ e. let m = most-number b in omega arith }))
+      (λ q. inl (record { number = readSheet b .number; sheet = 2; line = readSheet b .line; refused = c .refusedSecond (p .1) q; other = λ e. let m = number-most b in omega arith }))
       (rows-or b))
-      (λ p. inl (record { number = readSheet a .number; sheet = 1; line = readSheet a .line; refused = c .refused p; other = λ e. let m = most-number a in omega arith }))
+      (λ p. inl (record { number = readSheet a .number; sheet = 1; line = readSheet a .line; refused = c .refused p; other = λ e. let m = number-most a in omega arith }))
       (rows-or a)
 
   never-short : r .number ≡ 24 → ⊥
@@ -125,7 +117,7 @@ module _ (a b : List ℕ) (r : Pooled) (entry exit : List ℕ) (c : PoolCall a b
 
   -- ---- what the program tells
 
-  pub tells-pooled : (line : List ℕ) → r .number ≡ 0 → Tells a b (take (r .size) exit) (take 0 line)
+  pub tells-pooled : (line : List ℕ) → r .number ≡ 0 → Printed a b (take (r .size) exit) (take 0 line)
   tells-pooled line z =
       record {
         answer = r;
@@ -137,7 +129,7 @@ module _ (a b : List ℕ) (r : Pooled) (entry exit : List ℕ) (c : PoolCall a b
         refused = λ n. absurd (n z);
       }
 
-  pub tells-refused : (said : List ℕ) → (r .number ≡ 0 → ⊥) → said ≡ refusalLine (r .sheet) (r .number) (r .line) → Tells a b (take 0 exit) said
+  pub tells-refused : (said : List ℕ) → (r .number ≡ 0 → ⊥) → said ≡ refusalLine (r .sheet) (r .number) (r .line) → Printed a b (take 0 exit) said
   tells-refused said n e =
       record {
         answer = r;

@@ -1,6 +1,9 @@
 // Pools two labs' sheets (document 02, point 11). `pool FIRST SECOND` reads two files and writes their
 // pooled sheet to standard output. Where there is none it writes nothing there, and a line on standard
 // error says why.
+use sheet::READ_ROOM;
+use sheet_fields::LF;
+use sheet_fields::SPACE;
 use streams::Input;
 ghost use Prim.Native.Nat.{_≤_};
 ghost use lib.ListN.{length, take};
@@ -8,10 +11,8 @@ ghost use Rattle.io.specs.Counts.{Counts};
 ghost use Rattle.written.specs.Rows.{RowWritten};
 ghost use Rattle.pool_format.specs.Meaning.{poolBytes};
 ghost use Rattle.streams.specs.Inner.Streams.{ReadInto};
-ghost use Rattle.pool.specs.Inner.{refusalLine, lineBytes, Tells};
-
-// One byte more than a sheet may have tells that it is too long.
-const MOST: usize = sheet::MAX_BYTES + 1;
+ghost use Rattle.pool.specs.Inner.{lineBytes};
+ghost use Rattle.pool.specs.Printed.{refusalLine, Printed};
 
 // No pooled sheet has more bytes.
 const ROOM: usize = 12526;
@@ -21,10 +22,6 @@ const LINE: usize = 77;
 
 // The bytes of `pool: cannot read `, behind which the file's name stands.
 const CANNOT_READ: usize = 18;
-
-const LF: u8 = 10;
-
-const SPACE: u8 = 32;
 
 // How many bytes go to standard output, and how many to standard error.
 struct Told {
@@ -47,7 +44,7 @@ fn put_refusal(sheet: u64, number: u64, line: u64, out: &mut [u8]) -> usize
 fn tell(first: &[u8], second: &[u8], out: &mut [u8], line: &mut [u8]) -> Told
     requires { ⌜ poolBytes ≤ length (now out) ⌝ }
     requires { ⌜ lineBytes ≤ length (now line) ⌝ }
-    ensures { λ r. ⌜ Tells (now (first .entry)) (now (second .entry)) (take (r .printed) (now (out .exit))) (take (r .said) (now (line .exit))) ⌝ }
+    ensures { λ r. ⌜ Printed (now (first .entry)) (now (second .entry)) (take (r .printed) (now (out .exit))) (take (r .said) (now (line .exit))) ⌝ }
     ensures { λ r. ⌜ Counts (r .printed) (now (out .exit)) ⌝ }
     ensures { λ r. ⌜ Counts (r .said) (now (line .exit)) ⌝ }
 {
@@ -85,9 +82,9 @@ fn put_argument(i: usize, line: &mut [u8], at: usize) -> usize
     at + n
 }
 
-// Reads all of the file that is named at the end of line, from `at` on, or as much of it as fits; or
-// says line, and why. The file stays open: the program ends soon, and a call more could take the place
-// of a failure's reason.
+// Reads all of the file that is named at the end of `line`, from `at` on, or as much of it as fits;
+// or prints `line` and the reason of the failure to standard error. The file stays open: the
+// program ends soon, and one more call could overwrite errno, which has that reason.
 fn read_file(line: &[u8], at: usize, sheet: &mut [u8]) -> Input
     requires { ⌜ at ≤ length (now line) ⌝ }
     ensures { λ r. ⌜ ReadInto (now (sheet .exit)) r ⌝ }
@@ -123,8 +120,8 @@ fn main() {
         streams::write_whole(2, b"usage: pool FIRST SECOND\n");
         return;
     }
-    let mut first = [0u8; MOST];
-    let mut second = [0u8; MOST];
+    let mut first = [0u8; READ_ROOM];
+    let mut second = [0u8; READ_ROOM];
     let one = read_argument(1, &mut first);
     let Input::Read(n) = one else {
         return;

@@ -1,7 +1,7 @@
 -- The edge rows of the second sheet, one by one, with their new colours.
 -- Assumes nothing.
 use mathlib.Core.Path.{_≡_, refl, sym, ap, ap₂, _∙_, subst}
-use mathlib.Core.Bool.{true, false, cond}
+use mathlib.Core.Bool.{true, false}
 use mathlib.Core.List.{List, [], _∷_, map, nil≢cons, cons≢nil, head-eq-of-cons-eq, tail-eq-of-cons-eq}
 use mathlib.Core.Logic.{⊎-elim}
 use Prim.Native.Nat.{ℕ, zero, suc, _+_, _-_, _≤_, _<_}
@@ -11,17 +11,17 @@ use native.Mathlib.Omega.{arith}
 use lib.ListN.{length, getD, set, take, drop, length-set}
 use lib.Seq.{drop-nil, getD-set-same, getD-set-other}
 use borrow.Author.Tests.{lt-ltb, le-ltb}
-use Rattle.vertex_set.specs.Set.{Member}
-use Rattle.vertex_set.proofs.Cases.{less-or, same-or, false-true}
+use Rattle.vertex_set.proofs.Cases.{same-or, false-true}
 use Rattle.vertex_set.proofs.Sets.{not-empty, some-member}
 use Rattle.setup.specs.declared.Graph.{Graph}
 use Rattle.setup.specs.Setup.{rowsAt, row}
 use Rattle.sheet_format.specs.Text.{linesOf, fieldsOf}
-use Rattle.sheet_format.specs.Rows.{ItemRow, EdgeRow, Doc, Each, Known, ValidEdge, Valid, edgeFields, numberIn, setupOf}
+use Rattle.sheet_format.specs.Rows.{ItemRow, EdgeRow, Doc, ValidEdge, Valid, edgeFields, numberIn, setupOf}
 use Rattle.sheet_format.specs.Questions.{isKnown, edgeOf, question8}
 use Rattle.sheet_format.specs.Read.{firstNo}
 use Rattle.sheet_format.specs.Stated.{StandsAt}
-use Rattle.sheet_format.proofs.Tests.{and-both, yes-of, known-decided}
+use Rattle.vertex_set.proofs.Decisions.{and-both, yes-of}
+use Rattle.sheet_format.proofs.Tests.{known-decided}
 use Rattle.sheet_format.proofs.Rows.{plain-yes4, edgeLine, edge-plain, edge-written, edge-yes5}
 use Rattle.sheet_format.proofs.Documents.{named-edge, edge-back}
 use Rattle.sheet_format.proofs.Question12Lists.{In, of-each}
@@ -30,13 +30,11 @@ use Rattle.sheet_fields.specs.Inner.Parts.{until}
 use Rattle.sheet_fields.proofs.Lines.{line-at, lines-over}
 use Rattle.sheet_rows.specs.declared.TakenEdge.{TakenEdge}
 use Rattle.sheet_rows.specs.Inner.Lines.{TakesEdge}
-use Rattle.sheet_rows.specs.Inner.NameKeys.{NameKeys}
 use Rattle.sheet_rows.proofs.Tables.{known-test}
 use Rattle.pool_format.specs.Rows.{usesColour, newColour, recoloured}
 use Rattle.pool_format.proofs.Colours.{uses-of, used-by}
 use Rattle.pool_format.proofs.Recolouring.{pooledColour, re-colour}
 use Rattle.pool_format.proofs.PooledRows.{in-image}
-use Rattle.pool_colours.specs.declared.Colours.{Colours}
 use Rattle.pool_colours.specs.Inner.Colours.{RowsOfItem, NewColour, Both, EdgeColour, DigitAt, ColoursOf}
 
 -- ---- the rows of an item

@@ -1,10 +1,10 @@
 -- The lowest free colour, colour by colour, is the new colour of document 02.
 -- Assumes nothing.
-use mathlib.Core.Path.{_≡_, refl, sym, ap, _∙_, subst}
+use mathlib.Core.Path.{_≡_, sym, _∙_}
 use mathlib.Core.List.{List}
-use mathlib.Core.Bool.{Bool, true, false, _&&_}
+use mathlib.Core.Bool.{Bool, true, _&&_}
 use mathlib.Core.Logic.{inl, inr, ⊎-elim}
-use Prim.Native.Nat.{ℕ, suc, _+_, _≤_, _<_}
+use Prim.Native.Nat.{ℕ, _+_, _≤_, _<_}
 use native.Mathlib.Nat.{not-suc-le-zero}
 use native.Mathlib.Numerals.{add-one}
 use native.Mathlib.Omega.{arith}
@@ -12,13 +12,14 @@ use lib.ListN.{length}
 use lib.Dec.{eqb}
 use borrow.Author.Tests.{eqb-true, eq-eqb}
 use Rattle.vertex_set.specs.Set.{Member, Iff, Inserted}
-use Rattle.vertex_set.proofs.Cases.{byTest, less-or, same-or, false-true}
-use Rattle.vertex_set.proofs.Sets.{none-in-zero}
+use Rattle.vertex_set.specs.Inner.{TakenBelow}
+use Rattle.vertex_set.proofs.Cases.{less-or, same-or, false-true}
 use Rattle.setup.specs.declared.Rows.{Rows}
 use Rattle.setup.specs.Setup.{rowOf}
 use Rattle.setup.proofs.Graphs.{colour-below}
 use Rattle.sheet_format.specs.Rows.{EdgeRow}
-use Rattle.sheet_format.proofs.Tests.{and-parts, and-both, or-parts, or-left, or-right}
+use Rattle.vertex_set.proofs.Decisions.{and-parts, and-both, or-parts, or-left, or-right}
+use Rattle.vertex_set.proofs.Taking as taking
 use Rattle.pool_format.specs.Rows.{usesColour, lowestFree, isTaken, newColour}
 use Rattle.pool_format.proofs.Colours.{lowest-most, lowest-taken, lowest-free}
 use Rattle.pool_colours.specs.Inner.Colours.{Lowest, Used, RowsOfItem, NewColour}
@@ -55,32 +56,17 @@ lowest-none s k l h b = record { most = l; below = b .each; free = λ t. absurd 
 
 -- ---- the colours whose rows are not empty
 
-pub record UsedBelow (rows : Rows) (c s : ℕ) : Type 0 where
-  pub each : (i : ℕ) → Iff (Member s i) ((i < c) × (rowOf rows i ≡ 0 → ⊥))
+abbrev pub UsedBelow : Rows → ℕ → ℕ → Type 0
+UsedBelow rows c s = TakenBelow (λ i. rowOf rows i ≡ 0 → ⊥) c s
 
 pub used-none : (rows : Rows) → UsedBelow rows 0 0
-used-none rows = record { each = λ i. record { to = λ m. absurd (none-in-zero i m); from = λ h. absurd (not-suc-le-zero (h .0)) } }
+used-none rows = taking.taken-none (λ i. rowOf rows i ≡ 0 → ⊥)
 
 pub used-more : (rows : Rows) (c s s′ : ℕ) → c < 8 → UsedBelow rows c s → (rowOf rows c ≡ 0 → ⊥) → Inserted s c s′ → UsedBelow rows (c + 1) s′
-used-more rows c s s′ l u n w =
-    record {
-      each = λ i.
-          let t = w .taken (omega arith) i in
-          record {
-            to = λ m. ⊎-elim (λ k. let h = u .each i .to k in let b = h .0 in (omega arith, h .1)) (λ e. (omega arith, λ z. n (rw (← e) z))) (t .to m);
-            from = λ h. let b = h .0 in t .from (⊎-elim (λ e. inr e) (λ e. inl (u .each i .from (omega (arith, e), h .1))) (same-or i c));
-          };
-    }
+used-more rows c s s′ l u n w = taking.taken-more (λ i. rowOf rows i ≡ 0 → ⊥) c s u s′ (omega arith) n w
 
 pub used-same : (rows : Rows) (c s : ℕ) → UsedBelow rows c s → rowOf rows c ≡ 0 → UsedBelow rows (c + 1) s
-used-same rows c s u z =
-    record {
-      each = λ i.
-          record {
-            to = λ m. let h = u .each i .to m in let b = h .0 in (omega arith, h .1);
-            from = λ h. let b = h .0 in ⊎-elim (λ e. absurd (h .1 (rw e z))) (λ e. u .each i .from (omega (arith, e), h .1)) (same-or i c);
-          };
-    }
+used-same rows c s u z = taking.taken-same (λ i. rowOf rows i ≡ 0 → ⊥) c s u (λ n. n z)
 
 pub used-all : (rows : Rows) (c s : ℕ) → length (rows .needs) ≡ 8 → c ≡ 8 → UsedBelow rows c s → Used rows s
 used-all rows c s l e u =

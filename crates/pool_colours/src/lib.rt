@@ -1,23 +1,19 @@
 // The colours of a pooled sheet's edges: what each colour of the second sheet becomes.
 use setup::Graph;
+use setup::MAX_EDGES;
 use setup::Rows;
 use vertex_set::VertexSet;
 ghost use Prim.Native.Nat.{_≤_, _<_};
 ghost use lib.ListN.{length};
 ghost use Rattle.pool_colours.specs.Inner.Colours.{Lowest, Used, NewColour, EdgeColour, ColoursOf};
 
-// The highest colour, and one more than the most colours that can be taken for an item: eight by the
-// first sheet, and seven by renamings before the last one.
-const MAX_COLOUR: usize = 7;
-
-const COLOURS: usize = 16;
-
-const MAX_EDGES: usize = setup::MAX_EDGES as usize;
+// One more than can be taken for an item: eight by the first sheet, seven by earlier renamings.
+const COLOUR_NUMBERS: usize = 16;
 
 // The new colours of the second sheet's edge rows, as digits; `fits` tells that none is a ninth one.
 pub struct Colours {
     pub fits: bool,
-    pub digits: [u8; 256],
+    pub digits: [u8; MAX_EDGES],
 }
 
 // The lowest colour that is not taken.
@@ -25,7 +21,7 @@ fn lowest_free(taken: VertexSet) -> usize
     ensures { λ r. ⌜ Lowest (taken .0) r ⌝ }
 {
     let mut k = 0;
-    while k < COLOURS {
+    while k < COLOUR_NUMBERS {
         if taken.has(k) {
             k += 1;
         } else {
@@ -64,8 +60,8 @@ fn new_colour(first: Rows, second: Rows, colour: usize) -> usize
     lowest_free(taken)
 }
 
-// The colour of one edge row of the second sheet in the pooled one. No row of an accepted sheet has
-// another number than 0.
+// The colour of one edge row of the second sheet in the pooled one. An accepted sheet's row is
+// refused by no question, so its number is 0.
 fn edge_colour(
     line: &[u8],
     low: &[u64],
@@ -82,7 +78,7 @@ fn edge_colour(
     let edge = sheet_rows::take_edge(line, low, high, count);
     let number = edge.number;
     if number != 0 {
-        return COLOURS;
+        return COLOUR_NUMBERS;
     }
     let to = edge.to;
     let colour = edge.colour;
@@ -95,7 +91,7 @@ fn edge_colour(
     new_colour(taken, own, colour)
 }
 
-// The new colours of the edge rows from `start` on. A sheet has at most 256 of them.
+// The new colours of the edge rows from `start` on.
 pub fn colours_of(
     s: &[u8],
     start: usize,
@@ -110,7 +106,7 @@ pub fn colours_of(
     requires { ⌜ (count ≤ length (now low)) × (count ≤ length (now high)) × (count ≤ 64) × (known ≤ 64) ⌝ }
     ensures { λ r. ⌜ ColoursOf (now (s .entry)) start (now (low .entry)) (now (high .entry)) count places known first second r ⌝ }
 {
-    let mut digits = [0u8; 256];
+    let mut digits = [0u8; MAX_EDGES];
     let mut edges: usize = 0;
     let mut at = start;
     while at < s.len() {
@@ -122,7 +118,7 @@ pub fn colours_of(
         }
         let end = sheet_fields::find(s, at, sheet_fields::LF);
         let colour = edge_colour(&s[at..end], low, high, count, places, known, first, second);
-        if MAX_COLOUR < colour {
+        if setup::MAX_COLOUR < colour {
             return Colours {
                 fits: false,
                 digits,

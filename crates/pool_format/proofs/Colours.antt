@@ -12,17 +12,13 @@ use borrow.Author.Tests.{eqb-true, eq-eqb}
 use Rattle.vertex_set.proofs.Cases.{byTest, less-or, same-or, false-true}
 use Rattle.sheet_format.specs.Text.{sameText}
 use Rattle.sheet_format.specs.Rows.{EdgeRow, Doc, ValidEdge, Valid}
-use Rattle.sheet_format.proofs.Tests.{and-parts, and-both, or-parts, or-left, or-right, yes-of, text-decided}
+use Rattle.vertex_set.proofs.Decisions.{and-parts, and-both, or-parts, or-left, or-right, yes-of}
+use Rattle.sheet_format.proofs.Tests.{text-decided}
 use Rattle.sheet_format.proofs.Question12Lists.{In, of-each}
 use Rattle.pool_format.specs.Rows.{usesColour, lowestFree, isTaken, newColour}
 use Rattle.pool_format.specs.Meaning.{RenamesLowest, Renaming}
 
 -- ---- the lowest number that is not taken
-
-pub lowest-least : (t : ℕ → Bool) (k m : ℕ) → k ≤ lowestFree t k m
-unfolding lowestFree
-lowest-least t k zero = omega arith
-lowest-least t k (suc m) = byTest (t k) (λ e. rw e (let h = lowest-least t (suc k) m in omega arith)) (λ e. rw e (omega arith))
 
 pub lowest-most : (t : ℕ → Bool) (k m : ℕ) → lowestFree t k m ≤ k + m
 unfolding lowestFree

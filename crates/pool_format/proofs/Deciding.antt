@@ -1,6 +1,6 @@
 -- Whether items agree and whether the pooled rows fit can be told, and so a call's answer can be gone by.
 -- Assumes nothing.
-use mathlib.Core.Path.{_≡_, refl, sym, ap, _∙_, subst}
+use mathlib.Core.Path.{_≡_, refl, ap}
 use mathlib.Core.List.{List, [], _∷_}
 use mathlib.Core.Logic.{_⊎_, inl, inr, ⊎-elim}
 use Prim.Native.Nat.{ℕ, _≤_}
@@ -13,19 +13,20 @@ use Rattle.setup.specs.declared.Value.{Value}
 use Rattle.setup.specs.declared.Value.the-variants.{Blank, Of}
 use Rattle.setup.specs.declared.Vertex.{Vertex}
 use Rattle.setup.specs.Setup.{given}
+use Rattle.setup.specs.Inner.{kindNumber}
 use Rattle.sheet_format.specs.Text.{sameText}
 use Rattle.sheet_format.specs.Rows.{ItemRow, EdgeRow, Doc, Each, SameName, vertexOf, startCount, lossCount}
 use Rattle.sheet_format.proofs.Tests.{text-decided}
 use Rattle.pool_format.specs.Rows.{Agree, Fits}
-use Rattle.pool_format.specs.Inner.{kindCode, amount}
+use Rattle.pool_format.specs.Inner.{amount}
 
 -- ---- the four fields
 
 pub kinds-or : (a b : Kind) → (a ≡ b) ⊎ (a ≡ b → ⊥)
 kinds-or Credential Credential = inl refl
 kinds-or Account Account = inl refl
-kinds-or Credential Account = inr (λ e. let n = ap kindCode e in omega arith)
-kinds-or Account Credential = inr (λ e. let n = ap kindCode e in omega arith)
+kinds-or Credential Account = inr (λ e. let n = ap kindNumber e in omega arith)
+kinds-or Account Credential = inr (λ e. let n = ap kindNumber e in omega arith)
 
 pub values-or : (a b : Value) → (a ≡ b) ⊎ (a ≡ b → ⊥)
 values-or Blank Blank = inl refl

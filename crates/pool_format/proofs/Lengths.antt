@@ -2,30 +2,21 @@
 -- Assumes nothing.
 use mathlib.Core.Path.{_≡_, refl}
 use mathlib.Core.List.{List, [], _∷_, _++_}
-use mathlib.Core.Bool.{true, cond, _&&_}
-use Prim.Native.Nat.{ℕ, suc, _+_, _*_, _≤_, _<_}
+use mathlib.Core.Bool.{cond}
+use Prim.Native.Nat.{ℕ, _+_, _*_, _≤_}
 use native.Mathlib.Omega.{arith}
 use lib.ListN.{length, length-append}
-use lib.Dec.{leb}
-use borrow.Author.Tests.{leb-true}
 use Rattle.setup.specs.declared.Value.{Value}
 use Rattle.setup.specs.declared.Value.the-variants.{Blank, Of}
 use Rattle.formed.specs.WellFormed.{InRange}
-use Rattle.sheet_format.specs.Text.{all}
-use Rattle.sheet_format.specs.Fields.{isName, isNameByte, decimal, kindText, valueText}
+use Rattle.sheet_format.specs.Fields.{decimal, kindText, valueText}
 use Rattle.sheet_format.specs.Rows.{ItemRow, EdgeRow, Doc, Each, ValidItem, ValidEdge, lineText, firstHeader, secondHeader, itemFields, edgeFields, itemLines, edgeLines, render}
-use Rattle.sheet_format.proofs.Tests.{and-parts}
 use Rattle.sheet_format.proofs.Numbers.{decimal-length}
 use Rattle.sheet_format.proofs.Rows.{NamedEdge}
 use Rattle.sheet_format.proofs.Documents.{named-edge}
 use Rattle.sheet_format.proofs.Question12Text.{kind-length, digit-length, rec-length, four-fields, five-fields}
+use Rattle.sheet_format.proofs.Fields.{name-length}
 use Rattle.pool_format.specs.Meaning.{poolBytes}
-
-name-short : (f : List ℕ) → isName f ≡ true → length f ≤ 16
-unfolding isName
-name-short f e =
-    let h = and-parts (leb 1 (length f) && leb (length f) 16) (all isNameByte f) e in
-    leb-true (length f) 16 (and-parts (leb 1 (length f)) (leb (length f) 16) (h .0) .1)
 
 value-short : (x : Value) → InRange x → length (valueText x) ≤ 10
 value-short Blank h = omega arith
@@ -34,7 +25,7 @@ value-short (Of n) h = decimal-length 9 n (omega arith)
 item-short : (x : ItemRow) → ValidItem x → length (lineText (itemFields x)) ≤ 43
 item-short x v =
     let l = five-fields (x .name) (kindText (x .kind)) (valueText (x .start)) (valueText (x .loss)) (decimal (x .rank)) in
-    let n = name-short (x .name) (v .name) in
+    let n = name-length (x .name) (v .name) in
     let k = kind-length (x .kind) in
     let s = value-short (x .start) (v .start) in
     let o = value-short (x .loss) (v .loss) in
@@ -45,8 +36,8 @@ item-short x v =
 edge-short : (e : EdgeRow) → NamedEdge e → length (lineText (edgeFields e)) ≤ 38
 edge-short e v =
     let l = four-fields (e .from) (e .to) (decimal (e .colour)) (decimal (cond (e .rec) 1 0)) in
-    let f = name-short (e .from) (v .from) in
-    let t = name-short (e .to) (v .to) in
+    let f = name-length (e .from) (v .from) in
+    let t = name-length (e .to) (v .to) in
     let c = v .colour in
     let d = digit-length (e .colour) (omega arith) in
     let r = rec-length (e .rec) in

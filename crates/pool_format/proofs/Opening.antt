@@ -2,16 +2,14 @@
 -- Assumes nothing.
 use mathlib.Core.Path.{_≡_, refl, sym, ap, _∙_, subst}
 use mathlib.Core.Bool.{true}
-use mathlib.Core.List.{List, [], _∷_, map}
+use mathlib.Core.List.{List, [], _∷_}
 use mathlib.Core.Logic.{inl, inr}
 use Prim.Native.Nat.{ℕ, zero, suc, _<_}
-use lib.ListN.{length, getD}
 use lib.Dec.{eqb, ltb}
 use borrow.Author.Tests.{ltb-true}
 use Rattle.vertex_set.specs.Set.{Member}
 use Rattle.vertex_set.proofs.Sets.{not-empty, some-member}
-use Rattle.setup.specs.declared.Graph.{Graph}
-use Rattle.setup.specs.Setup.{row, Edge}
+use Rattle.setup.specs.Setup.{row}
 use Rattle.derivations.specs.Derivation.{Vertices}
 use Rattle.derivations.specs.Access.{Step, Opens, access, HasAccess}
 use Rattle.derivations.proofs.Rules.{held, closed, least}
@@ -21,10 +19,10 @@ use Rattle.sheet_format.specs.Rows.{ItemRow, EdgeRow, Doc, Known, ValidEdge, Va
 use Rattle.sheet_format.specs.Stated.{StandsAt, Joins}
 use Rattle.sheet_format.specs.Read.{readSheet, accepted}
 use Rattle.sheet_format.specs.Names.{hasItem, nameOf}
-use Rattle.sheet_format.proofs.Tests.{and-parts}
+use Rattle.vertex_set.proofs.Decisions.{and-parts}
 use Rattle.sheet_format.proofs.Meaning.{accepted-of-valid}
 use Rattle.sheet_format.proofs.Question12Lists.{In, of-each}
-use Rattle.sheet_format.proofs.Stated.{stands-below, at-place, stands-in, in-stands, number-stands, stated-by-rows}
+use Rattle.sheet_format.proofs.Stated.{stands-below, at-place, stands-in, in-stands, number-stands, stated-by-rows, name-in}
 use Rattle.sheet.proofs.Names.{item-there, names-of-rows}
 use Rattle.pool_format.specs.Meaning.{SameItem, ByName, KeepsItems, KeepsOpening}
 
@@ -34,11 +32,6 @@ stands-known : (xs : List ItemRow) (i : ℕ) (x : ItemRow) → StandsAt xs i x �
 stands-known [] i x h = absurd h
 stands-known (y ∷ ys) zero x h = inl (ap (λ (z : ItemRow). z .name) h)
 stands-known (y ∷ ys) (suc i) x h = inr (stands-known ys i x h)
-
-name-in : (xs : List ItemRow) (i : ℕ) (x : ItemRow) → StandsAt xs i x → getD (map (λ (y : ItemRow). y .name) xs) i [] ≡ x .name
-name-in [] i x h = absurd h
-name-in (y ∷ ys) zero x h = ap (λ (z : ItemRow). z .name) h
-name-in (y ∷ ys) (suc i) x h = name-in ys i x h
 
 module _ (d : Doc) (v : Valid d) where
   has-at : (i : ℕ) (x : ItemRow) → StandsAt (d .items) i x → hasItem (render d) i ≡ true

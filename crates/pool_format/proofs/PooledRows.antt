@@ -2,18 +2,18 @@
 -- Assumes nothing.
 use mathlib.Core.Path.{_≡_, refl, sym, ap, _∙_, subst}
 use mathlib.Core.List.{List, [], _∷_, _++_, map, List·Memᴰ·head, List·Memᴰ·tail, List·Memᴰ·not-nil, List·Memᴰ·cases-cons}
-use mathlib.Core.Bool.{true}
 use mathlib.Core.Logic.{inl, inr, ⊎-elim}
-use Prim.Native.Nat.{ℕ, _≤_}
+use Prim.Native.Nat.{_≤_}
 use native.Mathlib.Omega.{arith}
-use lib.ListN.{length, length-append}
+use lib.ListN.{length-append}
 use Rattle.vertex_set.proofs.Cases.{false-true}
 use Rattle.sheet_format.specs.Rows.{ItemRow, EdgeRow, Doc, Each, Apart, Known, SameName, SameEdge, ValidItem, ValidEdge, Valid}
 use Rattle.sheet_format.specs.Questions.{isKnown}
 use Rattle.sheet_format.proofs.Lists.{each-append, each-right, each-map, each-image}
-use Rattle.sheet_format.proofs.Tests.{yes-of, known-decided}
+use Rattle.vertex_set.proofs.Decisions.{yes-of}
+use Rattle.sheet_format.proofs.Tests.{known-decided}
 use Rattle.sheet_format.proofs.Question12Lists.{In, each-of, of-each, apart-append}
-use Rattle.pool_format.specs.Rows.{remaining, recoloured, pooled, Fits}
+use Rattle.pool_format.specs.Rows.{remaining, recoloured, pooled}
 use Rattle.pool_format.specs.Meaning.{PooledValid}
 use Rattle.pool_format.proofs.Colours.{uses-of}
 use Rattle.pool_format.proofs.Recolouring.{in-remaining, apart-remaining, known-first, known-second, re-from, re-to, re-colour, pooledColour, colour-once, colour-new}

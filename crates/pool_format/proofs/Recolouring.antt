@@ -1,14 +1,15 @@
 -- The rows of a pooled sheet: which items remain, and which colours the second sheet's rows get.
 -- Assumes nothing.
 use mathlib.Core.Path.{_≡_, refl, sym, ap, _∙_, subst}
-use mathlib.Core.List.{List, [], _∷_, _++_, map, List·Memᴰ·head, List·Memᴰ·tail, List·Memᴰ·not-nil, List·Memᴰ·cases-cons}
-use mathlib.Core.Bool.{Bool, true, false, cond}
+use mathlib.Core.List.{List, [], _∷_, _++_, List·Memᴰ·head, List·Memᴰ·tail, List·Memᴰ·not-nil, List·Memᴰ·cases-cons}
+use mathlib.Core.Bool.{true, false, cond}
 use mathlib.Core.Logic.{_⊎_, inl, inr, ⊎-elim}
 use Prim.Native.Nat.{ℕ, _≤_}
-use Rattle.vertex_set.proofs.Cases.{byTest, false-true}
-use Rattle.sheet_format.specs.Rows.{ItemRow, EdgeRow, Doc, Each, Apart, Known, SameName, ValidEdge, Valid}
+use Rattle.vertex_set.proofs.Cases.{byTest}
+use Rattle.sheet_format.specs.Rows.{ItemRow, EdgeRow, Doc, Apart, Known, SameName, ValidEdge, Valid}
 use Rattle.sheet_format.specs.Questions.{isKnown}
-use Rattle.sheet_format.proofs.Tests.{yes-of, known-decided}
+use Rattle.vertex_set.proofs.Decisions.{yes-of}
+use Rattle.sheet_format.proofs.Tests.{known-decided}
 use Rattle.sheet_format.proofs.Question12Lists.{In, each-of, of-each}
 use Rattle.pool_format.specs.Rows.{remaining, usesColour, newColour, recoloured}
 use Rattle.pool_format.proofs.Colours.{uses-of, renames-lowest, new-once, few-colours}

@@ -3,17 +3,10 @@ use mathlib.Core.Path.{_≡_}
 use mathlib.Core.List.{List}
 use Prim.Native.Nat.{ℕ}
 use lib.ListN.{getD}
-use Rattle.setup.specs.declared.Kind.{Kind}
-use Rattle.setup.specs.declared.Kind.the-variants.{Credential, Account}
 use Rattle.setup.specs.declared.Value.{Value}
 use Rattle.setup.specs.declared.Value.the-variants.{Blank, Of}
 use Rattle.sheet_format.specs.Rows.{ItemRow, numberIn}
 use Rattle.sheet_format.specs.Stated.{StandsAt}
-
--- A kind as a number.
-abbrev pub kindCode : Kind → ℕ
-kindCode Credential = 0
-kindCode Account = 1
 
 -- The number of a value.
 abbrev pub amount : Value → ℕ

@@ -6,6 +6,7 @@ use mathlib.Core.Logic.{_⊎_}
 use Prim.Native.Nat.{ℕ, _≤_, _<_}
 use lib.ListN.{length, take}
 use Rattle.vertex_set.specs.Set.{Member}
+use Rattle.setup.specs.Bounds.{highestColour}
 use Rattle.derivations.specs.Derivation.{Vertices}
 use Rattle.derivations.specs.Access.{HasAccess}
 use Rattle.sheet_format.specs.Rows.{EdgeRow, Doc, Valid, render}
@@ -25,8 +26,9 @@ pub record RenamesLowest (es fs : List EdgeRow) (n : List ℕ) (c : ℕ) : Type 
   pub lowest : (k : ℕ) → k < newColour es fs n c
       → (usesColour es n k ≡ true) ⊎ ((b : ℕ) × (b < c) × (usesColour fs n b ≡ true) × (newColour es fs n b ≡ k))
 
+-- Of every two sheets: for every item name, each colour from 0 to 7 is renamed as document 02 says.
 abbrev pub Renaming : Type 0
-Renaming = (d e : Doc) → Valid d → Valid e → (n : List ℕ) (c : ℕ) → c ≤ 7 → RenamesLowest (d .edges) (e .edges) n c
+Renaming = (d e : Doc) → Valid d → Valid e → (n : List ℕ) (c : ℕ) → c ≤ highestColour → RenamesLowest (d .edges) (e .edges) n c
 
 -- ---- the pooled sheet is a sheet
 
@@ -34,10 +36,11 @@ Renaming = (d e : Doc) → Valid d → Valid e → (n : List ℕ) (c : ℕ) → 
 abbrev pub PooledValid : Type 0
 PooledValid = (d e : Doc) → Valid d → Valid e → Agree (d .items) (e .items) → Fits (pooled d e) → Valid (pooled d e)
 
--- 12,526 bytes are enough for every sheet, and so for every pooled one.
+-- The size of a buffer that is long enough for every pooled sheet.
 abbrev pub poolBytes : ℕ
 poolBytes = 12526
 
+-- No sheet has more than 12,526 bytes, and so no pooled one.
 abbrev pub AlwaysEnough : Type 0
 AlwaysEnough = (d : Doc) → Valid d → length (render d) ≤ poolBytes
 
@@ -86,14 +89,17 @@ pub record PoolingLaw (a b t : List ℕ) : Type 0 where
   pub opensAsFirst : KeepsOpening a t
   pub opensAsSecond : KeepsOpening b t
 
+-- The law of pooling holds of every pooled sheet: it has the items of both, and opens by name what either opened.
 abbrev pub Pooling : Type 0
 Pooling = (a b t : List ℕ) → IsPooled a b t → PoolingLaw a b t
 
 -- ---- one answer to every input
 
+-- Two answers to pooling are the same, and the lent buffer ends the same.
 pub record SamePool (r r′ : Pooled) (exit exit′ : List ℕ) : Type 0 where
   pub answer : r ≡ r′
   pub buffer : exit ≡ exit′
 
+-- Two answers that meet the contract of pooling, on the same texts and the same buffer, are the same, with the lent buffer.
 abbrev pub PoolDetermined : Type 0
 PoolDetermined = (a b : List ℕ) (r r′ : Pooled) (entry exit exit′ : List ℕ) → PoolCall a b r entry exit → PoolCall a b r′ entry exit′ → SamePool r r′ exit exit′

@@ -5,7 +5,7 @@ use mathlib.Core.Bool.{Bool, false, cond, _&&_, _||_}
 use Prim.Native.Nat.{ℕ, zero, suc, _≤_}
 use lib.ListN.{length}
 use lib.Dec.{eqb}
-use Rattle.setup.specs.Bounds.{mostEdges, mostChosen}
+use Rattle.setup.specs.Bounds.{mostItems, highestColour, mostEdges, mostChosen}
 use Rattle.sheet_format.specs.Text.{sameText}
 use Rattle.sheet_format.specs.Rows.{ItemRow, EdgeRow, Doc, Each, SameName, vertexOf, startCount, lossCount}
 use Rattle.sheet_format.specs.Questions.{isKnown}
@@ -28,7 +28,7 @@ unfoldable pub usesColour : List EdgeRow → List ℕ → ℕ → Bool
 usesColour [] n c = false
 usesColour (e ∷ es) n c = (sameText (e .to) n && eqb (e .colour) c) || usesColour es n c
 
--- The lowest number from k on that is not taken, of m numbers; the next one where all are.
+-- Of the m numbers from k on the lowest that is not taken; k + m where all are.
 unfoldable pub lowestFree : (ℕ → Bool) → ℕ → ℕ → ℕ
 lowestFree taken k zero = k
 lowestFree taken k (suc m) = cond (taken k) (lowestFree taken (suc k) m) k
@@ -61,8 +61,8 @@ pooled d e = record { items = d .items ++ remaining (d .items) (e .items); edges
 
 -- The bounds, and no ninth colour.
 pub record Fits (p : Doc) : Type 0 where
-  pub most : length (p .items) ≤ 64
+  pub most : length (p .items) ≤ mostItems
   pub starts : startCount (p .items) ≤ mostChosen
   pub losses : lossCount (p .items) ≤ mostChosen
   pub many : length (p .edges) ≤ mostEdges
-  pub colours : Each (λ (x : EdgeRow). x .colour ≤ 7) (p .edges)
+  pub colours : Each (λ (x : EdgeRow). x .colour ≤ highestColour) (p .edges)

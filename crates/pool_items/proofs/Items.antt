@@ -1,45 +1,39 @@
 -- Agreement of vertices, and the items that remain, counted one by one.
 -- Assumes nothing.
-use mathlib.Core.Path.{_≡_, refl, sym, ap, ap₂, _∙_, subst}
+use mathlib.Core.Path.{_≡_, refl, sym, ap, _∙_}
 use mathlib.Core.List.{List, [], _∷_, _++_, append-nil, append-assoc}
 use mathlib.Core.Bool.{Bool, true, false, not}
 use mathlib.Core.Logic.{⊎-elim}
-use Prim.Native.Nat.{ℕ, zero, suc, _+_, _-_, _≤_, _<_}
+use Prim.Native.Nat.{ℕ, suc, _+_, _-_, _≤_, _<_}
 use native.Mathlib.Nat.{not-suc-le-zero}
 use native.Mathlib.Numerals.{add-one}
 use native.Mathlib.Omega.{arith}
 use lib.ListN.{length, getD, take, length-append}
 use lib.Seq.{take-all}
-use lib.Dec.{eqb, ltb}
+use lib.Dec.{eqb}
 use borrow.Author.Tests.{lt-ltb, le-ltb, eqb-true, eqb-false, not-true, not-false}
 use Rattle.vertex_set.specs.Set.{Decides}
 use Rattle.vertex_set.proofs.Cases.{byTest, same-or}
 use Rattle.vertex_set.proofs.Decisions.{decide-yes, decide-no}
-use Rattle.setup.specs.declared.Kind.{Kind}
-use Rattle.setup.specs.declared.Kind.the-variants.{Credential, Account}
 use Rattle.setup.specs.declared.Value.{Value}
 use Rattle.setup.specs.declared.Value.the-variants.{Blank, Of}
 use Rattle.setup.specs.declared.Vertex.{Vertex}
 use Rattle.setup.specs.Setup.{unusedVertex, given, total}
+use Rattle.setup.specs.Inner.{kindNumber}
 use Rattle.setup.proofs.Counts.{total-append}
+use Rattle.setup.proofs.KindNumbers.{kind-same}
 use Rattle.sheet_format.specs.Rows.{ItemRow, vertexOf, startCount, lossCount, lineText, itemFields, itemLines}
 use Rattle.sheet_format.specs.Questions.{isKnown}
 use Rattle.sheet_format.specs.Stated.{StandsAt}
-use Rattle.sheet_format.proofs.Stated.{stands-below, at-place}
+use Rattle.sheet_format.proofs.Stated.{at-place, take-more}
 use Rattle.sheet_rows.proofs.Tables.{known-test}
 use Rattle.pool_format.specs.Rows.{remaining}
-use Rattle.pool_format.specs.Inner.{kindCode, amount, Places}
+use Rattle.pool_format.specs.Inner.{amount, Places}
 use Rattle.pool_format.proofs.Recolouring.{remaining-known, remaining-new}
 use Rattle.pool_items.specs.declared.Remaining.{Remaining}
-use Rattle.pool_items.specs.Inner.Items.{AllAgree, WithItem, Rising, RowsOf, Counts, CountsRemaining}
+use Rattle.pool_items.specs.Inner.Items.{AllAgree, WithItem, PlacesRise, ItemRowsAt, ItemCounts, CountsRemaining}
 
 -- ---- the four fields
-
-pub same-kinds : (a b : Kind) → kindCode a ≡ kindCode b → a ≡ b
-same-kinds Credential Credential e = refl
-same-kinds Account Account e = refl
-same-kinds Credential Account e = absurd (omega arith)
-same-kinds Account Credential e = absurd (omega arith)
 
 pub same-values : (a b : Value) → given a ≡ given b → amount a ≡ amount b → a ≡ b
 same-values Blank Blank e f = refl
@@ -47,8 +41,8 @@ same-values Blank (Of n) e f = absurd (omega arith)
 same-values (Of n) Blank e f = absurd (omega arith)
 same-values (Of n) (Of m) e f = ap Of f
 
-pub same-fields : (a b : Vertex) → kindCode (a .kind) ≡ kindCode (b .kind) → a .start ≡ b .start → a .loss ≡ b .loss → a .rank ≡ b .rank → a ≡ b
-same-fields a b k s l r = λ i. record { kind = same-kinds (a .kind) (b .kind) k i; start = s i; loss = l i; rank = r i }
+pub same-fields : (a b : Vertex) → kindNumber (a .kind) ≡ kindNumber (b .kind) → a .start ≡ b .start → a .loss ≡ b .loss → a .rank ≡ b .rank → a ≡ b
+same-fields a b k s l r = λ i. record { kind = kind-same (a .kind) (b .kind) k i; start = s i; loss = l i; rank = r i }
 
 module _ (a b : Value) (m n : ℕ) (p : m ≡ given a) (q : n ≡ given b) where
   pub value-told : (x y : ℕ) → m ≡ n → x ≡ amount a → y ≡ amount b → Decides (a ≡ b) (eqb x y)
@@ -62,8 +56,8 @@ module _ (a b : Value) (m n : ℕ) (p : m ≡ given a) (q : n ≡ given b) where
   value-other d = decide-no (λ h. d (p ∙ ap given h ∙ sym q))
 
 module _ (a b : Vertex) where
-  pub kind-other : (m n : ℕ) → m ≡ kindCode (a .kind) → n ≡ kindCode (b .kind) → (m ≡ n → ⊥) → Decides (a ≡ b) false
-  kind-other m n p q d = decide-no (λ h. d (p ∙ ap (λ (x : Vertex). kindCode (x .kind)) h ∙ sym q))
+  pub kind-other : (m n : ℕ) → m ≡ kindNumber (a .kind) → n ≡ kindNumber (b .kind) → (m ≡ n → ⊥) → Decides (a ≡ b) false
+  kind-other m n p q d = decide-no (λ h. d (p ∙ ap (λ (x : Vertex). kindNumber (x .kind)) h ∙ sym q))
 
   pub start-other : (t : Bool) → Decides (a .start ≡ b .start) t → not t ≡ true → Decides (a ≡ b) false
   start-other t d e = decide-no (λ h. d .no (not-true t e) (ap (λ (x : Vertex). x .start) h))
@@ -71,7 +65,7 @@ module _ (a b : Vertex) where
   pub loss-other : (t : Bool) → Decides (a .loss ≡ b .loss) t → not t ≡ true → Decides (a ≡ b) false
   loss-other t d e = decide-no (λ h. d .no (not-true t e) (ap (λ (x : Vertex). x .loss) h))
 
-  pub rank-told : (m n : ℕ) → m ≡ kindCode (a .kind) → n ≡ kindCode (b .kind) → m ≡ n → (t u : Bool) → Decides (a .start ≡ b .start) t → not t ≡ false
+  pub rank-told : (m n : ℕ) → m ≡ kindNumber (a .kind) → n ≡ kindNumber (b .kind) → m ≡ n → (t u : Bool) → Decides (a .start ≡ b .start) t → not t ≡ false
       → Decides (a .loss ≡ b .loss) u → not u ≡ false → Decides (a ≡ b) (eqb (a .rank) (b .rank))
   rank-told m n p q e t u d f g k =
       record {
@@ -105,11 +99,6 @@ remaining-append xs (y ∷ ys) zs =
     byTest (isKnown xs (y .name))
     (λ t. rw t (remaining-append xs ys zs))
     (λ t. rw t (ap (λ (l : List ItemRow). y ∷ l) (remaining-append xs ys zs)))
-
-take-more : (ys : List ItemRow) (j : ℕ) (y : ItemRow) → StandsAt ys j y → take (suc j) ys ≡ take j ys ++ (y ∷ [])
-take-more [] j y h = absurd h
-take-more (x ∷ xs) zero y h = ap (λ (z : ItemRow). z ∷ []) h
-take-more (x ∷ xs) (suc j) y h = ap (λ (l : List ItemRow). x ∷ l) (take-more xs j y h)
 
 module _ (xs ys : List ItemRow) (j : ℕ) (y : ItemRow) (h : StandsAt ys j y) where
   pub remains-not : isKnown xs (y .name) ≡ true → remaining xs (take (suc j) ys) ≡ remaining xs (take j ys)
@@ -151,7 +140,7 @@ pub record CountsSoFar (vertices : List Vertex) (nb : ℕ) (places : List ℕ) (
   pub starts : r .starts ≤ j
   pub losses : r .losses ≤ j
   pub bytes : r .bytes ≤ getD from j 0
-  pub each : (xs ys : List ItemRow) → Places xs ys places → na ≡ length xs → nb ≡ length ys → RowsOf ys vertices from → Counts (remaining xs (take j ys)) r
+  pub each : (xs ys : List ItemRow) → Places xs ys places → na ≡ length xs → nb ≡ length ys → ItemRowsAt ys vertices from → ItemCounts (remaining xs (take j ys)) r
 
 pub counts-none : (vertices : List Vertex) (nb : ℕ) (places : List ℕ) (na : ℕ) (from : List ℕ)
     → CountsSoFar vertices nb places na from (record { items = 0; starts = 0; losses = 0; bytes = 0 }) 0
@@ -170,8 +159,8 @@ given-most Blank = omega arith
 given-most (Of n) = omega arith
 
 -- one item counted behind others
-counts-one : (zs : List ItemRow) (y : ItemRow) (r q : Remaining) (x : Vertex) (size : ℕ) → Counts zs r → x ≡ vertexOf y → size ≡ length (lineText (itemFields y))
-    → WithItem r x size q → Counts (zs ++ (y ∷ [])) q
+counts-one : (zs : List ItemRow) (y : ItemRow) (r q : Remaining) (x : Vertex) (size : ℕ) → ItemCounts zs r → x ≡ vertexOf y → size ≡ length (lineText (itemFields y))
+    → WithItem r x size q → ItemCounts (zs ++ (y ∷ [])) q
 unfolding startCount lossCount itemLines
 counts-one zs y r q x size c e s w =
     let l = length-append zs (y ∷ []) in
@@ -193,7 +182,7 @@ counts-one zs y r q x size c e s w =
     record { items = omega arith; starts = omega arith; losses = omega arith; bytes = omega arith }
 
 module _ (vertices : List Vertex) (nb : ℕ) (places : List ℕ) (na : ℕ) (from : List ℕ) (r : Remaining) (j : ℕ) (h : j < nb)
-    (u : Rising from nb) (n : CountsSoFar vertices nb places na from r j) where
+    (u : PlacesRise from nb) (n : CountsSoFar vertices nb places na from r j) where
   pub counts-same : getD places j 0 < na → CountsSoFar vertices nb places na from r (j + 1)
   counts-same l =
       rw (add-one j)

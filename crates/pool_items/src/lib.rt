@@ -8,8 +8,9 @@ ghost use mathlib.Core.Path.{_≡_};
 ghost use Prim.Native.Nat.{_≤_};
 ghost use Rattle.vertex_set.specs.Set.{Decides};
 ghost use Rattle.pool_items.specs.Inner.Keys.{HasLines, KeysOf, PlacesOf};
-ghost use Rattle.pool_format.specs.Inner.{kindCode, amount};
-ghost use Rattle.pool_items.specs.Inner.Items.{AllAgree, Small, WithItem, Rising, CountsRemaining};
+ghost use Rattle.setup.specs.Inner.{kindNumber};
+ghost use Rattle.pool_format.specs.Inner.{amount};
+ghost use Rattle.pool_items.specs.Inner.Items.{AllAgree, Small, WithItem, PlacesRise, CountsRemaining};
 
 // The keys of the names of a sheet's items, and where each item's row begins; behind the last of
 // them the place of the empty line.
@@ -69,8 +70,8 @@ pub fn places_of(first: Keys, known: usize, second: Keys, count: usize) -> [usiz
     places
 }
 
-fn kind_code(k: Kind) -> u64
-    ensures { λ r. ⌜ r ≡ kindCode k ⌝ }
+fn kind_number(k: Kind) -> u64
+    ensures { λ r. ⌜ r ≡ kindNumber k ⌝ }
 {
     match k {
         Kind::Credential => 0,
@@ -108,7 +109,7 @@ fn same_vertex(a: Vertex, b: Vertex) -> bool
     let other_kind = b.kind;
     let other_start = b.start;
     let other_loss = b.loss;
-    if kind_code(kind) != kind_code(other_kind) {
+    if kind_number(kind) != kind_number(other_kind) {
         return false;
     }
     if !same_value(start, other_start) {
@@ -144,7 +145,7 @@ pub fn all_agree(
     true
 }
 
-// One item more, with the bytes of its row.
+// The counts with one item more, whose row has `size` bytes.
 fn with_item(r: Remaining, x: Vertex, size: usize) -> Remaining
     requires { ⌜ Small r size ⌝ }
     ensures { λ q. ⌜ WithItem r x size q ⌝ }
@@ -169,7 +170,7 @@ pub fn count_remaining(
     known: usize,
     from: [usize; 65],
 ) -> Remaining
-    requires { ⌜ Rising from count ⌝ }
+    requires { ⌜ PlacesRise from count ⌝ }
     ensures { λ r. ⌜ CountsRemaining vertices count places known from r ⌝ }
 {
     let mut r = Remaining {

@@ -4,11 +4,12 @@ use mathlib.Core.Bool.{cond}
 use Prim.Native.Nat.{ℕ, zero, suc, _+_, _-_, _≤_, _<_}
 use lib.ListN.{length, getD, take, drop}
 use lib.Dec.{leb}
+use Rattle.setup.specs.Bounds.{mostItems, mostEdges}
 use Rattle.sheet_format.specs.Rows.{Each}
 
 -- The rows that begin at these places lie within the sheet, one behind the other.
-pub record Within (s from : List ℕ) (count : ℕ) : Type 0 where
-  pub few : count ≤ 64
+pub record RowsWithin (s from : List ℕ) (count : ℕ) : Type 0 where
+  pub few : count ≤ mostItems
   pub rise : (j : ℕ) → j < count → getD from j 0 ≤ getD from (suc j) 0
   pub inside : (j : ℕ) → j < count → getD from (suc j) 0 ≤ length s
 
@@ -33,4 +34,4 @@ withDigits (l ∷ ls) digits k = withDigit l (getD digits k 0) ++ withDigits ls 
 -- Every line has room for a digit, and there is a digit for every line, from the place k on.
 pub record CanPut (ls : List (List ℕ)) (k : ℕ) : Type 0 where
   pub long : Each (λ l. 3 ≤ length l) ls
-  pub few : k + length ls ≤ 256
+  pub few : k + length ls ≤ mostEdges

@@ -6,7 +6,8 @@ ghost use Prim.Native.Nat.{_+_, _≤_};
 ghost use lib.ListN.{length, drop};
 ghost use Rattle.written.specs.Inner.{Wrote};
 ghost use Rattle.sheet_format.specs.Text.{linesOf};
-ghost use Rattle.pool_text.specs.Inner.{Within, freshRows, withDigit, withDigits, CanPut};
+ghost use Rattle.pool_text.specs.Inner.{RowsWithin, freshRows, withDigit, withDigits, CanPut};
+use setup::MAX_EDGES;
 
 // A colour is the fourth byte from the end of an edge row: behind it stand a space, the mark, and LF.
 const BEHIND: usize = 3;
@@ -33,7 +34,7 @@ pub fn put_remaining(
     out: &mut [u8],
     at: usize,
 ) -> usize
-    requires { ⌜ Within (now s) from count ⌝ }
+    requires { ⌜ RowsWithin (now s) from count ⌝ }
     requires { ⌜ at + length (freshRows (now s) from places known count) ≤ length (now out) ⌝ }
     ensures { λ r. ⌜ Wrote (now (out .entry)) at (freshRows (now (s .entry)) from places known count) (now (out .exit)) r ⌝ }
 {
@@ -58,7 +59,13 @@ fn put_edge(line: &[u8], digit: u8, out: &mut [u8], at: usize) -> usize
 }
 
 // The edge rows from `start` on, with their new digits.
-pub fn put_edges(s: &[u8], start: usize, digits: [u8; 256], out: &mut [u8], at: usize) -> usize
+pub fn put_edges(
+    s: &[u8],
+    start: usize,
+    digits: [u8; MAX_EDGES],
+    out: &mut [u8],
+    at: usize,
+) -> usize
     requires { ⌜ CanPut (linesOf (drop start (now s))) 0 ⌝ }
     requires { ⌜ at + length (withDigits (linesOf (drop start (now s))) digits 0) ≤ length (now out) ⌝ }
     ensures { λ r. ⌜ Wrote (now (out .entry)) at (withDigits (linesOf (drop start (now (s .entry)))) digits 0) (now (out .exit)) r ⌝ }

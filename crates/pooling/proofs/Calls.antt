@@ -4,13 +4,12 @@ use mathlib.Core.Path.{_≡_, refl, sym, ap, _∙_}
 use mathlib.Core.Bool.{false}
 use mathlib.Core.List.{List, [], _∷_, _++_}
 use mathlib.Core.Logic.{⊎-elim}
-use Prim.Native.Nat.{ℕ, zero, suc, _+_, _-_, _≤_, _<_}
+use Prim.Native.Nat.{ℕ, _+_, _-_, _≤_, _<_}
 use native.Mathlib.Omega.{arith}
-use lib.ListN.{length, getD, replicate, take, drop, length-append}
-use lib.Seq.{sets-eq}
+use lib.ListN.{length, getD, take, drop, length-append}
 use lib.Dec.{leb}
 use Rattle.written.specs.Inner.{Wrote}
-use Rattle.written.proofs.Writing.{wrote-then, room-then}
+use Rattle.written.proofs.Writing.{wrote-then, room-then, wrote-front}
 use Rattle.vertex_set.specs.Set.{Decides}
 use Rattle.vertex_set.proofs.Cases.{byTest}
 use Rattle.vertex_set.proofs.Decisions.{decide-no, decide-leb}
@@ -31,7 +30,7 @@ use Rattle.pool_format.specs.Call.{PoolRefused, PoolsRows, PoolCall}
 use Rattle.pool_items.specs.declared.Keys.{Keys}
 use Rattle.pool_items.specs.declared.Remaining.{Remaining}
 use Rattle.pool_items.specs.Inner.Keys.{HasLines, KeysOf, PlacesOf}
-use Rattle.pool_items.specs.Inner.Items.{Rising, CountsRemaining}
+use Rattle.pool_items.specs.Inner.Items.{PlacesRise, CountsRemaining}
 use Rattle.pool_text.specs.Inner.{freshRows, withDigits}
 use Rattle.pooling.specs.declared.Bounds.{Bounds}
 use Rattle.pooling.specs.declared.Plan.{Plan}
@@ -64,12 +63,6 @@ starts-over i s l e h = decide-no (λ b. let m = b .starts in omega arith)
 pub losses-over : (i s l e : ℕ) → 14 < l → Decides (InBounds i s l e) false
 losses-over i s l e h = decide-no (λ b. let m = b .losses in omega arith)
 
--- a list of zeros
-pub zeros : (n j : ℕ) → _≡_ {A = ℕ} (getD (replicate n 0) j 0) 0
-zeros zero j = refl
-zeros (suc n) zero = refl
-zeros (suc n) (suc j) = zeros n j
-
 -- ---- accepted sheets have rows
 
 pub record RowsOfText (s : List ℕ) (a : Setup) : Type 0 where
@@ -83,7 +76,7 @@ rows-of-text s a h = let d = valid-of-accepted s a (h .reading) in record { doc 
 pub lines-there : (s : List ℕ) (a : Setup) → Accepts s a → HasLines s (a .count)
 lines-there s a h = let d = rows-of-text s a h in has-lines s a (d .doc) h (d .valid) (d .text)
 
-pub rows-rise : (s : List ℕ) (a : Setup) (from : List ℕ) → Accepts s a → Starts s a from → Rising from (a .count)
+pub rows-rise : (s : List ℕ) (a : Setup) (from : List ℕ) → Accepts s a → Starts s a from → PlacesRise from (a .count)
 rows-rise s a from h n = let d = rows-of-text s a h in rising s a (d .doc) h (d .valid) (d .text) from n
 
 -- as many lines as there are other lines, item rows and edge rows
@@ -347,12 +340,9 @@ module _ (first second : List ℕ) (p : Plan) (f : PlanOf first second p) (r : P
             short = λ g h k. absurd (omega arith);
             room = λ g h k. record {
               answer = q ∙ ap (λ (i : ℕ). record { number = 0; sheet = 0; line = 0; size = i }) s;
-              written = v .exit ∙ sets-eq (render (pooled d e)) entry 0 (omega arith) ∙ front-none;
+              written = wrote-front entry (render (pooled d e)) exit n (omega arith) v;
             };
           }
-        where
-          front-none : take 0 entry ++ render (pooled d e) ++ drop (0 + length (render (pooled d e))) entry ≡ render (pooled d e) ++ drop (length (render (pooled d e))) entry
-          front-none = let k : 0 + length (render (pooled d e)) ≡ length (render (pooled d e)) = omega arith in rw k
 
 -- valid rows are accepted
 number-zero : (s : List ℕ) (d : Doc) → Valid d → s ≡ render d → readSheet s .number ≡ 0

@@ -28,7 +28,7 @@ use Rattle.pool_format.specs.Inner.{Places}
 use Rattle.pool_items.specs.declared.Keys.{Keys}
 use Rattle.pool_items.specs.declared.Remaining.{Remaining}
 use Rattle.pool_items.specs.Inner.Keys.{KeysOf, PlacesOf}
-use Rattle.pool_items.specs.Inner.Items.{AllAgree, Counts, CountsRemaining}
+use Rattle.pool_items.specs.Inner.Items.{AllAgree, ItemCounts, CountsRemaining}
 use Rattle.pool_items.proofs.Items.{known-place}
 use Rattle.pool_colours.specs.declared.Colours.{Colours}
 use Rattle.pool_colours.specs.Inner.Colours.{Both, ColoursOf}
@@ -103,15 +103,15 @@ remaining-all (y ∷ ys) = ap (λ (l : List ItemRow). y ∷ l) (remaining-all ys
 
 -- the second sheet's remaining items, and the first sheet's own ones
 pub record Counted (d e : Doc) (own more : Remaining) : Type 0 where
-  pub first : Counts (d .items) own
-  pub second : Counts (remaining (d .items) (e .items)) more
+  pub first : ItemCounts (d .items) own
+  pub second : ItemCounts (remaining (d .items) (e .items)) more
 
 pub counted : (first second : List ℕ) (a b : Setup) (d e : Doc) (begins from places zeros : List ℕ) (own more : Remaining) → Sheets first second a b d e
     → Starts first a begins → Starts second b from → Places (d .items) (e .items) places → ((j : ℕ) → getD zeros j 0 ≡ 0)
     → CountsRemaining (a .vertices) (a .count) zeros 0 begins own → CountsRemaining (b .vertices) (b .count) places (a .count) from more → Counted d e own more
 counted first second a b d e begins from places zeros own more m s t p z x y =
     record {
-      first = subst (λ (l : List ItemRow). Counts l own) (remaining-all (d .items))
+      first = subst (λ (l : List ItemRow). ItemCounts l own) (remaining-all (d .items))
           (x .each [] (d .items) (places-none (d .items) zeros z) refl (count-of first a d (m .acceptsFirst) (m .validFirst) (m .isFirst))
           (rows-of first a d (m .acceptsFirst) (m .validFirst) (m .isFirst) begins s));
       second = y .each (d .items) (e .items) p (count-of first a d (m .acceptsFirst) (m .validFirst) (m .isFirst))

@@ -1,20 +1,17 @@
 -- The parts of an accepted sheet: where its item rows begin and what stands there, and its edge rows.
 -- Assumes nothing.
-use mathlib.Core.Path.{_≡_, refl, sym, ap, ap₂, _∙_, subst}
-use mathlib.Core.Bool.{true, false, cond}
-use mathlib.Core.List.{List, [], _∷_, _++_, map, append-assoc, append-nil}
-use mathlib.Core.Logic.{⊎-elim}
-use Prim.Native.Nat.{ℕ, zero, suc, _+_, _-_, _≤_, _<_}
+use mathlib.Core.Path.{_≡_, refl, sym, ap, _∙_}
+use mathlib.Core.List.{List, [], _∷_, _++_, map, append-assoc}
+use Prim.Native.Nat.{ℕ, zero, suc, _+_, _-_, _≤_}
 use native.Mathlib.Nat.{not-suc-le-zero}
 use native.Mathlib.Omega.{arith}
-use lib.ListN.{length, getD, take, drop, length-append, length-map, length-drop, take-append-drop}
+use lib.ListN.{length, getD, take, drop, length-append, length-map, take-append-drop}
 use lib.Seq.{take-at, drop-at, getD-append-add, drop-append-add, drop-length, drop-drop}
 use Rattle.setup.specs.declared.Setup.{Setup}
-use Rattle.setup.specs.declared.Vertex.{Vertex}
 use Rattle.setup.specs.Setup.{unusedVertex, vertexAt}
 use Rattle.sheet_format.specs.declared.Reading.{Reading}
 use Rattle.sheet_format.specs.Text.{linesOf}
-use Rattle.sheet_format.specs.Rows.{ItemRow, EdgeRow, Doc, Each, Valid, vertexOf, lineText, firstHeader, secondHeader, itemFields, itemLines, edgeLines, render, setupOf}
+use Rattle.sheet_format.specs.Rows.{ItemRow, Doc, Valid, vertexOf, lineText, firstHeader, secondHeader, itemFields, itemLines, edgeLines, render, setupOf}
 use Rattle.sheet_format.specs.Read.{readSheet}
 use Rattle.sheet_format.specs.Names.{lineStart}
 use Rattle.sheet_format.specs.Stated.{StandsAt}
@@ -22,13 +19,13 @@ use Rattle.sheet_format.proofs.Lines.{line-text}
 use Rattle.sheet_format.proofs.Rows.{itemLine, edgeLine}
 use Rattle.sheet_format.proofs.Documents.{docLines}
 use Rattle.sheet_format.proofs.Meaning.{render-lines, accepted-of-valid}
-use Rattle.sheet_format.proofs.Stated.{stands-below, at-place, stated-by-rows}
+use Rattle.sheet_format.proofs.Stated.{stands-below, at-place, stated-by-rows, take-more}
 use Rattle.sheet_names.proofs.Starts.{lines-behind}
 use Rattle.pool_items.specs.Inner.Keys.{HasLines}
-use Rattle.pool_items.specs.Inner.Items.{Rising, RowsOf}
+use Rattle.pool_items.specs.Inner.Items.{PlacesRise, ItemRowsAt}
 use Rattle.pool_items.proofs.Lines.{start-more}
 use Rattle.pool_items.proofs.Items.{lines-append}
-use Rattle.pool_text.specs.Inner.{Within, rowAt}
+use Rattle.pool_text.specs.Inner.{RowsWithin, rowAt}
 use Rattle.pooling.specs.Inner.{Accepts, Starts}
 
 -- ---- the setup that rows state
@@ -122,17 +119,12 @@ module _ (s : List ℕ) (a : Setup) (d : Doc) (h : Accepts s a) (v : Valid d) (t
   front-more : (j : ℕ) (y : ItemRow) → StandsAt (d .items) j y → length (front d (suc j)) ≡ length (front d j) + length (lineText (itemFields y))
   unfolding itemLines
   front-more j y k =
-      let e = ap length (ap itemLines (taken (d .items) j y k) ∙ lines-append (take j (d .items)) (y ∷ [])) in
+      let e = ap length (ap itemLines (take-more (d .items) j y k) ∙ lines-append (take j (d .items)) (y ∷ [])) in
       let f = length-append (itemLines (take j (d .items))) (itemLines (y ∷ [])) in
       let g = length-append (lineText (itemFields y)) [] in
       let p = length-append firstHeader (10 ∷ itemLines (take (suc j) (d .items))) in
       let q = length-append firstHeader (10 ∷ itemLines (take j (d .items))) in
       omega arith
-    where
-      taken : (ys : List ItemRow) (j : ℕ) (y : ItemRow) → StandsAt ys j y → take (suc j) ys ≡ take j ys ++ (y ∷ [])
-      taken [] j y k = absurd k
-      taken (x ∷ xs) zero y k = ap (λ (z : ItemRow). z ∷ []) k
-      taken (x ∷ xs) (suc j) y k = ap (λ (l : List ItemRow). x ∷ l) (taken xs j y k)
 
   row-bytes : (j : ℕ) (y : ItemRow) → StandsAt (d .items) j y → getD from j 0 + length (lineText (itemFields y)) ≡ getD from (suc j) 0
   row-bytes j y k =
@@ -140,10 +132,10 @@ module _ (s : List ℕ) (a : Setup) (d : Doc) (h : Accepts s a) (v : Valid d) (t
       let m = front-more j y k in
       omega (arith, from-is j (omega arith), from-is (suc j) (omega arith))
 
-  pub rows-of : RowsOf (d .items) (a .vertices) from
+  pub rows-of : ItemRowsAt (d .items) (a .vertices) from
   rows-of = record { vertex = vertex-of s a d h v t; bytes = row-bytes }
 
-  pub within : Within s from (a .count)
+  pub within : RowsWithin s from (a .count)
   within =
       let c = count-of s a d h v t in
       let m = v .most in
@@ -153,7 +145,7 @@ module _ (s : List ℕ) (a : Setup) (d : Doc) (h : Accepts s a) (v : Valid d) (t
         inside = λ j l. from-inside (suc j) (omega arith);
       }
 
-  pub rising : Rising from (a .count)
+  pub rising : PlacesRise from (a .count)
   rising =
       let c = count-of s a d h v t in
       let x = ap length t in

@@ -14,7 +14,7 @@ use Rattle.pool_format.specs.declared.Pooled.{Pooled}
 use Rattle.pool_format.specs.Rows.{Agree, remaining, pooled, Fits}
 use Rattle.pool_format.specs.Call.{PoolsRows}
 use Rattle.pool_format.specs.Inner.{Places}
-use Rattle.pool_text.specs.Inner.{Within, freshRows, withDigits, CanPut}
+use Rattle.pool_text.specs.Inner.{RowsWithin, freshRows, withDigits, CanPut}
 use Rattle.pooling.specs.declared.Bounds.{Bounds}
 use Rattle.pooling.specs.declared.Plan.{Plan}
 
@@ -68,7 +68,7 @@ pooledText first second p =
 -- These parts are there.
 pub record Parts (first second : List ℕ) (p : Plan) : Type 0 where
   pub split : p .split ≤ length first
-  pub rows : Within second (p .from) (p .count)
+  pub rows : RowsWithin second (p .from) (p .count)
   pub edges : CanPut (linesOf (drop (p .start) second)) 0
 
 -- And there is room for them.

@@ -5,6 +5,7 @@ use pool_colours::Colours;
 use pool_format::Pooled;
 use pool_items::Keys;
 use setup::Graph;
+use setup::MAX_EDGES;
 use setup::Setup;
 ghost use mathlib.Core.Path.{_≡_};
 ghost use Prim.Native.Nat.{_≤_};
@@ -15,12 +16,6 @@ ghost use Rattle.sheet_format.specs.Text.{linesOf};
 ghost use Rattle.pool_format.specs.Call.{PoolCall};
 ghost use Rattle.pool_colours.specs.Inner.Colours.{ColoursOf};
 ghost use Rattle.pooling.specs.Inner.{InBounds, Accepts, BothRead, BoundsOf, PlanOf, pooledText, CanWrite, PoolsRead};
-
-const MAX_ITEMS: usize = 64;
-
-const MAX_CHOSEN: usize = setup::MAX_CHOSEN as usize;
-
-const MAX_EDGES: usize = setup::MAX_EDGES as usize;
 
 // The lines of a sheet that are no rows: two headers and the empty line.
 const OTHER_LINES: usize = 3;
@@ -52,7 +47,7 @@ struct Plan {
     from: [usize; 65],
     places: [usize; 64],
     start: usize,
-    digits: [u8; 256],
+    digits: [u8; MAX_EDGES],
 }
 
 fn refuse(number: u64, sheet: u64, line: u64) -> Pooled
@@ -82,13 +77,13 @@ fn count_lines(s: &[u8]) -> usize
 fn in_bounds(items: usize, starts: usize, losses: usize, edges: usize) -> bool
     ensures { λ r. ⌜ Decides (InBounds items starts losses edges) r ⌝ }
 {
-    if MAX_ITEMS < items {
+    if setup::MAX_ITEMS < items {
         return false;
     }
-    if MAX_CHOSEN < starts {
+    if setup::MAX_CHOSEN < starts {
         return false;
     }
-    if MAX_CHOSEN < losses {
+    if setup::MAX_CHOSEN < losses {
         return false;
     }
     edges <= MAX_EDGES
@@ -142,7 +137,7 @@ fn no_plan(number: u64) -> Plan
         from: [0; 65],
         places: [0; 64],
         start: 0,
-        digits: [0; 256],
+        digits: [0; MAX_EDGES],
     }
 }
 
@@ -255,10 +250,10 @@ fn pool_read(first: &[u8], second: &[u8], a: Setup, b: Setup, out: &mut [u8]) ->
     }
 }
 
-// Writes the pooled sheet of two sheets to the start of the lent buffer, and tells its bytes. A refused
-// sheet gives its number and line, the first sheet's before the second's; else 22 where shared items
-// disagree, 23 where the pooled rows break a bound or need a ninth colour, 24 where the buffer is
-// shorter than the pooled sheet.
+// Writes the pooled sheet of two sheets to the start of the lent buffer, and tells how many bytes
+// it has. A refused sheet gives its number and line, the first sheet's before the second's; else 22
+// where shared items disagree, 23 where the pooled rows break a bound or need a ninth colour, 24
+// where the buffer is shorter than the pooled sheet.
 pub fn pool_sheets(first: &[u8], second: &[u8], out: &mut [u8]) -> Pooled
     ensures { λ r. ⌜ PoolCall (now (first .entry)) (now (second .entry)) r (now (out .entry)) (now (out .exit)) ⌝ }
 {

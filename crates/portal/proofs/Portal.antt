@@ -10,10 +10,10 @@ use Rattle.vertex_set.proofs.Cases.{same-or, less-or}
 use Rattle.formed.specs.WellFormed.{WellFormed}
 use Rattle.sheet_format.specs.declared.Reading.{Reading}
 use Rattle.sheet_format.specs.Read.{readSheet}
-use Rattle.sheet_format.specs.Meaning.{Accepted, Refused}
-use Rattle.sheet_format.proofs.Meaning.{accepted-or-refused}
+use Rattle.sheet_format.proofs.Meaning.{number-most}
 use Rattle.sheet_format.proofs.Question12.{accepted-formed}
-use Rattle.bases.specs.Score.{never, Score}
+use Rattle.scores.specs.Never.{never}
+use Rattle.bases.specs.Score.{Score}
 use Rattle.answers.specs.Answers.{ScoreCall}
 use Rattle.portal.specs.Inner.{Codable, Coded}
 use Rattle.portal.specs.Portal.{PortalCall, Decoded}
@@ -26,15 +26,6 @@ coded-value x = record { value = λ y e. cc; refusal = λ e. absurd (let z : _�
 pub coded-refusal : (q : ℕ) → Coded q [] (never + q)
 coded-refusal q = record { value = λ y e. absurd (let z : _≡_ {A = ℕ} 0 1 = cc in omega arith); refusal = λ e. refl }
 
--- ---- the sheet
-
-pub number-small : (text : List ℕ) → readSheet text .number ≤ 11
-number-small text =
-    ⊎-elim
-    (λ (a : Accepted text). let e = ap (λ (r : Reading). r .number) (a .reading) in omega arith)
-    (λ (d : Refused text). let e = ap (λ (r : Reading). r .number) (d .reading) in let m = d .most in omega arith)
-    (accepted-or-refused .either text)
-
 -- ---- the calls
 
 module _ (loss : Bool) (text : List ℕ) (item : ℕ) (rd : Reading) (e : rd ≡ readSheet text) where
@@ -42,7 +33,7 @@ module _ (loss : Bool) (text : List ℕ) (item : ℕ) (rd : Reading) (e : rd ≡
   same = ap (λ (r : Reading). r .number) e
 
   pub small : rd .number ≤ 11
-  small = let s = number-small text in let q = same in omega arith
+  small = let s = number-most text in let q = same in omega arith
 
   pub portal-refused : (rd .number ≡ 0 → ⊥) → PortalCall loss text item (never + rd .number)
   portal-refused n =

@@ -2,7 +2,7 @@
 use mathlib.Core.Path.{_≡_}
 use mathlib.Core.List.{List, [], _∷_}
 use Prim.Native.Nat.{ℕ, _+_, _≤_}
-use Rattle.bases.specs.Score.{never}
+use Rattle.scores.specs.Never.{never}
 
 -- A refusal's number is small.
 pub record Codable (number : ℕ) (values : List ℕ) : Type 0 where

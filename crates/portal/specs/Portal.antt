@@ -5,7 +5,8 @@ use mathlib.Core.List.{List}
 use mathlib.Core.Logic.{_⊎_}
 use Prim.Native.Nat.{ℕ, _+_, _≤_, _<_}
 use Rattle.sheet_format.specs.Read.{readSheet}
-use Rattle.bases.specs.Score.{never, Score}
+use Rattle.scores.specs.Never.{never}
+use Rattle.bases.specs.Score.{Score}
 
 -- 2^62 plus the number for a refusal: the sheet's own number first, else 13 for an item that isn't there; else the score, which is 2^62 for "never".
 pub record PortalCall (loss : Bool) (text : List ℕ) (item r : ℕ) : Type 0 where

@@ -7,7 +7,7 @@ use answers::RiskAnswer;
 use answers::ScoreAnswer;
 use scores::NEVER;
 
-// A refusal is 2^62, which is never, plus its number.
+// A refusal is 2^62, the number for "never", plus its own number.
 fn code_score(answer: ScoreAnswer) -> u64
     requires { ⌜ Codable (scoreNumber answer) (scoreValues answer) ⌝ }
     ensures { λ r. ⌜ Coded (scoreNumber answer) (scoreValues answer) r ⌝ }

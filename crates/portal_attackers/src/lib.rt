@@ -2,7 +2,7 @@
 ghost use mathlib.Core.List.{[], _∷_};
 ghost use Rattle.attackers.specs.Answers.{attackerNumber, attackerValues, AttackerCall};
 ghost use Rattle.portal_setup.specs.Words.{setupIn};
-ghost use Rattle.portal_results.specs.Inner.{Tells};
+ghost use Rattle.portal_results.specs.Inner.{InStruct};
 ghost use Rattle.portal_results.specs.Told.{Told};
 use attackers::AttackerAnswer;
 
@@ -13,7 +13,7 @@ pub struct PortalKinds {
 }
 
 fn tell_kinds(answer: AttackerAnswer) -> PortalKinds
-    ensures { λ r. ⌜ Tells (attackerNumber answer) (attackerValues answer) (r .number) (r .kinds ∷ []) ⌝ }
+    ensures { λ r. ⌜ InStruct (attackerNumber answer) (attackerValues answer) (r .number) (r .kinds ∷ []) ⌝ }
 {
     match answer {
         AttackerAnswer::Attackers(kinds) => PortalKinds { number: 0, kinds },

@@ -1,10 +1,10 @@
 // The portal's calls for bags of values, for C: is one at most another, and an item's score as bags.
 ghost use mathlib.Core.List.{[], _∷_};
 ghost use Rattle.vertex_set.specs.Set.{Decides};
-ghost use Rattle.multisets.specs.Multisets.{AtMost};
+ghost use Rattle.multisets.specs.Multisets.{BagAtMost};
 ghost use Rattle.multiset_scores.specs.Answers.{multisetNumber, multisetValues, MultisetsCall};
 ghost use Rattle.portal_setup.specs.Words.{setupIn};
-ghost use Rattle.portal_results.specs.Inner.{Tells};
+ghost use Rattle.portal_results.specs.Inner.{InStruct};
 ghost use Rattle.portal_results.specs.Told.{Told};
 use multiset_scores::MultisetAnswer;
 
@@ -15,7 +15,7 @@ pub struct PortalBagScore {
 }
 
 fn tell_bags(answer: MultisetAnswer) -> PortalBagScore
-    ensures { λ r. ⌜ Tells (multisetNumber answer) (multisetValues answer) (r .number) (r .bags ∷ []) ⌝ }
+    ensures { λ r. ⌜ InStruct (multisetNumber answer) (multisetValues answer) (r .number) (r .bags ∷ []) ⌝ }
 {
     match answer {
         MultisetAnswer::Multisets(count) => PortalBagScore {
@@ -29,7 +29,7 @@ fn tell_bags(answer: MultisetAnswer) -> PortalBagScore
 // Are both lists bags, and is the first at most the second?
 #[no_mangle]
 pub extern "C" fn portal_bag_at_most(bag: &[u64], other: &[u64]) -> bool
-    ensures { λ r. ⌜ Decides (AtMost (now (bag .entry)) (now (other .entry))) r ⌝ }
+    ensures { λ r. ⌜ Decides (BagAtMost (now (bag .entry)) (now (other .entry))) r ⌝ }
 {
     multisets::multiset_at_most(bag, other)
 }

@@ -3,7 +3,7 @@
 ghost use mathlib.Core.List.{[], _∷_};
 ghost use Rattle.cut_sets.specs.Answers.{cutsNumber, cutsValues, CutsCall};
 ghost use Rattle.portal_setup.specs.Words.{setupIn};
-ghost use Rattle.portal_results.specs.Inner.{Tells};
+ghost use Rattle.portal_results.specs.Inner.{InStruct};
 ghost use Rattle.portal_results.specs.Told.{Told};
 use cut_sets::CutsAnswer;
 
@@ -14,7 +14,7 @@ pub struct PortalCutSets {
 }
 
 fn tell_cuts(answer: CutsAnswer) -> PortalCutSets
-    ensures { λ r. ⌜ Tells (cutsNumber answer) (cutsValues answer) (r .number) (r .count ∷ []) ⌝ }
+    ensures { λ r. ⌜ InStruct (cutsNumber answer) (cutsValues answer) (r .number) (r .count ∷ []) ⌝ }
 {
     match answer {
         CutsAnswer::Sets(count) => PortalCutSets {

@@ -2,7 +2,7 @@
 ghost use mathlib.Core.List.{[], _∷_};
 ghost use Rattle.forecasts.specs.Answers.{forecastNumber, forecastValues, ForecastCall};
 ghost use Rattle.portal_setup.specs.Words.{setupIn};
-ghost use Rattle.portal_results.specs.Inner.{Tells};
+ghost use Rattle.portal_results.specs.Inner.{InStruct};
 ghost use Rattle.portal_results.specs.Told.{Told};
 use forecasts::ForecastAnswer;
 
@@ -13,7 +13,7 @@ pub struct PortalForecast {
 }
 
 fn tell_forecast(answer: ForecastAnswer) -> PortalForecast
-    ensures { λ r. ⌜ Tells (forecastNumber answer) (forecastValues answer) (r .number) (r .sets ∷ []) ⌝ }
+    ensures { λ r. ⌜ InStruct (forecastNumber answer) (forecastValues answer) (r .number) (r .sets ∷ []) ⌝ }
 {
     match answer {
         ForecastAnswer::Sets(sets) => PortalForecast { number: 0, sets },

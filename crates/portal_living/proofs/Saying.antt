@@ -13,9 +13,10 @@ use Rattle.setup.specs.declared.Setup.{Setup}
 use Rattle.formed.specs.WellFormed.{WellFormed}
 use Rattle.living.specs.Calls.{Call, CallOf}
 use Rattle.living.proofs.Unique.{one-living-answer}
-use Rattle.living.proofs.Setups.{by-cases, stable-setup}
+use Rattle.vertex_set.proofs.Stable.{by-cases}
+use Rattle.living.proofs.Setups.{stable-setup}
 use Rattle.living.proofs.Kept.{step, refused-malformed}
-use Rattle.portal_setup.specs.Words.{setupIn, wordsOf}
+use Rattle.portal_setup.specs.Words.{setupWords, setupIn, wordsOf}
 use Rattle.portal_setup.specs.Inner.{WroteAll}
 use Rattle.portal_setup.proofs.Saying.{words-say}
 use Rattle.portal_reading.proofs.Saying.{well-formed-said}
@@ -26,10 +27,10 @@ use Rattle.portal_living.specs.Living.{PutBack, LivingCall, SaysRedrawn,
 pub put-refused : (n : ℕ) (t : Setup) (entry : List ℕ) → (n ≡ 0 → ⊥) → PutBack n t n entry entry
 put-refused n t entry d = record { refused = λ e. (refl, refl); short = λ z k. absurd (d z); room = λ z k. absurd (d z) }
 
-pub put-short : (n : ℕ) (t : Setup) (entry : List ℕ) → n ≡ 0 → length entry < 1283 → PutBack n t 15 entry entry
+pub put-short : (n : ℕ) (t : Setup) (entry : List ℕ) → n ≡ 0 → length entry < setupWords → PutBack n t 15 entry entry
 put-short n t entry z l = record { refused = λ d. absurd (d z); short = λ e k. (refl, refl); room = λ e k. absurd (omega arith) }
 
-pub put-room : (n : ℕ) (t : Setup) (entry exit : List ℕ) (next : ℕ) → n ≡ 0 → 1283 ≤ length entry → WroteAll 1283 entry 0 (wordsOf t) exit next → PutBack n t 0 entry exit
+pub put-room : (n : ℕ) (t : Setup) (entry exit : List ℕ) (next : ℕ) → n ≡ 0 → setupWords ≤ length entry → WroteAll setupWords entry 0 (wordsOf t) exit next → PutBack n t 0 entry exit
 put-room n t entry exit next z l w =
     let xs = wordsOf t in
     let long = w .long in
@@ -48,7 +49,7 @@ module _ (c : Call) (entry exit : List ℕ) (h : LivingCall c 0 entry exit) wher
 
   put : exit ≡ wordsOf (h .setup) ++ drop (length (wordsOf (h .setup))) entry
   put =
-      ⊎-elim (λ l. absurd (let e : _≡_ {A = ℕ} 0 15 = h .back .short answered l .0 in omega arith)) (λ l. h .back .room answered l .1) (less-or (length entry) 1283)
+      ⊎-elim (λ l. absurd (let e : _≡_ {A = ℕ} 0 15 = h .back .short answered l .0 in omega arith)) (λ l. h .back .room answered l .1) (less-or (length entry) setupWords)
 
   call : CallOf c (setupIn entry) 0 (h .setup)
   call = subst (λ (n : ℕ). CallOf c (setupIn entry) n (h .setup)) answered (h .call)
@@ -74,7 +75,7 @@ says-redrawn = redrawn
 put-once : (n : ℕ) (t : Setup) (m m′ : ℕ) (entry exit exit′ : List ℕ) → PutBack n t m entry exit → PutBack n t m′ entry exit′ → (m ≡ m′) × (exit ≡ exit′)
 put-once n t m m′ entry exit exit′ a b =
     ⊎-elim
-    (λ z. ⊎-elim (λ l. both (a .short z l) (b .short z l)) (λ l. both (a .room z l) (b .room z l)) (less-or (length entry) 1283))
+    (λ z. ⊎-elim (λ l. both (a .short z l) (b .short z l)) (λ l. both (a .room z l) (b .room z l)) (less-or (length entry) setupWords))
     (λ d. both (a .refused d) (b .refused d)) (same-or n 0)
   where
     both : {q : ℕ} {x : List ℕ} → (m ≡ q) × (exit ≡ x) → (m′ ≡ q) × (exit′ ≡ x) → (m ≡ m′) × (exit ≡ exit′)

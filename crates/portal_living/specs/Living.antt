@@ -6,14 +6,14 @@ use lib.ListN.{length}
 use Rattle.setup.specs.declared.Setup.{Setup}
 use Rattle.setup.specs.Calls.{written}
 use Rattle.living.specs.Calls.{Call, CallOf}
-use Rattle.portal_setup.specs.Words.{setupIn, wordsOf}
+use Rattle.portal_setup.specs.Words.{setupWords, setupIn, wordsOf}
 
--- The call answers n and the setup t. A refusal leaves every word; so does 15, which is asked last: the buffer has fewer than 1283 words. Else
+-- The call answers n and the setup t. A refusal leaves every word; so does 15, which is asked last: the buffer has fewer words than a setup. Else
 -- the words that say t stand in the first places, and the words behind them are unchanged.
 pub record PutBack (n : ℕ) (t : Setup) (number : ℕ) (entry exit : List ℕ) : Type 0 where
   pub refused : (n ≡ 0 → ⊥) → (number ≡ n) × (exit ≡ entry)
-  pub short : n ≡ 0 → length entry < 1283 → (number ≡ 15) × (exit ≡ entry)
-  pub room : n ≡ 0 → 1283 ≤ length entry → (number ≡ 0) × (exit ≡ written (wordsOf t) entry)
+  pub short : n ≡ 0 → length entry < setupWords → (number ≡ 15) × (exit ≡ entry)
+  pub room : n ≡ 0 → setupWords ≤ length entry → (number ≡ 0) × (exit ≡ written (wordsOf t) entry)
 
 -- The call on the setup that the words say.
 pub record LivingCall (c : Call) (number : ℕ) (entry exit : List ℕ) : Type 0 where

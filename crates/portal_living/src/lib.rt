@@ -4,8 +4,7 @@ ghost use lib.Dec.{eqb};
 ghost use Rattle.living.specs.Calls.{TakeIn, TakeOut, AddEdge, RemoveEdge};
 ghost use Rattle.portal_living.specs.Living.{PutBack, LivingCall};
 use living::Redrawing;
-
-const SETUP_WORDS: usize = 1283;
+use portal_setup::SETUP_WORDS;
 
 // Puts the setup back into its buffer where the call was accepted. The call's own questions come
 // before question 15, which asks for the buffer's room.

@@ -6,7 +6,7 @@ ghost use Rattle.portal_setup.specs.Words.{setupIn};
 ghost use Rattle.portal_results.specs.Told.{Told};
 use portal_results::PortalMarks;
 
-// Marks of opening sets.
+// Marks for sets handed in as the target's opening list.
 #[no_mangle]
 pub extern "C" fn portal_mark_openings(setup: &[u64], target: u64, sets: &[u64]) -> PortalMarks
     ensures { λ r. ⌜ Told (MarksCall false (setupIn (now (setup .entry))) target (now (sets .entry))) (r .number) (r .right ∷ r .repeated ∷ r .shut ∷ r .loose ∷ r .missing ∷ []) ⌝ }
@@ -16,7 +16,7 @@ pub extern "C" fn portal_mark_openings(setup: &[u64], target: u64, sets: &[u64])
     portal_results::tell_marks(answer)
 }
 
-// Marks of lockout sets.
+// Marks for sets handed in as the target's lockout list.
 #[no_mangle]
 pub extern "C" fn portal_mark_lockouts(setup: &[u64], target: u64, sets: &[u64]) -> PortalMarks
     ensures { λ r. ⌜ Told (MarksCall true (setupIn (now (setup .entry))) target (now (sets .entry))) (r .number) (r .right ∷ r .repeated ∷ r .shut ∷ r .loose ∷ r .missing ∷ []) ⌝ }

@@ -2,7 +2,7 @@
 ghost use mathlib.Core.List.{[], _∷_};
 ghost use Rattle.next_sets.specs.Answers.{nextNumber, nextValues, NextCall};
 ghost use Rattle.portal_setup.specs.Words.{setupIn};
-ghost use Rattle.portal_results.specs.Inner.{Tells};
+ghost use Rattle.portal_results.specs.Inner.{InStruct};
 ghost use Rattle.portal_results.specs.Told.{Told};
 use next_sets::NextAnswer;
 use vertex_set::VertexSet;
@@ -15,7 +15,7 @@ pub struct PortalNextOpening {
 }
 
 fn tell_next(answer: NextAnswer) -> PortalNextOpening
-    ensures { λ r. ⌜ Tells (nextNumber answer) (nextValues answer) (r .number) (r .more ∷ r .set ∷ []) ⌝ }
+    ensures { λ r. ⌜ InStruct (nextNumber answer) (nextValues answer) (r .number) (r .more ∷ r .set ∷ []) ⌝ }
 {
     match answer {
         NextAnswer::Set(x) => PortalNextOpening {

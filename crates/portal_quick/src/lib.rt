@@ -2,7 +2,7 @@
 ghost use mathlib.Core.List.{[], _∷_};
 ghost use Rattle.quick_yes.specs.Answers.{quickNumber, quickValues, QuickCall};
 ghost use Rattle.portal_setup.specs.Words.{setupIn};
-ghost use Rattle.portal_results.specs.Inner.{Tells};
+ghost use Rattle.portal_results.specs.Inner.{InStruct};
 ghost use Rattle.portal_results.specs.Told.{Told};
 use quick_yes::QuickAnswer;
 use vertex_set::VertexSet;
@@ -15,7 +15,7 @@ pub struct PortalQuick {
 }
 
 fn tell_quick(answer: QuickAnswer) -> PortalQuick
-    ensures { λ r. ⌜ Tells (quickNumber answer) (quickValues answer) (r .number) (r .opens ∷ r .set ∷ []) ⌝ }
+    ensures { λ r. ⌜ InStruct (quickNumber answer) (quickValues answer) (r .number) (r .opens ∷ r .set ∷ []) ⌝ }
 {
     match answer {
         QuickAnswer::Yes(held) => PortalQuick {

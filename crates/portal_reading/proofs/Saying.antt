@@ -1,18 +1,18 @@
 -- The words that reading writes say the sheet's setup: an accepted sheet's is well formed, and a refused sheet's has no place in use.
 -- Assumes nothing.
-use mathlib.Core.Path.{_≡_, refl, sym, ap, subst, _∙_}
-use mathlib.Core.List.{List, []}
+use mathlib.Core.Path.{refl, sym, subst}
+use mathlib.Core.List.{List}
 use mathlib.Core.Logic.{⊎-elim}
-use Prim.Native.Nat.{ℕ, _≤_, _<_}
+use Prim.Native.Nat.{ℕ, _<_}
 use native.Mathlib.Omega.{arith}
-use lib.ListN.{length, drop, replicate, getD-replicate}
+use lib.ListN.{length, drop, getD-replicate}
 use Rattle.vertex_set.proofs.Cases.{less-or}
 use Rattle.setup.specs.declared.Value.{Value}
 use Rattle.setup.specs.declared.Value.the-variants.{Blank, Of}
 use Rattle.setup.specs.declared.Vertex.{Vertex}
-use Rattle.setup.specs.declared.Rows.{Rows}
 use Rattle.setup.specs.declared.Setup.{Setup}
-use Rattle.setup.specs.Setup.{unusedVertex, vertexAt, ShapedGraph, emptyGraph}
+use Rattle.setup.specs.Setup.{unusedVertex, vertexAt}
+use Rattle.setup.proofs.Graphs.{empty-shaped}
 use Rattle.formed.specs.WellFormed.{InRange, WellFormed}
 use Rattle.sheet_format.specs.declared.Reading.{Reading}
 use Rattle.sheet_format.specs.Rows.{setupOf}
@@ -36,10 +36,6 @@ well-formed-said s w = record { shaped = w .shaped; start = λ v b. both v b .0;
         (λ l. (said (vertexAt s v .start) (w .used v l .start), said (vertexAt s v .loss) (w .used v l .loss)))
         (λ l. subst (λ (x : Vertex). Said (x .start) × Said (x .loss)) (sym (w .unused v b l)) (tt, tt))
         (less-or v (s .count))
-
-empty-shaped : ShapedGraph emptyGraph
-unfolding emptyGraph
-empty-shaped = record { places = refl; colours = λ v b. ap (λ (r : Rows). length (r .needs)) (getD-replicate 64 v (record { needs = replicate 8 0 }) (record { needs = [] }) b) }
 
 empty-said : Sayable (setupOf noRows)
 empty-said =

@@ -14,7 +14,7 @@ use Rattle.sheet_format.specs.Names.{hasItem, nameStart}
 use Rattle.sheet_names.specs.declared.Span.{Span}
 use Rattle.sheet_names.specs.Inner.Span.{spanOf}
 use Rattle.sheet.proofs.Names.{refused-none, beyond-none, item-there, name-none, start-none, row-there, span-order, span-inside, span-name, span-start}
-use Rattle.portal_setup.specs.Words.{wordsOf}
+use Rattle.portal_setup.specs.Words.{setupWords, wordsOf}
 use Rattle.portal_setup.specs.Inner.{WroteAll}
 use Rattle.portal_reading.specs.Reading.{ReadingCall, NameCall}
 
@@ -27,7 +27,7 @@ module _ (text : List ℕ) (r : Reading) (q : r ≡ readSheet text) where
 
   -- ---- a reading
 
-  pub read-short : (entry : List ℕ) → length entry < 1283 → r .number ≡ 0 → ReadingCall text 15 (r .line) entry entry
+  pub read-short : (entry : List ℕ) → length entry < setupWords → r .number ≡ 0 → ReadingCall text 15 (r .line) entry entry
   read-short entry l z =
       record {
         refused = λ n. absurd (n (sym number-is ∙ z));
@@ -38,7 +38,7 @@ module _ (text : List ℕ) (r : Reading) (q : r ≡ readSheet text) where
         untouched = λ k. refl;
       }
 
-  pub read-refused : (entry : List ℕ) → length entry < 1283 → (r .number ≡ 0 → ⊥) → ReadingCall text (r .number) (r .line) entry entry
+  pub read-refused : (entry : List ℕ) → length entry < setupWords → (r .number ≡ 0 → ⊥) → ReadingCall text (r .number) (r .line) entry entry
   read-refused entry l n =
       record {
         refused = λ m. number-is;
@@ -49,7 +49,7 @@ module _ (text : List ℕ) (r : Reading) (q : r ≡ readSheet text) where
         untouched = λ k. refl;
       }
 
-  pub read-room : (entry exit : List ℕ) (next : ℕ) → 1283 ≤ length entry → WroteAll 1283 entry 0 (wordsOf (r .setup)) exit next
+  pub read-room : (entry exit : List ℕ) (next : ℕ) → setupWords ≤ length entry → WroteAll setupWords entry 0 (wordsOf (r .setup)) exit next
       → ReadingCall text (r .number) (r .line) entry exit
   read-room entry exit next l w =
       let xs = wordsOf (r .setup) in

@@ -4,11 +4,10 @@ ghost use mathlib.Core.Path.{_≡_};
 ghost use Rattle.portal_reading.specs.Reading.{version, ReadingCall, NameCall};
 use portal_results::PortalPart;
 use portal_results::PortalReading;
+use portal_setup::SETUP_WORDS;
 
 // Version 3.1.0.
 const VERSION: u64 = 30100;
-
-const SETUP_WORDS: usize = 1283;
 
 // The version of the calls that this library has.
 #[no_mangle]

@@ -11,15 +11,15 @@ use Rattle.access.specs.Answers.{WayCall}
 use Rattle.answers.specs.Answers.{BasesCall}
 use Rattle.findings.specs.Answers.{yesNo}
 use Rattle.portal_results.specs.Told.{filled, Told}
-use Rattle.portal_results.specs.Inner.{Tells}
+use Rattle.portal_results.specs.Inner.{InStruct}
 
 -- ---- a case of an answer
 
 -- of the answer y, which is the case x
 pub tells-as : {A : Type 0} (number : A → ℕ) (values : A → List ℕ) (x y : A) → y ≡ x → (fields : List ℕ) → fields ≡ filled (length fields) (values x)
-    → Tells (number y) (values y) (number x) fields
+    → InStruct (number y) (values y) (number x) fields
 tells-as {A = A} number values x y e fields h =
-    subst (λ (z : A). Tells (number z) (values z) (number x) fields) (sym e) (record { returned = refl; told = h })
+    subst (λ (z : A). InStruct (number z) (values z) (number x) fields) (sym e) (record { returned = refl; told = h })
 
 pub yes-no : (b : Bool) → (boolByte b ∷ []) ≡ yesNo b ∷ []
 yes-no true = refl
@@ -28,7 +28,7 @@ yes-no false = refl
 -- ---- a call on the setup t, which was decoded as s
 
 pub told : (Call : Setup → ℕ → List ℕ → Type 0) (s t : Setup) → s ≡ t → (number : ℕ) (values : List ℕ) (r : ℕ) (fields : List ℕ) → Call s number values
-    → Tells number values r fields → Told (Call t) r fields
+    → InStruct number values r fields → Told (Call t) r fields
 told Call s t e number values r fields h w =
     record {
       values = values;
@@ -37,10 +37,10 @@ told Call s t e number values r fields h w =
     }
 
 pub told-lists : (s t : Setup) → s ≡ t → (target : ℕ) (entry exit : List ℕ) (number : ℕ) (values : List ℕ) (r : ℕ) (fields : List ℕ)
-    → BasesCall s target number values entry exit → Tells number values r fields → Told (λ n v. BasesCall t target n v entry exit) r fields
+    → BasesCall s target number values entry exit → InStruct number values r fields → Told (λ n v. BasesCall t target n v entry exit) r fields
 told-lists s t e target entry exit = told (λ (x : Setup) (n : ℕ) (v : List ℕ). BasesCall x target n v entry exit) s t e
 
 pub told-way : (s t : Setup) → s ≡ t → (target set : ℕ) (entry exit entry′ exit′ : List ℕ) (number : ℕ) (values : List ℕ) (r : ℕ) (fields : List ℕ)
-    → WayCall s target set number values entry exit entry′ exit′ → Tells number values r fields
+    → WayCall s target set number values entry exit entry′ exit′ → InStruct number values r fields
     → Told (λ n v. WayCall t target set n v entry exit entry′ exit′) r fields
 told-way s t e target set entry exit entry′ exit′ = told (λ (x : Setup) (n : ℕ) (v : List ℕ). WayCall x target set n v entry exit entry′ exit′) s t e

@@ -6,6 +6,6 @@ use lib.ListN.{length}
 use Rattle.portal_results.specs.Told.{filled}
 
 -- A struct has this number, and these values in its fields.
-pub record Tells (number : ℕ) (values : List ℕ) (r : ℕ) (fields : List ℕ) : Type 0 where
+pub record InStruct (number : ℕ) (values : List ℕ) (r : ℕ) (fields : List ℕ) : Type 0 where
   pub returned : r ≡ number
   pub told : fields ≡ filled (length fields) values

@@ -5,7 +5,7 @@ ghost use mathlib.Core.List.{[], _∷_};
 ghost use Rattle.access.specs.Answers.{closureNumber, closureValues, lostNumber, lostValues, wayNumber, wayValues};
 ghost use Rattle.answers.specs.Answers.{basesNumber, basesValues, scoreNumber, scoreValues, riskNumber, riskValues, marksNumber, marksValues};
 ghost use Rattle.findings.specs.Answers.{findingNumber, findingValues};
-ghost use Rattle.portal_results.specs.Inner.{Tells};
+ghost use Rattle.portal_results.specs.Inner.{InStruct};
 use access::ClosureAnswer;
 use access::LostAnswer;
 use access::WayAnswer;
@@ -85,7 +85,7 @@ pub struct PortalFinding {
 }
 
 pub fn tell_closure(answer: ClosureAnswer) -> PortalClosure
-    ensures { λ r. ⌜ Tells (closureNumber answer) (closureValues answer) (r .number) (r .set ∷ r .passes ∷ []) ⌝ }
+    ensures { λ r. ⌜ InStruct (closureNumber answer) (closureValues answer) (r .number) (r .set ∷ r .passes ∷ []) ⌝ }
 {
     match answer {
         ClosureAnswer::Opened(set, passes) => PortalClosure {
@@ -102,7 +102,7 @@ pub fn tell_closure(answer: ClosureAnswer) -> PortalClosure
 }
 
 pub fn tell_set(answer: LostAnswer) -> PortalSet
-    ensures { λ r. ⌜ Tells (lostNumber answer) (lostValues answer) (r .number) (r .set ∷ []) ⌝ }
+    ensures { λ r. ⌜ InStruct (lostNumber answer) (lostValues answer) (r .number) (r .set ∷ []) ⌝ }
 {
     match answer {
         LostAnswer::Lost(set) => PortalSet {
@@ -114,7 +114,7 @@ pub fn tell_set(answer: LostAnswer) -> PortalSet
 }
 
 pub fn tell_way(answer: WayAnswer) -> PortalWay
-    ensures { λ r. ⌜ Tells (wayNumber answer) (wayValues answer) (r .number) (r .opens ∷ r .steps ∷ []) ⌝ }
+    ensures { λ r. ⌜ InStruct (wayNumber answer) (wayValues answer) (r .number) (r .opens ∷ r .steps ∷ []) ⌝ }
 {
     match answer {
         WayAnswer::Steps(count) => PortalWay {
@@ -136,7 +136,7 @@ pub fn tell_way(answer: WayAnswer) -> PortalWay
 }
 
 pub fn tell_lists(answer: BasesAnswer) -> PortalLists
-    ensures { λ r. ⌜ Tells (basesNumber answer) (basesValues answer) (r .number) (r .openings ∷ r .lockouts ∷ []) ⌝ }
+    ensures { λ r. ⌜ InStruct (basesNumber answer) (basesValues answer) (r .number) (r .openings ∷ r .lockouts ∷ []) ⌝ }
 {
     match answer {
         BasesAnswer::Counts(opening, lockout) => PortalLists {
@@ -153,7 +153,7 @@ pub fn tell_lists(answer: BasesAnswer) -> PortalLists
 }
 
 pub fn tell_score(answer: ScoreAnswer) -> PortalSetupScore
-    ensures { λ r. ⌜ Tells (scoreNumber answer) (scoreValues answer) (r .number) (r .score ∷ []) ⌝ }
+    ensures { λ r. ⌜ InStruct (scoreNumber answer) (scoreValues answer) (r .number) (r .score ∷ []) ⌝ }
 {
     match answer {
         ScoreAnswer::Score(value) => {
@@ -168,7 +168,7 @@ pub fn tell_score(answer: ScoreAnswer) -> PortalSetupScore
 }
 
 pub fn tell_risk(answer: RiskAnswer) -> PortalSetupRisk
-    ensures { λ r. ⌜ Tells (riskNumber answer) (riskValues answer) (r .number) (r .risk ∷ []) ⌝ }
+    ensures { λ r. ⌜ InStruct (riskNumber answer) (riskValues answer) (r .number) (r .risk ∷ []) ⌝ }
 {
     match answer {
         RiskAnswer::Risk(value) => {
@@ -180,7 +180,7 @@ pub fn tell_risk(answer: RiskAnswer) -> PortalSetupRisk
 }
 
 pub fn tell_marks(answer: MarksAnswer) -> PortalMarks
-    ensures { λ r. ⌜ Tells (marksNumber answer) (marksValues answer) (r .number) (r .right ∷ r .repeated ∷ r .shut ∷ r .loose ∷ r .missing ∷ []) ⌝ }
+    ensures { λ r. ⌜ InStruct (marksNumber answer) (marksValues answer) (r .number) (r .right ∷ r .repeated ∷ r .shut ∷ r .loose ∷ r .missing ∷ []) ⌝ }
 {
     match answer {
         MarksAnswer::Marked(m) => PortalMarks {
@@ -203,7 +203,7 @@ pub fn tell_marks(answer: MarksAnswer) -> PortalMarks
 }
 
 pub fn tell_finding(answer: FindingAnswer) -> PortalFinding
-    ensures { λ r. ⌜ Tells (findingNumber answer) (findingValues answer) (r .number) (r .yes ∷ []) ⌝ }
+    ensures { λ r. ⌜ InStruct (findingNumber answer) (findingValues answer) (r .number) (r .yes ∷ []) ⌝ }
 {
     match answer {
         FindingAnswer::Is(yes) => PortalFinding {

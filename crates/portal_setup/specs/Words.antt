@@ -1,5 +1,5 @@
 -- A setup as plain numbers: the count; then of each of 64 places kind, start, loss and rank; then of each place eight rows, one a colour; then
--- the same rows of recovery edges; then the held set, and what it opens. That is 1 + 256 + 512 + 512 + 2 = 1283 words.
+-- the same rows of recovery edges; then the held set, and what it opens.
 use mathlib.Core.List.{List, [], _∷_, _++_}
 use mathlib.Core.Bool.{cond}
 use Prim.Native.Nat.{ℕ, zero, suc, _+_, _*_}
@@ -19,22 +19,29 @@ unfoldable pub tabulate : {A : Type 0} → ℕ → (ℕ → A) → List A
 tabulate zero f = []
 tabulate (suc n) f = tabulate n f ++ (f n ∷ [])
 
+-- How many words say a setup: 1 + 256 + 512 + 512 + 2.
+abbrev pub setupWords : ℕ
+setupWords = 1283
+
 -- The number that stands for a blank: 2^64 - 1.
 abbrev pub blank : ℕ
 blank = 18446744073709551615
 
 -- ---- from words to a setup: every list of words says one
 
--- Words behind the end are 0.
+-- The word at place i; behind the end it is 0.
 abbrev pub wordAt : List ℕ → ℕ → ℕ
 wordAt words i = getD words i 0
 
+-- The kind that a word says: a credential for 0, else an account.
 unfoldable pub kindIn : ℕ → Kind
 kindIn n = cond (eqb n 0) Credential Account
 
+-- The value that a word says: a blank for 2^64 - 1, else the number itself.
 unfoldable pub valueIn : ℕ → Value
 valueIn n = cond (eqb n blank) Blank (Of n)
 
+-- The vertex v that the words say, by four of them.
 abbrev pub vertexIn : List ℕ → ℕ → Vertex
 vertexIn words v =
     record {
@@ -44,12 +51,15 @@ vertexIn words v =
       rank = wordAt words (1 + 4 * v + 3);
     }
 
+-- The eight rows that the words from place `at` on say, one a colour.
 abbrev pub rowsIn : List ℕ → ℕ → Rows
 rowsIn words at = record { needs = tabulate 8 (λ c. wordAt words (at + c)) }
 
+-- The graph that the words from place `at` on say, eight rows for each of 64 places.
 abbrev pub graphIn : List ℕ → ℕ → Graph
 graphIn words at = record { rows = tabulate 64 (λ v. rowsIn words (at + 8 * v)) }
 
+-- The setup that the words say.
 unfoldable pub setupIn : List ℕ → Setup
 setupIn words =
     record {
@@ -63,14 +73,17 @@ setupIn words =
 
 -- ---- from a setup to words
 
+-- The word that says a kind: 0 for a credential, 1 for an account.
 abbrev pub kindWord : Kind → ℕ
 kindWord Credential = 0
 kindWord Account = 1
 
+-- The word that says a value: 2^64 - 1 for a blank, else the number itself.
 abbrev pub valueWord : Value → ℕ
 valueWord Blank = blank
 valueWord (Of n) = n
 
+-- The four words that say a vertex: kind, start, loss and rank.
 abbrev pub vertexWords : Vertex → List ℕ
 vertexWords x = kindWord (x .kind) ∷ valueWord (x .start) ∷ valueWord (x .loss) ∷ x .rank ∷ []
 
@@ -79,15 +92,19 @@ unfoldable pub flat : {A : Type 0} → (A → List ℕ) → List A → List ℕ
 flat f [] = []
 flat f (x ∷ xs) = f x ++ flat f xs
 
+-- The words that say the vertices, place by place.
 abbrev pub verticesWords : List Vertex → List ℕ
 verticesWords xs = flat vertexWords xs
 
+-- The words that say the rows of one place, one a colour.
 abbrev pub needsOf : Rows → List ℕ
 needsOf r = r .needs
 
+-- The words that say a graph, place by place.
 abbrev pub graphWords : List Rows → List ℕ
 graphWords rs = flat needsOf rs
 
+-- The words that say the setup.
 unfoldable pub wordsOf : Setup → List ℕ
 wordsOf s =
     s .count ∷ (verticesWords (s .vertices) ++ (graphWords (s .graph .rows) ++ (graphWords (s .recovery .rows) ++ (s .held .0 ∷ s .opened .0 ∷ []))))

@@ -6,7 +6,7 @@ ghost use Prim.Native.Nat.{_+_, _≤_, _<_};
 ghost use lib.ListN.{length};
 ghost use Rattle.written.specs.Inner.{Wrote};
 ghost use Rattle.portal_setup.specs.Inner.{WroteAll};
-ghost use Rattle.portal_setup.specs.Words.{wordAt, kindIn, valueIn, vertexIn, rowsIn, graphIn, setupIn, kindWord, valueWord, vertexWords, verticesWords, graphWords, wordsOf};
+ghost use Rattle.portal_setup.specs.Words.{tabulate, setupWords, wordAt, kindIn, valueIn, vertexIn, rowsIn, graphIn, setupIn, kindWord, valueWord, vertexWords, verticesWords, graphWords, wordsOf};
 use setup::Graph;
 use setup::Kind;
 use setup::Rows;
@@ -27,6 +27,9 @@ const RECOVERY: usize = 769;
 const HELD: usize = 1281;
 
 const OPENED: usize = 1282;
+
+// The opened set is the last word.
+pub const SETUP_WORDS: usize = OPENED + 1;
 
 fn word_at(words: &[u64], i: usize) -> u64
     ensures { λ r. ⌜ r ≡ wordAt (now (words .entry)) i ⌝ }
@@ -92,34 +95,35 @@ fn graph_in(words: &[u64], at: usize) -> Graph
     r
 }
 
+fn vertices_in(words: &[u64]) -> [Vertex; 64]
+    ensures { λ r. ⌜ r ≡ tabulate 64 (vertexIn (now (words .entry))) ⌝ }
+{
+    let mut r = [setup::UNUSED; 64];
+    for v in 0..64usize {
+        let vertex = vertex_in(words, v);
+        r[v] = vertex;
+    }
+    r
+}
+
 // The setup that the words say, whatever they are.
 pub fn setup_in(words: &[u64]) -> Setup
     ensures { λ r. ⌜ r ≡ setupIn (now (words .entry)) ⌝ }
 {
     let count = word_at(words, 0) as usize;
+    let vertices = vertices_in(words);
     let graph = graph_in(words, GRAPH);
     let recovery = graph_in(words, RECOVERY);
     let held = VertexSet(word_at(words, HELD));
     let opened = VertexSet(word_at(words, OPENED));
-    let unused = Vertex {
-        kind: Kind::Credential,
-        start: Value::Blank,
-        loss: Value::Blank,
-        rank: 0,
-    };
-    let mut s = Setup {
+    Setup {
         count,
-        vertices: [unused; 64],
+        vertices,
         graph,
         recovery,
         held,
         opened,
-    };
-    for v in 0..64usize {
-        let vertex = vertex_in(words, v);
-        s.vertices[v] = vertex;
     }
-    s
 }
 
 fn kind_word(kind: Kind) -> u64
@@ -140,17 +144,6 @@ fn value_word(value: Value) -> u64
     }
 }
 
-// Writes the words from `at` on, and gives the next place.
-pub fn put_words(words: &[u64], out: &mut [u64], at: usize) -> usize
-    requires { ⌜ at + length (now words) ≤ length (now out) ⌝ }
-    ensures { λ r. ⌜ Wrote (now (out .entry)) at (now (words .entry)) (now (out .exit)) r ⌝ }
-{
-    for i in 0..words.len() {
-        out[at + i] = words[i];
-    }
-    at + words.len()
-}
-
 fn put_vertex(x: Vertex, out: &mut [u64], at: usize) -> usize
     requires { ⌜ at + 4 ≤ length (now out) ⌝ }
     ensures { λ r. ⌜ Wrote (now (out .entry)) at (vertexWords x) (now (out .exit)) r ⌝ }
@@ -159,16 +152,16 @@ fn put_vertex(x: Vertex, out: &mut [u64], at: usize) -> usize
     let start = x.start;
     let loss = x.loss;
     let words = [kind_word(kind), value_word(start), value_word(loss), x.rank];
-    put_words(&words, out, at)
+    written::put_words(&words, out, at)
 }
 
-fn put_vertices(s: Setup, out: &mut [u64], at: usize) -> usize
+fn put_vertices(vertices: [Vertex; 64], out: &mut [u64], at: usize) -> usize
     requires { ⌜ at + 256 ≤ length (now out) ⌝ }
-    ensures { λ r. ⌜ WroteAll 256 (now (out .entry)) at (verticesWords (s .vertices)) (now (out .exit)) r ⌝ }
+    ensures { λ r. ⌜ WroteAll 256 (now (out .entry)) at (verticesWords vertices) (now (out .exit)) r ⌝ }
 {
     let mut next = at;
     for v in 0..64usize {
-        let vertex = s.vertices[v];
+        let vertex = vertices[v];
         next = put_vertex(vertex, out, next);
     }
     next
@@ -179,7 +172,7 @@ fn put_rows(rows: Rows, out: &mut [u64], at: usize) -> usize
     ensures { λ r. ⌜ WroteAll 8 (now (out .entry)) at (rows .needs) (now (out .exit)) r ⌝ }
 {
     let needs = rows.needs;
-    put_words(&needs, out, at)
+    written::put_words(&needs, out, at)
 }
 
 fn put_graph(g: Graph, out: &mut [u64], at: usize) -> usize
@@ -199,20 +192,21 @@ fn put_sets(held: VertexSet, opened: VertexSet, out: &mut [u64], at: usize) -> u
     ensures { λ r. ⌜ WroteAll 2 (now (out .entry)) at (held .0 ∷ opened .0 ∷ []) (now (out .exit)) r ⌝ }
 {
     let words = [held.0, opened.0];
-    put_words(&words, out, at)
+    written::put_words(&words, out, at)
 }
 
 // Writes the words that say the setup, from `at` on, and gives the next place.
 pub fn put_setup(s: Setup, out: &mut [u64], at: usize) -> usize
-    requires { ⌜ at + 1283 ≤ length (now out) ⌝ }
-    ensures { λ r. ⌜ WroteAll 1283 (now (out .entry)) at (wordsOf s) (now (out .exit)) r ⌝ }
+    requires { ⌜ at + setupWords ≤ length (now out) ⌝ }
+    ensures { λ r. ⌜ WroteAll setupWords (now (out .entry)) at (wordsOf s) (now (out .exit)) r ⌝ }
 {
     out[at] = s.count as u64;
+    let vertices = s.vertices;
     let graph = s.graph;
     let recovery = s.recovery;
     let held = s.held;
     let opened = s.opened;
-    let behind_vertices = put_vertices(s, out, at + 1);
+    let behind_vertices = put_vertices(vertices, out, at + 1);
     let behind_graph = put_graph(graph, out, behind_vertices);
     let behind_recovery = put_graph(recovery, out, behind_graph);
     put_sets(held, opened, out, behind_recovery)

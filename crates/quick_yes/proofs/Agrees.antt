@@ -1,24 +1,23 @@
 -- The quick yes and the full closure agree.
 -- Assumes nothing.
 use mathlib.Core.Path.{_≡_, sym, subst, _∙_}
-use mathlib.Core.List.{List, [], _∷_}
+use mathlib.Core.List.{List, [], _∷_, cons≢nil}
 use mathlib.Core.Logic.{⊎-elim}
 use mathlib.Core.HLevel.{Stable}
 use Prim.Native.Nat.{ℕ, _<_}
 use native.Mathlib.Omega.{arith}
 use Rattle.vertex_set.specs.Set.{Member, Within, Iff}
-use Rattle.vertex_set.proofs.Cases.{less-or}
-use Rattle.vertex_set.proofs.Sets.{member-or}
+use Rattle.vertex_set.proofs.Sets.{member-or, one-set}
+use Rattle.vertex_set.proofs.Stable.{by-cases, stable-number, stable-member}
 use Rattle.setup.specs.declared.Setup.{Setup}
 use Rattle.setup.specs.Calls.{Inside}
 use Rattle.formed.specs.WellFormed.{WellFormed}
+use Rattle.formed.proofs.Asking.{by-target}
 use Rattle.derivations.specs.Access.{HasAccess, AccessFrom}
 use Rattle.derivations.proofs.Way.{way-run}
 use Rattle.access.specs.Answers.{ClosureCall}
-use Rattle.access.proofs.Calls.{values-or-none}
 use Rattle.quick_yes.specs.Answers.{HeldAtStop, QuickCall}
 use Rattle.quick_yes.specs.Agrees.{QuickAgrees}
-use Rattle.quick_yes.proofs.Cases.{by-cases, stable-number, stable-member, one-set}
 
 module _ (s : Setup) (target set y h r n : ℕ) (a : QuickCall s target set 0 (y ∷ h ∷ [])) (b : ClosureCall s set 0 (r ∷ n ∷ [])) where
   -- Both calls have answered, so no question was answered no; what is left is yes and no.
@@ -26,12 +25,8 @@ module _ (s : Setup) (target set y h r n : ℕ) (a : QuickCall s target set 0 (y
       → (AccessFrom (s .graph) set r → Member r target → y ≡ 1 → HeldAtStop (s .graph) target set h → Q)
       → (AccessFrom (s .graph) set r → (Member r target → ⊥) → y ≡ 0 → AccessFrom (s .graph) set h → Q) → Q
   by-answers {Q = Q} stable yes-case no-case =
-      by-cases (WellFormed s) stable
-      (λ w. ⊎-elim
-      (λ l. by-cases (Inside s set) stable (answered w l) (λ o. absurd (values-or-none (b .outside w o .empty))))
-      (λ l. absurd (values-or-none (a .noTarget w l .empty)))
-      (less-or target (s .count)))
-      (λ m. absurd (values-or-none (a .malformed m .empty)))
+      by-target s target stable (λ m. absurd (cons≢nil (a .malformed m .empty))) (λ w l. absurd (cons≢nil (a .noTarget w l .empty)))
+      (λ w l. by-cases (Inside s set) stable (answered w l) (λ o. absurd (cons≢nil (b .outside w o .empty))))
     where
       answered : WellFormed s → target < s .count → Inside s set → Q
       answered w l i =

@@ -4,7 +4,7 @@ ghost use Rattle.quick_yes.specs.Answers.{quickNumber, quickValues, Quic
 use setup::Setup;
 use vertex_set::VertexSet;
 
-// With the set that is held at the stop.
+// Yes or no, each with the set that is held at the stop; or a refusal's number.
 pub enum QuickAnswer {
     Yes(VertexSet),
     No(VertexSet),
@@ -12,7 +12,7 @@ pub enum QuickAnswer {
 }
 
 // Follows the way in. Where it comes to the target, what is held is the given set and the vertices
-// of the way; where it ends before, this is all that the set opens.
+// of the way; where the way ends before the target, what is held is all that the set opens.
 pub fn opens(s: Setup, target: usize, set: VertexSet) -> QuickAnswer
     ensures { λ r. ⌜ QuickCall s target (set .0) (quickNumber r) (quickValues r) ⌝ }
 {

@@ -15,8 +15,8 @@ use Rattle.answers.specs.declared.MarksAnswer.the-variants as marks
 use Rattle.answers.specs.Answers.{marksNumber, marksValues, MarksCall}
 use Rattle.records.specs.declared.Record.{Record}
 use Rattle.records.specs.declared.Task.{Task}
-use Rattle.records.specs.Records.{wayNumber}
-use Rattle.records.specs.Inner.{rowOf, taskOf, Attempts}
+use Rattle.records.specs.Records.{wayCode}
+use Rattle.records.specs.Inner.{studentAlone, taskOf, Attempts}
 
 pub by-way : (s : Setup) (target : ℕ) (loss b : Bool) (handed : List ℕ) (n : ℕ) (v : List ℕ) → loss ≡ b → MarksCall b s target handed n v → MarksCall loss s target handed n v
 by-way s target loss b handed n v e c = subst (λ (x : Bool). MarksCall x s target handed n v) (sym e) c
@@ -68,7 +68,7 @@ module _ (s : Setup) (student target : ℕ) (loss : Bool) (handed : List ℕ) wh
 -- ---- the task by the answer's case
 
 module _ (student target : ℕ) (loss : Bool) (answer : MarksAnswer) where
-  pub entered : (way : ℕ) (m : Marks) → way ≡ wayNumber loss → answer ≡ marks.Marked m
+  pub entered : (way : ℕ) (m : Marks) → way ≡ wayCode loss → answer ≡ marks.Marked m
       → record {
         remove = false;
         refused = 0;
@@ -82,6 +82,6 @@ module _ (student target : ℕ) (loss : Bool) (answer : MarksAnswer) where
       }) e
       ∙ sym (ap (taskOf student target loss) a)
 
-  pub turned-away : (row : Record) (q : ℕ) → row ≡ rowOf student → answer ≡ marks.Refused q
+  pub turned-away : (row : Record) (q : ℕ) → row ≡ studentAlone student → answer ≡ marks.Refused q
       → record { remove = false; refused = q; row = row } ≡ taskOf student target loss answer
   turned-away row q e a = ap (λ (r : Record). record { remove = false; refused = q; row = r }) e ∙ sym (ap (taskOf student target loss) a)

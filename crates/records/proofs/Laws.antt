@@ -11,7 +11,7 @@ use lib.Dec.{T as Holds, eqb, ltb}
 use borrow.Author.Tests.{eq-eqb, ne-eqb, lt-ltb, le-ltb, ltb-true, ltb-false}
 use Rattle.vertex_set.proofs.Cases.{byTest}
 use Rattle.records.specs.Records.{sameThree, hasThree, hasStudent, withRecord, without}
-use Rattle.records.specs.Inner.{blank, went, turn, lesser, stepOf, turnsOf, beginOf, finishOf, End, endOf, Outcome, refusal, accepts, handIn, withdraw, outcomeOf, Answers}
+use Rattle.records.specs.Inner.{blankRecord, passWith, turn, lesser, stepOf, turnsOf, beginOf, finishOf, End, endOf, RegisterOutcome, refusal, accepts, handIn, withdraw, outcomeOf, Answers}
 use Rattle.records.specs.declared.Record.{Record}
 use Rattle.records.specs.declared.Task.{Task}
 use Rattle.records.specs.declared.Pass.{Pass}
@@ -56,7 +56,7 @@ snoc-length w r = length-append w (r ∷ []) ∙ omega arith
 
 over-put : (w y : List Record) (r : Record) → length w < length y → set (over w y) (length w) r ≡ over (w ++ (r ∷ [])) y
 over-put w y r l =
-    ap (λ (m : List Record). set (w ++ m) (length w) r) (drop-cons y (length w) blank l) ∙ set-append-seam w (getD y (length w) blank) (drop (suc (length w)) y) r
+    ap (λ (m : List Record). set (w ++ m) (length w) r) (drop-cons y (length w) blankRecord l) ∙ set-append-seam w (getD y (length w) blankRecord) (drop (suc (length w)) y) r
     ∙ sym (append-assoc w (r ∷ []) (drop (suc (length w)) y)) ∙ ap (λ (k : ℕ). (w ++ (r ∷ [])) ++ drop k y) (sym (snoc-length w r))
 
 lesser-is : (c i : ℕ) → c ≤ i → lesser c i ≡ c
@@ -114,14 +114,14 @@ module _ (task : Task) where
   abbrev ended : Pass → List Record → End
   ended p l = record { pass = p; list = l }
 
-  go : (k i : ℕ) (p : Pass) (l : List Record) (t : Turn) → stepOf task p (getD l i blank) i ≡ t → endOf task (suc k) i p l ≡ endOf task k (i + 1) (t .pass) (set l (t .at) (t .row))
+  go : (k i : ℕ) (p : Pass) (l : List Record) (t : Turn) → stepOf task p (getD l i blankRecord) i ≡ t → endOf task (suc k) i p l ≡ endOf task k (i + 1) (t .pass) (set l (t .at) (t .row))
   go k i p l t e = ap (λ (u : Turn). endOf task k (i + 1) (u .pass) (set l (u .at) (u .row))) e
 
-  step-drop : (p : Pass) (r : Record) (i : ℕ) → task .remove ≡ true → eqb (r .student) (task .row .student) ≡ true → stepOf task p r i ≡ turn i r (went p true (p .count))
+  step-drop : (p : Pass) (r : Record) (i : ℕ) → task .remove ≡ true → eqb (r .student) (task .row .student) ≡ true → stepOf task p r i ≡ turn i r (passWith p true (p .count))
   unfolding stepOf
   step-drop p r i a b = if-true _ _ _ a ∙ if-true _ _ _ b
 
-  step-keep : (p : Pass) (r : Record) (i : ℕ) → task .remove ≡ true → eqb (r .student) (task .row .student) ≡ false → stepOf task p r i ≡ turn (lesser (p .count) i) r (went p (p .found) (lesser (p .count) i + 1))
+  step-keep : (p : Pass) (r : Record) (i : ℕ) → task .remove ≡ true → eqb (r .student) (task .row .student) ≡ false → stepOf task p r i ≡ turn (lesser (p .count) i) r (passWith p (p .found) (lesser (p .count) i + 1))
   unfolding stepOf
   step-keep p r i a b = if-true _ _ _ a ∙ if-false _ _ _ b
 
@@ -129,11 +129,11 @@ module _ (task : Task) where
   unfolding stepOf
   step-found p r i a b = if-false _ _ _ a ∙ if-true _ _ _ b
 
-  step-free : (p : Pass) (r : Record) (i : ℕ) → task .remove ≡ false → p .found ≡ false → i ≡ p .used → stepOf task p r i ≡ turn i (task .row) (went p true (i + 1))
+  step-free : (p : Pass) (r : Record) (i : ℕ) → task .remove ≡ false → p .found ≡ false → i ≡ p .used → stepOf task p r i ≡ turn i (task .row) (passWith p true (i + 1))
   unfolding stepOf
   step-free p r i a b e = if-false _ _ _ a ∙ if-false _ _ _ b ∙ if-true _ _ _ (eq-eqb _ _ e)
 
-  step-same : (p : Pass) (r : Record) (i : ℕ) → task .remove ≡ false → p .found ≡ false → (i ≡ p .used → ⊥) → sameThree r (task .row) ≡ true → stepOf task p r i ≡ turn i (task .row) (went p true (p .count))
+  step-same : (p : Pass) (r : Record) (i : ℕ) → task .remove ≡ false → p .found ≡ false → (i ≡ p .used → ⊥) → sameThree r (task .row) ≡ true → stepOf task p r i ≡ turn i (task .row) (passWith p true (p .count))
   unfolding stepOf
   step-same p r i a b e s = if-false _ _ _ a ∙ if-false _ _ _ b ∙ if-false _ _ _ (ne-eqb _ _ e) ∙ if-true _ _ _ s
 
@@ -145,80 +145,78 @@ module _ (task : Task) where
   -- once the record is laid, nothing changes
   still : (k i : ℕ) (p : Pass) (l : List Record) → task .remove ≡ false → p .found ≡ true → endOf task k i p l ≡ ended p l
   still zero i p l a b = refl
-  still (suc k) i p l a b = go k i p l (turn i (getD l i blank) p) (step-found p (getD l i blank) i a b) ∙ ap (λ (m : List Record). endOf task k (i + 1) p m) (set-getD l i blank) ∙ still k (i + 1) p l a b
+  still (suc k) i p l a b = go k i p l (turn i (getD l i blankRecord) p) (step-found p (getD l i blankRecord) i a b) ∙ ap (λ (m : List Record). endOf task k (i + 1) p m) (set-getD l i blankRecord) ∙ still k (i + 1) p l a b
 
   -- one place further: (a, then r, then m) is (a and r, then m), and the index with it
   shift : (a : List Record) (r : Record) (m : List Record) (k : ℕ) (p : Pass) → endOf task k (length a + 1) p (a ++ r ∷ m) ≡ endOf task k (length (a ++ (r ∷ []))) p ((a ++ (r ∷ [])) ++ m)
   shift a r m k p = ap (λ (i : ℕ). endOf task k i p (a ++ r ∷ m)) (sym (length-append a (r ∷ []))) ∙ ap (λ (l : List Record). endOf task k (length (a ++ (r ∷ []))) p l) (sym (append-assoc a (r ∷ []) m))
 
+  -- the used ones go on
+  ahead : (a : List Record) (r : Record) (b : List Record) (p : Pass) → p .used ≡ length (a ++ r ∷ b) → length a ≡ p .used → ⊥
+  ahead a r b p u e = omega (arith, e, u, length-append a (r ∷ b))
+
   -- there is a place behind the used ones
   laid-more : (a b : List Record) (y : Record) (z : List Record) (p : Pass) → task .remove ≡ false → p .found ≡ false → p .used ≡ length (a ++ b) → p .count ≡ p .used
-      → endOf task (suc (length b)) (length a) p (a ++ (b ++ y ∷ z)) ≡ ended (went p true (length (a ++ withRecord (task .row) b))) (a ++ (withRecord (task .row) b ++ drop (length (withRecord (task .row) b)) (b ++ y ∷ z)))
+      → endOf task (suc (length b)) (length a) p (a ++ (b ++ y ∷ z)) ≡ ended (passWith p true (length (a ++ withRecord (task .row) b))) (a ++ (withRecord (task .row) b ++ drop (length (withRecord (task .row) b)) (b ++ y ∷ z)))
   laid-more a [] y z p h f u c =
-      go 0 (length a) p (a ++ y ∷ z) (turn (length a) (task .row) (went p true (length a + 1))) (step-free p _ (length a) h f (sym (u ∙ ap length (append-nil a))))
-      ∙ ap (λ (l : List Record). ended (went p true (length a + 1)) l) (set-append-seam a y z (task .row)) ∙ ap (λ (m : ℕ). ended (went p true m) (a ++ task .row ∷ z)) (sym (length-append a (task .row ∷ [])))
+      go 0 (length a) p (a ++ y ∷ z) (turn (length a) (task .row) (passWith p true (length a + 1))) (step-free p _ (length a) h f (sym (u ∙ ap length (append-nil a))))
+      ∙ ap (λ (l : List Record). ended (passWith p true (length a + 1)) l) (set-append-seam a y z (task .row)) ∙ ap (λ (m : ℕ). ended (passWith p true m) (a ++ task .row ∷ z)) (sym (length-append a (task .row ∷ [])))
   laid-more a (r ∷ b) y z p h f u c = byTest (sameThree r (task .row))
-      (λ s. go (suc (length b)) (length a) p (a ++ r ∷ (b ++ y ∷ z)) _ (ap (λ (q : Record). stepOf task p q (length a)) (getD-append-seam a r (b ++ y ∷ z) blank) ∙ step-same p r (length a) h f ahead s)
-      ∙ still (suc (length b)) (length a + 1) (went p true (p .count)) (set (a ++ r ∷ (b ++ y ∷ z)) (length a) (task .row)) h refl
-      ∙ ap (λ (l : List Record). ended (went p true (p .count)) l) (set-append-seam a r (b ++ y ∷ z) (task .row))
-      ∙ ap (λ (m : ℕ). ended (went p true m) (a ++ task .row ∷ (b ++ y ∷ z))) (c ∙ u ∙ length-append a (r ∷ b) ∙ sym (length-append a (task .row ∷ b)))
-      ∙ ap (λ (l : List Record). ended (went p true (length (a ++ task .row ∷ b))) (a ++ task .row ∷ (b ++ l))) (sym (drop-append-seam b (y ∷ z)))
-      ∙ sym (ap (λ (w : List Record). ended (went p true (length (a ++ w))) (a ++ (w ++ drop (length w) (r ∷ (b ++ y ∷ z))))) (if-true _ _ _ s)))
-      (λ s. go (suc (length b)) (length a) p (a ++ r ∷ (b ++ y ∷ z)) _ (ap (λ (q : Record). stepOf task p q (length a)) (getD-append-seam a r (b ++ y ∷ z) blank) ∙ step-other p r (length a) h f ahead s)
+      (λ s. go (suc (length b)) (length a) p (a ++ r ∷ (b ++ y ∷ z)) _ (ap (λ (q : Record). stepOf task p q (length a)) (getD-append-seam a r (b ++ y ∷ z) blankRecord) ∙ step-same p r (length a) h f (ahead a r b p u) s)
+      ∙ still (suc (length b)) (length a + 1) (passWith p true (p .count)) (set (a ++ r ∷ (b ++ y ∷ z)) (length a) (task .row)) h refl
+      ∙ ap (λ (l : List Record). ended (passWith p true (p .count)) l) (set-append-seam a r (b ++ y ∷ z) (task .row))
+      ∙ ap (λ (m : ℕ). ended (passWith p true m) (a ++ task .row ∷ (b ++ y ∷ z))) (c ∙ u ∙ length-append a (r ∷ b) ∙ sym (length-append a (task .row ∷ b)))
+      ∙ ap (λ (l : List Record). ended (passWith p true (length (a ++ task .row ∷ b))) (a ++ task .row ∷ (b ++ l))) (sym (drop-append-seam b (y ∷ z)))
+      ∙ sym (ap (λ (w : List Record). ended (passWith p true (length (a ++ w))) (a ++ (w ++ drop (length w) (r ∷ (b ++ y ∷ z))))) (if-true _ _ _ s)))
+      (λ s. go (suc (length b)) (length a) p (a ++ r ∷ (b ++ y ∷ z)) _ (ap (λ (q : Record). stepOf task p q (length a)) (getD-append-seam a r (b ++ y ∷ z) blankRecord) ∙ step-other p r (length a) h f (ahead a r b p u) s)
       ∙ ap (λ (l : List Record). endOf task (suc (length b)) (length a + 1) p l) (set-append-seam a r (b ++ y ∷ z) r)
       ∙ shift a r (b ++ y ∷ z) (suc (length b)) p
       ∙ laid-more (a ++ (r ∷ [])) b y z p h f (u ∙ ap length (sym (append-assoc a (r ∷ []) b))) c
-      ∙ ap (λ (w : List Record). ended (went p true (length w)) ((a ++ (r ∷ [])) ++ (withRecord (task .row) b ++ drop (length (withRecord (task .row) b)) (b ++ y ∷ z)))) (append-assoc a (r ∷ []) (withRecord (task .row) b))
-      ∙ ap (λ (l : List Record). ended (went p true (length (a ++ r ∷ withRecord (task .row) b))) l) (append-assoc a (r ∷ []) (withRecord (task .row) b ++ drop (length (withRecord (task .row) b)) (b ++ y ∷ z)))
-      ∙ sym (ap (λ (w : List Record). ended (went p true (length (a ++ w))) (a ++ (w ++ drop (length w) (r ∷ (b ++ y ∷ z))))) (if-false _ _ _ s)))
-    where
-      ahead : length a ≡ p .used → ⊥
-      ahead e = omega (arith, e, u, length-append a (r ∷ b))
+      ∙ ap (λ (w : List Record). ended (passWith p true (length w)) ((a ++ (r ∷ [])) ++ (withRecord (task .row) b ++ drop (length (withRecord (task .row) b)) (b ++ y ∷ z)))) (append-assoc a (r ∷ []) (withRecord (task .row) b))
+      ∙ ap (λ (l : List Record). ended (passWith p true (length (a ++ r ∷ withRecord (task .row) b))) l) (append-assoc a (r ∷ []) (withRecord (task .row) b ++ drop (length (withRecord (task .row) b)) (b ++ y ∷ z)))
+      ∙ sym (ap (λ (w : List Record). ended (passWith p true (length (a ++ w))) (a ++ (w ++ drop (length w) (r ∷ (b ++ y ∷ z))))) (if-false _ _ _ s)))
 
   -- all places are used
   laid-full : (a b : List Record) (p : Pass) → task .remove ≡ false → p .found ≡ false → p .used ≡ length (a ++ b) → p .count ≡ p .used
-      → endOf task (length b) (length a) p (a ++ b) ≡ cond (hasThree (task .row) b) (ended (went p true (length (a ++ withRecord (task .row) b))) (a ++ withRecord (task .row) b)) (ended p (a ++ b))
+      → endOf task (length b) (length a) p (a ++ b) ≡ cond (hasThree (task .row) b) (ended (passWith p true (length (a ++ withRecord (task .row) b))) (a ++ withRecord (task .row) b)) (ended p (a ++ b))
   laid-full a [] p h f u c = refl
   laid-full a (r ∷ b) p h f u c = byTest (sameThree r (task .row))
-      (λ s. go (length b) (length a) p (a ++ r ∷ b) _ (ap (λ (q : Record). stepOf task p q (length a)) (getD-append-seam a r b blank) ∙ step-same p r (length a) h f ahead s)
-      ∙ still (length b) (length a + 1) (went p true (p .count)) (set (a ++ r ∷ b) (length a) (task .row)) h refl
-      ∙ ap (λ (l : List Record). ended (went p true (p .count)) l) (set-append-seam a r b (task .row))
-      ∙ ap (λ (m : ℕ). ended (went p true m) (a ++ task .row ∷ b)) (c ∙ u ∙ length-append a (r ∷ b) ∙ sym (length-append a (task .row ∷ b)))
-      ∙ sym (ap (λ (w : List Record). ended (went p true (length (a ++ w))) (a ++ w)) (if-true (sameThree r (task .row)) (task .row ∷ b) (r ∷ withRecord (task .row) b) s))
+      (λ s. go (length b) (length a) p (a ++ r ∷ b) _ (ap (λ (q : Record). stepOf task p q (length a)) (getD-append-seam a r b blankRecord) ∙ step-same p r (length a) h f (ahead a r b p u) s)
+      ∙ still (length b) (length a + 1) (passWith p true (p .count)) (set (a ++ r ∷ b) (length a) (task .row)) h refl
+      ∙ ap (λ (l : List Record). ended (passWith p true (p .count)) l) (set-append-seam a r b (task .row))
+      ∙ ap (λ (m : ℕ). ended (passWith p true m) (a ++ task .row ∷ b)) (c ∙ u ∙ length-append a (r ∷ b) ∙ sym (length-append a (task .row ∷ b)))
+      ∙ sym (ap (λ (w : List Record). ended (passWith p true (length (a ++ w))) (a ++ w)) (if-true (sameThree r (task .row)) (task .row ∷ b) (r ∷ withRecord (task .row) b) s))
       ∙ sym (if-true _ _ _ (if-true (sameThree r (task .row)) true (hasThree (task .row) b) s)))
-      (λ s. go (length b) (length a) p (a ++ r ∷ b) _ (ap (λ (q : Record). stepOf task p q (length a)) (getD-append-seam a r b blank) ∙ step-other p r (length a) h f ahead s)
+      (λ s. go (length b) (length a) p (a ++ r ∷ b) _ (ap (λ (q : Record). stepOf task p q (length a)) (getD-append-seam a r b blankRecord) ∙ step-other p r (length a) h f (ahead a r b p u) s)
       ∙ ap (λ (l : List Record). endOf task (length b) (length a + 1) p l) (set-append-seam a r b r)
       ∙ shift a r b (length b) p
       ∙ laid-full (a ++ (r ∷ [])) b p h f (u ∙ ap length (sym (append-assoc a (r ∷ []) b))) c
-      ∙ ap (λ (w : List Record). cond (hasThree (task .row) b) (ended (went p true (length w)) w) (ended p ((a ++ (r ∷ [])) ++ b))) (append-assoc a (r ∷ []) (withRecord (task .row) b))
-      ∙ ap (λ (w : List Record). cond (hasThree (task .row) b) (ended (went p true (length (a ++ r ∷ withRecord (task .row) b))) (a ++ r ∷ withRecord (task .row) b)) (ended p w)) (append-assoc a (r ∷ []) b)
-      ∙ sym (ap (λ (w : List Record). cond (hasThree (task .row) b) (ended (went p true (length (a ++ w))) (a ++ w)) (ended p (a ++ r ∷ b))) (if-false (sameThree r (task .row)) (task .row ∷ b) (r ∷ withRecord (task .row) b) s))
-      ∙ sym (ap (λ (g : Bool). cond g (ended (went p true (length (a ++ withRecord (task .row) (r ∷ b)))) (a ++ withRecord (task .row) (r ∷ b))) (ended p (a ++ r ∷ b))) (if-false (sameThree r (task .row)) true (hasThree (task .row) b) s)))
-    where
-      ahead : length a ≡ p .used → ⊥
-      ahead e = omega (arith, e, u, length-append a (r ∷ b))
+      ∙ ap (λ (w : List Record). cond (hasThree (task .row) b) (ended (passWith p true (length w)) w) (ended p ((a ++ (r ∷ [])) ++ b))) (append-assoc a (r ∷ []) (withRecord (task .row) b))
+      ∙ ap (λ (w : List Record). cond (hasThree (task .row) b) (ended (passWith p true (length (a ++ r ∷ withRecord (task .row) b))) (a ++ r ∷ withRecord (task .row) b)) (ended p w)) (append-assoc a (r ∷ []) b)
+      ∙ sym (ap (λ (w : List Record). cond (hasThree (task .row) b) (ended (passWith p true (length (a ++ w))) (a ++ w)) (ended p (a ++ r ∷ b))) (if-false (sameThree r (task .row)) (task .row ∷ b) (r ∷ withRecord (task .row) b) s))
+      ∙ sym (ap (λ (g : Bool). cond g (ended (passWith p true (length (a ++ withRecord (task .row) (r ∷ b)))) (a ++ withRecord (task .row) (r ∷ b))) (ended p (a ++ r ∷ b))) (if-false (sameThree r (task .row)) true (hasThree (task .row) b) s)))
 
   -- what a pass leaves that has kept w, found f, over y
   abbrev closed : Pass → List Record → Bool → List Record → End
-  closed p w f y = ended (went p f (length w)) (over w y)
+  closed p w f y = ended (passWith p f (length w)) (over w y)
 
   removed : (a b z w : List Record) (p : Pass) → task .remove ≡ true → p .count ≡ length w → length w ≤ length a
       → endOf task (length b) (length a) p (over w (a ++ (b ++ z))) ≡ closed p (w ++ without (task .row .student) b) (cond (hasStudent (task .row .student) b) true (p .found)) (a ++ (b ++ z))
-  removed a [] z w p h c le = ap (λ (n : ℕ). ended (went p (p .found) n) (over w (a ++ z))) c ∙ sym (ap (λ (v : List Record). closed p v (p .found) (a ++ z)) (append-nil w))
+  removed a [] z w p h c le = ap (λ (n : ℕ). ended (passWith p (p .found) n) (over w (a ++ z))) c ∙ sym (ap (λ (v : List Record). closed p v (p .found) (a ++ z)) (append-nil w))
   removed a (r ∷ b) z w p h c le = byTest (eqb (r .student) k)
-      (λ s. go (length b) (length a) p l (turn (length a) (getD l (length a) blank) (went p true (p .count))) (step-drop p (getD l (length a) blank) (length a) h (ap (λ (q : Record). eqb (q .student) k) reads ∙ s))
-      ∙ ap (λ (m : List Record). endOf task (length b) (length a + 1) (went p true (p .count)) m) (set-getD l (length a) blank)
-      ∙ onward w (went p true (p .count))
-      ∙ removed (a ++ (r ∷ [])) b z w (went p true (p .count)) h c (omega (arith, le, snoc-length a r))
+      (λ s. go (length b) (length a) p l (turn (length a) (getD l (length a) blankRecord) (passWith p true (p .count))) (step-drop p (getD l (length a) blankRecord) (length a) h (ap (λ (q : Record). eqb (q .student) k) reads ∙ s))
+      ∙ ap (λ (m : List Record). endOf task (length b) (length a + 1) (passWith p true (p .count)) m) (set-getD l (length a) blankRecord)
+      ∙ onward w (passWith p true (p .count))
+      ∙ removed (a ++ (r ∷ [])) b z w (passWith p true (p .count)) h c (omega (arith, le, snoc-length a r))
       ∙ ap (λ (f : Bool). closed p (w ++ without k b) f ((a ++ (r ∷ [])) ++ (b ++ z))) (both-true (hasStudent k b))
       ∙ ap (λ (m : List Record). closed p (w ++ without k b) true m) (append-assoc a (r ∷ []) (b ++ z))
       ∙ sym (ap (λ (v : List Record). closed p (w ++ v) true y) (if-true (eqb (r .student) k) (without k b) (r ∷ without k b) s))
       ∙ sym (ap (λ (f : Bool). closed p (w ++ without k (r ∷ b)) (cond f true (p .found)) y) (if-true (eqb (r .student) k) true (hasStudent k b) s)))
-      (λ s. go (length b) (length a) p l (turn (length w) r (went p (p .found) (length w + 1))) (ap (λ (q : Record). stepOf task p q (length a)) reads ∙ step-keep p r (length a) h s
-      ∙ ap (λ (n : ℕ). turn n r (went p (p .found) (n + 1))) (ap (λ (n : ℕ). lesser n (length a)) c ∙ lesser-is (length w) (length a) le))
-      ∙ ap (λ (m : List Record). endOf task (length b) (length a + 1) (went p (p .found) (length w + 1)) m) (over-put w y r inside)
-      ∙ onward (w ++ (r ∷ [])) (went p (p .found) (length w + 1))
-      ∙ removed (a ++ (r ∷ [])) b z (w ++ (r ∷ [])) (went p (p .found) (length w + 1)) h (sym (length-append w (r ∷ []))) (omega (arith, le, snoc-length a r, snoc-length w r))
+      (λ s. go (length b) (length a) p l (turn (length w) r (passWith p (p .found) (length w + 1))) (ap (λ (q : Record). stepOf task p q (length a)) reads ∙ step-keep p r (length a) h s
+      ∙ ap (λ (n : ℕ). turn n r (passWith p (p .found) (n + 1))) (ap (λ (n : ℕ). lesser n (length a)) c ∙ lesser-is (length w) (length a) le))
+      ∙ ap (λ (m : List Record). endOf task (length b) (length a + 1) (passWith p (p .found) (length w + 1)) m) (over-put w y r inside)
+      ∙ onward (w ++ (r ∷ [])) (passWith p (p .found) (length w + 1))
+      ∙ removed (a ++ (r ∷ [])) b z (w ++ (r ∷ [])) (passWith p (p .found) (length w + 1)) h (sym (length-append w (r ∷ []))) (omega (arith, le, snoc-length a r, snoc-length w r))
       ∙ ap (λ (v : List Record). closed p v (cond (hasStudent k b) true (p .found)) ((a ++ (r ∷ [])) ++ (b ++ z))) (append-assoc w (r ∷ []) (without k b))
       ∙ ap (λ (m : List Record). closed p (w ++ r ∷ without k b) (cond (hasStudent k b) true (p .found)) m) (append-assoc a (r ∷ []) (b ++ z))
       ∙ sym (ap (λ (v : List Record). closed p (w ++ v) (cond (hasStudent k b) true (p .found)) y) (if-false (eqb (r .student) k) (without k b) (r ∷ without k b) s))
@@ -233,8 +231,8 @@ module _ (task : Task) where
       l : List Record
       l = over w y
 
-      reads : getD l (length a) blank ≡ r
-      reads = over-get w y (length a) blank le ∙ getD-append-seam a r (b ++ z) blank
+      reads : getD l (length a) blankRecord ≡ r
+      reads = over-get w y (length a) blankRecord le ∙ getD-append-seam a r (b ++ z) blankRecord
 
       inside : length w < length y
       inside = omega (arith, le, length-append a (r ∷ (b ++ z)))
@@ -244,7 +242,7 @@ module _ (task : Task) where
 
   -- ---- the whole run
   -- what `apply` answers and leaves, as one value
-  abbrev meansOf : End → Outcome
+  abbrev meansOf : End → RegisterOutcome
   meansOf e = record { number = finishOf task (e .pass) .number; used = finishOf task (e .pass) .used; slice = e .list }
 
   fin-refused : (p : Pass) (l : List Record) → eqb (p .refused) 0 ≡ false → meansOf (ended p l) ≡ refusal (p .refused) (p .used) l
@@ -278,9 +276,9 @@ module _ (task : Task) where
         ap (λ (n : ℕ). meansOf (endOf task n 0 p ys)) (sym u-long) ∙ ap (λ (l : List Record). meansOf (endOf task (length u) 0 p l)) (sym whole) ∙ ap meansOf (removed [] u z [] p h c (omega arith))
         ∙ ap (λ (l : List Record). meansOf (closed p w (cond (hasStudent k u) true (p .found)) l)) whole
         ∙ byTest (hasStudent k u)
-        (λ s. fin-found (went p (cond (hasStudent k u) true (p .found)) (length w)) (over w ys) in-order (if-true (hasStudent k u) true (p .found) s)
+        (λ s. fin-found (passWith p (cond (hasStudent k u) true (p .found)) (length w)) (over w ys) in-order (if-true (hasStudent k u) true (p .found) s)
         ∙ sym (if-false (eqb (length w) used) (refusal 27 used ys) (accepts w ys) (ne-eqb (length w) used (λ e. omega (arith, e, u-long, any-less k u s)))))
-        (λ s. fin-not (went p (cond (hasStudent k u) true (p .found)) (length w)) (over w ys) in-order (if-false (hasStudent k u) true (p .found) s ∙ not-yet)
+        (λ s. fin-not (passWith p (cond (hasStudent k u) true (p .found)) (length w)) (over w ys) in-order (if-false (hasStudent k u) true (p .found) s ∙ not-yet)
         ∙ ap (λ (b : Bool). refusal (cond b 27 26) (p .used) (over w ys)) h ∙ ap (λ (n : ℕ). refusal 27 n (over w ys)) p-used
         ∙ ap (λ (l : List Record). refusal 27 used l) (ap (λ (v : List Record). over v ys) (none-same k u s) ∙ ap (λ (n : ℕ). u ++ drop n ys) u-long ∙ whole)
         ∙ sym (if-true (eqb (length w) used) (refusal 27 used ys) (accepts w ys) (eq-eqb (length w) used (ap length (none-same k u s) ∙ u-long))))
@@ -296,7 +294,7 @@ module _ (task : Task) where
     lays-more y z′ e h c =
         ap (λ (n : ℕ). meansOf (endOf task n 0 p ys)) more ∙ ap (λ (l : List Record). meansOf (endOf task (suc (length u)) 0 p l)) (sym split)
         ∙ ap meansOf (laid-more [] u y z′ p h not-yet (p-used ∙ sym u-long) (c ∙ sym p-used))
-        ∙ fin-found (went p true (length w)) (w ++ drop (length w) (u ++ y ∷ z′)) in-order refl
+        ∙ fin-found (passWith p true (length w)) (w ++ drop (length w) (u ++ y ∷ z′)) in-order refl
         ∙ ap (λ (l : List Record). accepts w l) split
         ∙ sym (if-false (ltb (length ys) (length w)) (refusal 26 used ys) (accepts w ys) (le-ltb (length ys) (length w) small))
       where
@@ -319,10 +317,10 @@ module _ (task : Task) where
         ap (λ (n : ℕ). meansOf (endOf task n 0 p ys)) (sym u-long) ∙ ap (λ (l : List Record). meansOf (endOf task (length u) 0 p l)) (sym split)
         ∙ ap meansOf (laid-full [] u p h not-yet (p-used ∙ sym u-long) (c ∙ sym p-used))
         ∙ byTest (hasThree (task .row) u)
-        (λ s. ap meansOf (if-true (hasThree (task .row) u) (ended (went p true (length w)) w) (ended p u) s) ∙ fin-found (went p true (length w)) w in-order refl
+        (λ s. ap meansOf (if-true (hasThree (task .row) u) (ended (passWith p true (length w)) w) (ended p u) s) ∙ fin-found (passWith p true (length w)) w in-order refl
         ∙ ap (λ (l : List Record). refusal 0 (length w) l) (sym (append-nil w) ∙ ap (λ (l : List Record). w ++ l) (sym (nothing-left s)))
         ∙ sym (if-false (ltb (length ys) (length w)) (refusal 26 used ys) (accepts w ys) (le-ltb (length ys) (length w) (omega (arith, as-long s, ap length split)))))
-        (λ s. ap meansOf (if-false (hasThree (task .row) u) (ended (went p true (length w)) w) (ended p u) s) ∙ fin-not p u in-order not-yet
+        (λ s. ap meansOf (if-false (hasThree (task .row) u) (ended (passWith p true (length w)) w) (ended p u) s) ∙ fin-not p u in-order not-yet
         ∙ ap (λ (b : Bool). refusal (cond b 27 26) (p .used) u) h ∙ ap (λ (n : ℕ). refusal 26 n u) p-used ∙ ap (λ (l : List Record). refusal 26 used l) split
         ∙ sym (if-true (ltb (length ys) (length w)) (refusal 26 used ys) (accepts w ys) (lt-ltb (length ys) (length w) (omega (arith, ap length split, withRecord-length (task .row) u ∙ if-false (hasThree (task .row) u) (length u) (suc (length u)) s)))))
       where
@@ -351,7 +349,7 @@ module _ (task : Task) where
       ∙ sym (if-false (ltb (length ys) used) (refusal 25 used ys) _ e ∙ if-true (eqb (task .refused) 0) _ (refusal (task .refused) used ys) e₁ ∙ if-true (task .remove) (withdraw ys used (task .row .student)) (handIn ys used (task .row)) e₂))
       (λ e₂. byTest (ltb used (length ys))
       (λ e₃. from-start (if-false (ltb (length ys) used) 0 _ e ∙ if-true (eqb (task .refused) 0) _ 0 e₁ ∙ if-false (task .remove) used _ e₂ ∙ if-true (ltb used (length ys)) (used + 1) used e₃)
-      ∙ lays-more ys used start e₁ refl refl (ltb-false (length ys) used e) (getD ys used blank) (drop (suc used) ys) (drop-cons ys used blank (ltb-true used (length ys) e₃)) e₂ (if-false (task .remove) 0 used e₂)
+      ∙ lays-more ys used start e₁ refl refl (ltb-false (length ys) used e) (getD ys used blankRecord) (drop (suc used) ys) (drop-cons ys used blankRecord (ltb-true used (length ys) e₃)) e₂ (if-false (task .remove) 0 used e₂)
       ∙ sym (if-false (ltb (length ys) used) (refusal 25 used ys) _ e ∙ if-true (eqb (task .refused) 0) _ (refusal (task .refused) used ys) e₁ ∙ if-false (task .remove) (withdraw ys used (task .row .student)) (handIn ys used (task .row)) e₂))
       (λ e₃. from-start (if-false (ltb (length ys) used) 0 _ e ∙ if-true (eqb (task .refused) 0) _ 0 e₁ ∙ if-false (task .remove) used _ e₂ ∙ if-false (ltb used (length ys)) (used + 1) used e₃)
       ∙ lays-full ys used start e₁ refl refl (ltb-false (length ys) used e) (drop-of-length-le ys (ltb-false used (length ys) e₃)) e₂ (if-false (task .remove) 0 used e₂)
@@ -371,9 +369,9 @@ module _ (task : Task) where
   pub told : (ys : List Record) (used : ℕ) (c : Registered) (l : List Record) → c ≡ finishOf task (endOf task (turnsOf (length ys) used task) 0 (beginOf (length ys) used task) ys .pass)
       → l ≡ endOf task (turnsOf (length ys) used task) 0 (beginOf (length ys) used task) ys .list → Answers c l (outcomeOf ys used task)
   told ys used c l e₁ e₂ = record {
-    number = ap (λ (a : Registered). a .number) e₁ ∙ ap (λ (o : Outcome). o .number) (means ys used);
-    used = ap (λ (a : Registered). a .used) e₁ ∙ ap (λ (o : Outcome). o .used) (means ys used);
-    slice = e₂ ∙ ap (λ (o : Outcome). o .slice) (means ys used);
+    number = ap (λ (a : Registered). a .number) e₁ ∙ ap (λ (o : RegisterOutcome). o .number) (means ys used);
+    used = ap (λ (a : Registered). a .used) e₁ ∙ ap (λ (o : RegisterOutcome). o .used) (means ys used);
+    slice = e₂ ∙ ap (λ (o : RegisterOutcome). o .slice) (means ys used);
   }
 
   -- a turn stores at its own place or before it

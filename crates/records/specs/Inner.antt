@@ -15,15 +15,15 @@ use Rattle.records.specs.declared.Task.{Task}
 use Rattle.records.specs.declared.Pass.{Pass}
 use Rattle.records.specs.declared.Turn.{Turn}
 use Rattle.records.specs.declared.Registered.{Registered}
-use Rattle.records.specs.Records.{wayNumber, RecordOf, sameThree, withRecord, without}
+use Rattle.records.specs.Records.{wayCode, RecordOf, sameThree, withRecord, without}
 
 -- the record that is read past a list's end
-abbrev pub blank : Record
-blank = record { student = 0; target = 0; way = 0; right = 0; repeated = 0; shut = 0; loose = 0; missing = 0 }
+abbrev pub blankRecord : Record
+blankRecord = record { student = 0; target = 0; way = 0; right = 0; repeated = 0; shut = 0; loose = 0; missing = 0 }
 
 -- p with what it found, and its count
-abbrev pub went : Pass → Bool → ℕ → Pass
-went p b c = record { found = b; refused = p .refused; used = p .used; turns = p .turns; count = c }
+abbrev pub passWith : Pass → Bool → ℕ → Pass
+passWith p b c = record { found = b; refused = p .refused; used = p .used; turns = p .turns; count = c }
 
 abbrev pub turn : ℕ → Record → Pass → Turn
 turn at r p = record { at = at; row = r; pass = p }
@@ -32,22 +32,22 @@ turn at r p = record { at = at; row = r; pass = p }
 abbrev pub lesser : ℕ → ℕ → ℕ
 lesser c i = cond (ltb c i) c i
 
-abbrev pub removeOf : Task → Pass → Record → ℕ → Turn
-removeOf t p r i = cond (eqb (r .student) (t .row .student)) (turn i r (went p true (p .count))) (turn (lesser (p .count) i) r (went p (p .found) (lesser (p .count) i + 1)))
+abbrev pub withdrawalTurn : Task → Pass → Record → ℕ → Turn
+withdrawalTurn t p r i = cond (eqb (r .student) (t .row .student)) (turn i r (passWith p true (p .count))) (turn (lesser (p .count) i) r (passWith p (p .found) (lesser (p .count) i + 1)))
 
 -- does the new record n go to the place i, where r stands?
 abbrev pub takesOf : Pass → Record → Record → ℕ → Bool
 takesOf p r n i = cond (p .found) false (cond (eqb i (p .used)) true (sameThree r n))
 
 -- p behind a place that the new record takes, or not
-abbrev pub onOf : Pass → Bool → ℕ → Pass
-onOf p b i = cond b (went p true (cond (eqb i (p .used)) (i + 1) (p .count))) p
+abbrev pub passBehind : Pass → Bool → ℕ → Pass
+passBehind p b i = cond b (passWith p true (cond (eqb i (p .used)) (i + 1) (p .count))) p
 
-abbrev pub layOf : Task → Pass → Record → ℕ → Turn
-layOf t p r i = cond (p .found) (turn i r p) (cond (eqb i (p .used)) (turn i (t .row) (went p true (i + 1))) (cond (sameThree r (t .row)) (turn i (t .row) (went p true (p .count))) (turn i r p)))
+abbrev pub handInTurn : Task → Pass → Record → ℕ → Turn
+handInTurn t p r i = cond (p .found) (turn i r p) (cond (eqb i (p .used)) (turn i (t .row) (passWith p true (i + 1))) (cond (sameThree r (t .row)) (turn i (t .row) (passWith p true (p .count))) (turn i r p)))
 
 unfoldable pub stepOf : Task → Pass → Record → ℕ → Turn
-stepOf t p r i = cond (t .remove) (removeOf t p r i) (layOf t p r i)
+stepOf t p r i = cond (t .remove) (withdrawalTurn t p r i) (handInTurn t p r i)
 
 abbrev pub turnsOf : ℕ → ℕ → Task → ℕ
 turnsOf len used t = cond (ltb len used) 0 (cond (eqb (t .refused) 0) (cond (t .remove) used (cond (ltb used len) (used + 1) used)) 0)
@@ -55,11 +55,11 @@ turnsOf len used t = cond (ltb len used) 0 (cond (eqb (t .refused) 0) (cond (t .
 abbrev pub refusesOf : ℕ → ℕ → ℕ → ℕ
 refusesOf len used refused = cond (ltb len used) 25 refused
 
-abbrev pub countsOf : Bool → ℕ → ℕ
-countsOf b used = cond b 0 used
+abbrev pub firstCount : Bool → ℕ → ℕ
+firstCount b used = cond b 0 used
 
 unfoldable pub beginOf : ℕ → ℕ → Task → Pass
-beginOf len used t = record { found = false; refused = refusesOf len used (t .refused); used = used; turns = turnsOf len used t; count = countsOf (t .remove) used }
+beginOf len used t = record { found = false; refused = refusesOf len used (t .refused); used = used; turns = turnsOf len used t; count = firstCount (t .remove) used }
 
 unfoldable pub finishOf : Task → Pass → Registered
 finishOf t p = cond (eqb (p .refused) 0) (cond (p .found) (record { number = 0; used = p .count }) (record { number = cond (t .remove) 27 26; used = p .used })) (record { number = p .refused; used = p .used })
@@ -71,53 +71,53 @@ pub record End : Type 0 where
 
 abbrev pub endOf : Task → ℕ → ℕ → Pass → List Record → End
 endOf t zero i p l = record { pass = p; list = l }
-endOf t (suc k) i p l = endOf t k (i + 1) (stepOf t p (getD l i blank) i .pass) (set l (stepOf t p (getD l i blank) i .at) (stepOf t p (getD l i blank) i .row))
+endOf t (suc k) i p l = endOf t k (i + 1) (stepOf t p (getD l i blankRecord) i .pass) (set l (stepOf t p (getD l i blankRecord) i .at) (stepOf t p (getD l i blankRecord) i .row))
 
 -- what a call answers, and what it leaves in the slice
-pub record Outcome : Type 0 where
+pub record RegisterOutcome : Type 0 where
   pub number : ℕ
   pub used : ℕ
   pub slice : List Record
 
 -- nothing changes
-abbrev pub refusal : ℕ → ℕ → List Record → Outcome
+abbrev pub refusal : ℕ → ℕ → List Record → RegisterOutcome
 refusal c used ys = record { number = c; used = used; slice = ys }
 
 -- w are the used records: what lies behind them is as it was
-abbrev pub accepts : List Record → List Record → Outcome
+abbrev pub accepts : List Record → List Record → RegisterOutcome
 accepts w ys = record { number = 0; used = length w; slice = w ++ drop (length w) ys }
 
-abbrev pub handIn : List Record → ℕ → Record → Outcome
+abbrev pub handIn : List Record → ℕ → Record → RegisterOutcome
 handIn ys used n = cond (ltb (length ys) (length (withRecord n (take used ys)))) (refusal 26 used ys) (accepts (withRecord n (take used ys)) ys)
 
-abbrev pub withdraw : List Record → ℕ → ℕ → Outcome
+abbrev pub withdraw : List Record → ℕ → ℕ → RegisterOutcome
 withdraw ys used k = cond (eqb (length (without k (take used ys))) used) (refusal 27 used ys) (accepts (without k (take used ys)) ys)
 
-unfoldable pub outcomeOf : List Record → ℕ → Task → Outcome
+unfoldable pub outcomeOf : List Record → ℕ → Task → RegisterOutcome
 outcomeOf ys used t = cond (ltb (length ys) used) (refusal 25 used ys) (cond (eqb (t .refused) 0) (cond (t .remove) (withdraw ys used (t .row .student)) (handIn ys used (t .row))) (refusal (t .refused) used ys))
 
 -- what a call promises: its answer, and what it leaves in the slice
-pub record Answers (a : Registered) (l : List Record) (o : Outcome) : Type 0 where
+pub record Answers (a : Registered) (l : List Record) (o : RegisterOutcome) : Type 0 where
   pub number : a .number ≡ o .number
   pub used : a .used ≡ o .used
   pub slice : l ≡ o .slice
 
 -- a record that has the student alone
-abbrev pub rowOf : ℕ → Record
-rowOf k = record { student = k; target = 0; way = 0; right = 0; repeated = 0; shut = 0; loose = 0; missing = 0 }
+abbrev pub studentAlone : ℕ → Record
+studentAlone k = record { student = k; target = 0; way = 0; right = 0; repeated = 0; shut = 0; loose = 0; missing = 0 }
 
 -- the task of a withdrawal
 abbrev pub leaving : ℕ → Task
-leaving k = record { remove = true; refused = 0; row = rowOf k }
+leaving k = record { remove = true; refused = 0; row = studentAlone k }
 
 -- the task of a hand-in whose sets got this answer
 abbrev pub taskOf : ℕ → ℕ → Bool → MarksAnswer → Task
 taskOf student target loss (marks.Marked m) = record {
   remove = false;
   refused = 0;
-  row = record { student = student; target = target; way = wayNumber loss; right = m .right; repeated = m .repeated; shut = m .shut; loose = m .loose; missing = m .missing };
+  row = record { student = student; target = target; way = wayCode loss; right = m .right; repeated = m .repeated; shut = m .shut; loose = m .loose; missing = m .missing };
 }
-taskOf student target loss (marks.Refused q) = record { remove = false; refused = q; row = rowOf student }
+taskOf student target loss (marks.Refused q) = record { remove = false; refused = q; row = studentAlone student }
 
 -- The task of a hand-in: by what the marking refuses, or else the attempt's record.
 pub record Attempts (s : Setup) (student target : ℕ) (loss : Bool) (handed : List ℕ) (t : Task) : Type 0 where

@@ -10,16 +10,16 @@ use Rattle.bases.specs.Marks.{Counts, IsBaseOnce, Full}
 use Rattle.records.specs.declared.Record.{Record}
 
 -- A way as a number: 0 for open, 1 for lock.
-abbrev pub wayNumber : Bool → ℕ
-wayNumber false = 0
-wayNumber true = 1
+abbrev pub wayCode : Bool → ℕ
+wayCode false = 0
+wayCode true = 1
 
 -- r is the record of an attempt: its student, target and way, and the marks of the sets that were handed in. It has full marks exactly where these
 -- are the sets that demand 3 states for its target and way, each one time, and no other.
 pub record RecordOf (s : Setup) (student target : ℕ) (loss : Bool) (handed : List ℕ) (r : Record) : Type 0 where
   pub isStudent : r .student ≡ student
   pub isTarget : r .target ≡ target
-  pub isWay : r .way ≡ wayNumber loss
+  pub isWay : r .way ≡ wayCode loss
   pub counts : Counts loss s (s .graph) target handed (r .right) (r .repeated) (r .shut) (r .loose) (r .missing)
   pub full : Iff (Full (r .repeated) (r .shut) (r .loose) (r .missing)) (IsBaseOnce loss s (s .graph) target handed)
 

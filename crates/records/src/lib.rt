@@ -4,8 +4,8 @@ ghost use mathlib.Core.Path.{_≡_};
 ghost use mathlib.Core.Bool.{cond};
 ghost use Prim.Native.Nat.{_<_, _≤_, _+_, _^_};
 ghost use Rattle.answers.specs.Answers.{marksNumber, marksValues, MarksCall};
-ghost use Rattle.records.specs.Records.{wayNumber, sameThree};
-ghost use Rattle.records.specs.Inner.{lesser, removeOf, takesOf, onOf, layOf, stepOf, turnsOf, refusesOf, countsOf, beginOf, finishOf, rowOf, leaving, taskOf, Attempts};
+ghost use Rattle.records.specs.Records.{wayCode, sameThree};
+ghost use Rattle.records.specs.Inner.{lesser, withdrawalTurn, takesOf, passBehind, handInTurn, stepOf, turnsOf, refusesOf, firstCount, beginOf, finishOf, studentAlone, leaving, taskOf, Attempts};
 use answers::MarksAnswer;
 use setup::Setup;
 
@@ -68,8 +68,8 @@ fn same(r: Record, n: Record) -> bool
     false
 }
 
-// The lesser of the two. A pass's count is never above its place, so that this is the count: it is asked
-// for so that the place where a record is stored is known to lie within the slice, whatever the count.
+// The count c, which is never above the place i. Taking the lesser of the two shows the prover that
+// the record is stored within the slice.
 fn least(c: usize, i: usize) -> usize
     ensures { λ n. ⌜ (n ≡ lesser c i) × (n ≤ i) ⌝ }
 {
@@ -79,11 +79,11 @@ fn least(c: usize, i: usize) -> usize
     i
 }
 
-// A turn of a withdrawal: a record of the student stays where it is until one that moves up is stored
-// over it, if any is; another one moves up to the first free place.
+// A turn of a withdrawal: a record of the student stays where it is until one that moves up is
+// stored over it, if any is; a record of another student moves up to the first free place.
 fn remove(t: Task, p: Pass, r: Record, i: usize) -> Turn
     requires { ⌜ i + 1 < 2 ^ 64 ⌝ }
-    ensures { λ d. ⌜ d ≡ removeOf t p r i ⌝ }
+    ensures { λ d. ⌜ d ≡ withdrawalTurn t p r i ⌝ }
 {
     let n = t.row;
     let mut next = p;
@@ -104,7 +104,7 @@ fn remove(t: Task, p: Pass, r: Record, i: usize) -> Turn
     }
 }
 
-// One of two numbers.
+// `new` where `take` is true, else `old`.
 fn pick(take: bool, new: u64, old: u64) -> u64
     ensures { λ n. ⌜ n ≡ cond take new old ⌝ }
 {
@@ -139,8 +139,8 @@ fn choose(take: bool, n: Record, r: Record) -> Record
     }
 }
 
-// Does the new record n go to the place i, where r stands? To the first with the same three, and where
-// there is none, to the place behind the used ones.
+// Does the new record n go to the place i, where r stands? It goes to the first record with the
+// same student, target and way or, where there is none, to the place behind the used ones.
 fn takes(p: Pass, r: Record, n: Record, i: usize) -> bool
     ensures { λ b. ⌜ b ≡ takesOf p r n i ⌝ }
 {
@@ -156,7 +156,7 @@ fn takes(p: Pass, r: Record, n: Record, i: usize) -> bool
 // How a hand-in's pass goes on from a place that the new record takes, or does not take.
 fn pass_on(p: Pass, take: bool, i: usize) -> Pass
     requires { ⌜ i + 1 < 2 ^ 64 ⌝ }
-    ensures { λ q. ⌜ q ≡ onOf p take i ⌝ }
+    ensures { λ q. ⌜ q ≡ passBehind p take i ⌝ }
 {
     let mut next = p;
     if take {
@@ -170,11 +170,11 @@ fn pass_on(p: Pass, take: bool, i: usize) -> Pass
     p
 }
 
-// A turn of a hand-in: the first record with the same three gets the new one; where there is none,
-// the place behind the used ones does.
+// A turn of a hand-in: the new record takes the place of the first one with the same student,
+// target and way or, where there is none, the place behind the used ones.
 fn lay(t: Task, p: Pass, r: Record, i: usize) -> Turn
     requires { ⌜ i + 1 < 2 ^ 64 ⌝ }
-    ensures { λ d. ⌜ d ≡ layOf t p r i ⌝ }
+    ensures { λ d. ⌜ d ≡ handInTurn t p r i ⌝ }
 {
     let n = t.row;
     let take = takes(p, r, n, i);
@@ -230,7 +230,7 @@ fn refuses(len: usize, used: usize, refused: u64) -> u64
 
 // A withdrawal counts the records that stay, from 0 on.
 fn counts(remove: bool, used: usize) -> usize
-    ensures { λ n. ⌜ n ≡ countsOf remove used ⌝ }
+    ensures { λ n. ⌜ n ≡ firstCount remove used ⌝ }
 {
     if remove {
         return 0;
@@ -285,7 +285,7 @@ pub fn finish(t: Task, p: Pass) -> Registered
 
 // A record that has the student alone, for a task that lays none down.
 fn row_of(student: u64) -> Record
-    ensures { λ r. ⌜ r ≡ rowOf student ⌝ }
+    ensures { λ r. ⌜ r ≡ studentAlone student ⌝ }
 {
     Record {
         student: student,
@@ -322,7 +322,7 @@ fn mark(s: Setup, target: usize, loss: bool, handed: &[u64]) -> MarksAnswer
 }
 
 fn way_number(loss: bool) -> u64
-    ensures { λ n. ⌜ n ≡ wayNumber loss ⌝ }
+    ensures { λ n. ⌜ n ≡ wayCode loss ⌝ }
 {
     if loss {
         return 1;

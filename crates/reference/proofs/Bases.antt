@@ -7,7 +7,7 @@ use native.Mathlib.Nat.{lt-of-lt-of-le}
 use lib.Pow.{pow-mono}
 use Rattle.vertex_set.specs.Set.{Member, Within, ProperlyWithin, Decides, Iff}
 use Rattle.vertex_set.specs.Order.{Listed, Before}
-use Rattle.vertex_set.proofs.Decisions.{decide-iff}
+use Rattle.vertex_set.proofs.Decisions.{decide-iff, decide-not, decide-and}
 use Rattle.vertex_set.proofs.Subsets.{proper-lacks, within-removed, removed-proper, minimal-below}
 use Rattle.vertex_set.proofs.Sorted.{sorted-ordered}
 use Rattle.setup.specs.declared.Graph.{Graph}
@@ -22,8 +22,8 @@ use Rattle.reference.specs.Tests.{some, isMember}
 use Rattle.reference.specs.Closures.{derivesOf}
 use Rattle.reference.specs.Bases.{setsOf, targetSetsOf, isMinimal, baseOf}
 use Rattle.reference.specs.Graphs.{GraphOf}
-use Rattle.reference.proofs.Tests.{by-decision, decide-not, decide-and, SomeBelow, decide-some, decide-member, listed-filtered, sorted-filtered}
-use Rattle.reference.proofs.Graphs.{chosen-below}
+use Rattle.reference.proofs.Tests.{by-decision, SomeBelow, decide-some, decide-member, listed-filtered, sorted-filtered}
+use Rattle.reference.proofs.Graphs.{chosen-below, own-graph}
 use Rattle.reference.proofs.Closures.{decide-derives}
 use Rattle.reference.proofs.Sets.{below-pow, listed-sets, sorted-sets}
 
@@ -94,3 +94,7 @@ module _ (loss : Bool) (s : Setup) (g : Graph) (target : ℕ) (wf : WellFormed s
       let r = minimal-below (Derives loss g target) (λ y. by-decision _ (decide-derives loss s g wf h target y) (λ e d. inl d) (λ e n. inr n))
       x (chosen-fits x (t .chosen)) (t .derives) in
       (r .0, r .1, record { is = record { chosen = λ v m. t .chosen v (r .1 .each v m); derives = r .2 }; minimal = r .3 })
+
+-- that of the setup's own graph
+pub own-base : (loss : Bool) (s : Setup) (target : ℕ) → WellFormed s → Base loss s (s .graph) target (baseOf loss s (s .graph) target)
+own-base loss s target w = base-of loss s (s .graph) target w (own-graph s w)

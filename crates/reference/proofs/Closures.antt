@@ -10,7 +10,7 @@ use lib.ListN.{length}
 use borrow.Author.Tests.{eqb-true, eqb-false}
 use Rattle.vertex_set.specs.Set.{Member, Decides, Iff, Inserted, countOutside}
 use Rattle.vertex_set.proofs.Cases.{byTest, less-or, same-or}
-use Rattle.vertex_set.proofs.Decisions.{decide-iff, decide-eqb}
+use Rattle.vertex_set.proofs.Decisions.{decide-iff, decide-eqb, decide-not, decide-and, decide-or}
 use Rattle.setup.specs.declared.Rows.{Rows}
 use Rattle.setup.specs.declared.Graph.{Graph}
 use Rattle.setup.specs.declared.Setup.{Setup}
@@ -30,7 +30,7 @@ use Rattle.bases.specs.Base.{Derives}
 use Rattle.reference.specs.Tests.{every}
 use Rattle.reference.specs.Closures.{isComplete, isBroken, colourOf, isAdded, passOf, passesOf, countOf, closureOf, passCountOf, derivesOf}
 use Rattle.reference.specs.Graphs.{GraphOf}
-use Rattle.reference.proofs.Tests.{by-decision, decide-not, decide-and, decide-or, lowest-of, decide-some, decide-every, decide-member, decide-within, decide-meeting, inserted-with}
+use Rattle.reference.proofs.Tests.{by-decision, lowest-of, decide-some, decide-every, decide-member, decide-within, decide-meeting, inserted-with}
 use Rattle.reference.proofs.Graphs.{few-colours, added-below}
 use Rattle.vertex_set.proofs.Outside.{outside-most, outside-falls, outside-none}
 

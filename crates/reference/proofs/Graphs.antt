@@ -12,8 +12,9 @@ use Rattle.vertex_set.proofs.Sets.{some-member}
 use Rattle.setup.specs.declared.Vertex.{Vertex}
 use Rattle.setup.specs.declared.Graph.{Graph}
 use Rattle.setup.specs.declared.Setup.{Setup}
-use Rattle.setup.specs.Setup.{rowsAt, row, given, valueOf, vertexAt, unusedVertex, Chosen, WithoutRecovery}
+use Rattle.setup.specs.Setup.{rowsAt, row, given, valueOf, unusedVertex, Chosen, WithoutRecovery}
 use Rattle.formed.specs.WellFormed.{WellFormed}
+use Rattle.formed.proofs.Facts.{not-in-use}
 use Rattle.derivations.specs.Derivation.{Vertices, Derivation}
 use Rattle.derivations.specs.Both.{ruleOf}
 use Rattle.derivations.specs.Inner.Admits.{Admits}
@@ -32,11 +33,8 @@ graph-without s g w h = record { shaped = h .shaped; ends = λ f v c m. w .ends 
 
 -- a chosen vertex is one of the setup
 pub chosen-below : (loss : Bool) (s : Setup) → WellFormed s → (v : ℕ) → Chosen loss s v → v < s .count
-chosen-below loss s w v c = ⊎-elim (λ l. l) (λ l. absurd (none loss (subst (λ (x : Vertex). given (valueOf loss x) ≡ 1) (unused l) c))) (less-or v (s .count))
+chosen-below loss s w v c = ⊎-elim (λ l. l) (λ l. absurd (none loss (subst (λ (x : Vertex). given (valueOf loss x) ≡ 1) (not-in-use s w v l) c))) (less-or v (s .count))
   where
-    unused : s .count ≤ v → vertexAt s v ≡ unusedVertex
-    unused l = ⊎-elim (λ k. w .unused v k l) (λ k. let p = w .shaped .places in List·getD-eq-default (s .vertices) unusedVertex (omega arith)) (less-or v 64)
-
     none : (b : Bool) → given (valueOf b unusedVertex) ≡ 1 → ⊥
     none false e = omega arith
     none true e = omega arith

@@ -16,7 +16,8 @@ use Rattle.setup.specs.declared.Setup.{Setup}
 use Rattle.formed.specs.WellFormed.{WellFormed}
 use Rattle.bases.proofs.Formed.{points-range}
 use Rattle.bases.proofs.Scores.{score-base}
-use Rattle.bases.specs.Score.{pointsAt, sumOf, never, Score, ScoreOver}
+use Rattle.scores.specs.Never.{never}
+use Rattle.bases.specs.Score.{pointsAt, sumOf, Score, ScoreOver}
 use Rattle.reference.specs.Bases.{baseOf, leastSum, scoreOf}
 use Rattle.reference.specs.Graphs.{GraphOf}
 use Rattle.reference.proofs.Bases.{base-of, minimal-within}

@@ -14,7 +14,7 @@ use Rattle.vertex_set.specs.Set.{Member, Within, Iff, Decides}
 use Rattle.vertex_set.specs.Order.{Listed, Before}
 use Rattle.vertex_set.proofs.Cases.{byTest, less-or, same-or, false-true}
 use Rattle.vertex_set.proofs.Decisions.{decide-eqb}
-use Rattle.vertex_set.proofs.Sets.{none-in-zero, within-le, below-power}
+use Rattle.vertex_set.proofs.Sets.{none-in-zero, within-le, below-power, ones-zero}
 use Rattle.vertex_set.proofs.Places.{in-removed, removed-within}
 use Rattle.vertex_set.proofs.Sorted.{listed-append, listed-map, listed-of-map, Sorted, sorted-append, sorted-map, sorted-change}
 use Rattle.setup.specs.declared.Setup.{Setup}
@@ -27,10 +27,6 @@ use Rattle.reference.proofs.Graphs.{chosen-below}
 
 no-ones : (x : ℕ) → ones x ≡ 0 → x ≡ 0
 no-ones = bin-ind (λ (x : ℕ). ones x ≡ 0 → x ≡ 0) (λ e. refl) (λ x ih e. let s = ones-step x in let h = ih (omega arith) in omega arith)
-
-zero-ones : ones 0 ≡ 0
-unfolding ones
-zero-ones = refl
 
 one-one : ones 1 ≡ 1
 unfolding ones
@@ -66,7 +62,7 @@ module _ (test : ℕ → Bool) where
   no-vertices n x e =
       record {
         below = rw e (pow-pos n);
-        size = ap ones e ∙ zero-ones;
+        size = ap ones e ∙ ones-zero;
         each = λ v m. absurd (none-in-zero v (subst (λ (y : ℕ). Member y v) e m));
       }
 
@@ -123,7 +119,7 @@ module _ (test : ℕ → Bool) where
         from = λ h.
             let b = h .below in
             let e : x ≡ 0 = omega arith in
-            let z = ap ones e ∙ zero-ones in
+            let z = ap ones e ∙ ones-zero in
             let q = h .size in
             absurd (omega arith);
       }

@@ -1,7 +1,7 @@
 -- The tests decide what they are named for.
 -- Assumes nothing.
 use mathlib.Core.Path.{_≡_, refl, sym, subst}
-use mathlib.Core.Bool.{Bool, true, false, not, _&&_, _||_}
+use mathlib.Core.Bool.{Bool, true, false, not}
 use mathlib.Core.List.{List, [], _∷_}
 use mathlib.Core.Logic.{_⊎_, inl, inr, ⊎-elim}
 use Prim.Native.Nat.{ℕ, zero, suc, _^_, _≤_, _<_}
@@ -13,7 +13,7 @@ use borrow.Author.Tests.{ltb-true, ltb-false, eqb-true, eqb-false}
 use Rattle.vertex_set.specs.Set.{Member, Within, Meets, Decides, Iff, Inserted}
 use Rattle.vertex_set.specs.Order.{Listed}
 use Rattle.vertex_set.proofs.Cases.{byTest}
-use Rattle.vertex_set.proofs.Decisions.{decide-yes, decide-no, decide-iff, decide-eqb}
+use Rattle.vertex_set.proofs.Decisions.{decide-yes, decide-no, decide-iff, decide-eqb, decide-not}
 use Rattle.vertex_set.proofs.Sets.{in-and, in-or, in-one, same-set, member-decided, meets-decided}
 use Rattle.vertex_set.proofs.Sorted.{only, listed-only, Sorted, sorted-only}
 use Rattle.reference.specs.Tests.{lowest, some, every, filtered, isListed, isMember, isWithin, isMeeting, withVertex}
@@ -22,20 +22,6 @@ use Rattle.reference.specs.Tests.{lowest, some, every, filtered, isListe
 
 pub by-decision {ℓ} : {P : Type 0} {C : Type ℓ} (r : Bool) → Decides P r → (r ≡ true → P → C) → (r ≡ false → (P → ⊥) → C) → C
 by-decision r d f g = byTest r (λ e. f e (d .yes e)) (λ e. g e (d .no e))
-
-pub decide-not : {P : Type 0} (r : Bool) → Decides P r → Decides (P → ⊥) (not r)
-decide-not true d = decide-no (λ n. n (d .yes refl))
-decide-not false d = decide-yes (d .no refl)
-
-pub decide-and : {P Q : Type 0} (a b : Bool) → Decides P a → Decides Q b → Decides (P × Q) (a && b)
-decide-and true true d e = decide-yes (d .yes refl, e .yes refl)
-decide-and true false d e = decide-no (λ p. e .no refl (p .1))
-decide-and false b d e = decide-no (λ p. d .no refl (p .0))
-
-pub decide-or : {P Q : Type 0} (a b : Bool) → Decides P a → Decides Q b → Decides (P ⊎ Q) (a || b)
-decide-or true b d e = decide-yes (inl (d .yes refl))
-decide-or false true d e = decide-yes (inr (e .yes refl))
-decide-or false false d e = decide-no (⊎-elim (d .no refl) (e .no refl))
 
 -- ---- the lowest number that passes a test
 

@@ -13,7 +13,8 @@ use Rattle.setup.specs.declared.Graph.{Graph}
 use Rattle.setup.specs.declared.Setup.{Setup}
 use Rattle.bases.specs.Base.{MinimalSet, Base}
 use Rattle.bases.proofs.Bridge.{base-exactly}
-use Rattle.bases.specs.Score.{never, Score}
+use Rattle.scores.specs.Never.{never}
+use Rattle.bases.specs.Score.{Score}
 use Rattle.bases.specs.Marks.{Mark, Repeated, Shut, Loose, Right, CountsAs, MarkedAs, tally, Counts}
 
 module _ (loss : Bool) (s : Setup) (g : Graph) (target : ℕ) where

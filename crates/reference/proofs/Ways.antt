@@ -24,7 +24,8 @@ use Rattle.ways.proofs.Ways as ways
 use Rattle.reference.specs.Tests.{isMember, withVertex}
 use Rattle.reference.specs.Closures.{colourOf, isAdded, derivesOf, nextVertex, stepsOf, wayOf}
 use Rattle.reference.specs.Graphs.{GraphOf}
-use Rattle.reference.proofs.Tests.{by-decision, decide-not, decide-and, LowestOf, lowest-of, decide-member, in-with, inserted-with}
+use Rattle.vertex_set.proofs.Decisions.{decide-not, decide-and}
+use Rattle.reference.proofs.Tests.{by-decision, LowestOf, lowest-of, decide-member, in-with, inserted-with}
 use Rattle.reference.proofs.Graphs.{few-colours, added-below, derived-below}
 use Rattle.vertex_set.proofs.Outside.{outside-most, outside-less, outside-none}
 use Rattle.reference.proofs.Closures.{lowest-colour, decide-added, decide-derives}

@@ -7,7 +7,8 @@ use lib.ListN.{length}
 use Rattle.setup.specs.declared.Graph.{Graph}
 use Rattle.setup.specs.declared.Setup.{Setup}
 use Rattle.setup.specs.Setup.{given, valueOf, vertexAt}
-use Rattle.bases.specs.Score.{sumOf, never}
+use Rattle.scores.specs.Never.{never}
+use Rattle.bases.specs.Score.{sumOf}
 use Rattle.bases.specs.Marks.{Mark, Repeated, Shut, Loose, Right, tally}
 use Rattle.reference.specs.Tests.{some, filtered, isListed, isMember}
 use Rattle.reference.specs.Closures.{derivesOf}
@@ -57,7 +58,7 @@ unfoldable pub leastSum : Bool → Setup → List ℕ → ℕ
 leastSum loss s [] = never
 leastSum loss s (x ∷ l) = min (sumOf loss s x) (leastSum loss s l)
 
--- `Score loss s g target`
+-- `Score loss s g target`, computed: the least sum over the base.
 unfoldable pub scoreOf : Bool → Setup → Graph → ℕ → ℕ
 scoreOf loss s g target = leastSum loss s (baseOf loss s g target)
 
@@ -67,6 +68,7 @@ scoreOf loss s g target = leastSum loss s (baseOf loss s g target)
 unfoldable pub markOf : List ℕ → List ℕ → List ℕ → ℕ → Mark
 markOf sets base earlier x = cond (isListed earlier x) Repeated (cond (isListed sets x) (cond (isListed base x) Right Loose) Shut)
 
+-- The marks of handed-in sets, one by one, each after the sets `earlier` and those before it.
 unfoldable pub marksFrom : List ℕ → List ℕ → List ℕ → List ℕ → List Mark
 marksFrom sets base earlier [] = []
 marksFrom sets base earlier (x ∷ handed) = markOf sets base earlier x ∷ marksFrom sets base (x ∷ earlier) handed
@@ -75,7 +77,7 @@ marksFrom sets base earlier (x ∷ handed) = markOf sets base earlier x ∷ mark
 unfoldable pub countsOf : List ℕ → List Mark → List ℕ
 countsOf base marks = tally Right marks ∷ tally Repeated marks ∷ tally Shut marks ∷ tally Loose marks ∷ (length base - tally Right marks) ∷ []
 
--- `Counts loss s g target handed`
+-- `Counts loss s g target handed`, computed: the five counts.
 unfoldable pub marksOf : Bool → Setup → Graph → ℕ → List ℕ → List ℕ
 marksOf loss s g target handed =
     let sets = targetSetsOf loss s g target in

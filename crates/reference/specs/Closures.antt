@@ -42,7 +42,7 @@ passesOf loss count g (suc k) held =
     let later = passesOf loss count g k now in
     cond (eqb now held) held later
 
--- How many these are. The one that adds nothing is counted as well.
+-- How many passes are made. The one that adds nothing is counted as well.
 unfoldable pub countOf : Bool → ℕ → Graph → ℕ → ℕ → ℕ
 countOf loss count g zero held = 1
 countOf loss count g (suc k) held =

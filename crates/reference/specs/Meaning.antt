@@ -18,6 +18,7 @@ use Rattle.bases.specs.Marks.{Counts}
 use Rattle.reference.specs.Closures.{closureOf, passCountOf, derivesOf, wayOf}
 use Rattle.reference.specs.Bases.{baseOf, scoreOf, marksOf}
 
+-- The executable definitions are the declared ones, on the setup s and the graph g.
 pub record Meaning (s : Setup) (g : Graph) : Type 0 where
   -- of any set, vertices of the setup or not
   pub closure : (loss : Bool) (set : ℕ) → Closure (ruleOf loss g) set (closureOf loss (s .count) g set)

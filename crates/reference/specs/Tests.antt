@@ -10,10 +10,11 @@ unfoldable pub lowest : (ℕ → Bool) → ℕ → ℕ
 lowest test zero = 0
 lowest test (suc n) = let later = suc (lowest (λ i. test (suc i)) n) in cond (test 0) 0 later
 
--- Does some number below n pass the test, and does each?
+-- Does some number below n pass the test?
 unfoldable pub some : (ℕ → Bool) → ℕ → Bool
 some test n = ltb (lowest test n) n
 
+-- Does each number below n pass the test?
 unfoldable pub every : (ℕ → Bool) → ℕ → Bool
 every test n = not (some (λ i. not (test i)) n)
 
@@ -31,10 +32,11 @@ isListed (y ∷ l) x = let later = isListed l x in cond (eqb x y) true later
 unfoldable pub isMember : ℕ → ℕ → Bool
 isMember s v = eqb (s / 2 ^ v % 2) 1
 
--- Is each vertex of a one of b? Have the two a vertex in common?
+-- Is each vertex of the set a one of the set b?
 unfoldable pub isWithin : ℕ → ℕ → Bool
 isWithin a b = eqb (bitAnd a b) a
 
+-- Have the sets a and b a vertex in common?
 unfoldable pub isMeeting : ℕ → ℕ → Bool
 isMeeting a b = not (eqb (bitAnd a b) 0)
 

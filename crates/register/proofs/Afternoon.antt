@@ -11,7 +11,7 @@ use Rattle.records.specs.declared.Record.{Record}
 use Rattle.records.specs.declared.Registered.{Registered}
 use Rattle.records.specs.Records.{withRecord, without}
 use Rattle.register.specs.Calls.{CallRefused, RegisterLeft}
-use Rattle.register.specs.Afternoon.{Call, HandIn, Withdraw, Made, MeetsCall, sliceAfter, usedAfter, Stands, RegisterHolds, RegisterLaw}
+use Rattle.register.specs.Afternoon.{RegisterCall, HandIn, Withdraw, Made, MeetsCall, sliceAfter, usedAfter, Stands, RegisterHolds, RegisterLaw}
 use Rattle.register.proofs.Outcomes.{Turned, Taken, left-number, refused-number, hand-in-outcome, withdraw-outcome, hand-in-no, withdraw-no}
 use Rattle.register.proofs.Times.{stands-before, stands-refused, stands-withdrawn, stands-handed}
 use Rattle.register.proofs.Holds.{holds-same, holds-less, holds-more}
@@ -31,7 +31,7 @@ module _ (s : Setup) (used : ℕ) (entry : List Record) (earlier : List Made) (h
       subst (λ (rs : List Record). RegisterHolds s (Stands (m ∷ earlier)) rs) (used-kept (t .number) used (m .answer) entry (m .exit) (t .refused))
       (holds-same s (Stands earlier) (Stands (m ∷ earlier)) (stands-refused m earlier unmet) (take used entry) holds)
 
-  after : (call : Call) (a : Registered) (exit : List Record) → MeetsCall s call used entry a exit
+  after : (call : RegisterCall) (a : Registered) (exit : List Record) → MeetsCall s call used entry a exit
       → RegisterHolds s (Stands (record { call = call; answer = a; exit = exit } ∷ earlier)) (take (a .used) exit)
   after (HandIn x) a exit c =
       ⊎-elim taken (λ t. refused (record { call = HandIn x; answer = a; exit = exit }) t (λ z. hand-in-no (t .number) (t .listed) (sym (refused-number (t .refused)) ∙ z)))

@@ -15,26 +15,26 @@ use Rattle.records.specs.declared.Record.{Record}
 use Rattle.records.specs.declared.Registered.{Registered}
 use Rattle.records.specs.declared.Task.{Task}
 use Rattle.records.specs.Records.{hasThree, withRecord, without}
-use Rattle.records.specs.Inner.{Outcome, refusal, accepts, handIn, withdraw, outcomeOf, Answers, leaving, Attempts}
+use Rattle.records.specs.Inner.{RegisterOutcome, refusal, accepts, handIn, withdraw, outcomeOf, Answers, leaving, Attempts}
 use Rattle.records.proofs.Laws.{if-true, if-false, withRecord-length, any-less, none-same}
 use Rattle.register.specs.Calls.{CallRefused, RegisterLeft, TakesRecord, HandInCall, WithdrawCall}
 
-module _ (used : ℕ) (a : Registered) (ys zs : List Record) {o : Outcome} (h : Answers a zs o) where
+module _ (used : ℕ) (a : Registered) (ys zs : List Record) {o : RegisterOutcome} (h : Answers a zs o) where
   answered : (n m : ℕ) → a .number ≡ n → a .used ≡ m → a ≡ record { number = n; used = m }
   answered n m e f = ap (λ (x : ℕ). record { number = x; used = a .used }) e ∙ ap (λ (x : ℕ). record { number = n; used = x }) f
 
   refused : (q : ℕ) → o ≡ refusal q used ys → CallRefused q used a ys zs
   refused q e =
       record {
-        answer = answered q used (h .number ∙ ap (λ (x : Outcome). x .number) e) (h .used ∙ ap (λ (x : Outcome). x .used) e);
-        untouched = h .slice ∙ ap (λ (x : Outcome). x .slice) e;
+        answer = answered q used (h .number ∙ ap (λ (x : RegisterOutcome). x .number) e) (h .used ∙ ap (λ (x : RegisterOutcome). x .used) e);
+        untouched = h .slice ∙ ap (λ (x : RegisterOutcome). x .slice) e;
       }
 
   left : (w : List Record) → o ≡ accepts w ys → RegisterLeft w a ys zs
   left w e =
       record {
-        answer = answered 0 (length w) (h .number ∙ ap (λ (x : Outcome). x .number) e) (h .used ∙ ap (λ (x : Outcome). x .used) e);
-        written = h .slice ∙ ap (λ (x : Outcome). x .slice) e;
+        answer = answered 0 (length w) (h .number ∙ ap (λ (x : RegisterOutcome). x .number) e) (h .used ∙ ap (λ (x : RegisterOutcome). x .used) e);
+        written = h .slice ∙ ap (λ (x : RegisterOutcome). x .slice) e;
       }
 
 -- ---- the outcome, question by question
@@ -108,5 +108,5 @@ hands-in s used student target loss handed t a ys zs m h =
       noTarget = λ l w k. refused used a ys zs h 13 (turned ys used t l 12 (m .noTarget w k));
       answers = λ l w k.
           let x = m .answers w k in
-          (t .row, x .1, takes (t .row) used a ys zs l (subst (λ (o : Outcome). Answers a zs o) (hands ys used t l (x .0) (m .lays)) h));
+          (t .row, x .1, takes (t .row) used a ys zs l (subst (λ (o : RegisterOutcome). Answers a zs o) (hands ys used t l (x .0) (m .lays)) h));
     }

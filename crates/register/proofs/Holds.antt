@@ -9,13 +9,13 @@ use native.Mathlib.Omega.{arith}
 use lib.Dec.{eqb}
 use borrow.Author.Tests.{eqb-false}
 use Rattle.vertex_set.specs.Set.{Iff}
-use Rattle.vertex_set.specs.Order.{Listed}
+use Rattle.vertex_set.specs.Order.{Listed, Rising}
 use Rattle.vertex_set.proofs.Cases.{byTest, false-true}
 use Rattle.setup.specs.declared.Setup.{Setup}
 use Rattle.records.specs.declared.Record.{Record}
 use Rattle.records.specs.Records.{RecordOf, sameThree, hasThree, withRecord, without}
 use Rattle.records.proofs.Laws.{if-true, if-false}
-use Rattle.register.specs.Afternoon.{Attempt, SameAttempt, First, Latest, Entry, Entries, TimesRise, IsOf, Held, RegisterHolds}
+use Rattle.register.specs.Afternoon.{Attempt, SameAttempt, First, Latest, Entry, Entries, IsOf, Held, RegisterHolds}
 use Rattle.register.proofs.Three.{same-back, same-then, is-of, same-of, of-same, of-both, of-moved, held-three, held-without, held-new, held-with}
 
 module _ (s : Setup) (P Q : ℕ → Attempt → Type 0) where
@@ -65,11 +65,11 @@ module _ (s : Setup) (P Q : ℕ → Attempt → Type 0) where
     -- the times of the records that stay
     record Left (ts : List ℕ) (rs : List Record) : Type 0 where
       times : List ℕ
-      rising : TimesRise times
+      rising : Rising times
       among : (u : ℕ) → Listed times u → Listed ts u
       entries : Entries s Q times (without k rs)
 
-    left : (ts : List ℕ) (rs : List Record) → TimesRise ts → Entries s P ts rs → Left ts rs
+    left : (ts : List ℕ) (rs : List Record) → Rising ts → Entries s P ts rs → Left ts rs
     left [] [] o h = record { times = []; rising = tt; among = λ u l. l; entries = tt }
     left [] (r ∷ rs) o h = absurd h
     left (t ∷ ts) [] o h = absurd h
@@ -172,7 +172,7 @@ module _ (s : Setup) (P Q : ℕ → Attempt → Type 0) where
     entries-after t r h of (u ∷ ts) (r′ ∷ rs) l g =
         (entry-other u r′ (apart t u r r′ (l u (inl refl)) h (g .0) of) (g .0), entries-after t r h of ts rs (λ v k. l v (inr k)) (g .1))
 
-    replaced : (ts : List ℕ) (rs : List Record) → TimesRise ts → hasThree n rs ≡ true → Entries s P ts rs → Entries s Q ts (withRecord n rs)
+    replaced : (ts : List ℕ) (rs : List Record) → Rising ts → hasThree n rs ≡ true → Entries s P ts rs → Entries s Q ts (withRecord n rs)
     replaced [] [] o e h = absurd (false-true e)
     replaced [] (r ∷ rs) o e h = absurd h
     replaced (t ∷ ts) [] o e h = absurd h
@@ -220,7 +220,7 @@ module _ (s : Setup) (P Q : ℕ → Attempt → Type 0) where
     listed-snoc (t ∷ ts) u (inl e) = inl (inl e)
     listed-snoc (t ∷ ts) u (inr l) = ⊎-elim (λ k. inl (inr k)) (λ k. inr k) (listed-snoc ts u l)
 
-    rising-snoc : (ts : List ℕ) → TimesRise ts → ((u : ℕ) → Listed ts u → u < now) → TimesRise (ts ++ (now ∷ []))
+    rising-snoc : (ts : List ℕ) → Rising ts → ((u : ℕ) → Listed ts u → u < now) → Rising (ts ++ (now ∷ []))
     rising-snoc [] o l = (λ u h. absurd h, tt)
     rising-snoc (t ∷ ts) o l =
         (λ u h. ⊎-elim (o .0 u) (λ e. let k = l t (inl refl) in omega (arith, k, e)) (listed-snoc ts u h), rising-snoc ts (o .1) (λ u h. l u (inr h)))

@@ -1,23 +1,20 @@
 -- Records and attempts with the same student, target and way.
 -- Assumes nothing.
 use mathlib.Core.Path.{_≡_, refl, sym, _∙_, ap}
-use mathlib.Core.Bool.{Bool, true, false, _&&_}
+use mathlib.Core.Bool.{Bool, true, false}
 use mathlib.Core.List.{List, [], _∷_}
 use mathlib.Core.Logic.{_⊎_, inl, inr, ⊎-elim}
 use Prim.Native.Nat.{ℕ}
 use native.Mathlib.Omega.{arith}
 use lib.Dec.{eqb}
 use borrow.Author.Tests.{eq-eqb, eqb-true}
-use Rattle.vertex_set.proofs.Cases.{byTest, false-true}
+use Rattle.vertex_set.proofs.Cases.{byTest}
+use Rattle.vertex_set.proofs.Decisions.{and-parts}
 use Rattle.setup.specs.declared.Setup.{Setup}
 use Rattle.records.specs.declared.Record.{Record}
-use Rattle.records.specs.Records.{wayNumber, RecordOf, sameThree, hasThree, withRecord, without}
+use Rattle.records.specs.Records.{wayCode, RecordOf, sameThree, hasThree, withRecord, without}
 use Rattle.records.proofs.Laws.{if-true, if-false}
 use Rattle.register.specs.Afternoon.{Attempt, SameAttempt, IsOf, Held}
-
-both-true : (a b : Bool) → a && b ≡ true → (a ≡ true) × (b ≡ true)
-both-true true b e = (refl, e)
-both-true false b e = absurd (false-true e)
 
 record Three (r n : Record) : Type 0 where
   student : r .student ≡ n .student
@@ -27,15 +24,15 @@ record Three (r n : Record) : Type 0 where
 three-out : (r n : Record) → sameThree r n ≡ true → Three r n
 unfolding sameThree
 three-out r n e =
-    let a = both-true (eqb (r .student) (n .student)) _ e in
-    let b = both-true (eqb (r .target) (n .target)) _ (a .1) in
+    let a = and-parts (eqb (r .student) (n .student)) _ e in
+    let b = and-parts (eqb (r .target) (n .target)) _ (a .1) in
     record { student = eqb-true _ _ (a .0); target = eqb-true _ _ (b .0); way = eqb-true _ _ (b .1) }
 
 three-in : (r n : Record) → Three r n → sameThree r n ≡ true
 unfolding sameThree
 three-in r n h = rw (eq-eqb (r .student) (n .student) (h .student), eq-eqb (r .target) (n .target) (h .target)) (eq-eqb (r .way) (n .way) (h .way))
 
-way-once : (a b : Bool) → wayNumber a ≡ wayNumber b → a ≡ b
+way-once : (a b : Bool) → wayCode a ≡ wayCode b → a ≡ b
 way-once false false e = refl
 way-once false true e = absurd (omega (arith, e))
 way-once true false e = absurd (omega (arith, e))
@@ -64,7 +61,7 @@ of-both r x y h g =
     record { student = sym (h .student) ∙ g .student; target = sym (h .target) ∙ g .target; way = way-once (x .loss) (y .loss) (sym (h .way) ∙ g .way) }
 
 pub of-moved : (r : Record) (x y : Attempt) → IsOf r x → SameAttempt x y → IsOf r y
-of-moved r x y h g = record { student = h .student ∙ g .student; target = h .target ∙ g .target; way = h .way ∙ ap wayNumber (g .way) }
+of-moved r x y h g = record { student = h .student ∙ g .student; target = h .target ∙ g .target; way = h .way ∙ ap wayCode (g .way) }
 
 -- ---- attempts that have a record
 

@@ -5,11 +5,11 @@ use mathlib.Core.List.{List, [], _∷_}
 use mathlib.Core.Logic.{_⊎_}
 use Prim.Native.Nat.{ℕ, _≤_, _<_}
 use lib.ListN.{length, take}
-use Rattle.vertex_set.specs.Order.{Listed}
+use Rattle.vertex_set.specs.Order.{Rising}
 use Rattle.setup.specs.declared.Setup.{Setup}
 use Rattle.records.specs.declared.Record.{Record}
 use Rattle.records.specs.declared.Registered.{Registered}
-use Rattle.records.specs.Records.{wayNumber, RecordOf}
+use Rattle.records.specs.Records.{wayCode, RecordOf}
 use Rattle.register.specs.Calls.{HandInCall, WithdrawCall}
 
 -- ---- the calls, one after the other
@@ -22,26 +22,27 @@ pub record Attempt : Type 0 where
   pub handed : List ℕ
 
 -- A call: an attempt is handed in, or a student is withdrawn.
-pub data Call : Type 0 where
-  HandIn : Attempt → Call
-  Withdraw : ℕ → Call
+pub data RegisterCall : Type 0 where
+  HandIn : Attempt → RegisterCall
+  Withdraw : ℕ → RegisterCall
 
 -- A call that was made: what it answered, and the slice that it left.
 pub record Made : Type 0 where
-  pub call : Call
+  pub call : RegisterCall
   pub answer : Registered
   pub exit : List Record
 
 -- The call meets its contract, on this slice and count.
-abbrev pub MeetsCall : Setup → Call → ℕ → List Record → Registered → List Record → Type 0
+abbrev pub MeetsCall : Setup → RegisterCall → ℕ → List Record → Registered → List Record → Type 0
 MeetsCall s (HandIn x) used entry a exit = HandInCall s used (x .student) (x .target) (x .loss) (x .handed) a entry exit
 MeetsCall s (Withdraw k) used entry a exit = WithdrawCall used k a entry exit
 
--- The calls so far, the latest one first: slice and count as they came back. At the beginning no record is used, whatever stands in the slice.
+-- The slice after these calls, of which the latest stands first: as that call left it. At the beginning it is the lent one, whatever stands there.
 abbrev pub sliceAfter : List Record → List Made → List Record
 sliceAfter slice [] = slice
 sliceAfter slice (m ∷ earlier) = m .exit
 
+-- How many records are used after these calls, as the latest one answered: at the beginning none.
 abbrev pub usedAfter : List Made → ℕ
 usedAfter [] = 0
 usedAfter (m ∷ earlier) = m .answer .used
@@ -54,12 +55,12 @@ Afternoon s slice (m ∷ earlier) = MeetsCall s (m .call) (usedAfter earlier) (s
 -- ---- what was accepted, and when: the time of a call is the number of calls made before it
 
 -- The call hands in the attempt x.
-abbrev pub IsHandIn : Call → Attempt → Type 0
+abbrev pub IsHandIn : RegisterCall → Attempt → Type 0
 IsHandIn (HandIn y) x = y ≡ x
 IsHandIn (Withdraw k) x = ⊥
 
 -- The call withdraws the student k.
-abbrev pub IsWithdrawal : Call → ℕ → Type 0
+abbrev pub IsWithdrawal : RegisterCall → ℕ → Type 0
 IsWithdrawal (HandIn y) k = ⊥
 IsWithdrawal (Withdraw j) k = j ≡ k
 
@@ -106,23 +107,18 @@ pub record Entry (s : Setup) (P : ℕ → Attempt → Type 0) (t : ℕ) (r : Rec
   pub same : SameAttempt latest first
   pub isRecord : RecordOf s (latest .student) (latest .target) (latest .loss) (latest .handed) r
 
--- An entry for each time, in this order.
+-- The records are the entries of these times, in this order.
 abbrev pub Entries : Setup → (ℕ → Attempt → Type 0) → List ℕ → List Record → Type 0
 Entries s P [] [] = Unit {0}
 Entries s P [] (r ∷ rs) = ⊥
 Entries s P (t ∷ ts) [] = ⊥
 Entries s P (t ∷ ts) (r ∷ rs) = Entry s P t r × Entries s P ts rs
 
--- Each time is before all that follow it.
-abbrev pub TimesRise : List ℕ → Type 0
-TimesRise [] = Unit {0}
-TimesRise (t ∷ ts) = ((u : ℕ) → Listed ts u → t < u) × TimesRise ts
-
 -- The record has the attempt's student, target and way.
 pub record IsOf (r : Record) (x : Attempt) : Type 0 where
   pub student : r .student ≡ x .student
   pub target : r .target ≡ x .target
-  pub way : r .way ≡ wayNumber (x .loss)
+  pub way : r .way ≡ wayCode (x .loss)
 
 -- One of the records has the attempt's student, target and way.
 abbrev pub Held : List Record → Attempt → Type 0
@@ -132,7 +128,7 @@ Held (r ∷ rs) x = IsOf r x ⊎ Held rs x
 -- The records are, for each student, target and way, that of the latest attempt, in the order in which these three were first accepted.
 pub record RegisterHolds (s : Setup) (P : ℕ → Attempt → Type 0) (records : List Record) : Type 0 where
   pub times : List ℕ
-  pub rising : TimesRise times
+  pub rising : Rising times
   pub entries : Entries s P times records
   pub whole : (t : ℕ) (x : Attempt) → P t x → Held records x
 

@@ -3,11 +3,9 @@
 use report_scores::LIST_ROOM;
 use report_writer::start;
 use report_writer::steps;
+use sheet::READ_ROOM;
 use streams::Input;
 use tables::TABLE;
-
-// One byte more than a sheet may have tells that it is too long.
-const MOST: usize = sheet::MAX_BYTES + 1;
 
 // Prints the report of the sheet, in large parts, as far as the output takes them.
 fn print_report(sheet: &[u8]) {
@@ -18,7 +16,7 @@ fn print_report(sheet: &[u8]) {
     let report = start::begin(sheet, &mut opening, &mut lockout);
     let facts = report.facts;
     let mut cursor = report.cursor;
-    while steps::going(cursor) {
+    while steps::unfinished(cursor) {
         let next = steps::fill(
             facts,
             cursor,
@@ -38,7 +36,7 @@ fn print_report(sheet: &[u8]) {
 }
 
 fn main() {
-    let mut sheet = [0u8; MOST];
+    let mut sheet = [0u8; READ_ROOM];
     match streams::read_whole(0, &mut sheet) {
         Input::Read(n) => print_report(&sheet[..n]),
         Input::Failed => os::fail(b"report: cannot read standard input"),

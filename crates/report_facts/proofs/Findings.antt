@@ -11,15 +11,14 @@ use lib.ListN.{getD}
 use Rattle.vertex_set.specs.Set.{Iff, Decides}
 use Rattle.vertex_set.specs.declared.VertexSet.{VertexSet}
 use Rattle.vertex_set.proofs.Cases.{less-or, false-true}
-use Rattle.vertex_set.proofs.Decisions.{decide-ltb, decide-leb}
+use Rattle.vertex_set.proofs.Decisions.{decide-ltb, decide-leb, and-parts, and-both, yes-of}
 use Rattle.scores.specs.Inner.Lists.{securityAt, recoverabilityAt}
 use Rattle.setup.specs.declared.Vertex.{Vertex}
 use Rattle.setup.specs.declared.Graph.{Graph}
 use Rattle.setup.specs.declared.Setup.{Setup}
 use Rattle.setup.specs.Setup.{vertexAt, ChosenSet, WithoutRecovery}
 use Rattle.formed.specs.WellFormed.{WellFormed}
-use Rattle.sheet_format.proofs.Tests.{and-parts, and-both, yes-of}
-use Rattle.bases.specs.Score.{Values}
+use Rattle.bases.specs.Inner.Readers.{Values}
 use Rattle.reference.specs.Bases.{scoreOf}
 use Rattle.reference.proofs.Graphs.{own-graph, graph-without}
 use Rattle.reference.proofs.Meaning.{score-is}

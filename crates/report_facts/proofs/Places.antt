@@ -1,6 +1,6 @@
 -- The names of the items of a sheet, line by line.
 -- Assumes nothing.
-use mathlib.Core.Path.{_≡_, refl, sym, ap, _∙_, subst}
+use mathlib.Core.Path.{_≡_, sym, ap, _∙_, subst}
 use mathlib.Core.Bool.{true}
 use mathlib.Core.List.{List, [], _∷_, head-eq-of-cons-eq, tail-eq-of-cons-eq}
 use mathlib.Core.Logic.{⊎-elim}
@@ -8,28 +8,15 @@ use Prim.Native.Nat.{ℕ, suc, _+_, _-_, _≤_, _<_}
 use native.Mathlib.Nat.{not-suc-le-zero}
 use native.Mathlib.Numerals.{add-one}
 use native.Mathlib.Omega.{arith}
-use lib.Dec.{eqb}
 use lib.ListN.{length, getD, set, take, drop, length-set, length-drop, length-take}
 use lib.Seq.{drop-cons, take-take, getD-set-same, getD-set-other}
-use Rattle.vertex_set.proofs.Cases.{byTest, less-or, same-or}
-use Rattle.sheet_format.specs.Text.{grow, linesOf, fieldsOf}
+use Rattle.vertex_set.proofs.Cases.{less-or, same-or}
+use Rattle.sheet_format.specs.Text.{linesOf, fieldsOf}
 use Rattle.sheet_format.specs.Names.{hasItem, nameOf}
 use Rattle.sheet_fields.specs.Inner.Parts.{until}
-use Rattle.sheet_fields.proofs.Cutting.{until-le}
+use Rattle.sheet_fields.proofs.Cutting.{until-le, first-field}
 use Rattle.sheet_fields.proofs.Lines.{line-at, lines-over}
 use Rattle.report_rows.specs.Inner.Writing.{NamePlace}
-
--- ---- the first field of a line
-
-grown-first : (b : ℕ) (ps : List (List ℕ)) → getD (grow b ps) 0 [] ≡ b ∷ getD ps 0 []
-unfolding grow
-grown-first b [] = refl
-grown-first b (p ∷ ps) = refl
-
-first-field : (l : List ℕ) → getD (fieldsOf l) 0 [] ≡ take (until 32 l) l
-unfolding fieldsOf until
-first-field [] = refl
-first-field (b ∷ l) = byTest (eqb b 32) (λ e. rw e) (λ e. rw e (grown-first b (fieldsOf l) ∙ ap (λ (f : List ℕ). b ∷ f) (first-field l)))
 
 -- ---- the names so far
 

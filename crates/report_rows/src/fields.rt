@@ -7,7 +7,7 @@ ghost use Rattle.written.specs.Inner.{Wrote};
 ghost use Rattle.report_text.specs.Rows.{wayText, answerText, scoreText, setText};
 ghost use Rattle.sheet_format.specs.Names.{nameOf};
 ghost use Rattle.writing.specs.Inner.{ended};
-ghost use Rattle.report_rows.specs.Inner.Writing.{NamePlace, NamePlaces, plus};
+ghost use Rattle.report_rows.specs.Inner.Writing.{NamePlace, SetNamePlaces, plus};
 use scores::NEVER;
 
 const PLUS: u8 = 43;
@@ -83,7 +83,7 @@ fn put_item(
 
 // The names of the vertices of the set x, joined by `+`.
 fn put_items(x: u64, sheet: &[u8], from: &[usize], to: &[usize], out: &mut [u8], at: usize) -> usize
-    requires { ⌜ NamePlaces (now sheet) (now from) (now to) x ⌝ }
+    requires { ⌜ SetNamePlaces (now sheet) (now from) (now to) x ⌝ }
     requires { ⌜ at + length (setText (nameOf (now sheet)) x) ≤ length (now out) ⌝ }
     ensures { λ r. ⌜ Wrote (now (out .entry)) at (setText (nameOf (now (sheet .entry))) x) (now (out .exit)) r ⌝ }
 {
@@ -124,7 +124,7 @@ pub fn put_set_field(
     out: &mut [u8],
     at: usize,
 ) -> usize
-    requires { ⌜ NamePlaces (now sheet) (now from) (now to) x ⌝ }
+    requires { ⌜ SetNamePlaces (now sheet) (now from) (now to) x ⌝ }
     requires { ⌜ at + length (ended (setText (nameOf (now sheet)) x) end) ≤ length (now out) ⌝ }
     ensures { λ r. ⌜ Wrote (now (out .entry)) at (ended (setText (nameOf (now (sheet .entry))) x) end) (now (out .exit)) r ⌝ }
 {

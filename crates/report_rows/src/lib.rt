@@ -2,16 +2,14 @@
 // on and gives the next place; every other byte stays as it was.
 pub mod fields;
 
+use sheet_fields::LF;
+use sheet_fields::SPACE;
 ghost use Prim.Native.Nat.{_+_, _≤_};
 ghost use lib.ListN.{length};
 ghost use Rattle.written.specs.Rows.{RowWritten};
 ghost use Rattle.report_text.specs.Rows.{setRow, scoreRow, pairRow, refusedRow};
 ghost use Rattle.sheet_format.specs.Names.{nameOf};
-ghost use Rattle.report_rows.specs.Inner.Writing.{NamePlace, NamePlaces};
-
-const LF: u8 = 10;
-
-const SPACE: u8 = 32;
+ghost use Rattle.report_rows.specs.Inner.Writing.{NamePlace, SetNamePlaces};
 
 // A set of a target's opening list or, with loss, of its lockout list, and the sum of its values.
 pub struct SetRow {
@@ -31,7 +29,7 @@ pub fn put_set_row(
     at: usize,
 ) -> usize
     requires { ⌜ NamePlace (now sheet) (now from) (now to) (row .target) ⌝ }
-    requires { ⌜ NamePlaces (now sheet) (now from) (now to) (row .set) ⌝ }
+    requires { ⌜ SetNamePlaces (now sheet) (now from) (now to) (row .set) ⌝ }
     requires { ⌜ at + length (setRow (nameOf (now sheet)) (row .loss) (row .target) (row .set) (row .sum)) ≤ length (now out) ⌝ }
     ensures row_written { λ r. ⌜ RowWritten (now (out .entry)) at (setRow (nameOf (now (sheet .entry))) (row .loss) (row .target) (row .set) (row .sum)) (now (out .exit)) r ⌝ }
 {

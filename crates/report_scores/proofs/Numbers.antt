@@ -1,14 +1,12 @@
 -- Numbers that are put into a list of scores, one after the other.
 -- Assumes nothing.
-use mathlib.Core.Path.{_≡_, sym, ap, subst, _∙_}
+use mathlib.Core.Path.{_≡_, sym, subst, _∙_}
 use mathlib.Core.Bool.{Bool}
 use mathlib.Core.List.{List}
-use mathlib.Core.Logic.{⊎-elim}
 use Prim.Native.Nat.{ℕ, _+_, _<_}
 use native.Mathlib.Omega.{arith}
 use lib.ListN.{length, getD, set, length-set}
-use lib.Seq.{getD-set-same, getD-set-other}
-use Rattle.vertex_set.proofs.Cases.{same-or}
+use Rattle.vertex_set.proofs.Filling.{fill-more}
 use Rattle.setup.specs.declared.Graph.{Graph}
 use Rattle.setup.specs.declared.Setup.{Setup}
 use Rattle.bases.specs.Score.{Score}
@@ -27,11 +25,7 @@ module _ {A : Type 0} (number : A → ℕ) (d : A) (numbers : List ℕ) (r : Lis
   numbers-more n x l b e =
       record {
         long = length-set r n x ∙ b .long;
-        each = λ v k. ⊎-elim
-            (λ q. subst (λ (i : ℕ). number (getD (set r n x) i d) ≡ getD numbers i 0) (sym q)
-            (ap number (getD-set-same r n x d (let w = b .long in omega arith)) ∙ e))
-            (λ q. ap number (getD-set-other r n v x d q) ∙ b .each v (omega (arith, q)))
-            (same-or v n);
+        each = fill-more d (λ v y. number y ≡ getD numbers v 0) r n x (let w = b .long in omega arith) (b .each) e;
       }
 
 -- Scores with the numbers of a list are those of the list.

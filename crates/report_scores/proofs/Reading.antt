@@ -10,11 +10,11 @@ use lib.ListN.{length, getD, take, drop, set, length-append, length-drop, length
 use lib.Seq.{length-take-le, take-append-seam, take-at, drop-at, getD-take, getD-drop, getD-set-same, getD-set-other, ext-getD}
 use borrow.Rule.Slice.PartMut.{putMid}
 use Rattle.vertex_set.proofs.Cases.{same-or, less-or}
-use Rattle.vertex_set.proofs.Sets.{same-set}
+use Rattle.vertex_set.proofs.Sets.{one-set}
 use Rattle.vertex_set.proofs.Sums.{sum-over-same}
 use Rattle.setup.specs.declared.Graph.{Graph}
 use Rattle.setup.specs.declared.Setup.{Setup}
-use Rattle.setup.specs.Setup.{ChosenSet}
+use Rattle.setup.specs.Setup.{ChosenSet, Chosen}
 use Rattle.formed.specs.WellFormed.{WellFormed}
 use Rattle.derivations.specs.Both.{ruleOf}
 use Rattle.families.specs.Inner.Family.{size, MinimalMembers}
@@ -25,7 +25,8 @@ use Rattle.tables.specs.Inner.Table.{Table, FamilyOf}
 use Rattle.tables.proofs.Parts.{put-length, put-other}
 use Rattle.tables.proofs.Tables.{family-of}
 use Rattle.bases.specs.Base.{Base}
-use Rattle.bases.specs.Score.{pointsAt, Values}
+use Rattle.bases.specs.Inner.Readers.{Values}
+use Rattle.bases.specs.Score.{pointsAt}
 use Rattle.bases.proofs.Formed.{few, points-range}
 use Rattle.bases.proofs.Bridge.{on-chosen, base-of, score-of}
 use Rattle.report_scores.specs.Inner.Scores.{wordsAt, BaseTable, Scored, CanRead, Listing, Kept, KeptAt, KeptAll}
@@ -140,8 +141,7 @@ sums-same chosen value other low high e t =
     record { fit = t .fit; word = t .word; below = t .below; sum = λ m x l o. t .sum m x l o ∙ sum-over-same value other x e }
 
 chosen-unique : (loss : Bool) (s : Setup) (a b : ℕ) → ChosenSet loss s a → ChosenSet loss s b → a ≡ b
-chosen-unique loss s a b p q =
-    same-set a b (record { each = λ v m. q .each v .from (p .each v .to m) }) (record { each = λ v m. p .each v .from (q .each v .to m) })
+chosen-unique loss s a b p q = one-set (Chosen loss s) a b (p .each) (q .each)
 
 pub scored : (loss : Bool) (s : Setup) (g : Graph) (chosen : ℕ) (values low high w exit out : List ℕ) → WellFormed s → ChosenSet loss s chosen
     → Values loss s values → SumTables chosen (λ (v : ℕ). getD values v 0) low high → Table (ruleOf loss g) chosen w

@@ -17,7 +17,7 @@ use setup::Setup;
 use vertex_set::VertexSet;
 
 // Room for any list: a family has no more members than there are masks.
-pub const LIST_ROOM: usize = WORDS * 64;
+pub const LIST_ROOM: usize = families::MASKS;
 
 // The target's base, read from the table: its sets stand at the front of out, and their number is
 // the answer.

@@ -10,14 +10,14 @@ use lib.ListN.{length, getD}
 use Rattle.vertex_set.specs.Set.{Member, Decides, Iff}
 use Rattle.vertex_set.specs.Order.{Listed}
 use Rattle.vertex_set.proofs.Cases.{byTest}
-use Rattle.vertex_set.proofs.Decisions.{decide-iff}
+use Rattle.vertex_set.proofs.Decisions.{decide-iff, decide-and}
 use Rattle.scores.specs.Inner.Lists.{securityAt, recoverabilityAt}
 use Rattle.setup.specs.declared.Setup.{Setup}
 use Rattle.written.specs.Rows.{RowWritten}
 use Rattle.written.proofs.Writing.{wrote-none}
 use Rattle.written.proofs.Rows.{row-written}
 use Rattle.reference.specs.Tests.{filtered, isMember}
-use Rattle.reference.proofs.Tests.{by-decision, decide-and, decide-member}
+use Rattle.reference.proofs.Tests.{by-decision, decide-member}
 use Rattle.findings.proofs.Unique.{decided-once}
 use Rattle.report_text.specs.Rows.{numbersFrom, textsOf, itemsOf, scoreRow, pairRow}
 use Rattle.sheet_format.specs.Names.{nameOf}
@@ -26,7 +26,7 @@ use Rattle.report_text.proofs.Items.{filtered-no}
 use Rattle.report_text.proofs.Meaning.{decide-true}
 use Rattle.report_text.proofs.Lengths.{score-row-length}
 use Rattle.report_text.proofs.Numbers.{listed-numbers}
-use Rattle.report_rows.specs.Inner.Writing.{NamePlaces}
+use Rattle.report_rows.specs.Inner.Writing.{SetNamePlaces}
 use Rattle.report_facts.specs.declared.Facts.{Facts}
 use Rattle.report_facts.specs.Inner.Facts.{FactsOf}
 use Rattle.report_facts.specs.Texts.{scoreAt, pairsAt}
@@ -142,7 +142,7 @@ module _ (sheet : List ℕ) (f : Facts) (v : ℕ) where
         let l = score-row-length (nameOf sheet) v score risk back idle a b (p .facts .short v (p .vertex)) in
         omega (arith, p .room)
 
-    pub below-names : NamePlaces sheet (f .from) (f .to) (getD (f .below) v 0)
+    pub below-names : SetNamePlaces sheet (f .from) (f .to) (getD (f .below) v 0)
     below-names = record { each = λ w m. p .facts .names w (p .facts .within v w (p .vertex) m) }
 
     pub below-room : getD (f .below) v 0 < 2 ^ 64 → at + length (pairsWith (nameOf sheet) v (getD (f .below) v 0)) ≤ length out

@@ -20,7 +20,7 @@ use Rattle.sheet_format.specs.Names.{nameOf}
 use Rattle.report_text.proofs.Lengths.{set-row-length}
 use Rattle.report_facts.specs.Inner.Parts.{Part}
 use Rattle.report_facts.proofs.Parts.{part-none, part-one, part-then, part-length}
-use Rattle.report_sections.specs.Inner.Lists.{RowsReady, rowOf, rowsFrom, RowsPut}
+use Rattle.report_sections.specs.Inner.Lists.{RowsReady, rowOfSet, setRowsFrom, RowsPut}
 
 module _ (sheet from to values list : List ℕ) (loss : Bool) (target i n row : ℕ) (h : RowsReady sheet from to values list target i n) (l : row < n) where
   abbrev sum : ℕ
@@ -37,7 +37,7 @@ module _ (sheet from to values list : List ℕ) (loss : Bool) (target i n row : 
 
 -- The rows from i up to `row` stand.
 pub record RowsWriting (name : ℕ → List ℕ) (loss : Bool) (target : ℕ) (values list : List ℕ) (i n : ℕ) (entry : List ℕ) (at : ℕ) (out : List ℕ) (row next : ℕ) : Type 0 where
-  pub part : Part entry at (rowsFrom name loss target values list n i) (rowsFrom name loss target values list n row) out next
+  pub part : Part entry at (setRowsFrom name loss target values list n i) (setRowsFrom name loss target values list n row) out next
   pub from : i ≤ row
   pub most : row ≤ n
   pub still : row ≡ i → next ≡ at
@@ -47,8 +47,8 @@ module _ (name : ℕ → List ℕ) (loss : Bool) (target : ℕ) (values list : L
   rows-none h room = record { part = part-none entry at _ room; from = omega arith; most = h; still = λ e. refl }
 
   rows-cons : (row : ℕ) → row < n → n ≤ length list
-      → rowsFrom name loss target values list n row ≡ rowOf name loss target values (getD list row 0) ++ rowsFrom name loss target values list n (suc row)
-  unfolding rowsFrom textsOf
+      → setRowsFrom name loss target values list n row ≡ rowOfSet name loss target values (getD list row 0) ++ setRowsFrom name loss target values list n (suc row)
+  unfolding setRowsFrom textsOf
   rows-cons row h l =
       let e = length-take n list in
       rw (drop-cons (take n list) row 0 (omega (arith, e)), getD-take n list row 0 h) refl
@@ -57,7 +57,7 @@ module _ (name : ℕ → List ℕ) (loss : Bool) (target : ℕ) (values list : L
     pub rows-more : row < n → n ≤ length list → (sum : ℕ) (after : List ℕ) (r : ℕ) → sum ≡ sumOver (λ (v : ℕ). getD values v 0) (getD list row 0)
         → next + length (setRow name loss target (getD list row 0) sum) ≤ length out → RowWritten out next (setRow name loss target (getD list row 0) sum) after r
         → RowsWriting name loss target values list i n entry at after (row + 1) r
-    unfolding rowOf
+    unfolding rowOfSet
     rows-more h l sum after r e room v =
         let f = w .from in
         let q = row-wrote out next _ after r v in

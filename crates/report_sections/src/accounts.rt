@@ -4,7 +4,7 @@ ghost use Prim.Native.Nat.{_+_, _≤_};
 ghost use lib.ListN.{length};
 ghost use Rattle.written.specs.Rows.{RowWritten};
 ghost use Rattle.sheet_format.specs.Names.{nameOf};
-ghost use Rattle.report_rows.specs.Inner.Writing.{NamePlace, NamePlaces};
+ghost use Rattle.report_rows.specs.Inner.Writing.{NamePlace, SetNamePlaces};
 ghost use Rattle.report_facts.specs.Texts.{scoreAt, pairsAt};
 ghost use Rattle.report_sections.specs.Inner.Parts.{PartReady, WrotePart, pairsWith};
 use report_facts::Facts;
@@ -47,7 +47,7 @@ fn put_pairs(
     at: usize,
 ) -> usize
     requires { ⌜ NamePlace (now sheet) (now from) (now to) v ⌝ }
-    requires { ⌜ NamePlaces (now sheet) (now from) (now to) x ⌝ }
+    requires { ⌜ SetNamePlaces (now sheet) (now from) (now to) x ⌝ }
     requires { ⌜ at + length (pairsWith (nameOf (now sheet)) v x) ≤ length (now out) ⌝ }
     ensures row_written { λ r. ⌜ RowWritten (now (out .entry)) at (pairsWith (nameOf (now (sheet .entry))) v x) (now (out .exit)) r ⌝ }
 {

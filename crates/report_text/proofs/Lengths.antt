@@ -17,7 +17,7 @@ use Rattle.setup.specs.Bounds.{largest, mostChosen}
 use Rattle.sheet_format.specs.Fields.{digitsIn, decimal}
 use Rattle.sheet_format.specs.Rows.{lineText}
 use Rattle.sheet_format.proofs.Numbers.{decimal-length}
-use Rattle.bases.specs.Score.{never}
+use Rattle.scores.specs.Never.{never}
 use Rattle.reference.specs.Tests.{filtered, isMember}
 use Rattle.report_text.specs.Inner.{longestRow}
 use Rattle.report_text.specs.Rows.{numbersFrom, wayText, answerText, scoreText, itemsOf, joined, setText, setRow, scoreRow, pairRow, refusedRow}

@@ -7,8 +7,8 @@ use Prim.Native.Nat.{ℕ, _+_, _<_}
 use native.Mathlib.Omega.{arith}
 use lib.Dec.{leb, ltb}
 use Rattle.vertex_set.specs.Set.{Member, Iff, Decides}
-use Rattle.vertex_set.specs.Order.{Listed}
-use Rattle.vertex_set.proofs.Decisions.{decide-yes, decide-no, decide-iff, decide-leb, decide-ltb}
+use Rattle.vertex_set.specs.Order.{Listed, Rising}
+use Rattle.vertex_set.proofs.Decisions.{decide-yes, decide-no, decide-iff, decide-leb, decide-ltb, decide-and}
 use Rattle.vertex_set.proofs.Cases.{false-true}
 use Rattle.vertex_set.proofs.Places.{places, listed-places, sorted-places}
 use Rattle.vertex_set.proofs.Sorted.{Sorted}
@@ -25,13 +25,13 @@ use Rattle.formed.proofs.Vertices.{not-credential}
 use Rattle.setup.proofs.Graphs.{graph-same}
 use Rattle.bases.specs.Score.{Score}
 use Rattle.reference.specs.Bases.{scoreOf}
-use Rattle.reference.proofs.Tests.{decide-and, listed-filtered, sorted-filtered}
+use Rattle.reference.proofs.Tests.{listed-filtered, sorted-filtered}
 use Rattle.reference.proofs.Graphs.{own-graph, graph-without}
 use Rattle.reference.proofs.Meaning.{meaning}
 use Rattle.findings.specs.Findings.{Compared, FindsBackdoor, FindsIneffective, FindsInconsistent}
 use Rattle.report_text.specs.Rows.{numbersFrom, itemsOf}
 use Rattle.report_text.specs.Report.{rowsLess, lessRecovery, isAccountKind, isAccount, accountsOf, isBackdoor, isIdle, isOutOfRank, belowOf}
-use Rattle.report_text.specs.Meaning.{Rising, ReportMeaning}
+use Rattle.report_text.specs.Meaning.{ReportMeaning}
 use Rattle.report_text.proofs.Items.{items-places}
 use Rattle.report_text.proofs.Numbers.{length-numbers, at-numbers, listed-numbers, sorted-numbers}
 

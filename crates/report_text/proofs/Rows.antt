@@ -4,7 +4,7 @@ use mathlib.Core.Path.{_≡_}
 use Prim.Native.Nat.{ℕ}
 use borrow.Author.Tests.{eq-eqb, ne-eqb}
 use Rattle.sheet_format.specs.Fields.{decimal, dash}
-use Rattle.bases.specs.Score.{never}
+use Rattle.scores.specs.Never.{never}
 use Rattle.report_text.specs.Rows.{scoreText}
 
 pub score-never : (r : ℕ) → r ≡ never → scoreText r ≡ dash

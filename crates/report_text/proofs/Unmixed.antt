@@ -17,6 +17,7 @@ use Rattle.setup.specs.declared.Setup.{Setup}
 use Rattle.setup.specs.Setup.{rowsAt, rowOf, row, Edge, ShapedGraph, WithoutRecovery}
 use Rattle.setup.proofs.Graphs.{edge-place, edge-colour, graph-same}
 use Rattle.formed.specs.WellFormed.{WellFormed}
+use Rattle.formed.proofs.Facts.{row-word}
 use Rattle.sheet_format.specs.Read.{readSheet}
 use Rattle.sheet_format.proofs.Question12.{accepted-formed}
 use Rattle.report_text.specs.Rows.{numbersFrom}
@@ -28,10 +29,6 @@ use Rattle.report_text.proofs.Meaning.{less-recovery}
 -- ---- the graph less the recovery edges
 
 module _ (s : Setup) (w : WellFormed s) where
-  -- a row's vertices are the setup's, so that it is a word
-  row-word : (v c : ℕ) → row (s .graph) v c < 2 ^ 64
-  row-word v c = bounded-by-members 64 (row (s .graph) v c) (λ f m. let a = w .ends f v c m .0 in let b = w .most in omega arith)
-
   recovery-word : (v c : ℕ) → row (s .recovery) v c < 2 ^ 64
   recovery-word v c =
       bounded-by-members 64 (row (s .recovery) v c) (λ f m. let a = w .ends f v c (w .marked f v c m) .0 in let b = w .most in omega arith)
@@ -76,7 +73,7 @@ module _ (s : Setup) (w : WellFormed s) where
       }
     where
       inside : (f v c : ℕ) → v < 64 → c < 8 → Iff (Edge (lessMarked s) f v c) (Edge (s .graph) f v c × (Edge (s .recovery) f v c → ⊥))
-      inside f v c h l = rw (marked-row v c h l) (in-less (row (s .graph) v c) (row (s .recovery) v c) f (row-word v c) (recovery-word v c))
+      inside f v c h l = rw (marked-row v c h l) (in-less (row (s .graph) v c) (row (s .recovery) v c) f (row-word s w v c) (recovery-word v c))
 
 -- ---- unmixed colours
 

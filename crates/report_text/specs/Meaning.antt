@@ -2,10 +2,9 @@
 -- Statements only; proofs/Meaning.antt has the theorem.
 use mathlib.Core.Path.{_≡_}
 use mathlib.Core.Bool.{Bool, true}
-use mathlib.Core.List.{List, [], _∷_}
 use Prim.Native.Nat.{ℕ, _<_}
 use Rattle.vertex_set.specs.Set.{Member, Iff}
-use Rattle.vertex_set.specs.Order.{Listed}
+use Rattle.vertex_set.specs.Order.{Listed, Rising}
 use Rattle.setup.specs.declared.Kind.the-variants.{Account}
 use Rattle.setup.specs.declared.Setup.{Setup}
 use Rattle.setup.specs.Setup.{vertexAt, WithoutRecovery}
@@ -15,11 +14,6 @@ use Rattle.findings.specs.Findings.{FindsBackdoor, FindsIneffective, FindsIncon
 use Rattle.reference.specs.Bases.{baseOf, scoreOf}
 use Rattle.report_text.specs.Rows.{itemsOf}
 use Rattle.report_text.specs.Report.{lessRecovery, accountsOf, isBackdoor, isIdle, isOutOfRank, belowOf}
-
--- Each number of the list is below all that follow it; so none stands there twice.
-abbrev pub Rising : List ℕ → Type 0
-Rising [] = Unit {0}
-Rising (v ∷ l) = ((w : ℕ) → Listed l w → v < w) × Rising l
 
 -- By their definitions the sections have a row, or the rows, of each element of these lists, in the order of the list: the first two go over the
 -- accounts, and the first over a target's sets and the items of each; the third goes over the accounts, and for each over those below it.

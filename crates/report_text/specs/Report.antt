@@ -19,6 +19,7 @@ use Rattle.report_text.specs.Rows.{numbersFrom, textsOf, setRow, scoreRo
 
 -- ---- the graph without recovery
 
+-- The rows of one vertex without recovery, from its rows and its rows of recovery edges.
 unfoldable pub rowsLess : Rows → Rows → Rows
 rowsLess rows recovery = record { needs = map (λ c. rowLess (rowOf rows c) (rowOf recovery c)) (numbersFrom 0 8) }
 
@@ -28,10 +29,12 @@ lessRecovery s = record { rows = map (λ v. rowsLess (rowsAt (s .graph) v) (rows
 
 -- ---- accounts
 
+-- Is the kind that of an account?
 abbrev pub isAccountKind : Kind → Bool
 isAccountKind Credential = false
 isAccountKind Account = true
 
+-- Is the vertex v an account?
 unfoldable pub isAccount : Setup → ℕ → Bool
 isAccount s v = isAccountKind (vertexAt s v .kind)
 
@@ -63,6 +66,7 @@ baseRow name s loss v x = setRow name loss v x (sumOf loss s x)
 unfoldable pub targetRows : (ℕ → List ℕ) → Setup → ℕ → List ℕ
 targetRows name s v = textsOf (baseRow name s false v) (baseOf false s (s .graph) v) ++ textsOf (baseRow name s true v) (baseOf true s (s .graph) v)
 
+-- The first section: its header, and the rows of each account's two lists.
 unfoldable pub listSection : (ℕ → List ℕ) → Setup → List ℕ
 listSection name s = listHeader ++ textsOf (targetRows name s) (accountsOf s)
 
@@ -70,6 +74,7 @@ listSection name s = listHeader ++ textsOf (targetRows name s) (accountsOf s)
 unfoldable pub findingRow : (ℕ → List ℕ) → Setup → ℕ → List ℕ
 findingRow name s v = scoreRow name v (scoreOf false s (s .graph) v) (scoreOf true s (s .graph) v) (isBackdoor s v) (isIdle s v)
 
+-- The second section: its header, and a row for each account's score, risk and findings.
 unfoldable pub scoreSection : (ℕ → List ℕ) → Setup → List ℕ
 scoreSection name s = scoreHeader ++ textsOf (findingRow name s) (accountsOf s)
 
@@ -81,6 +86,7 @@ belowOf s v = filtered (isOutOfRank s v) (accountsOf s)
 unfoldable pub pairRows : (ℕ → List ℕ) → Setup → ℕ → List ℕ
 pairRows name s v = textsOf (pairRow name v) (belowOf s v)
 
+-- The third section: its header, and a row for each pair of accounts that is out of rank.
 unfoldable pub pairSection : (ℕ → List ℕ) → Setup → List ℕ
 pairSection name s = pairHeader ++ textsOf (pairRows name s) (accountsOf s)
 
@@ -90,6 +96,7 @@ pairSection name s = pairHeader ++ textsOf (pairRows name s) (accountsOf s)
 unfoldable pub acceptedReport : (ℕ → List ℕ) → Setup → List ℕ
 acceptedReport name s = listSection name s ++ (10 ∷ (scoreSection name s ++ (10 ∷ pairSection name s)))
 
+-- The report once the sheet is read: that of an accepted sheet, or the row of a refusal.
 unfoldable pub reportAfter : List ℕ → Reading → List ℕ
 reportAfter sheet r = cond (eqb (r .number) 0) (acceptedReport (nameOf sheet) (r .setup)) (refusedRow (r .number) (r .line))
 

@@ -7,7 +7,7 @@ use lib.Dec.{eqb}
 use Rattle.sheet_format.specs.Text.{bytesOf}
 use Rattle.sheet_format.specs.Fields.{decimal, dash}
 use Rattle.sheet_format.specs.Rows.{lineText}
-use Rattle.bases.specs.Score.{never}
+use Rattle.scores.specs.Never.{never}
 use Rattle.reference.specs.Tests.{filtered, isMember}
 
 -- n numbers from v on: v, v + 1, ..
@@ -22,11 +22,12 @@ textsOf text (x ∷ l) = text x ++ textsOf text l
 
 -- ---- fields
 
--- The opening list, and the lockout list.
+-- The way of a row: `open` for the opening list, `lock` for the lockout list.
 unfoldable pub wayText : Bool → List ℕ
 wayText false = bytesOf "open"
 wayText true = bytesOf "lock"
 
+-- The answer to whether there is a finding: `yes` or `no`.
 unfoldable pub answerText : Bool → List ℕ
 answerText true = bytesOf "yes"
 answerText false = bytesOf "no"
@@ -45,6 +46,7 @@ joined name [] = []
 joined name (v ∷ []) = name v
 joined name (v ∷ w ∷ vs) = name v ++ (43 ∷ joined name (w ∷ vs))
 
+-- The items of a set, rising, by their names and joined by `+`.
 unfoldable pub setText : (ℕ → List ℕ) → ℕ → List ℕ
 setText name x = joined name (itemsOf x)
 
@@ -69,11 +71,14 @@ refusedRow number line = lineText (bytesOf "refused" ∷ decimal number ∷ deci
 
 -- ---- headers
 
+-- The header of the first section, the lists.
 unfoldable pub listHeader : List ℕ
 listHeader = lineText (bytesOf "target way size sum items" ∷ [])
 
+-- The header of the second section, scores and findings.
 unfoldable pub scoreHeader : List ℕ
 scoreHeader = lineText (bytesOf "target score risk back idle" ∷ [])
 
+-- The header of the third section, the pairs that are out of rank.
 unfoldable pub pairHeader : List ℕ
 pairHeader = lineText (bytesOf "above below" ∷ [])

@@ -23,7 +23,7 @@ pub record WithoutMarked (s : Setup) (g : Graph) : Type 0 where
   pub shaped : ShapedGraph g
   pub each : (f v c : ℕ) → Iff (Edge g f v c) (Edge (s .graph) f v c × (Edge (s .recovery) f v c → ⊥))
 
--- The same, worked out: of each row, the vertices that are not in the row of recovery edges.
+-- The graph less the recovery edges, worked out: of each row, the vertices that are not in the row of recovery edges.
 unfoldable pub lessMarked : Setup → Graph
 lessMarked s =
     record {
@@ -36,15 +36,18 @@ Unmixed s = (f e v c : ℕ) → Edge (s .recovery) f v c → Edge (s .graph) e v
 
 -- ---- the report's text, with the scores compared to those in another graph than `lessRecovery`
 
+-- The row of one target's score, risk and findings, which compare with the scores in the graph `less`.
 unfoldable pub findingRowBy : Graph → (ℕ → List ℕ) → Setup → ℕ → List ℕ
 findingRowBy less name s v =
     scoreRow name v (scoreOf false s (s .graph) v) (scoreOf true s (s .graph) v) (ltb (scoreOf false s (s .graph) v) (scoreOf false s less v))
     (leb (scoreOf true s (s .graph) v) (scoreOf true s less v))
 
+-- The report of an accepted sheet, with findings by the graph `less`.
 unfoldable pub acceptedReportBy : Graph → (ℕ → List ℕ) → Setup → List ℕ
 acceptedReportBy less name s =
     listSection name s ++ (10 ∷ ((scoreHeader ++ textsOf (findingRowBy less name s) (accountsOf s)) ++ (10 ∷ pairSection name s)))
 
+-- The report for the bytes of a sheet, with findings by the graph `less`.
 unfoldable pub reportBy : Graph → List ℕ → List ℕ
 reportBy less sheet =
     cond (eqb (readSheet sheet .number) 0) (acceptedReportBy less (nameOf sheet) (readSheet sheet .setup))
@@ -52,6 +55,7 @@ reportBy less sheet =
 
 -- ---- the statement
 
+-- A sheet with unmixed colours prints what it printed when the recovery edges alone were taken out.
 pub record UnmixedPrints (sheet : List ℕ) : Type 0 where
   -- the report is that text by the graph without recovery
   pub whole : reportOf sheet ≡ reportBy (lessRecovery (readSheet sheet .setup)) sheet

@@ -3,8 +3,7 @@
 use mathlib.Core.Path.{_≡_, refl, sym, ap, subst, _∙_}
 use mathlib.Core.Bool.{Bool, true, false}
 use mathlib.Core.List.{List, [], _∷_, _++_}
-use mathlib.Core.Logic.{inl, inr}
-use Prim.Native.Nat.{ℕ, zero, suc, _+_, _*_, _/_, _≤_, _<_}
+use Prim.Native.Nat.{ℕ, _+_, _*_, _/_, _≤_, _<_}
 use native.Mathlib.Omega.{arith}
 use lib.Count.{ones}
 use lib.ListN.{length, getD, take, drop, length-take}
@@ -14,11 +13,13 @@ use Rattle.vertex_set.specs.Order.{Listed, sumOver}
 use Rattle.vertex_set.proofs.Cases.{byTest}
 use Rattle.vertex_set.proofs.Places.{ones-within}
 use Rattle.vertex_set.proofs.Sums.{sum-over-same}
+use Rattle.vertex_set.proofs.Lists.{listed-at}
 use Rattle.setup.specs.Bounds.{largest, mostChosen}
 use Rattle.setup.specs.declared.Setup.{Setup}
 use Rattle.setup.specs.Setup.{Chosen}
 use Rattle.bases.specs.Base.{MinimalSet}
-use Rattle.bases.specs.Score.{pointsAt, Values}
+use Rattle.bases.specs.Inner.Readers.{Values}
+use Rattle.bases.specs.Score.{pointsAt}
 use Rattle.bases.proofs.Formed.{few, points-range, sums-hold}
 use Rattle.reference.proofs.Graphs.{chosen-below}
 use Rattle.report_text.specs.Rows.{textsOf, setRow}
@@ -29,8 +30,7 @@ use Rattle.report_facts.specs.declared.Facts.{Facts}
 use Rattle.report_facts.specs.Inner.Facts.{FactsOf}
 use Rattle.report_facts.specs.Texts.{slotLoss, slotList, slotRow}
 use Rattle.report_sections.specs.declared.lists.RowsStep.{RowsStep}
-use Rattle.report_sections.specs.Inner.Lists.{SetReady, RowsReady, rowOf, RowsPut}
-use Rattle.report_sections.specs.Inner.Lists as lists
+use Rattle.report_sections.specs.Inner.Lists.{SetReady, RowsReady, rowOfSet, RowsPut, setRowsFrom}
 use Rattle.report_writer.specs.Rest.{rowsFrom}
 use Rattle.report_writer.specs.Inner.Steps.{ValuesBy, CanPutList, ListPut}
 use Rattle.report_writer.proofs.Rest.{rows-next}
@@ -80,11 +80,6 @@ module _ (sheet : List ℕ) (s : Setup) (f : Facts) (h : FactsOf sheet s f) wher
   slot-sum values k x vs l =
       rw (sum-over-same _ (pointsAt (slotLoss k) s) x (vs .each)) (sums-hold (slotLoss k) s x (h .formed) (slot-minimal k x l .is .chosen) .0)
 
-listed-at : (l : List ℕ) (j : ℕ) → j < length l → Listed l (getD l j 0)
-listed-at [] j h = omega arith
-listed-at (x ∷ l) zero h = inl refl
-listed-at (x ∷ l) (suc j) h = inr (listed-at l j (omega arith))
-
 module _ (sheet : List ℕ) (f : Facts) (list : List ℕ) (k i n : ℕ) (values : List ℕ)
     (v : ValuesBy (slotLoss k) f values) where
   pub list-ready : CanPutList sheet f list k i n → RowsReady sheet (f .from) (f .to) values list (k / 2) i n
@@ -117,13 +112,13 @@ texts-same f g e [] = refl
 texts-same f g e (x ∷ l) = rw (e x, texts-same f g e l) refl
 
 row-same : (name : ℕ → List ℕ) (s : Setup) (loss : Bool) (target : ℕ) (values : List ℕ) → Values loss s values → (x : ℕ)
-    → rowOf name loss target values x ≡ baseRow name s loss target x
-unfolding rowOf baseRow
+    → rowOfSet name loss target values x ≡ baseRow name s loss target x
+unfolding rowOfSet baseRow
 row-same name s loss target values v x = ap (setRow name loss target x) (sum-over-same _ _ x (v .each))
 
 rows-same : (name : ℕ → List ℕ) (s : Setup) (k : ℕ) (values list : List ℕ) (n i : ℕ) → Values (slotLoss k) s values → take n list ≡ slotList s k
-    → lists.rowsFrom name (slotLoss k) (k / 2) values list n i ≡ textsOf (slotRow name s k) (drop i (slotList s k))
-unfolding lists.rowsFrom slotRow
+    → setRowsFrom name (slotLoss k) (k / 2) values list n i ≡ textsOf (slotRow name s k) (drop i (slotList s k))
+unfolding setRowsFrom slotRow
 rows-same name s k values list n i v e = rw e (texts-same _ _ (row-same name s (slotLoss k) (k / 2) values v) (drop i (slotList s k)))
 
 module _ (sheet : List ℕ) (f : Facts) (list : List ℕ) (k i n : ℕ) (values : List ℕ) (v : ValuesBy (slotLoss k) f values)

@@ -1,27 +1,22 @@
 -- An accepted sheet has a short name for each vertex, and its setup is well formed.
 -- Assumes nothing.
 use mathlib.Core.Path.{_≡_, refl, sym, ap, _∙_}
-use mathlib.Core.Bool.{true, _&&_}
 use mathlib.Core.List.{List, [], _∷_, map}
 use mathlib.Core.Logic.{⊎-elim}
 use Prim.Native.Nat.{ℕ, zero, suc, _≤_, _<_}
 use native.Mathlib.Omega.{arith}
 use lib.ListN.{length, getD, length-append, length-map}
-use lib.Dec.{leb}
-use borrow.Author.Tests.{leb-true}
 use Rattle.setup.specs.declared.Setup.{Setup}
 use Rattle.formed.specs.WellFormed.{WellFormed}
 use Rattle.sheet_format.specs.declared.Reading.{Reading}
-use Rattle.sheet_format.specs.Fields.{isNameByte, isName}
-use Rattle.sheet_format.specs.Text.{all}
 use Rattle.sheet_format.specs.Rows.{ItemRow, Doc, Each, ValidItem, Valid, render, secondHeader, setupOf}
 use Rattle.sheet_format.specs.Read.{readSheet, accepted}
-use Rattle.sheet_format.proofs.Tests.{and-parts}
 use Rattle.sheet_format.proofs.Documents.{docLines}
 use Rattle.sheet_format.proofs.Rows.{itemLine, edgeLine}
 use Rattle.sheet_format.proofs.Meaning.{render-lines, accepted-of-valid, valid-of-accepted, accepted-or-refused}
 use Rattle.sheet_format.specs.Meaning.{Accepted, Refused}
 use Rattle.sheet_format.proofs.Question12.{yielded-formed}
+use Rattle.sheet_format.proofs.Fields.{name-length}
 use Rattle.sheet.proofs.Names.{item-there, names-of-rows}
 use Rattle.report_facts.specs.Inner.Facts.{HasNames}
 
@@ -30,13 +25,9 @@ pub record Yields (text : List ℕ) (s : Setup) : Type 0 where
   pub formed : WellFormed s
   pub names : HasNames text s
 
-name-short : (f : List ℕ) → isName f ≡ true → length f ≤ 16
-unfolding isName
-name-short f h = leb-true (length f) 16 (and-parts (leb 1 (length f)) (leb (length f) 16) (and-parts (leb 1 (length f) && leb (length f) 16) (all isNameByte f) h .0) .1)
-
 each-short : (xs : List ItemRow) (i : ℕ) → Each ValidItem xs → i < length xs → length (getD (map (λ (x : ItemRow). x .name) xs) i []) ≤ 16
 each-short [] i v h = omega arith
-each-short (x ∷ xs) zero v h = name-short (x .name) (v .0 .name)
+each-short (x ∷ xs) zero v h = name-length (x .name) (v .0 .name)
 each-short (x ∷ xs) (suc i) v h = each-short xs i (v .1) (omega arith)
 
 doc-lines : (d : Doc) → length (d .items) < length (docLines d)

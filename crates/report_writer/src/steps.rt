@@ -188,7 +188,7 @@ fn advance(
 }
 
 // Is something left of the report?
-pub fn going(cursor: Cursor) -> bool
+pub fn unfinished(cursor: Cursor) -> bool
     ensures { λ r. ⌜ Decides (cursor ≡ Cursor.End → ⊥) r ⌝ }
 {
     match cursor {
@@ -219,7 +219,7 @@ pub fn fill(
     let first = advance(facts, cursor, sheet, opening, lockout, list, out, 0);
     let mut c = first.cursor;
     let mut at = first.at;
-    while ROOM <= out.len() - at && going(c) {
+    while ROOM <= out.len() - at && unfinished(c) {
         let next = advance(facts, c, sheet, opening, lockout, list, out, at);
         c = next.cursor;
         at = next.at;

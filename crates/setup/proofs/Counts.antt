@@ -1,6 +1,6 @@
 -- Counting edges, and initial and losable vertices.
 -- Assumes nothing.
-use mathlib.Core.Path.{_≡_, refl, sym, ap, subst, _∙_}
+use mathlib.Core.Path.{_≡_, refl, sym, ap, _∙_}
 use mathlib.Core.Bool.{Bool, true, false}
 use mathlib.Core.List.{List, [], _∷_, _++_}
 use mathlib.Core.Logic.{inl, inr, ⊎-elim}
@@ -13,8 +13,9 @@ use lib.Seq.{take-suc, take-all}
 use lib.Count.{ones, ones-cat}
 use lib.Bits.{bitOr, or-shifted-r}
 use Rattle.vertex_set.specs.Set.{Member, Iff, Inserted}
-use Rattle.vertex_set.proofs.Cases.{same-or, less-or}
-use Rattle.vertex_set.proofs.Sets.{same-set, in-or, in-one, none-in-zero, bounded-by-members}
+use Rattle.vertex_set.proofs.Cases.{less-or}
+use Rattle.vertex_set.proofs.Sets.{same-set, in-or, in-one, bounded-by-members}
+use Rattle.vertex_set.proofs.Taking.{taken-none, taken-more, taken-same}
 use Rattle.setup.specs.declared.Value.{Value}
 use Rattle.setup.specs.declared.Value.the-variants.{Blank, Of}
 use Rattle.setup.specs.declared.Vertex.{Vertex}
@@ -51,7 +52,7 @@ pub record ChosenBelow (loss : Bool) (s : Setup) (v r : ℕ) : Type 0 where
 pub chosen-none : (loss : Bool) (s : Setup) → ChosenBelow loss s 0 0
 unfolding ones
 chosen-none loss s =
-    record { each = λ i. record { to = λ m. absurd (none-in-zero i m); from = λ p. absurd (let l = p .0 in omega arith) }; size = refl }
+    record { each = taken-none (Chosen loss s) .each; size = refl }
 
 module _ (loss : Bool) (s : Setup) (v r : ℕ) (l : v < 64) (long : length (s .vertices) ≡ 64) (b : ChosenBelow loss s v r) where
   more-given : total (λ x. given (valueOf loss x)) (take (v + 1) (s .vertices)) ≡ total (λ x. given (valueOf loss x)) (take v (s .vertices)) + given (valueOf loss (vertexAt s v))
@@ -65,16 +66,7 @@ module _ (loss : Bool) (s : Setup) (v r : ℕ) (l : v < 64) (long : length (s .v
   unfolding ones
   chosen-more r′ g t =
       record {
-        each = λ i. record {
-          to = λ m. ⊎-elim
-              (λ p. let q = b .each i .to p in (let k = q .0 in omega arith, q .1))
-              (λ e. (omega arith, subst (λ (j : ℕ). Chosen loss s j) (sym e) g))
-              (t .taken l i .to m);
-          from = λ p. t .taken l i .from (⊎-elim
-              (λ e. inr e)
-              (λ n. inl (b .each i .from (let k = p .0 in omega (arith, n), p .1)))
-              (same-or i v));
-        };
+        each = taken-more (Chosen loss s) v r (record { each = b .each }) r′ l g t .each;
         size = ap ones whole ∙ ones-cat v 1 r below ∙ count;
       }
     where
@@ -93,10 +85,7 @@ module _ (loss : Bool) (s : Setup) (v r : ℕ) (l : v < 64) (long : length (s .v
   pub chosen-same : (given (valueOf loss (vertexAt s v)) ≡ 1 → ⊥) → given (valueOf loss (vertexAt s v)) ≡ 0 → ChosenBelow loss s (v + 1) r
   chosen-same n z =
       record {
-        each = λ i. record {
-          to = λ m. let q = b .each i .to m in (let k = q .0 in omega arith, q .1);
-          from = λ p. ⊎-elim (λ e. absurd (n (subst (λ (j : ℕ). Chosen loss s j) e (p .1)))) (λ d. b .each i .from (let k = p .0 in omega (arith, d), p .1)) (same-or i v);
-        };
+        each = taken-same (Chosen loss s) v r (record { each = b .each }) n .each;
         size = b .size ∙ (let m = more-given in omega arith);
       }
 

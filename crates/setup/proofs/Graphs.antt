@@ -1,18 +1,19 @@
--- Where the edges of a graph are, and that they determine it.
+-- Where the edges of a graph are, and that they determine it; the shape of the graph without edges.
 -- Assumes nothing.
 use mathlib.Core.Path.{_≡_, ap}
 use mathlib.Core.List.{[]}
 use mathlib.Core.Logic.{⊎-elim}
 use Prim.Native.Nat.{ℕ, _≤_, _<_}
 use native.Mathlib.Omega.{arith}
-use lib.ListN.{length, List·getD-eq-default}
+use lib.ListN.{length, replicate, length-replicate, getD-replicate, List·getD-eq-default}
 use lib.Seq.{ext-getD}
 use Rattle.vertex_set.specs.Set.{Member, Iff}
 use Rattle.vertex_set.proofs.Cases.{less-or}
-use Rattle.vertex_set.proofs.Sets.{not-empty, same-set}
+use Rattle.vertex_set.proofs.Sets.{not-empty, one-set}
+use Rattle.vertex_set.proofs.Decisions.{iff-refl}
 use Rattle.setup.specs.declared.Rows.{Rows}
 use Rattle.setup.specs.declared.Graph.{Graph}
-use Rattle.setup.specs.Setup.{rowsAt, rowOf, row, Edge, ShapedGraph}
+use Rattle.setup.specs.Setup.{rowsAt, rowOf, row, Edge, ShapedGraph, emptyGraph}
 
 -- a colour is one of the places of the rows, of which there are at most n
 pub colour-below : (r : Rows) (n c : ℕ) → length (r .needs) ≤ n → (rowOf r c ≡ 0 → ⊥) → c < n
@@ -34,7 +35,7 @@ edge-colour r long f c m = colour-below r 8 c (omega arith) (not-empty (rowOf r 
 rows-same : (x y : Rows) → length (x .needs) ≡ 8 → length (y .needs) ≡ 8 → ((f c : ℕ) → Iff (Member (rowOf x c) f) (Member (rowOf y c) f)) → x ≡ y
 rows-same x y lx ly h =
     let e : x .needs ≡ y .needs = ext-getD 0 (x .needs) (y .needs) (omega arith) (λ c l.
-    same-set _ _ (record { each = λ f m. h f c .to m }) (record { each = λ f m. h f c .from m })) in
+    one-set (Member (rowOf y c)) (rowOf x c) (rowOf y c) (λ f. h f c) (λ f. iff-refl)) in
     λ i. record { needs = e i }
 
 -- graphs with the same edges are one
@@ -45,3 +46,14 @@ graph-same g k sg sk h =
     let e : g .rows ≡ k .rows = ext-getD (record { needs = [] }) (g .rows) (k .rows) (omega arith) (λ v l.
     rows-same (rowsAt g v) (rowsAt k v) (sg .colours v (omega arith)) (sk .colours v (omega arith)) (λ f c. h f v c)) in
     λ i. record { rows = e i }
+
+-- ---- the graph without edges
+
+pub empty-shaped : ShapedGraph emptyGraph
+unfolding emptyGraph
+empty-shaped =
+    let emptyRows : Rows = record { needs = replicate 8 0 } in
+    record {
+      places = length-replicate 64 emptyRows;
+      colours = λ v l. rw (getD-replicate 64 v emptyRows (record { needs = [] }) l) (length-replicate {A = ℕ} 8 0);
+    }

@@ -1,5 +1,6 @@
 pub mod Calls
 pub mod Counts
 pub mod Graphs
+pub mod KindNumbers
 pub mod OneRow
 pub mod Recovery

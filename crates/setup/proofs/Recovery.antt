@@ -1,16 +1,16 @@
 -- The graph without recovery, row by row and place by place.
 -- Assumes nothing.
-use mathlib.Core.Path.{_≡_, refl, sym, subst, _∙_}
+use mathlib.Core.Path.{_≡_, refl, sym, _∙_}
 use mathlib.Core.List.{[]}
 use mathlib.Core.Logic.{⊎-elim}
 use Prim.Native.Nat.{ℕ, _+_, _≤_, _<_}
 use native.Mathlib.Omega.{arith}
-use lib.ListN.{length, getD, set, length-set}
-use lib.Seq.{getD-set-same, getD-set-other}
+use lib.ListN.{length, set, length-set}
 use borrow.Author.Tests.{ne-eqb}
 use Rattle.vertex_set.specs.Set.{Member, Iff}
 use Rattle.vertex_set.proofs.Cases.{same-or, less-or}
 use Rattle.vertex_set.proofs.Sets.{none-in-zero, some-member}
+use Rattle.vertex_set.proofs.Filling.{fill-more}
 use Rattle.setup.specs.declared.Rows.{Rows}
 use Rattle.setup.specs.declared.Graph.{Graph}
 use Rattle.setup.specs.declared.Setup.{Setup}
@@ -48,10 +48,7 @@ pub less-more : (rows recovery r : Rows) (n : ℕ) → n < 8 → LessBelow rows 
 less-more rows recovery r n l b =
     record {
       long = length-set (r .needs) n x ∙ b .long;
-      each = λ c k. ⊎-elim
-          (λ e. subst (λ (m : ℕ). getD (set (r .needs) n x) m 0 ≡ rowLess (rowOf rows m) (rowOf recovery m)) (sym e) (getD-set-same (r .needs) n x 0 (let h = b .long in omega arith)))
-          (λ d. getD-set-other (r .needs) n c x 0 d ∙ b .each c (omega (arith, d)))
-          (same-or c n);
+      each = fill-more 0 (λ c y. y ≡ rowLess (rowOf rows c) (rowOf recovery c)) (r .needs) n x (let h = b .long in omega arith) (b .each) refl;
     }
   where
     x : ℕ
@@ -84,11 +81,7 @@ pub places-more : (graph recovery r : Graph) (n : ℕ) (x : Rows) → n < 64 →
 places-more graph recovery r n x l b h =
     record {
       long = length-set (r .rows) n x ∙ b .long;
-      each = λ v k. ⊎-elim
-          (λ e. subst (λ (m : ℕ). RowsLess (rowsAt graph m) (rowsAt recovery m) (getD (set (r .rows) n x) m (record { needs = [] }))) (sym e)
-          (subst (RowsLess (rowsAt graph n) (rowsAt recovery n)) (sym (getD-set-same (r .rows) n x (record { needs = [] }) (let q = b .long in omega arith))) h))
-          (λ d. subst (RowsLess (rowsAt graph v) (rowsAt recovery v)) (sym (getD-set-other (r .rows) n v x (record { needs = [] }) d)) (b .each v (omega (arith, d))))
-          (same-or v n);
+      each = fill-more (record { needs = [] }) (λ v y. RowsLess (rowsAt graph v) (rowsAt recovery v) y) (r .rows) n x (let q = b .long in omega arith) (b .each) h;
     }
 
 pub places-all : (s : Setup) (r : Graph) → length (s .graph .rows) ≡ 64 → LessPlaces (s .graph) (s .recovery) r 64 → WithoutRecovery s r

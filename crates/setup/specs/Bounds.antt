@@ -1,5 +1,14 @@
--- The sheet's bounds (document 01, and of the largest value document 02, point 5): each number stands here, and nowhere else in the definitions.
+-- The sheet's bounds (document 01, and of the largest value document 02, point 5): each number stands here, and nowhere else in the definitions. That
+-- a set is 64 bits wide, a setup has 64 places and a place eight rows is no bound but the shape of a setup: such lengths stay numbers.
 use Prim.Native.Nat.{ℕ}
+
+-- The most items.
+abbrev pub mostItems : ℕ
+mostItems = 64
+
+-- The most bytes of a name.
+abbrev pub mostName : ℕ
+mostName = 16
 
 -- The largest start or loss value.
 abbrev pub largest : ℕ
@@ -8,6 +17,10 @@ largest = 4000000000
 -- The highest rank.
 abbrev pub highest : ℕ
 highest = 9
+
+-- The highest colour.
+abbrev pub highestColour : ℕ
+highestColour = 7
 
 -- The most edges.
 abbrev pub mostEdges : ℕ

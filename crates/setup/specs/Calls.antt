@@ -16,10 +16,16 @@ pub record Same (n n′ : ℕ) (v v′ : List ℕ) : Type 0 where
   pub number : n ≡ n′
   pub values : v ≡ v′
 
--- The same, and the lent list ends the same.
+-- Two answers are the same, and the lent list ends the same.
 pub record SameList (n n′ : ℕ) (v v′ x x′ : List ℕ) : Type 0 where
   pub answer : Same n n′ v v′
   pub list : x ≡ x′
+
+-- Two answers are the same, and both lent lists end the same.
+pub record SameLists (n n′ : ℕ) (v v′ x x′ y y′ : List ℕ) : Type 0 where
+  pub answer : Same n n′ v v′
+  pub first : x ≡ x′
+  pub second : y ≡ y′
 
 -- Question 14: the set has only vertices of the setup.
 pub record Inside (s : Setup) (set : ℕ) : Type 0 where

@@ -32,6 +32,7 @@ rowsAt g v = getD (g .rows) v (record { needs = [] })
 abbrev pub rowOf : Rows → ℕ → ℕ
 rowOf r c = getD (r .needs) c 0
 
+-- The row of colour c of the vertex v: what this colour of v needs in the graph.
 abbrev pub row : Graph → ℕ → ℕ → ℕ
 row g v c = rowOf (rowsAt g v) c
 
@@ -46,6 +47,10 @@ emptyGraph = record { rows = replicate 64 (record { needs = replicate 8 0 }) }
 -- The set without vertices: what is held, and what is opened, after reading.
 abbrev pub noVertices : VertexSet
 noVertices = record { 0 = 0 }
+
+-- The setup of 0 items with no place in use.
+abbrev pub noItems : Setup
+noItems = record { count = 0; vertices = replicate 64 unusedVertex; graph = emptyGraph; recovery = emptyGraph; held = noVertices; opened = noVertices }
 
 -- The sum of f over a list.
 abbrev pub total {ℓ} : {A : Type ℓ} → (A → ℕ) → List A → ℕ
@@ -74,11 +79,12 @@ Chosen loss s v = given (valueOf loss (vertexAt s v)) ≡ 1
 unfoldable pub chosenCount : Bool → Setup → ℕ
 chosenCount loss s = total (λ x. given (valueOf loss x)) (s .vertices)
 
--- Every array has its length: what the types of a setup say of each setup that a program holds.
+-- A graph has 64 places of eight rows each: the types say so of each graph that a program holds.
 pub record ShapedGraph (g : Graph) : Type 0 where
   pub places : length (g .rows) ≡ 64
   pub colours : (v : ℕ) → v < 64 → length (rowsAt g v .needs) ≡ 8
 
+-- A setup has 64 vertices, and its graphs have their shape: the types say so of each setup that a program holds.
 pub record Shaped (s : Setup) : Type 0 where
   pub places : length (s .vertices) ≡ 64
   pub graph : ShapedGraph (s .graph)
@@ -90,7 +96,7 @@ pub record WithoutRecovery (s : Setup) (g : Graph) : Type 0 where
   pub shaped : ShapedGraph g
   pub each : (f v c : ℕ) → Iff (Edge g f v c) (Edge (s .graph) f v c × ((e : ℕ) → Edge (s .recovery) e v c → ⊥))
 
--- One row of it, worked out from the row and the row of recovery edges: the row itself where no edge is marked, else the empty row.
+-- One row of the graph without recovery, from the row and the row of recovery edges: the row itself where no edge is marked, else the empty row.
 unfoldable pub rowLess : ℕ → ℕ → ℕ
 rowLess row recovery = cond (eqb recovery 0) row 0
 

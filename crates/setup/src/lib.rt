@@ -4,17 +4,25 @@ ghost use mathlib.Core.Path.{_≡_};
 ghost use Rattle.vertex_set.specs.Set.{Decides};
 ghost use Rattle.setup.specs.Setup.{given, valueOf, rowLess, ChosenSet, WithoutRecovery};
 ghost use Rattle.setup.specs.Inner.{RowsLess};
+use vertex_set::VERTICES;
 use vertex_set::VertexSet;
 
-// The papers' bounds: the largest start or loss value (document 02, point 5), the highest rank, the
-// most edges, and the most initial (losable) vertices.
+// The papers' bounds: the most vertices, the largest start or loss value (document 02, point 5), the
+// highest rank, the highest colour, the most edges, the most initial (losable) vertices, and the most
+// bytes of a sheet.
+pub const MAX_ITEMS: usize = VERTICES;
+
 pub const MAX_VALUE: u64 = 4_000_000_000;
 
 pub const MAX_RANK: u64 = 9;
 
-pub const MAX_EDGES: u32 = 256;
+pub const MAX_COLOUR: usize = 7;
 
-pub const MAX_CHOSEN: u32 = 14;
+pub const MAX_EDGES: usize = 256;
+
+pub const MAX_CHOSEN: usize = 14;
+
+pub const MAX_BYTES: usize = 16384;
 
 pub enum Kind {
     Credential,
@@ -34,6 +42,14 @@ pub struct Vertex {
     pub loss: Value,
     pub rank: u64,
 }
+
+// A place not in use.
+pub const UNUSED: Vertex = Vertex {
+    kind: Kind::Credential,
+    start: Value::Blank,
+    loss: Value::Blank,
+    rank: 0,
+};
 
 // The sets of vertices that one vertex needs, one set for each colour.
 pub struct Rows {

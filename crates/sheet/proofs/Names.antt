@@ -25,10 +25,10 @@ use Rattle.sheet_format.proofs.Documents.{docLines, doc-joined, item-back}
 use Rattle.sheet_format.proofs.Meaning.{render-lines, accepted-of-valid, valid-of-accepted, accepted-or-refused}
 use Rattle.sheet_format.proofs.Stated.{stands-below}
 use Rattle.sheet_fields.specs.Inner.Parts.{until}
-use Rattle.sheet_fields.proofs.Cutting.{until-le}
+use Rattle.sheet_fields.proofs.Cutting.{until-le, first-field}
 use Rattle.sheet_names.specs.declared.Span.{Span}
 use Rattle.sheet_names.specs.Inner.Span.{spanOf}
-use Rattle.sheet_names.proofs.Starts.{first-field, field-length, row-inside}
+use Rattle.sheet_names.proofs.Starts.{field-length, row-inside}
 
 -- ---- is there such an item?
 

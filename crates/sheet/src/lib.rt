@@ -10,15 +10,15 @@ ghost use Rattle.sheet_format.specs.Names.{nameOf, nameStart};
 ghost use Rattle.sheet_items.specs.Inner.Items.{InBounds};
 ghost use Rattle.sheet.specs.Inner.Rest.{ReadsRest};
 
-// The most bytes of a sheet.
-pub const MAX_BYTES: usize = 16384;
+// One byte more than a sheet may have tells that it is too long.
+pub const READ_ROOM: usize = setup::MAX_BYTES + 1;
 
 fn refuse(number: u64, line: u64) -> Reading
     ensures { λ r. ⌜ r ≡ refused number line ⌝ }
 {
     let setup = Setup {
         count: 0,
-        vertices: [sheet_rows::UNUSED; 64],
+        vertices: [setup::UNUSED; 64],
         graph: setup::EMPTY,
         recovery: setup::EMPTY,
         held: VertexSet(0),
@@ -74,7 +74,7 @@ fn read_rest(s: &[u8], items: Items) -> Reading
 pub fn read_sheet(sheet: &[u8]) -> Reading
     ensures { λ r. ⌜ r ≡ readSheet (now (sheet .entry)) ⌝ }
 {
-    if MAX_BYTES < sheet.len() {
+    if setup::MAX_BYTES < sheet.len() {
         return refuse(1, 0);
     }
     if !sheet_lines::is_text(sheet) {

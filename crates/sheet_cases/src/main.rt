@@ -332,7 +332,7 @@ fn put_edges(text: &mut [u8], at: usize, count: usize) -> usize
     next
 }
 
-// Many rows of both kinds, and these behind them.
+// `items` item rows and the rows `item`, then `edges` edge rows and the rows `edge`.
 fn put_many(text: &mut [u8], items: usize, item: &[u8], edges: usize, edge: &[u8]) -> usize
     ensures { λ r. ⌜ Counts r (now (text .exit)) ⌝ }
 {

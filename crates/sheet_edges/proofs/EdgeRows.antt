@@ -19,10 +19,13 @@ use Rattle.sheet_format.specs.Text.{linesOf, fieldsOf, sameText}
 use Rattle.sheet_format.specs.Rows.{ItemRow, EdgeRow, Doc, Each, Known, SameEdge, numberIn, verticesOf, withEdge, withEdges, recoveryRows, setupOf}
 use Rattle.sheet_format.specs.Questions.{question4, question5Edge, question7Edge, question8, question9, isKnown, isRepeated, edgeOf}
 use Rattle.sheet_format.specs.Read.{AmongEdges, ask, firstNo, edgeQuestions, accepted, refused, readLines}
-use Rattle.sheet_format.proofs.Tests.{and-parts, yes-of, no-of, text-decided, known-decided, single-decided}
+use Rattle.vertex_set.proofs.Decisions.{and-parts, yes-of, no-of}
+use Rattle.sheet_format.proofs.Tests.{text-decided, known-decided, single-decided}
 use Rattle.sheet_format.proofs.Lists.{each-append}
 use Rattle.sheet_format.proofs.Question12Lists.{each-of, of-each}
-use Rattle.sheet_format.proofs.Question12Edges.{empty-shaped, empty-edges, StatedEdge, Placed, edges-more}
+use Rattle.setup.proofs.Graphs.{empty-shaped}
+use Rattle.sheet_format.proofs.Question12Edges.{empty-edges, StatedEdge, Placed, edges-more}
+use Rattle.sheet_format.proofs.Question12Yielded.{recovery-yes, recovery-no}
 use Rattle.sheet_fields.specs.Inner.Parts.{until}
 use Rattle.sheet_rows.specs.declared.TakenEdge.{TakenEdge}
 use Rattle.sheet_rows.specs.Inner.NameKeys.{NameKeys}
@@ -45,31 +48,16 @@ marked-none : recoveryRows [] ≡ []
 unfolding recoveryRows
 marked-none = refl
 
-marked : (x : EdgeRow) (es : List EdgeRow) → x .rec ≡ true → recoveryRows (x ∷ es) ≡ x ∷ recoveryRows es
-unfolding recoveryRows
-marked x es q = ap (λ (b : Bool). cond b (x ∷ recoveryRows es) (recoveryRows es)) q
-
-unmarked : (x : EdgeRow) (es : List EdgeRow) → x .rec ≡ false → recoveryRows (x ∷ es) ≡ recoveryRows es
-unfolding recoveryRows
-unmarked x es q = ap (λ (b : Bool). cond b (x ∷ recoveryRows es) (recoveryRows es)) q
-
 recovery-snoc : (es : List EdgeRow) (e : EdgeRow) → recoveryRows (es ++ (e ∷ [])) ≡ cond (e .rec) (recoveryRows es ++ (e ∷ [])) (recoveryRows es)
-recovery-snoc [] e = rw marked-none (byTest (e .rec) (λ q. marked e [] q ∙ rw marked-none (sym (ap (λ (b : Bool). cond b (e ∷ []) []) q))) (λ q. unmarked e [] q ∙ rw marked-none (sym (ap (λ (b : Bool). cond b (e ∷ []) []) q))))
+recovery-snoc [] e = rw marked-none (byTest (e .rec) (λ q. recovery-yes e [] q ∙ rw marked-none (sym (ap (λ (b : Bool). cond b (e ∷ []) []) q))) (λ q. recovery-no e [] q ∙ rw marked-none (sym (ap (λ (b : Bool). cond b (e ∷ []) []) q))))
 recovery-snoc (x ∷ es) e =
     byTest (x .rec)
-    (λ q. marked x (es ++ (e ∷ [])) q ∙ ap (λ (l : List EdgeRow). x ∷ l) (recovery-snoc es e) ∙ rw (marked x es q) (push (e .rec)))
-    (λ q. unmarked x (es ++ (e ∷ [])) q ∙ recovery-snoc es e ∙ rw (unmarked x es q))
+    (λ q. recovery-yes x (es ++ (e ∷ [])) q ∙ ap (λ (l : List EdgeRow). x ∷ l) (recovery-snoc es e) ∙ rw (recovery-yes x es q) (push (e .rec)))
+    (λ q. recovery-no x (es ++ (e ∷ [])) q ∙ recovery-snoc es e ∙ rw (recovery-no x es q))
   where
     push : (b : Bool) → x ∷ cond b (recoveryRows es ++ (e ∷ [])) (recoveryRows es) ≡ cond b ((x ∷ recoveryRows es) ++ (e ∷ [])) (x ∷ recoveryRows es)
     push true = refl
     push false = refl
-
-recovery-each : (P : EdgeRow → Type 0) (es : List EdgeRow) → Each P es → Each P (recoveryRows es)
-recovery-each P [] h = rw marked-none tt
-recovery-each P (x ∷ es) h =
-    byTest (x .rec)
-    (λ q. rw (marked x es q) (h .0, recovery-each P es (h .1)))
-    (λ q. rw (unmarked x es q) (recovery-each P es (h .1)))
 
 -- two known names with one number are the same
 number-same : (xs : List ItemRow) (a b : List ℕ) → Known xs a → Known xs b → numberIn xs a ≡ numberIn xs b → a ≡ b

@@ -9,8 +9,6 @@ ghost use lib.Dec.{eqb};
 ghost use Rattle.setup.specs.Setup.{rowOf};
 ghost use Rattle.sheet_edges.specs.Inner.Edges.{withNeed, ReadsEdges};
 
-const MAX_EDGES: usize = setup::MAX_EDGES as usize;
-
 pub struct Edges {
     pub number: u64,
     pub line: u64,
@@ -91,7 +89,7 @@ pub fn read_edges(
         if has_need(row, colour, from) {
             return refuse(9, line);
         }
-        if MAX_EDGES <= edges {
+        if setup::MAX_EDGES <= edges {
             return refuse(7, line);
         }
         let row = with_need(row, colour, from);

@@ -8,12 +8,12 @@ use Prim.Native.Nat.{ℕ, zero, suc, _+_, _-_, _≤_, _<_}
 use native.Mathlib.Nat.{not-suc-le-zero, le-of-suc-le-suc, sub-zero}
 use native.Mathlib.Omega.{arith}
 use lib.ListN.{length, take, drop, length-drop, drop-of-length-le}
-use lib.Seq.{drop-drop}
+use lib.Seq.{drop-drop, take-all}
 use lib.Dec.{eqb, ltb, eqb·suc-suc}
 use borrow.Author.Tests.{ne-eqb, ltb-true, ltb-false, lt-ltb, le-ltb}
 use Rattle.vertex_set.proofs.Cases.{byTest, false-true, less-or}
 use Rattle.sheet_format.specs.Text.{grow, fieldsOf, isEmpty}
-use Rattle.sheet_format.specs.Questions.{noneEmpty, question4}
+use Rattle.sheet_format.specs.Questions.{noneEmpty, question4, field}
 use Rattle.sheet_fields.specs.Inner.Parts.{until, moreFollow, endAt, CutsFour}
 
 -- ---- the first field, and the others
@@ -38,6 +38,10 @@ fields-last (a ∷ l) h =
     byTest (eqb a 32) (λ e. absurd (not-suc-le-zero (rw e at h))) (λ e.
     let i = fields-last l (le-of-suc-le-suc (rw e at h)) in
     rw (e, i))
+
+pub first-field : (l : List ℕ) → field (fieldsOf l) 0 ≡ take (until 32 l) l
+first-field l =
+    ⊎-elim (λ h. rw (fields-more l h)) (λ h. rw (fields-last l h) (sym (take-all (until 32 l) l h))) (less-or (until 32 l) (length l))
 
 fields-some : (l : List ℕ) → 0 < length (fieldsOf l)
 fields-some l =

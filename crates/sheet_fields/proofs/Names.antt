@@ -12,7 +12,8 @@ use borrow.Author.Tests.{eq-eqb, ne-eqb, eqb-true, le-leb, lt-leb, leb-true}
 use Rattle.sheet_format.specs.Text.{all}
 use Rattle.sheet_format.specs.Fields.{isDigit, isNameByte, isName}
 use Rattle.sheet_format.specs.Rows.{Each}
-use Rattle.sheet_format.proofs.Tests.{and-parts, or-parts, all-decided}
+use Rattle.vertex_set.proofs.Decisions.{and-parts, or-parts}
+use Rattle.sheet_format.proofs.Tests.{all-decided}
 use Rattle.sheet_format.proofs.Lists.{each-map}
 use Rattle.sheet_fields.proofs.Packing.{Small}
 
@@ -54,12 +55,6 @@ name-long f h = let l : leb 1 (length f) ≡ true = le-leb 1 (length f) (omega a
 pub name-bytes : (f : List ℕ) → (length f ≡ 0 → ⊥) → length f ≤ 16 → isName f ≡ all isNameByte f
 unfolding isName
 name-bytes f n h = let l : leb 1 (length f) ≡ true = le-leb 1 (length f) (omega (arith, n)) in rw (l, le-leb (length f) 16 h)
-
-pub name-length : (f : List ℕ) → isName f ≡ true → length f ≤ 16
-unfolding isName
-name-length f h =
-    leb-true (length f) 16 (and-parts (leb 1 (length f)) (leb (length f) 16)
-    (and-parts (leb 1 (length f) && leb (length f) 16) (all isNameByte f) h .0) .1)
 
 pub name-all : (f : List ℕ) → isName f ≡ true → all isNameByte f ≡ true
 unfolding isName

@@ -54,7 +54,7 @@ pub struct Cut {
     pub third: usize,
 }
 
-// The place of the next b from `at` on, or the end.
+// The place of the next byte b from `at` on; the text's end where there is none.
 pub fn find(s: &[u8], at: usize, b: u8) -> usize
     ensures { λ r. ⌜ r ≡ at + until b (drop at (now (s .entry))) ⌝ }
 {

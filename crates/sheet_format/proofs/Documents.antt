@@ -19,7 +19,8 @@ use Rattle.sheet_format.specs.Read.{Phase, AmongItems, AmongEdges, Place
 use Rattle.sheet_format.specs.Meaning.{start, askedAt, OnlyYeses, Passed}
 use Rattle.sheet_format.proofs.Lists.{each-append, each-right, each-map, each-image, apart-at}
 use Rattle.setup.proofs.Counts.{total-append}
-use Rattle.sheet_format.proofs.Tests.{and-both, yes-of, same-refl, all-decided, known-decided, fresh-decided, single-decided}
+use Rattle.vertex_set.proofs.Decisions.{and-both, yes-of}
+use Rattle.sheet_format.proofs.Tests.{same-refl, all-decided, known-decided, fresh-decided, single-decided}
 use Rattle.sheet_format.proofs.Lines.{Without, joined, joined-append, spaced, line-text}
 use Rattle.sheet_format.proofs.Fields.{Plain}
 use Rattle.sheet_format.proofs.Rows.{plain-line, plain-bytes, plain-fields, plain-some, plain-yes4, itemLine, item-plain, item-written, item-yes5, edgeLine, NamedEdge, edge-plain, edge-written, edge-yes5}

@@ -21,7 +21,8 @@ use Rattle.sheet_format.specs.Fields.{isDigit, isNameByte, isName, isNum
 use Rattle.sheet_format.specs.Rows.{Each}
 use Rattle.sheet_format.specs.Questions.{isTextByte}
 use Rattle.sheet_format.proofs.Lists.{each-map}
-use Rattle.sheet_format.proofs.Tests.{and-parts, and-both, or-parts, or-left, or-right, no-of, text-decided, same-refl, all-decided}
+use Rattle.vertex_set.proofs.Decisions.{and-parts, and-both, or-parts, or-left, or-right, no-of}
+use Rattle.sheet_format.proofs.Tests.{text-decided, same-refl, all-decided}
 use Rattle.sheet_format.proofs.Numbers.{digit-range, decimal-digits, number-decimal, value-decimal, number-to, to-number}
 use Rattle.sheet_format.proofs.Lines.{Without}
 
@@ -47,6 +48,12 @@ visible-text f h =
     (and-both (leb 32 b) (leb b 126) (le-leb 32 b (omega arith)) (le-leb b 126 (v .1)))) f h
 
 -- ---- names
+
+pub name-length : (f : List ℕ) → isName f ≡ true → length f ≤ 16
+unfolding isName
+name-length f h =
+    leb-true (length f) 16 (and-parts (leb 1 (length f)) (leb (length f) 16)
+    (and-parts (leb 1 (length f) && leb (length f) 16) (all isNameByte f) h .0) .1)
 
 digit-visible : (b : ℕ) → isDigit b ≡ true → Visible b
 digit-visible b e = let r = digit-range b e in omega arith

@@ -13,7 +13,8 @@ use Rattle.vertex_set.proofs.Cases.{byTest, false-true}
 use Rattle.sheet_format.specs.Text.{grow, linesOf, fieldsOf, isEmpty, all}
 use Rattle.sheet_format.specs.Rows.{Each, lineText}
 use Rattle.sheet_format.specs.Questions.{isTextByte, endsInLF, question2}
-use Rattle.sheet_format.proofs.Tests.{and-parts, and-both, or-parts, or-right, empty-decided, all-append}
+use Rattle.vertex_set.proofs.Decisions.{and-parts, and-both, or-parts, or-right}
+use Rattle.sheet_format.proofs.Tests.{empty-decided, all-append}
 
 -- The byte x stands nowhere in the text.
 abbrev pub Without : ℕ → List ℕ → Type 0

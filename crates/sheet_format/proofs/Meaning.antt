@@ -3,7 +3,7 @@
 use mathlib.Core.Path.{_≡_, refl, sym, ap, _∙_, subst}
 use mathlib.Core.List.{List}
 use mathlib.Core.Bool.{true}
-use mathlib.Core.Logic.{_⊎_, inl, inr}
+use mathlib.Core.Logic.{_⊎_, inl, inr, ⊎-elim}
 use Prim.Native.Nat.{ℕ, _≤_}
 use native.Mathlib.Omega.{arith}
 use lib.ListN.{length}
@@ -17,7 +17,7 @@ use Rattle.sheet_format.specs.Questions.{question1, isTextByte, endsInLF
 use Rattle.sheet_format.specs.Read.{AmongEdges, Place, noRows, refused, question11, readSheet}
 use Rattle.sheet_format.specs.Meaning.{AcceptedOfValid, ValidOfAccepted, Refusal, RefusalLaw, RefusalUnique, EmptySetup, Accepted, Refused, AcceptedOrRefused}
 use Rattle.sheet_format.proofs.Lists.{each-map}
-use Rattle.sheet_format.proofs.Tests.{and-parts}
+use Rattle.vertex_set.proofs.Decisions.{and-parts}
 use Rattle.sheet_format.proofs.Lines.{Without, joined, lines-joined, joined-lines, joined-text}
 use Rattle.sheet_format.proofs.Documents.{docLines, doc-joined, Clean, doc-clean, valid-passed}
 use Rattle.sheet_format.proofs.Origins.{Origin, origin}
@@ -129,3 +129,11 @@ accepted-or-refused =
     by s (refuses q k r) =
         let n = refusal-number s q k r in
         inr (record { number = q; line = k; least = n .0; most = n .1; reading = read-refused s q k r })
+
+-- The number of a reading is one of the questions 1 to 11, or 0.
+pub number-most : (s : List ℕ) → readSheet s .number ≤ 11
+number-most s =
+    ⊎-elim
+    (λ (a : Accepted s). let e = ap (λ (r : Reading). r .number) (a .reading) in omega arith)
+    (λ (d : Refused s). let e = ap (λ (r : Reading). r .number) (d .reading) in let m = d .most in omega arith)
+    (accepted-or-refused .either s)

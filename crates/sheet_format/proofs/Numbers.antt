@@ -13,7 +13,8 @@ use borrow.Author.Tests.{lt-ltb, le-ltb, leb-true, le-leb, eqb-false, ne-eqb, no
 use Rattle.vertex_set.proofs.Cases.{less-or, false-true}
 use Rattle.sheet_format.specs.Text.{isEmpty, all}
 use Rattle.sheet_format.specs.Fields.{isDigit, isNumber, valueBehind, numberOf, isNumberTo, digitsIn, decimal}
-use Rattle.sheet_format.proofs.Tests.{and-parts, and-both, or-parts, or-right, empty-decided, all-append}
+use Rattle.vertex_set.proofs.Decisions.{and-parts, and-both, or-parts, or-right}
+use Rattle.sheet_format.proofs.Tests.{empty-decided, all-append}
 
 -- ---- the digits of a number
 
@@ -23,7 +24,7 @@ unfolding digitsIn
 digits-one k n h = rw (lt-ltb n 10 h)
 
 -- More than one.
-digits-more : (k n : ℕ) → 10 ≤ n → digitsIn (suc k) n ≡ digitsIn k (n / 10) ++ ((48 + n % 10) ∷ [])
+pub digits-more : (k n : ℕ) → 10 ≤ n → digitsIn (suc k) n ≡ digitsIn k (n / 10) ++ ((48 + n % 10) ∷ [])
 unfolding digitsIn
 digits-more k n h = rw (le-ltb n 10 h)
 

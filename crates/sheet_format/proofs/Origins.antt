@@ -17,7 +17,8 @@ use Rattle.sheet_format.specs.Read.{Phase, AtFirstHeader, AmongItems, At
 use Rattle.sheet_format.specs.Meaning.{start, next, OnlyYeses, Passed}
 use Rattle.sheet_format.proofs.Lists.{each-append, apart-more}
 use Rattle.setup.proofs.Counts.{total-append}
-use Rattle.sheet_format.proofs.Tests.{and-parts, text-decided, known-decided, fresh-decided, single-decided}
+use Rattle.vertex_set.proofs.Decisions.{and-parts}
+use Rattle.sheet_format.proofs.Tests.{text-decided, known-decided, fresh-decided, single-decided}
 use Rattle.sheet_format.proofs.Rows.{itemLine, item-read, item-line, edgeLine, NamedEdge, edge-read, edge-line}
 use Rattle.sheet_format.proofs.Documents.{docLines, ItemsHold, EdgesHold}
 

@@ -4,7 +4,7 @@ use mathlib.Core.Path.{_≡_, refl, sym, ap, _∙_}
 use mathlib.Core.Bool.{true, false, cond}
 use mathlib.Core.List.{List, [], _∷_, List·Memᴰ·head, List·Memᴰ·not-nil, List·Memᴰ·eq-of-singleton}
 use mathlib.Core.Logic.{inl, inr}
-use Prim.Native.Nat.{ℕ, zero, suc, _+_, _/_, _%_, _^_, _≤_, _<_}
+use Prim.Native.Nat.{ℕ, zero, suc, _+_, _/_, _%_, _≤_, _<_}
 use native.Mathlib.Nat.{add-zero, mod-eq-of-lt}
 use native.Mathlib.Omega.{arith}
 use lib.ListN.{length}
@@ -14,15 +14,17 @@ use lib.Dec.{eqb}
 use borrow.Author.Tests.{le-leb, eqb-true, eqb-false}
 use Rattle.vertex_set.proofs.Cases.{byTest}
 use Rattle.vertex_set.proofs.Digits.{digit, digit-lt}
-use Rattle.vertex_set.proofs.Sets.{member-decided, bounded-by-members}
+use Rattle.vertex_set.proofs.Sets.{member-decided}
 use Rattle.setup.specs.declared.Setup.{Setup}
 use Rattle.setup.specs.Setup.{vertexAt, rowsAt, row, Edge, total, edgeCount}
 use Rattle.formed.specs.WellFormed.{WellFormed}
+use Rattle.formed.proofs.Facts.{row-word}
 use Rattle.sheet_format.specs.Text.{sameText, all}
 use Rattle.sheet_format.specs.Fields.{isNameByte, isName}
 use Rattle.sheet_format.specs.Rows.{ItemRow, EdgeRow, Each, Apart, Known, SameName, SameEdge, numberIn}
 use Rattle.sheet_format.proofs.Question12Lists.{In, collect, in-collect, collected, apart-collect, length-collect, length-collect-ones}
-use Rattle.sheet_format.proofs.Tests.{yes-of, text-decided}
+use Rattle.vertex_set.proofs.Decisions.{yes-of}
+use Rattle.sheet_format.proofs.Tests.{text-decided}
 
 -- ---- names: two letters for each number below 64
 
@@ -200,13 +202,10 @@ if-length s v c f =
     (λ t. rw t (let l = digit-lt (row (s .graph) v c) f in let n = eqb-false (digit (row (s .graph) v c) f) 1 t in omega (arith, n)))
 
 module _ (s : Setup) (w : WellFormed s) where
-  row-lt : (v c : ℕ) → row (s .graph) v c < 2 ^ 64
-  row-lt v c = bounded-by-members 64 (row (s .graph) v c) (λ f m. let h = w .ends f v c m .0 in let k = w .most in omega arith)
-
   colour-length : (v c : ℕ) → length (colourEdges s v c) ≡ ones (row (s .graph) v c)
   unfolding colourEdges
   colour-length v c =
-      length-collect-ones (edgeIf s v c) (row (s .graph) v c) 64 (λ f. if-length s v c f) ∙ ap ones (mod-eq-of-lt (row-lt v c))
+      length-collect-ones (edgeIf s v c) (row (s .graph) v c) 64 (λ f. if-length s v c f) ∙ ap ones (mod-eq-of-lt (row-word s w v c))
 
   vertex-length : (v : ℕ) → v < 64 → length (vertexEdges s v) ≡ total ones (rowsAt (s .graph) v .needs)
   unfolding vertexEdges

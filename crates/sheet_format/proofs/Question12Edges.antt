@@ -5,17 +5,17 @@ use mathlib.Core.List.{List, [], _∷_, List·Memᴰ·head, List·Memᴰ·tail, 
 use mathlib.Core.Logic.{_⊎_, inl, inr, ⊎-elim}
 use Prim.Native.Nat.{ℕ, _+_, _^_, _≤_, _<_}
 use native.Mathlib.Omega.{arith}
-use lib.ListN.{length, getD, replicate, length-replicate, getD-replicate, List·getD-eq-default}
+use lib.ListN.{length, replicate, getD-replicate}
 use lib.Bits.{bitOr}
 use lib.Count.{ones}
 use Rattle.vertex_set.specs.Set.{Member, Iff}
-use Rattle.vertex_set.proofs.Cases.{less-or}
 use Rattle.vertex_set.proofs.Sets.{none-in-zero, in-or, in-one, ones-or-one}
+use Rattle.vertex_set.proofs.Lists.{zeros}
 use Rattle.setup.specs.declared.Rows.{Rows}
 use Rattle.setup.specs.declared.Graph.{Graph}
 use Rattle.setup.specs.Setup.{row, Edge, ShapedGraph, edgeCount, emptyGraph}
-use Rattle.setup.proofs.Graphs.{edge-place}
-use Rattle.setup.specs.Inner.{withRow}
+use Rattle.setup.proofs.Graphs.{edge-place, empty-shaped}
+use Rattle.setup.specs.Inner.{graphWithRow}
 use Rattle.setup.proofs.OneRow as one
 use Rattle.sheet_format.specs.Rows.{ItemRow, EdgeRow, Each, numberIn, withEdge, withEdges}
 use Rattle.sheet_format.proofs.Question12Lists.{In}
@@ -26,21 +26,10 @@ emptyRows = record { needs = replicate 8 0 }
 
 -- ---- the graph without edges
 
-pub empty-shaped : ShapedGraph emptyGraph
-unfolding emptyGraph
-empty-shaped =
-    record {
-      places = length-replicate 64 emptyRows;
-      colours = λ v l. rw (getD-replicate 64 v emptyRows (record { needs = [] }) l) (length-replicate {A = ℕ} 8 0);
-    }
-
 pub empty-edges : (f v c : ℕ) → Edge emptyGraph f v c → ⊥
 unfolding emptyGraph
 empty-edges f v c m = none-in-zero f (subst (λ (x : ℕ). Member x f) (none (edge-place emptyGraph (empty-shaped .places) f v c m)) m)
   where
-    zeros : (n c : ℕ) → _≡_ {A = ℕ} (getD (replicate n 0) c 0) 0
-    zeros n c = ⊎-elim (λ l. getD-replicate n c 0 0 l) (λ l. List·getD-eq-default (replicate {A = ℕ} n 0) 0 (let k = length-replicate {A = ℕ} n 0 in omega arith)) (less-or c n)
-
     none : v < 64 → row emptyGraph v c ≡ 0
     none l = rw (getD-replicate 64 v emptyRows (record { needs = [] }) l) (zeros 8 c)
 
@@ -52,12 +41,12 @@ empty-count = refl
 
 module _ (g : Graph) (f v c : ℕ) (sh : ShapedGraph g) (lv : v < 64) (lc : c < 8) where
   pub edge-shaped : ShapedGraph (withEdge g f v c)
-  unfolding withEdge withRow
+  unfolding withEdge graphWithRow
   edge-shaped = one.row-shaped g v c (bitOr (row g v c) (2 ^ f)) sh lv lc
 
   -- its edges are those there were, and the new one
   pub edge-more : (a u b : ℕ) → Iff (Edge (withEdge g f v c) a u b) (Edge g a u b ⊎ ((a ≡ f) × (u ≡ v) × (b ≡ c)))
-  unfolding withEdge withRow
+  unfolding withEdge graphWithRow
   edge-more = one.edge-more g v c (bitOr (row g v c) (2 ^ f)) sh lv lc f (λ i.
       record {
         to = λ m. ⊎-elim (λ p. inl p) (λ p. inr (in-one f i .to p)) (in-or (row g v c) (2 ^ f) i .to m);
@@ -65,7 +54,7 @@ module _ (g : Graph) (f v c : ℕ) (sh : ShapedGraph g) (lv : v < 64) (lc : c < 
       })
 
   pub count-more : edgeCount (withEdge g f v c) ≤ edgeCount g + 1
-  unfolding withEdge withRow
+  unfolding withEdge graphWithRow
   count-more =
       let count = one.row-count g v c (bitOr (row g v c) (2 ^ f)) sh lv lc in
       let more = ones-or-one f (row g v c) in

@@ -10,7 +10,8 @@ use Rattle.vertex_set.proofs.Cases.{byTest, less-or, false-true}
 use Rattle.setup.specs.declared.Vertex.{Vertex}
 use Rattle.setup.specs.Setup.{unusedVertex, total}
 use Rattle.sheet_format.specs.Text.{sameText}
-use Rattle.sheet_format.proofs.Tests.{yes-of, text-decided}
+use Rattle.vertex_set.proofs.Decisions.{yes-of}
+use Rattle.sheet_format.proofs.Tests.{text-decided}
 use Rattle.sheet_format.specs.Rows.{ItemRow, Each, Known, numberIn, vertexOf, verticesOf}
 
 -- ---- names

@@ -19,10 +19,10 @@ use Rattle.setup.specs.Setup.{unusedVertex, vertexAt, rowsAt, row, Edge, given,
 use Rattle.derivations.specs.Access.{access, AccessFrom}
 use Rattle.derivations.proofs.Closures.{closure-unique, none-opens}
 use Rattle.formed.specs.WellFormed.{WellFormed}
-use Rattle.setup.proofs.Graphs.{edge-place, edge-colour, graph-same}
+use Rattle.setup.proofs.Graphs.{edge-place, edge-colour, graph-same, empty-shaped}
 use Rattle.sheet_format.specs.Rows.{ItemRow, EdgeRow, Doc, Each, Known, ValidItem, ValidEdge, Valid, startCount, lossCount, numberIn, vertexOf, verticesOf, withEdges, recoveryRows, setupOf}
 use Rattle.sheet_format.proofs.Question12Lists.{In, each-of}
-use Rattle.sheet_format.proofs.Question12Edges.{StatedEdge, Placed, empty-shaped, edges-shaped}
+use Rattle.sheet_format.proofs.Question12Edges.{StatedEdge, Placed, edges-shaped}
 use Rattle.sheet_format.proofs.Question12Items.{vertices-length, vertex-unused, vertices-total}
 use Rattle.sheet_format.proofs.Question12Yielded.{in-recovery, recovery-in, recovery-placed, graph-edges}
 use Rattle.sheet_format.proofs.Question12Text.{ShortEdge, text-length}

@@ -15,16 +15,17 @@ use Rattle.setup.specs.Setup.{Edge, chosenCount, given, emptyGraph}
 use Rattle.formed.specs.WellFormed.{ValidVertex, WellFormed}
 use Rattle.sheet_format.specs.Rows.{ItemRow, EdgeRow, Doc, Each, ValidItem, ValidEdge, Valid, startCount, lossCount, vertexOf, withEdges, recoveryRows, setupOf}
 use Rattle.sheet_format.proofs.Question12Lists.{In, each-of, of-each}
-use Rattle.sheet_format.proofs.Question12Edges.{StatedEdge, Placed, empty-shaped, empty-edges, empty-count, edges-shaped, edges-more, edges-count}
+use Rattle.setup.proofs.Graphs.{empty-shaped}
+use Rattle.sheet_format.proofs.Question12Edges.{StatedEdge, Placed, empty-edges, empty-count, edges-shaped, edges-more, edges-count}
 use Rattle.sheet_format.proofs.Question12Items.{known-number, vertices-length, vertex-unused, vertex-used, vertices-total}
 
 -- ---- recovery rows
 
-recovery-yes : (x : EdgeRow) (es : List EdgeRow) → x .rec ≡ true → recoveryRows (x ∷ es) ≡ x ∷ recoveryRows es
+pub recovery-yes : (x : EdgeRow) (es : List EdgeRow) → x .rec ≡ true → recoveryRows (x ∷ es) ≡ x ∷ recoveryRows es
 unfolding recoveryRows
 recovery-yes x es t = ap (λ (b : Bool). cond b (x ∷ recoveryRows es) (recoveryRows es)) t
 
-recovery-no : (x : EdgeRow) (es : List EdgeRow) → x .rec ≡ false → recoveryRows (x ∷ es) ≡ recoveryRows es
+pub recovery-no : (x : EdgeRow) (es : List EdgeRow) → x .rec ≡ false → recoveryRows (x ∷ es) ≡ recoveryRows es
 unfolding recoveryRows
 recovery-no x es t = ap (λ (b : Bool). cond b (x ∷ recoveryRows es) (recoveryRows es)) t
 

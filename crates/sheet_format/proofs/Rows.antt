@@ -16,7 +16,8 @@ use Rattle.sheet_format.specs.Fields.{isName, isNumberTo, numberOf, deci
 use Rattle.sheet_format.specs.Rows.{ItemRow, EdgeRow, Each, ValidItem, itemFields, edgeFields}
 use Rattle.sheet_format.specs.Questions.{isTextByte, field, noneEmpty, question4, question5Item, question5Edge, itemOf, edgeOf}
 use Rattle.sheet_format.proofs.Lists.{each-append, each-map}
-use Rattle.sheet_format.proofs.Tests.{and-parts, and-both, all-decided, yes-of}
+use Rattle.vertex_set.proofs.Decisions.{and-parts, and-both, yes-of}
+use Rattle.sheet_format.proofs.Tests.{all-decided}
 use Rattle.sheet_format.proofs.Numbers.{value-decimal, number-to, to-number}
 use Rattle.sheet_format.proofs.Lines.{Without, spaced, fields-spaced, spaced-fields}
 use Rattle.sheet_format.proofs.Fields.{Plain, visible-without, visible-text, name-plain, decimal-plain, kind-yes, kind-written, kind-read, kind-plain, value-yes, value-written, value-read, value-plain}

@@ -6,7 +6,7 @@ use mathlib.Core.List.{List, [], _∷_, _++_, map, List·Memᴰ·head, List·Mem
 use mathlib.Core.Logic.{⊎-elim}
 use Prim.Native.Nat.{ℕ, zero, suc, _-_, _≤_, _<_}
 use native.Mathlib.Omega.{arith}
-use lib.ListN.{length, getD, replicate}
+use lib.ListN.{length, getD, take, replicate}
 use lib.Seq.{ext-getD}
 use Rattle.vertex_set.specs.Set.{Iff}
 use Rattle.vertex_set.proofs.Cases.{byTest, less-or}
@@ -17,7 +17,8 @@ use Rattle.setup.specs.Setup.{unusedVertex, vertexAt, row, Edge}
 use Rattle.sheet_format.specs.Text.{sameText}
 use Rattle.sheet_format.specs.Rows.{ItemRow, EdgeRow, Doc, Apart, Known, SameName, ValidEdge, Valid, numberIn, vertexOf, verticesOf, recoveryRows, setupOf}
 use Rattle.sheet_format.specs.Stated.{StandsAt, HasFields, Joins, Stated, StatedByRows, StatedUnique}
-use Rattle.sheet_format.proofs.Tests.{yes-of, no-of, text-decided}
+use Rattle.vertex_set.proofs.Decisions.{yes-of, no-of}
+use Rattle.sheet_format.proofs.Tests.{text-decided}
 use Rattle.sheet_format.proofs.Question12Lists.{In, of-each}
 use Rattle.sheet_format.proofs.Question12Edges.{StatedEdge}
 use Rattle.setup.proofs.Graphs.{graph-same}
@@ -45,7 +46,19 @@ pub in-stands : {A : Type 0} (xs : List A) (x : A) → In x xs → (i : ℕ) × 
 in-stands [] x m = absurd (List·Memᴰ·not-nil m)
 in-stands (y ∷ ys) x m = ⊎-elim (λ p. (0, sym p)) (λ k. let h = in-stands ys x k in (suc (h .0), h .1)) (List·Memᴰ·cases-cons m)
 
--- ---- the number of a name is the place of its item row
+-- one row more is taken
+module _ {A : Type 0} where
+  pub take-more : (xs : List A) (i : ℕ) (x : A) → StandsAt xs i x → take (suc i) xs ≡ take i xs ++ (x ∷ [])
+  take-more [] i x h = absurd h
+  take-more (y ∷ ys) zero x h = ap (λ (z : A). z ∷ []) h
+  take-more (y ∷ ys) (suc i) x h = ap (λ (l : List A). y ∷ l) (take-more ys i x h)
+
+-- ---- the name at a place, and the number of a name, which is the place of its item row
+
+pub name-in : (xs : List ItemRow) (i : ℕ) (x : ItemRow) → StandsAt xs i x → getD (map (λ (y : ItemRow). y .name) xs) i [] ≡ x .name
+name-in [] i x h = absurd h
+name-in (y ∷ ys) zero x h = ap (λ (z : ItemRow). z .name) h
+name-in (y ∷ ys) (suc i) x h = name-in ys i x h
 
 pub number-stands : (xs : List ItemRow) (n : List ℕ) → Known xs n → (x : ItemRow) × StandsAt xs (numberIn xs n) x × (n ≡ x .name)
 unfolding numberIn

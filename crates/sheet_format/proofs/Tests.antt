@@ -7,58 +7,11 @@ use mathlib.Core.Logic.{_⊎_, inl, inr, ⊎-elim}
 use Prim.Native.Nat.{ℕ}
 use lib.Dec.{eqb}
 use Rattle.vertex_set.specs.Set.{Decides, Iff}
-use Rattle.vertex_set.proofs.Cases.{byTest, false-true}
-use Rattle.vertex_set.proofs.Decisions.{decide-yes, decide-no, decide-iff, decide-eqb}
+use Rattle.vertex_set.proofs.Cases.{false-true}
+use Rattle.vertex_set.proofs.Decisions.{decide-yes, decide-no, decide-iff, decide-eqb, yes-of, and-parts, and-both, decide-not, decide-and, decide-or}
 use Rattle.sheet_format.specs.Text.{sameText, isEmpty, all}
 use Rattle.sheet_format.specs.Rows.{ItemRow, EdgeRow, Each, Known, SameName, SameEdge}
 use Rattle.sheet_format.specs.Questions.{isKnown, sameEdge, isRepeated}
-
--- ---- both, and one of two
-
-pub and-parts : (a b : Bool) → a && b ≡ true → (a ≡ true) × (b ≡ true)
-and-parts true b e = (refl, e)
-and-parts false b e = absurd (false-true e)
-
-pub and-both : (a b : Bool) → a ≡ true → b ≡ true → a && b ≡ true
-and-both true b p q = q
-and-both false b p q = p
-
-pub or-parts : (a b : Bool) → a || b ≡ true → (a ≡ true) ⊎ (b ≡ true)
-or-parts true b e = inl refl
-or-parts false b e = inr e
-
-pub or-left : (a b : Bool) → a ≡ true → a || b ≡ true
-or-left true b e = refl
-or-left false b e = absurd (false-true e)
-
-pub or-right : (a b : Bool) → b ≡ true → a || b ≡ true
-or-right true b e = refl
-or-right false b e = e
-
--- A test with a yes exactly where P holds decides P.
-pub decided : {P : Type 0} (t : Bool) → (t ≡ true → P) → (P → t ≡ true) → Decides P t
-decided t to from = record { yes = to; no = λ e p. false-true (sym e ∙ from p) }
-
--- What is decided and holds has a yes; what does not hold, a no.
-pub yes-of : {P : Type 0} (t : Bool) → Decides P t → P → t ≡ true
-yes-of t d p = byTest t (λ e. e) (λ e. absurd (d .no e p))
-
-pub no-of : {P : Type 0} (t : Bool) → Decides P t → (P → ⊥) → t ≡ false
-no-of t d n = byTest t (λ e. absurd (n (d .yes e))) (λ e. e)
-
-pub decide-and : {P Q : Type 0} (a b : Bool) → Decides P a → Decides Q b → Decides (P × Q) (a && b)
-decide-and a b p q =
-    decided (a && b) (λ e. let h = and-parts a b e in (p .yes (h .0), q .yes (h .1)))
-    (λ h. and-both a b (yes-of a p (h .0)) (yes-of b q (h .1)))
-
-pub decide-or : {P Q : Type 0} (a b : Bool) → Decides P a → Decides Q b → Decides (P ⊎ Q) (a || b)
-decide-or a b p q =
-    decided (a || b) (λ e. ⊎-elim (λ x. inl (p .yes x)) (λ x. inr (q .yes x)) (or-parts a b e))
-    (⊎-elim (λ x. or-left a b (yes-of a p x)) (λ x. or-right a b (yes-of b q x)))
-
-pub decide-not : {P : Type 0} (a : Bool) → Decides P a → Decides (P → ⊥) (not a)
-decide-not true d = record { yes = λ e. absurd (false-true e); no = λ e n. n (d .yes refl) }
-decide-not false d = record { yes = λ e. d .no refl; no = λ e. absurd (false-true (sym e)) }
 
 -- ---- texts
 

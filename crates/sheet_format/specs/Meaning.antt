@@ -5,11 +5,11 @@ use mathlib.Core.List.{List, [], _∷_, _++_}
 use mathlib.Core.Bool.{true, false}
 use mathlib.Core.Logic.{_⊎_}
 use Prim.Native.Nat.{ℕ, suc, _≤_, _<_}
-use lib.ListN.{length, replicate}
+use lib.ListN.{length}
 use Rattle.vertex_set.specs.Set.{Iff}
 use Rattle.setup.specs.Bounds.{mostBytes}
 use Rattle.setup.specs.declared.Setup.{Setup}
-use Rattle.setup.specs.Setup.{unusedVertex, emptyGraph, noVertices}
+use Rattle.setup.specs.Setup.{noItems}
 use Rattle.formed.specs.WellFormed.{WellFormed}
 use Rattle.sheet_format.specs.Text.{linesOf}
 use Rattle.sheet_format.specs.Rows.{Doc, Each, Valid, render, setupOf}
@@ -32,10 +32,11 @@ ValidOfAccepted = (s : List ℕ) (st : Setup) → readSheet s ≡ accepted st �
 abbrev pub start : Place
 start = record { phase = AtFirstHeader; above = noRows }
 
--- The questions that are asked of a line at a place, and the place behind the line.
+-- The questions that are asked of a line at a place.
 abbrev pub askedAt : Place → List ℕ → List Asked
 askedAt p line = questionsOf (p .phase) (p .above) line
 
+-- The place behind a line whose answers are all yes.
 abbrev pub next : Place → List ℕ → Place
 next p line = behind (p .phase) (p .above) line
 
@@ -113,9 +114,9 @@ pub record Accepted (s : List ℕ) : Type 0 where
 
 -- A refused sheet gives a setup of 0 items with no place in use.
 abbrev pub EmptySetup : Type 0
-EmptySetup = setupOf noRows ≡ record { count = 0; vertices = replicate 64 unusedVertex; graph = emptyGraph; recovery = emptyGraph; held = noVertices; opened = noVertices }
+EmptySetup = setupOf noRows ≡ noItems
 
--- s is refused, with a number from 1 to 11 and that setup.
+-- s is refused, with a number from 1 to 11 and a setup of 0 items.
 pub record Refused (s : List ℕ) : Type 0 where
   pub number : ℕ
   pub line : ℕ

@@ -4,7 +4,7 @@ use mathlib.Core.Bool.{Bool, true, false, not, _&&_, _||_}
 use Prim.Native.Nat.{ℕ, suc, _+_}
 use lib.ListN.{length, getD}
 use lib.Dec.{eqb, leb}
-use Rattle.setup.specs.Bounds.{highest, mostEdges, mostChosen, mostBytes}
+use Rattle.setup.specs.Bounds.{mostItems, highest, highestColour, mostEdges, mostChosen, mostBytes}
 use Rattle.setup.specs.Setup.{given}
 use Rattle.sheet_format.specs.Text.{isEmpty, sameText, all}
 use Rattle.sheet_format.specs.Fields.{isName, isNumberTo, numberOf, isKind, kindOf, isValue, fieldValue}
@@ -45,6 +45,7 @@ question10 above = leb 1 (length (above .items))
 abbrev pub field : List (List ℕ) → ℕ → List ℕ
 field fs i = getD fs i []
 
+-- Is none of the fields empty?
 unfoldable pub noneEmpty : List (List ℕ) → Bool
 noneEmpty [] = true
 noneEmpty (f ∷ fs) = not (isEmpty f) && noneEmpty fs
@@ -59,9 +60,9 @@ question5Item fs = isName (field fs 0) && isKind (field fs 1) && isValue (field 
 
 -- 5, of an edge: `from to colour rec`, with the colour 0 to 7 and rec 0 or 1
 unfoldable pub question5Edge : List (List ℕ) → Bool
-question5Edge fs = isName (field fs 0) && isName (field fs 1) && isNumberTo 7 (field fs 2) && isNumberTo 1 (field fs 3)
+question5Edge fs = isName (field fs 0) && isName (field fs 1) && isNumberTo highestColour (field fs 2) && isNumberTo 1 (field fs 3)
 
--- The rows that such fields state.
+-- The item row that fields which pass question 5 state.
 unfoldable pub itemOf : List (List ℕ) → ItemRow
 itemOf fs =
     record {
@@ -72,6 +73,7 @@ itemOf fs =
       rank = numberOf (field fs 4);
     }
 
+-- The edge row that fields which pass question 5 state.
 unfoldable pub edgeOf : List (List ℕ) → EdgeRow
 edgeOf fs = record { from = field fs 0; to = field fs 1; colour = numberOf (field fs 2); rec = eqb (numberOf (field fs 3)) 1 }
 
@@ -88,6 +90,7 @@ question6 above x = not (isKnown (above .items) (x .name))
 unfoldable pub question8 : Doc → EdgeRow → Bool
 question8 above e = isKnown (above .items) (e .from) && isKnown (above .items) (e .to)
 
+-- Have the two edge rows the same from, to and colour?
 unfoldable pub sameEdge : EdgeRow → EdgeRow → Bool
 sameEdge x y = sameText (x .from) (y .from) && sameText (x .to) (y .to) && eqb (x .colour) (y .colour)
 
@@ -100,10 +103,10 @@ isRepeated (x ∷ xs) e = sameEdge x e || isRepeated xs e
 unfoldable pub question9 : Doc → EdgeRow → Bool
 question9 above e = not (isRepeated (above .edges) e)
 
--- 7: within the bounds with this row? 64 items, and the most starting and losable ones
+-- 7: within the bounds with this row? The most items, and the most starting and losable ones
 unfoldable pub question7Item : Doc → ItemRow → Bool
 question7Item above x =
-    leb (suc (length (above .items))) 64 && leb (startCount (above .items) + given (x .start)) mostChosen && leb (lossCount (above .items) + given (x .loss)) mostChosen
+    leb (suc (length (above .items))) mostItems && leb (startCount (above .items) + given (x .start)) mostChosen && leb (lossCount (above .items) + given (x .loss)) mostChosen
 
 -- 7, of an edge: the most edges
 unfoldable pub question7Edge : Doc → Bool

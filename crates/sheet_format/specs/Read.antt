@@ -8,23 +8,27 @@ use Rattle.sheet_format.specs.Text.{linesOf, fieldsOf, isEmpty}
 use Rattle.sheet_format.specs.Rows.{ItemRow, EdgeRow, Doc, setupOf, firstHeader, secondHeader}
 use Rattle.sheet_format.specs.Questions.{question1, question2, question3, question4, question5Item, question5Edge, question6, question7Item, question7Edge, question8, question9, question10, itemOf, edgeOf}
 
--- Where the reading stands: which lines belong here, and the rows above.
+-- The part of the sheet that the reading has come to: which lines belong here.
 pub data Phase : Type 0 where
   AtFirstHeader : Phase
   AmongItems : Phase
   AtSecondHeader : Phase
   AmongEdges : Phase
 
+-- Where the reading stands: the part of the sheet, and the rows above.
 pub record Place : Type 0 where
   pub phase : Phase
   pub above : Doc
 
+-- No rows at all: what stands above the first line.
 abbrev pub noRows : Doc
 noRows = record { items = []; edges = [] }
 
+-- The rows with an item row more.
 abbrev pub withItem : Doc → ItemRow → Doc
 withItem d x = record { items = d .items ++ (x ∷ []); edges = d .edges }
 
+-- The rows with an edge row more.
 abbrev pub withRow : Doc → EdgeRow → Doc
 withRow d e = record { items = d .items; edges = d .edges ++ (e ∷ []) }
 
@@ -35,6 +39,7 @@ pub record Asked : Type 0 where
   pub number : ℕ
   pub answer : Bool
 
+-- The question with the number n, answered with b.
 abbrev pub ask : ℕ → Bool → Asked
 ask n b = record { number = n; answer = b }
 
@@ -69,6 +74,7 @@ firstNo (a ∷ later) = cond (a .answer) (firstNo later) (a .number)
 
 -- ---- the whole sheet
 
+-- An accepted sheet gives its setup, with number 0 and line 0.
 abbrev pub accepted : Setup → Reading
 accepted s = record { number = 0; line = 0; setup = s }
 
@@ -83,16 +89,17 @@ question11 AmongItems = false
 question11 AtSecondHeader = false
 question11 AmongEdges = true
 
--- Go on where no question has a no; else that number is the answer.
+-- The reading r where the number of the first no is 0, so that there is none; else the refusal with that number at line k.
 unfoldable pub unless : ℕ → ℕ → Reading → Reading
 unless zero k r = r
 unless (suc n) k r = refused (suc n) k
 
--- The lines from line k on.
+-- The reading of the lines from line k on.
 unfoldable pub readLines : Phase → Doc → ℕ → List (List ℕ) → Reading
 readLines p d k [] = cond (question11 p) (accepted (setupOf d)) (refused 11 k)
 readLines p d k (line ∷ lines) =
     unless (firstNo (questionsOf p d line)) k (readLines (behind p d line .phase) (behind p d line .above) (suc k) lines)
 
+-- The reading of a text: question 1, question 2, then the lines from line 1 on.
 unfoldable pub readSheet : List ℕ → Reading
 readSheet text = cond (question1 text) (cond (question2 text) (readLines AtFirstHeader noRows 1 (linesOf text)) (refused 2 0)) (refused 1 0)

@@ -27,6 +27,7 @@ unfoldable pub fieldsOf : List ℕ → List (List ℕ)
 fieldsOf [] = [] ∷ []
 fieldsOf (b ∷ l) = cond (eqb b 32) ([] ∷ fieldsOf l) (grow b (fieldsOf l))
 
+-- Has the text no byte?
 unfoldable pub isEmpty : List ℕ → Bool
 isEmpty [] = true
 isEmpty (b ∷ s) = false

@@ -1,5 +1,5 @@
-// What a sheet is (document 01, "The sheet" and "Questions, and the number for no"): the type of
-// the answer to it. The definitions stand in specs/, the theorems on them in proofs/.
+// Sheets (document 01, "The sheet" and "Questions, and the number for no"): the type that reading
+// one answers with. The definitions stand in specs/, the theorems on them in proofs/.
 
 // What reading a sheet gives. Number 0 and line 0: it is accepted. Else the number of the first
 // question whose answer is no, its line (0 for the whole text), and a setup of 0 items with no

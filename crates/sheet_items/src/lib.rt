@@ -3,8 +3,8 @@ use setup::Vertex;
 ghost use mathlib.Core.Path.{_≡_};
 ghost use Rattle.sheet_items.specs.Inner.Items.{ReadsItems};
 
-// What the lines of items come to: the items and the keys of their names, or the number and line of
-// the first no. The reading of these lines has stopped at the place `at`.
+// What reading the item lines gives: the items and the keys of their names, or the number and line
+// of the first no. The reading of these lines has stopped at the place `at`.
 pub struct Items {
     pub number: u64,
     pub line: u64,
@@ -42,7 +42,7 @@ fn stop(
 pub fn read_items(s: &[u8], start: usize) -> Items
     ensures { λ r. ⌜ ReadsItems (now (s .entry)) start r ⌝ }
 {
-    let mut vertices = [sheet_rows::UNUSED; 64];
+    let mut vertices = [setup::UNUSED; 64];
     let mut low = [0u64; 64];
     let mut high = [0u64; 64];
     let mut count: usize = 0;

@@ -12,7 +12,8 @@ use lib.Dec.{eqb, leb}
 use borrow.Author.Tests.{eq-eqb, ne-eqb, le-leb, lt-leb}
 use Rattle.sheet_format.specs.Text.{isEmpty, sameText, all}
 use Rattle.sheet_format.specs.Questions.{isTextByte, endsInLF, question2}
-use Rattle.sheet_format.proofs.Tests.{no-of, text-decided}
+use Rattle.vertex_set.proofs.Decisions.{no-of}
+use Rattle.sheet_format.proofs.Tests.{text-decided}
 
 -- ---- a byte of a text
 

@@ -7,13 +7,13 @@ use Prim.Native.Nat.{ℕ, zero, suc, _+_, _-_, _≤_, _<_}
 use native.Mathlib.Nat.{add-zero}
 use native.Mathlib.Omega.{arith}
 use lib.ListN.{length, getD, take, drop}
-use lib.Seq.{drop-drop, getD-drop, take-all, length-take-le}
+use lib.Seq.{drop-drop, getD-drop, length-take-le}
 use Rattle.vertex_set.proofs.Cases.{less-or}
 use Rattle.sheet_format.specs.Text.{linesOf, fieldsOf}
 use Rattle.sheet_format.specs.Questions.{field}
 use Rattle.sheet_format.specs.Names.{lineStart, rowOfItem}
 use Rattle.sheet_fields.specs.Inner.Parts.{until}
-use Rattle.sheet_fields.proofs.Cutting.{until-le, fields-more, fields-last}
+use Rattle.sheet_fields.proofs.Cutting.{until-le, first-field}
 use Rattle.sheet_fields.proofs.Lines.{lines-cons, line-at, lines-over}
 use Rattle.sheet_names.specs.declared.Span.{Span}
 use Rattle.sheet_names.specs.Inner.Span.{spanOf}
@@ -70,10 +70,6 @@ lines-behind (suc k) s =
     ⊎-elim (λ h. behind-more k s (drop (suc (until 10 s)) s) h refl (lines-behind k (drop (suc (until 10 s)) s))) (λ h. behind-none k s h) (less-or 0 (length s))
 
 -- ---- the first field
-
-pub first-field : (l : List ℕ) → field (fieldsOf l) 0 ≡ take (until 32 l) l
-first-field l =
-    ⊎-elim (λ h. rw (fields-more l h)) (λ h. rw (fields-last l h) (sym (take-all (until 32 l) l h))) (less-or (until 32 l) (length l))
 
 pub field-length : (l : List ℕ) → length (field (fieldsOf l) 0) ≡ until 32 l
 field-length l = rw (first-field l) (length-take-le (until 32 l) l (until-le 32 l))

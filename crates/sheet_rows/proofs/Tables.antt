@@ -11,12 +11,12 @@ use lib.Seq.{drop-cons, getD-take, length-take-le}
 use lib.Dec.{eqb, ltb, leb·suc-suc}
 use borrow.Author.Tests.{eq-eqb, lt-ltb}
 use Rattle.vertex_set.proofs.Cases.{byTest}
-use Rattle.vertex_set.proofs.Decisions.{decide-eqb}
+use Rattle.vertex_set.proofs.Decisions.{decide-eqb, and-both, decide-and, no-of}
 use Rattle.sheet_format.specs.Text.{sameText}
 use Rattle.sheet_format.specs.Fields.{isName}
 use Rattle.sheet_format.specs.Rows.{ItemRow, Each, numberIn}
 use Rattle.sheet_format.specs.Questions.{isKnown}
-use Rattle.sheet_format.proofs.Tests.{and-both, decide-and, no-of, text-decided}
+use Rattle.sheet_format.proofs.Tests.{text-decided}
 use Rattle.sheet_fields.specs.Inner.Keys.{keyOf}
 use Rattle.sheet_fields.proofs.Packing.{key-same}
 use Rattle.sheet_fields.proofs.Names.{name-small}

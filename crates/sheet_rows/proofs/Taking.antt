@@ -15,7 +15,7 @@ use Rattle.sheet_format.specs.Fields.{isName, isKind, isValue, isNumberTo, numb
 use Rattle.sheet_format.specs.Rows.{ItemRow, Doc, numberIn, startCount, lossCount}
 use Rattle.sheet_format.specs.Questions.{field, question4, question5Item, question5Edge, question6, question7Item, question8, isKnown, itemOf, edgeOf}
 use Rattle.sheet_format.specs.Read.{Asked, ask, firstNo, itemQuestions}
-use Rattle.sheet_format.proofs.Tests.{and-parts}
+use Rattle.vertex_set.proofs.Decisions.{and-parts}
 use Rattle.sheet_rows.specs.declared.ItemLine.{ItemLine}
 use Rattle.sheet_rows.specs.declared.TakenItem.{TakenItem}
 use Rattle.sheet_rows.specs.declared.EdgeLine.{EdgeLine}

@@ -1,4 +1,4 @@
-// The rows of a sheet: an item row and an edge row, each by itself and below the rows above it.
+// The rows of a sheet: an item row and an edge row, each by itself, and with the rows above it.
 use setup::Kind;
 use setup::Value;
 use setup::Vertex;
@@ -11,25 +11,14 @@ ghost use Prim.Native.Nat.{suc, _≤_};
 ghost use mathlib.Core.Bool.{_&&_};
 ghost use lib.ListN.{length, take};
 ghost use lib.Dec.{eqb, leb};
+ghost use Rattle.setup.specs.Bounds.{mostItems, mostChosen};
 ghost use Rattle.setup.specs.Setup.{given};
 ghost use Rattle.sheet_fields.specs.Inner.Parts.{Places, fourFields};
 ghost use Rattle.sheet_rows.specs.Inner.NameKeys.{placeOf};
 ghost use Rattle.sheet_rows.specs.Inner.Lines.{JoinsFields, ReadsFields, ReadsVertex, JoinsItem, ReadsItem, TakesItem, JoinsEnds, ReadsEnds, ReadsEdge, TakesEdge};
 
-// Document 01's bounds.
-const MAX_COLOUR: u64 = 7;
-
-const MAX_ITEMS: usize = 64;
-
-const MAX_CHOSEN: usize = setup::MAX_CHOSEN as usize;
-
-// A place not in use.
-pub const UNUSED: Vertex = Vertex {
-    kind: Kind::Credential,
-    start: Value::Blank,
-    loss: Value::Blank,
-    rank: 0,
-};
+// A colour is read as a number of 64 bits.
+const MAX_COLOUR: u64 = setup::MAX_COLOUR as u64;
 
 // In each answer of this crate `number` is that of the first question whose answer is no, or 0.
 // Where it is not 0, the other fields say nothing.
@@ -75,7 +64,7 @@ fn no_vertex(number: u64) -> VertexFields
 {
     VertexFields {
         number,
-        vertex: UNUSED,
+        vertex: setup::UNUSED,
     }
 }
 
@@ -138,7 +127,7 @@ fn no_item(number: u64) -> ItemLine
     ItemLine {
         number,
         key: sheet_fields::NO_KEY,
-        vertex: UNUSED,
+        vertex: setup::UNUSED,
     }
 }
 
@@ -220,7 +209,7 @@ fn no_taken(number: u64) -> TakenItem
     TakenItem {
         number,
         key: sheet_fields::NO_KEY,
-        vertex: UNUSED,
+        vertex: setup::UNUSED,
         starts: 0,
         losses: 0,
     }
@@ -228,15 +217,15 @@ fn no_taken(number: u64) -> TakenItem
 
 // Question 7 of an item row below `count` others; `starts` and `losses` count this row too.
 fn has_room(count: usize, starts: usize, losses: usize) -> bool
-    ensures { λ r. ⌜ r ≡ (leb (suc count) 64 && leb starts 14 && leb losses 14) ⌝ }
+    ensures { λ r. ⌜ r ≡ (leb (suc count) mostItems && leb starts mostChosen && leb losses mostChosen) ⌝ }
 {
-    if MAX_ITEMS <= count {
+    if setup::MAX_ITEMS <= count {
         return false;
     }
-    if MAX_CHOSEN < starts {
+    if setup::MAX_CHOSEN < starts {
         return false;
     }
-    losses <= MAX_CHOSEN
+    losses <= setup::MAX_CHOSEN
 }
 
 // An item row below `count` others, of which `starts` are starting and `losses` losable items.
@@ -248,7 +237,7 @@ pub fn take_item(
     starts: usize,
     losses: usize,
 ) -> TakenItem
-    requires { ⌜ (count ≤ length (now low)) × (count ≤ length (now high)) × (starts ≤ 14) × (losses ≤ 14) ⌝ }
+    requires { ⌜ (count ≤ length (now low)) × (count ≤ length (now high)) × (starts ≤ mostChosen) × (losses ≤ mostChosen) ⌝ }
     ensures { λ r. ⌜ TakesItem (now (l .entry)) (now (low .entry)) (now (high .entry)) count starts losses r ⌝ }
 {
     let item = read_item(l);

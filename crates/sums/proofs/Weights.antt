@@ -1,22 +1,21 @@
 -- Sums of weights at a mask's bits: by tables of seven bits each, and as sums of values over the mask's set.
 -- Assumes nothing.
 use mathlib.Core.Path.{_≡_, refl, sym, ap, _∙_, subst}
-use mathlib.Core.Logic.{⊎-elim}
 use mathlib.Core.List.{List, [], _∷_, _++_, map, map-map, map-append, append-nil}
 use Prim.Native.Nat.{ℕ, zero, suc, _+_, _-_, _*_, _/_, _%_, _^_, _≤_, _<_}
 use native.Mathlib.Nat.{pow-suc, mul-comm, div-div-eq-div-mul, mul-mod-left}
 use native.Mathlib.Omega.{arith}
 use lib.Count.{ones, trailingZeros}
 use lib.ListN.{length, getD, drop, set, replicate, length-replicate, length-append, length-map}
-use lib.Seq.{set-at, append-snoc, getD-set-same, getD-set-other, getD-drop}
+use lib.Seq.{set-at, append-snoc, getD-set-same, getD-drop}
 use lib.Pow.{shl-shr}
 use Rattle.vertex_set.specs.Set.{Member}
 use Rattle.vertex_set.specs.Order.{sumBelow, sumOver}
-use Rattle.vertex_set.proofs.Cases.{same-or}
 use Rattle.vertex_set.proofs.Sets.{member-below, shifted-one}
 use Rattle.vertex_set.proofs.Places.{in-first, in-later, member-le, places, places-odd, places-even, places-none, Lowest, lowest}
 use Rattle.vertex_set.proofs.Shifts.{low-first, low-half}
 use Rattle.vertex_set.proofs.Sums.{sum-first}
+use Rattle.vertex_set.proofs.Filling.{fill-more}
 use Rattle.families.proofs.Masks.{spread, spread-even, spread-odd, by-parity, set-is}
 use Rattle.sums.specs.Inner.Sums.{sumAt, WeightsOf, SumsFit}
 
@@ -162,9 +161,7 @@ module _ (ws : List ℕ) (n k : ℕ) (t : List ℕ) (h : k < 128) (ne : k ≡ 0 
   filling-more hk g =
       rw (next-sum g)
       (record {
-        each = λ j l. ⊎-elim
-            (λ e. subst (λ (i : ℕ). getD (set t k (sumAt (drop n ws) k)) i 0 ≡ sumAt (drop n ws) i) (sym e) (getD-set-same t k (sumAt (drop n ws) k) 0 hk))
-            (λ o. getD-set-other t k j (sumAt (drop n ws) k) 0 o ∙ g .each j (omega arith)) (same-or j k);
+        each = fill-more 0 (λ j y. y ≡ sumAt (drop n ws) j) t k (sumAt (drop n ws) k) hk (g .each) refl;
       })
 
 -- no sum that the table holds is too large
@@ -177,6 +174,4 @@ sum-fits ws n k f = subst (λ (x : ℕ). x < 2 ^ 64) (at-high n ws k) (f .fits (
 pub singles-more : (values : List ℕ) (n : ℕ) → n < 64 → n < length values → ((v : ℕ) → v < n → getD values v 0 ≡ 2 ^ v)
     → (v : ℕ) → v < n + 1 → getD (set values n ((1 * 2 ^ n) % 2 ^ 64)) v 0 ≡ 2 ^ v
 singles-more values n h l p v lt =
-    rw (shifted-one n h)
-    (⊎-elim (λ e. subst (λ (k : ℕ). getD (set values n (2 ^ n)) k 0 ≡ 2 ^ k) (sym e) (getD-set-same values n (2 ^ n) 0 l))
-    (λ o. getD-set-other values n v (2 ^ n) 0 o ∙ p v (omega arith)) (same-or v n))
+    rw (shifted-one n h) (fill-more 0 (λ u y. y ≡ 2 ^ u) values n (2 ^ n) l p refl v lt)

@@ -4,6 +4,7 @@ ghost use mathlib.Core.Path.{_≡_};
 ghost use Prim.Native.Nat.{ℕ, _≤_};
 ghost use lib.ListN.{length, getD};
 ghost use lib.Count.{ones};
+ghost use Rattle.families.specs.Inner.Family.{maskBits};
 ghost use Rattle.sums.specs.Inner.Sums.{Singles, WeightsOf, SumsFit, SumTable};
 use vertex_set::VertexSet;
 
@@ -21,7 +22,7 @@ pub fn singles() -> [u64; 64]
 
 // The values of the chosen vertices, lowest vertex first; the places behind them have 0.
 pub fn weights_of(chosen: VertexSet, values: [u64; 64]) -> [u64; 14]
-    requires { ⌜ ones (chosen .0) ≤ 14 ⌝ }
+    requires { ⌜ ones (chosen .0) ≤ maskBits ⌝ }
     ensures { λ r. ⌜ WeightsOf (chosen .0) (λ (v : ℕ). getD values v 0) r ⌝ }
 {
     let one: u64 = 1;

@@ -1,11 +1,14 @@
 pub mod Cases
 pub mod Decisions
 pub mod Digits
+pub mod Filling
 pub mod Lists
 pub mod Outside
 pub mod Places
 pub mod Sets
 pub mod Shifts
 pub mod Sorted
+pub mod Stable
 pub mod Subsets
 pub mod Sums
+pub mod Taking

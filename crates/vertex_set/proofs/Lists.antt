@@ -1,19 +1,38 @@
--- Lists without repetition, and lists of exactly the sets of which a predicate holds.
+-- What stands in a list and at which place, lists without repetition, and lists of exactly the sets of which a predicate holds.
 -- Assumes nothing.
 use mathlib.Core.Path.{_≡_, refl, sym, ap, subst, _∙_}
-use mathlib.Core.List.{List, [], _∷_, map}
+use mathlib.Core.List.{List, [], _∷_, _++_, map}
 use mathlib.Core.Logic.{_⊎_, inl, inr, ⊎-elim}
-use Prim.Native.Nat.{ℕ, suc, _≤_, _<_}
+use Prim.Native.Nat.{ℕ, zero, suc, _≤_, _<_}
 use native.Mathlib.Omega.{arith}
-use lib.ListN.{length}
+use lib.ListN.{length, getD, replicate}
 use Rattle.vertex_set.specs.Set.{Iff}
 use Rattle.vertex_set.specs.Order.{Listed, Once, Before, Ordered, ListsExactly}
 use Rattle.vertex_set.proofs.Cases.{same-or}
-use Rattle.vertex_set.proofs.Sorted.{listed-of-map, Sorted, not-before-self, ordered-same}
+use Rattle.vertex_set.proofs.Sorted.{listed-append, listed-of-map, Sorted, not-before-self, ordered-same}
 
 pub listed-or : (l : List ℕ) (x : ℕ) → Listed l x ⊎ (Listed l x → ⊥)
 listed-or [] x = inr (λ h. h)
 listed-or (y ∷ l) x = ⊎-elim (λ e. inl (inl e)) (λ n. ⊎-elim (λ h. inl (inr h)) (λ m. inr (⊎-elim n m)) (listed-or l x)) (same-or x y)
+
+-- what stands at a place stands in the list, and what stands in it has a place there
+pub listed-at : (l : List ℕ) (i : ℕ) → i < length l → Listed l (getD l i 0)
+listed-at [] i h = absurd (omega arith)
+listed-at (x ∷ l) zero h = inl refl
+listed-at (x ∷ l) (suc i) h = inr (listed-at l i (omega arith))
+
+pub place-of : (l : List ℕ) (x : ℕ) → Listed l x → (i : ℕ) × (i < length l) × (getD l i 0 ≡ x)
+place-of [] x h = absurd h
+place-of (y ∷ l) x (inl e) = (0, omega arith, sym e)
+place-of (y ∷ l) x (inr h) = let p = place-of l x h in (suc (p .0), let q = p .1 in omega arith, p .2)
+
+-- a list of zeros has a zero at every place, and behind its end
+pub zeros : (n i : ℕ) → getD {A = ℕ} (replicate n 0) i 0 ≡ 0
+zeros zero i = refl
+zeros (suc n) zero = refl
+zeros (suc n) (suc i) = zeros n i
+
+-- ---- lists without repetition
 
 -- a list without one place at which x stands
 record Removed (l : List ℕ) (x : ℕ) : Type 0 where
@@ -53,6 +72,12 @@ once-map f (x ∷ l) i o = (
   λ h. let k = listed-of-map f l (f x) h in o .0 (subst (Listed l) (sym (i x (k .0) (inl refl) (inr (k .1)) (k .2))) (k .1)),
   once-map f l (λ y z p q. i y z (inr p) (inr q)) (o .1),
 )
+
+-- and so do two lists with nothing in common, one behind the other
+pub once-append : (a b : List ℕ) → Once a → Once b → ((x : ℕ) → Listed a x → Listed b x → ⊥) → Once (a ++ b)
+once-append [] b p q d = q
+once-append (x ∷ a) b p q d =
+    (λ h. ⊎-elim (p .0) (d x (inl refl)) (listed-append a b x .to h), once-append a b (p .1) q (λ y i. d y (inr i)))
 
 pub sorted-once : (l : List ℕ) → Sorted _<_ l → Once l
 sorted-once [] s = tt

@@ -68,6 +68,10 @@ same-set a b p q =
     (λ n. not-member a i n ∙ sym (not-member b i (λ m. n (q .each i m))))
     (member-or a i))
 
+-- two sets with one description are one
+pub one-set : (P : ℕ → Type 0) (a b : ℕ) → ((v : ℕ) → Iff (Member a v) (P v)) → ((v : ℕ) → Iff (Member b v) (P v)) → a ≡ b
+one-set P a b p q = same-set a b (record { each = λ v m. q v .from (p v .to m) }) (record { each = λ v m. p v .from (q v .to m) })
+
 -- a set within another is the smaller number
 pub within-le : (a b : ℕ) → Within a b → a ≤ b
 unfolding Member
@@ -225,6 +229,11 @@ bounded-by-members k s h =
     omega arith
 
 -- ---- how many members
+
+-- the empty set has no vertex
+pub ones-zero : ones 0 ≡ 0
+unfolding ones
+ones-zero = refl
 
 -- one vertex more is at most one member more
 pub ones-or-one : (v s : ℕ) → ones (bitOr s (2 ^ v)) ≤ ones s + 1

@@ -69,6 +69,11 @@ abbrev pub all : (ℕ → Bool) → ℕ → Bool
 all t zero = true
 all t (suc n) = and-then (all t n) (t n)
 
+-- a yes or no as a digit, so that a table of them can be tested
+abbrev pub flag : Bool → ℕ
+flag true = 1
+flag false = 0
+
 then-left : (a b : Bool) → and-then a b ≡ true → a ≡ true
 then-left true b e = refl
 then-left false b e = e

@@ -117,6 +117,10 @@ pub sorted-ordered : (l : List ℕ) → Sorted Before l → Ordered l
 sorted-ordered [] p = tt
 sorted-ordered (x ∷ l) p = (p .0, sorted-ordered l (p .1))
 
+pub ordered-sorted : (l : List ℕ) → Ordered l → Sorted Before l
+ordered-sorted [] o = tt
+ordered-sorted (x ∷ l) o = (o .0, ordered-sorted l (o .1))
+
 -- ---- a list in order is settled by what stands in it
 
 pub not-before-self : (x : ℕ) → Before x x → ⊥

@@ -25,6 +25,11 @@ abbrev pub Ordered : List ℕ → Type 0
 Ordered [] = Unit {0}
 Ordered (x ∷ l) = ((y : ℕ) → Listed l y → Before x y) × Ordered l
 
+-- Each number of the list is below all that follow it; so none stands there twice.
+abbrev pub Rising : List ℕ → Type 0
+Rising [] = Unit {0}
+Rising (x ∷ l) = ((y : ℕ) → Listed l y → x < y) × Rising l
+
 -- l has exactly the sets of which P holds, each once, fewer vertices first, then the smaller number.
 pub record ListsExactly (P : ℕ → Type 0) (l : List ℕ) : Type 0 where
   pub sound : (x : ℕ) → Listed l x → P x

@@ -20,11 +20,11 @@ use Rattle.derivations.proofs.Admits.{admits-local, admits-mono, admits-some, s
 use Rattle.successors.specs.Inner.{VertexOf, Without, Successors}
 use Rattle.closures.specs.Inner.{LowestColour, ToLookAt}
 use Rattle.closures.proofs.Passes.{look-all}
-use Rattle.ways.specs.Inner.{Ready, Searching, Begun, Looked, Added}
+use Rattle.ways.specs.Inner.{Ready, Searching, SearchBegun, Looked, Added}
 
 -- ---- the beginning
 
-pub search-begun : (list : List ℕ) (set left : ℕ) → set < 2 ^ 64 → ToLookAt list 0 set left → Begun list set set 0 left
+pub search-begun : (list : List ℕ) (set left : ℕ) → set < 2 ^ 64 → ToLookAt list 0 set left → SearchBegun list set set 0 left
 search-begun list set left h t =
     record {
       same = refl;

@@ -29,7 +29,7 @@ use Rattle.derivations.proofs.Way.{way-same, way-unique, lowest-unique}
 use Rattle.successors.specs.Inner.{LowestOf, Successors}
 use Rattle.closures.specs.Inner.{LowestColour}
 use Rattle.closures.proofs.Passes.{falls-next, falls-left}
-use Rattle.ways.specs.Inner.{Searching, Begun, Looked, Added, WayFollowed, Room, Written}
+use Rattle.ways.specs.Inner.{Searching, SearchBegun, Looked, Added, WayFollowed, Room, Written}
 use Rattle.ways.proofs.Searches.{none-ready}
 
 -- ---- the lowest step
@@ -199,7 +199,7 @@ pub record Onward (g : Graph) (list : List ℕ) (target held ready left : ℕ) :
   pub search : Searching g held ready left
   pub out : Member held target → ⊥
 
-pub onward-none : (g : Graph) (list : List ℕ) (target set held ready left : ℕ) → Successors g list → Begun list set held ready left → (Member set target → ⊥)
+pub onward-none : (g : Graph) (list : List ℕ) (target set held ready left : ℕ) → Successors g list → SearchBegun list set held ready left → (Member set target → ⊥)
     → Onward g list target held ready left
 onward-none g list target set held ready left s b out =
     record { successors = s; search = b .search g s; out = λ m. out (subst (λ (x : ℕ). Member x target) (b .same) m) }

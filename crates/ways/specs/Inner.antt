@@ -29,7 +29,7 @@ pub record Searching (g : Graph) (held ready left : ℕ) : Type 0 where
   pub whole : (v : ℕ) → Ready g held v → Member ready v ⊎ Member left v
 
 -- The search begins with what the set has. Here and below the graph is any that has these successors.
-pub record Begun (list : List ℕ) (set held ready left : ℕ) : Type 0 where
+pub record SearchBegun (list : List ℕ) (set held ready left : ℕ) : Type 0 where
   pub same : held ≡ set
   pub search : (g : Graph) → Successors g list → Searching g held ready left
 
@@ -46,8 +46,8 @@ pub record Added (list : List ℕ) (v held ready held′ ready′ left′ : ℕ)
 
 -- ---- the way in
 
--- Where the way in ends. With found it comes to the target in so many steps, and held has the vertices of the set and those of the steps; else
--- nothing derives the target, and held is the closure.
+-- Where the way in ends. With `found` it comes to the target in `count` steps, and `held` has the vertices of the set and those of the steps; else
+-- nothing derives the target, and `held` is the closure.
 pub record WayFollowed (g : Graph) (target s : ℕ) (found : Bool) (count held : ℕ) : Type 0 where
   pub yes : found ≡ true → (d : List Step) × Way g target (Member s) d × (count ≡ length d)
       × ((v : ℕ) → Iff (Member held v) (Member s v ⊎ Adds (access g) d v))

@@ -2,7 +2,7 @@
 ghost use mathlib.Core.Path.{_≡_};
 ghost use lib.ListN.{length};
 ghost use Rattle.successors.specs.Inner.{VertexOf};
-ghost use Rattle.ways.specs.Inner.{Begun, Looked, Added, WayFollowed, Room, Written};
+ghost use Rattle.ways.specs.Inner.{SearchBegun, Looked, Added, WayFollowed, Room, Written};
 use setup::Graph;
 use setup::Rows;
 use vertex_set::VertexSet;
@@ -15,10 +15,11 @@ struct Search {
     left: u64,
 }
 
-// Nothing is known to be ready, and only a vertex that needs one of the set can be.
+// Begins a search: no vertex is known to be ready yet, and only one that needs a vertex of the set
+// can be.
 fn begin(list: &[u64], set: VertexSet) -> Search
     requires { ⌜ length (now list) ≡ 64 ⌝ }
-    ensures { λ r. ⌜ Begun (now (list .entry)) (set .0) (r .held .0) (r .ready .0) (r .left) ⌝ }
+    ensures { λ r. ⌜ SearchBegun (now (list .entry)) (set .0) (r .held .0) (r .ready .0) (r .left) ⌝ }
 {
     let none = VertexSet(0);
     let left = closures::to_look_at(list, none, set);
@@ -29,7 +30,7 @@ fn begin(list: &[u64], set: VertexSet) -> Search
     }
 }
 
-// Looks at the vertex v, which has these rows. The rows and not the graph are handed over, which
+// Looks at the vertex v, which has these rows. The rows alone are handed over: the whole graph
 // would be copied.
 fn look(rows: Rows, v: usize, search: Search) -> Search
     requires { ⌜ VertexOf (search .left) v ⌝ }
@@ -38,7 +39,7 @@ fn look(rows: Rows, v: usize, search: Search) -> Search
     let held = search.held;
     let ready = search.ready;
     let left = successors::without(search.left, v);
-    if closures::lowest_colour(rows, held) < 8 {
+    if closures::lowest_colour(rows, held) < successors::COLOURS {
         let more = ready.insert(v);
         return Search {
             held,
@@ -49,8 +50,8 @@ fn look(rows: Rows, v: usize, search: Search) -> Search
     Search { held, ready, left }
 }
 
-// Takes the ready vertex v into what is held. Of the others that are not ready, only those that
-// need v can have become so.
+// Takes the ready vertex v into what is held. Of the vertices that were not ready, only those that
+// need v can be ready now.
 fn add(list: &[u64], v: usize, search: Search) -> Search
     requires { ⌜ length (now list) ≡ 64 ⌝ }
     requires { ⌜ VertexOf (search .ready .0) v ⌝ }

@@ -10,28 +10,27 @@ use lib.ListN.{getD}
 use borrow.Author.Tests.{eqb-true, leb-true, ltb-true}
 use Rattle.vertex_set.specs.Set.{Member, Iff, Decides}
 use Rattle.vertex_set.specs.Order.{Listed}
-use Rattle.vertex_set.proofs.Decisions.{decide-iff, decide-leb, decide-eqb}
+use Rattle.vertex_set.proofs.Decisions.{decide-iff, decide-leb, decide-eqb, decide-not, decide-and}
 use Rattle.vertex_set.proofs.Digits.{digit}
 use Rattle.vertex_set.proofs.Sets.{member-below}
-use Rattle.vertex_set.proofs.Shifts.{all, all-at}
+use Rattle.vertex_set.proofs.Shifts.{all, all-at, flag}
 use Rattle.vertex_set.proofs.Sorted.{listed-map, listed-of-map}
 use Rattle.setup.specs.declared.Setup.{Setup}
 use Rattle.setup.specs.Setup.{given, valueOf, vertexAt}
 use Rattle.formed.specs.WellFormed.{WellFormed}
-use Rattle.bases.specs.Base.{Base}
 use Rattle.reference.specs.Tests.{lowest, some, every, filtered, isListed, isMember, isWithin, isMeeting, withVertex}
 use Rattle.reference.specs.Closures.{isComplete, isBroken, colourOf, isAdded, passOf, passesOf, closureOf, derivesOf}
 use Rattle.reference.specs.Bases.{isChosen, setsOfSize, setsUpTo, setsOf, targetSetsOf, isMinimal, baseOf}
-use Rattle.reference.proofs.Tests.{by-decision, decide-not, decide-and, decide-some, decide-listed}
-use Rattle.reference.proofs.Graphs.{own-graph, chosen-below}
-use Rattle.reference.proofs.Bases.{base-of}
-use Rattle.attackers.specs.Attackers.{location, skill, Weaker, largestOver, attackerOf, OfBase, InScore, EntriesFit, AttackerScore}
+use Rattle.reference.proofs.Tests.{by-decision, decide-some, decide-listed}
+use Rattle.reference.proofs.Graphs.{chosen-below}
+use Rattle.reference.proofs.Bases.{own-base}
+use Rattle.attackers.specs.Attackers.{location, skill, Weaker, largestOver, attackerOf, OfBase, KindInScore, EntriesFit, AttackerScore}
 use Rattle.attackers.proofs.Scores.{base-small, score-small, score-whole}
 use Rattle.sheet_format.specs.Rows.{Each}
 use Rattle.worked_examples.specs.Sheets.{Sheet, Reads}
 use Rattle.worked_examples.specs.Table.{setOf}
 use Rattle.worked_examples.specs.Attackers.{remNone, locNone, KindsOrdered, AttackerExample, Scores, attackerExamples, AllScore}
-use Rattle.worked_examples.proofs.Reading.{_&_, all-read, reads-well}
+use Rattle.worked_examples.proofs.Reading.{_&_, reads-well, read-bench, read-alone, read-closed, read-spare, read-full, read-figure1}
 
 -- ---- the order, at examples
 
@@ -58,10 +57,6 @@ isWeaker j k = not (eqb j k) && (leb (location j) (location k) && leb (skill j) 
 -- Is k one of the kinds, with no other of them below?
 isLowest : List ℕ → ℕ → Bool
 isLowest ks k = isListed ks k && not (some (λ j. isListed ks j && isWeaker j k) 6)
-
-abbrev flag : Bool → ℕ
-flag true = 1
-flag false = 0
 
 -- r has of the six kinds just those.
 rightAt : List ℕ → ℕ → ℕ → Bool
@@ -93,9 +88,6 @@ module _ (s : Setup) (kinds : List ℕ) (target r : ℕ) (w : WellFormed s) (fit
             omega arith;
       }
 
-  base : Base false s (s .graph) target (baseOf false s (s .graph) target)
-  base = base-of false s (s .graph) target w (own-graph s w)
-
   kindsOf : List ℕ
   kindsOf = map (attackerOf kinds) (baseOf false s (s .graph) target)
 
@@ -105,11 +97,11 @@ module _ (s : Setup) (kinds : List ℕ) (target r : ℕ) (w : WellFormed s) (fit
       record {
         to = λ m.
             let x = listed-of-map (attackerOf kinds) (baseOf false s (s .graph) target) k m in
-            record { set = x .0; is = base .sound (x .0) (x .1); attacker = x .2 };
-        from = λ o. subst (Listed kindsOf) (sym (o .attacker)) (listed-map (attackerOf kinds) (baseOf false s (s .graph) target) (o .set) (base .whole (o .set) (o .is)));
+            record { set = x .0; is = own-base false s target w .sound (x .0) (x .1); attacker = x .2 };
+        from = λ o. subst (Listed kindsOf) (sym (o .attacker)) (listed-map (attackerOf kinds) (baseOf false s (s .graph) target) (o .set) (own-base false s target w .whole (o .set) (o .is)));
       }
 
-  decide-score : (k : ℕ) → Decides (InScore s kinds target k) (isLowest kindsOf k)
+  decide-score : (k : ℕ) → Decides (KindInScore s kinds target k) (isLowest kindsOf k)
   unfolding isLowest
   decide-score k =
       decide-iff (record {
@@ -171,21 +163,15 @@ all-of (x ∷ l) s = (shown x (s .0 .0) (s .0 .1), all-of l (s .1))
 all-counted : Each Shown attackerExamples
 unfolding lowest some every filtered isListed isMember isWithin isMeeting withVertex isComplete isBroken colourOf isAdded passOf passesOf closureOf derivesOf isChosen setsOfSize setsUpTo setsOf targetSetsOf isMinimal baseOf attackerOf largestOver isWeaker isLowest rightAt fitsAt
 all-counted =
-    let bench = all-read .0 in
-    let alone = all-read .1 .1 .0 in
-    let closed = all-read .1 .1 .1 .0 in
-    let spare = all-read .1 .1 .1 .1 .1 .1 .0 in
-    let full = all-read .1 .1 .1 .1 .1 .1 .1 .0 in
-    let figure1 = all-read .1 .1 .1 .1 .1 .1 .1 .1 .1 .1 .0 in
-    (figure1, record { fits = refl; low = refl; right = refl })
-    & (figure1, record { fits = refl; low = refl; right = refl })
-    & (spare, record { fits = refl; low = refl; right = refl })
-    & (bench, record { fits = refl; low = refl; right = refl })
-    & (spare, record { fits = refl; low = refl; right = refl })
-    & (spare, record { fits = refl; low = refl; right = refl })
-    & (closed, record { fits = refl; low = refl; right = refl })
-    & (alone, record { fits = refl; low = refl; right = refl })
-    & (full, record { fits = refl; low = refl; right = refl })
+    (read-figure1, record { fits = refl; low = refl; right = refl })
+    & (read-figure1, record { fits = refl; low = refl; right = refl })
+    & (read-spare, record { fits = refl; low = refl; right = refl })
+    & (read-bench, record { fits = refl; low = refl; right = refl })
+    & (read-spare, record { fits = refl; low = refl; right = refl })
+    & (read-spare, record { fits = refl; low = refl; right = refl })
+    & (read-closed, record { fits = refl; low = refl; right = refl })
+    & (read-alone, record { fits = refl; low = refl; right = refl })
+    & (read-full, record { fits = refl; low = refl; right = refl })
     & tt
 
 pub all-score : AllScore

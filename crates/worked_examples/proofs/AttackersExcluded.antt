@@ -1,19 +1,19 @@
 -- Who gets in at document 003's example 15, and wrong scores that the contract excludes, each at an example.
 -- Assumes nothing.
 use mathlib.Core.Path.{_≡_, refl, subst, _∙_}
-use mathlib.Core.List.{List, [], _∷_}
+use mathlib.Core.List.{List, [], _∷_, head-eq-of-cons-eq}
 use Prim.Native.Nat.{ℕ, _/_, _%_, _^_, _<_}
 use native.Mathlib.Omega.{arith}
 use lib.ListN.{length}
 use Rattle.vertex_set.specs.Set.{Member}
 use Rattle.setup.specs.declared.Setup.{Setup}
 use Rattle.formed.specs.WellFormed.{WellFormed}
-use Rattle.attackers.specs.Attackers.{AtMost, EntriesFit, AttackerScore}
+use Rattle.attackers.specs.Attackers.{KindAtMost, EntriesFit, AttackerScore}
 use Rattle.attackers.specs.Answers.{AttackerCall}
 use Rattle.attackers.proofs.Unique.{score-unique}
-use Rattle.worked_examples.specs.Sheets.{Reads, bench, order, closed, only, spare, acc}
+use Rattle.worked_examples.specs.Sheets.{bench, order, closed, only, spare, acc}
 use Rattle.worked_examples.specs.Attackers.{remNone, remSome, remExp, locNone, locSome, locExp, WhoGetsIn}
-use Rattle.worked_examples.proofs.Reading.{all-read, reads-well}
+use Rattle.worked_examples.proofs.Reading.{reads-well, read-bench, read-closed, read-spare}
 use Rattle.worked_examples.proofs.Table.{held}
 use Rattle.worked_examples.proofs.Attackers.{fitsAt, fits-of, all-score}
 
@@ -22,18 +22,12 @@ settled : (s : Setup) (target : ℕ) (kinds : List ℕ) (r q : ℕ) → WellForm
     → AttackerScore s kinds target r → AttackerCall s target kinds 0 (q ∷ []) → q ≡ r
 settled s target kinds r q w l e f h c =
     let a = c .answers w l e f in
-    first (a .2) ∙ score-unique s kinds kinds (record { long = refl; each = λ v k. refl }) target (a .0) r (a .3) h
-  where
-    first : {x y : ℕ} → x ∷ [] ≡ y ∷ [] → x ≡ y
-    first e = cc
+    head-eq-of-cons-eq (a .2) ∙ score-unique s kinds kinds (record { long = refl; each = λ v k. refl }) target (a .0) r (a .3) h
 
 -- ---- example 15: either of a remote one with some skill and a local one without
 
 abbrev either : List ℕ
 either = remSome ∷ locNone ∷ 255 ∷ []
-
-read-spare : Reads spare
-read-spare = all-read .1 .1 .1 .1 .1 .1 .0
 
 either-score : AttackerScore (spare .setup) either acc 10
 either-score = held spare (λ (s : Setup). AttackerScore s either acc 10) read-spare (all-score .1 .1 .0)
@@ -60,7 +54,7 @@ who-gets-in =
     }
   where
     -- at most 0 as a kind is 0, which the score has not
-    none-above : (k : ℕ) → Member 10 k → AtMost k remNone → ⊥
+    none-above : (k : ℕ) → Member 10 k → KindAtMost k remNone → ⊥
     none-above k m h =
         let p = h .locations in
         let q = h .skills in
@@ -109,11 +103,11 @@ joined = locNone ∷ locExp ∷ remExp ∷ 255 ∷ 255 ∷ []
 joined-is : (q : ℕ) → AttackerCall (bench .setup) order joined 0 (q ∷ []) → q ≡ 32
 unfolding fitsAt
 joined-is q =
-    settled (bench .setup) order joined 32 q (reads-well bench (all-read .0)) (omega arith) refl bench-fits
-    (held bench (λ (s : Setup). AttackerScore s (locNone ∷ locExp ∷ remExp ∷ 255 ∷ 255 ∷ []) order 32) (all-read .0) (all-score .1 .1 .1 .0))
+    settled (bench .setup) order joined 32 q (reads-well bench read-bench) (omega arith) refl bench-fits
+    (held bench (λ (s : Setup). AttackerScore s (locNone ∷ locExp ∷ remExp ∷ 255 ∷ 255 ∷ []) order 32) read-bench (all-score .1 .1 .1 .0))
   where
     bench-fits : EntriesFit (bench .setup) (locNone ∷ locExp ∷ remExp ∷ 255 ∷ 255 ∷ [])
-    bench-fits = fits-of bench (locNone ∷ locExp ∷ remExp ∷ 255 ∷ 255 ∷ []) (all-read .0) refl
+    bench-fits = fits-of bench (locNone ∷ locExp ∷ remExp ∷ 255 ∷ 255 ∷ []) read-bench refl
 
 -- the larger number as a set's kind: 3, which would be below 5
 pub no-larger-number : AttackerCall (bench .setup) order joined 0 (8 ∷ []) → ⊥
@@ -125,8 +119,8 @@ no-larger-number c = let e = joined-is 8 c in omega arith
 pub no-one-for-none : AttackerCall (closed .setup) only (255 ∷ []) 0 (1 ∷ []) → ⊥
 unfolding fitsAt
 no-one-for-none c =
-    let e = settled (closed .setup) only (255 ∷ []) 0 1 (reads-well closed (all-read .1 .1 .1 .0)) (omega arith) refl (fits-of closed (255 ∷ []) (all-read .1 .1 .1 .0) refl)
-    (held closed (λ (s : Setup). AttackerScore s (255 ∷ []) only 0) (all-read .1 .1 .1 .0) (all-score .1 .1 .1 .1 .1 .1 .0)) c in
+    let e = settled (closed .setup) only (255 ∷ []) 0 1 (reads-well closed read-closed) (omega arith) refl (fits-of closed (255 ∷ []) read-closed refl)
+    (held closed (λ (s : Setup). AttackerScore s (255 ∷ []) only 0) read-closed (all-score .1 .1 .1 .1 .1 .1 .0)) c in
     omega arith
 
 -- 17 before 16: a list that is too long, with a starting item's entry above 5

@@ -10,7 +10,7 @@ use Rattle.cut_sets.specs.Cuts.{CutList}
 use Rattle.cut_sets.proofs.Computed.{meetsEach, smallerOf, isSmallest, transversalsOf, cutsOf, cuts-of}
 use Rattle.worked_examples.specs.Sheets.{Reads}
 use Rattle.worked_examples.specs.CutSets.{CutExample, Cuts, cutExamples, AllCut}
-use Rattle.worked_examples.proofs.Reading.{_&_, all-read, reads-well}
+use Rattle.worked_examples.proofs.Reading.{_&_, reads-well, read-bench, read-ring, read-alone, read-closed, read-loop, read-spare, read-relay}
 
 -- The sheet is read, and the list computed.
 abbrev Shown : CutExample → Type 0
@@ -30,15 +30,8 @@ all-cut-of (x ∷ l) s = (
 all-shown : Each Shown cutExamples
 unfolding lowest some every filtered isListed isMember isWithin isMeeting withVertex isComplete isBroken colourOf isAdded passOf passesOf closureOf derivesOf isChosen setsOfSize setsUpTo setsOf targetSetsOf isMinimal baseOf meetsEach smallerOf isSmallest transversalsOf cutsOf
 all-shown =
-    let bench = all-read .0 in
-    let ring = all-read .1 .0 in
-    let alone = all-read .1 .1 .0 in
-    let closed = all-read .1 .1 .1 .0 in
-    let loop = all-read .1 .1 .1 .1 .0 in
-    let spare = all-read .1 .1 .1 .1 .1 .1 .0 in
-    let relay = all-read .1 .1 .1 .1 .1 .1 .1 .1 .1 .0 in
-    (bench, refl) & (bench, refl) & (bench, refl) & (ring, refl) & (ring, refl) & (relay, refl) & (relay, refl) & (alone, refl) & (closed, refl) & (loop, refl)
-    & (spare, refl) & tt
+    (read-bench, refl) & (read-bench, refl) & (read-bench, refl) & (read-ring, refl) & (read-ring, refl) & (read-relay, refl) & (read-relay, refl) & (read-alone, refl) & (read-closed, refl) & (read-loop, refl)
+    & (read-spare, refl) & tt
 
 pub all-cut : AllCut
 all-cut = all-cut-of cutExamples all-shown

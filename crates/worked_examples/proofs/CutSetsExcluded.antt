@@ -1,7 +1,7 @@
 -- Wrong lists of cut sets that the contract excludes, each at an example.
 -- Assumes nothing.
 use mathlib.Core.Path.{_≡_, ap, subst}
-use mathlib.Core.List.{List, [], _∷_}
+use mathlib.Core.List.{List, [], _∷_, head-eq-of-cons-eq}
 use mathlib.Core.Logic.{⊎-elim}
 use Prim.Native.Nat.{ℕ, _<_}
 use native.Mathlib.Omega.{arith}
@@ -16,7 +16,7 @@ use Rattle.cut_sets.specs.Cuts.{CutSet, CutList}
 use Rattle.cut_sets.specs.Answers.{CutsCall}
 use Rattle.worked_examples.specs.Sheets.{Sheet, Reads, Yields, bench, order, ring, pwdBackup, pwdManager, closed, only, spare, pw, acc, relay, note, vault, shop}
 use Rattle.worked_examples.specs.Table.{setOf}
-use Rattle.worked_examples.proofs.Reading.{all-read, reads-well}
+use Rattle.worked_examples.proofs.Reading.{reads-well, read-bench, read-ring, read-closed, read-spare, read-relay}
 use Rattle.worked_examples.proofs.Table.{held}
 use Rattle.worked_examples.proofs.CutSets.{all-cut}
 
@@ -44,41 +44,22 @@ module _ (x : Sheet) (target first : ℕ) (cuts : List ℕ) (r : Reads x) (l : t
   is-first : (values entry exit : List ℕ) → CutsCall (x .setup) target 0 values entry exit → (values ≡ length (first ∷ cuts) ∷ []) × (getD exit 0 0 ≡ first)
   is-first values entry exit c = written-first first cuts values entry exit (is-written 0 values entry exit c)
 
--- the only value
-one-value : {a b : ℕ} → a ∷ [] ≡ b ∷ [] → a ≡ b
-one-value e = cc
-
-read-bench : Reads bench
-read-bench = all-read .0
-
-read-ring : Reads ring
-read-ring = all-read .1 .0
-
-read-closed : Reads closed
-read-closed = all-read .1 .1 .1 .0
-
-read-spare : Reads spare
-read-spare = all-read .1 .1 .1 .1 .1 .1 .0
-
-read-relay : Reads relay
-read-relay = all-read .1 .1 .1 .1 .1 .1 .1 .1 .1 .0
-
 -- An always empty list: order has two smallest cut sets.
 pub no-empty-list : (entry exit : List ℕ) → CutsCall (bench .setup) order 0 (0 ∷ []) entry exit → ⊥
 no-empty-list entry exit c =
-    let e = one-value (is-first bench order _ _ read-bench (omega arith) (all-cut .0) (0 ∷ []) entry exit c .0) in
+    let e = head-eq-of-cons-eq (is-first bench order _ _ read-bench (omega arith) (all-cut .0) (0 ∷ []) entry exit c .0) in
     omega arith
 
 -- No set where nothing opens the target: there is one, the empty set.
 pub no-missing-empty-set : (entry exit : List ℕ) → CutsCall (closed .setup) only 0 (0 ∷ []) entry exit → ⊥
 no-missing-empty-set entry exit c =
-    let e = one-value (is-first closed only _ _ read-closed (omega arith) (all-cut .1 .1 .1 .1 .1 .1 .1 .1 .0) (0 ∷ []) entry exit c .0) in
+    let e = head-eq-of-cons-eq (is-first closed only _ _ read-closed (omega arith) (all-cut .1 .1 .1 .1 .1 .1 .1 .1 .0) (0 ∷ []) entry exit c .0) in
     omega arith
 
 -- Only the cut sets of the fewest items: the shop has one of two items besides that of one.
 pub no-fewest-alone : (entry exit : List ℕ) → CutsCall (relay .setup) shop 0 (1 ∷ []) entry exit → ⊥
 no-fewest-alone entry exit c =
-    let e = one-value (is-first relay shop _ _ read-relay (omega arith) (all-cut .1 .1 .1 .1 .1 .0) (1 ∷ []) entry exit c .0) in
+    let e = head-eq-of-cons-eq (is-first relay shop _ _ read-relay (omega arith) (all-cut .1 .1 .1 .1 .1 .0) (1 ∷ []) entry exit c .0) in
     omega arith
 
 -- The vault taken out of the drawing: without it the shop is shut, but as a starting item it is opened again by the note.

@@ -21,31 +21,20 @@ use Rattle.derivations.specs.Passes.{Passes}
 use Rattle.derivations.specs.Way.{Way}
 use Rattle.access.specs.Answers.{ClosureCall, WayCall}
 use Rattle.bases.specs.Base.{Base}
-use Rattle.bases.specs.Score.{Score, never}
+use Rattle.scores.specs.Never.{never}
+use Rattle.bases.specs.Score.{Score}
 use Rattle.answers.specs.Answers.{BasesCall, ScoreCall, MarksCall}
 use Rattle.reference.specs.Tests.{lowest, some, every, filtered, isListed, isMember, isWithin, isMeeting, withVertex}
 use Rattle.reference.specs.Closures.{isComplete, isBroken, colourOf, isAdded, passOf, passesOf, closureOf, derivesOf, nextVertex, stepsOf, wayOf}
 use Rattle.reference.specs.Bases.{isChosen, setsOfSize, setsUpTo, setsOf, targetSetsOf, isMinimal, baseOf, leastSum, scoreOf, markOf, marksFrom, countsOf, marksOf}
 use Rattle.reference.proofs.Unique.{base-unique}
-use Rattle.worked_examples.specs.Sheets.{Reads, bench, ordpw, mailpw, token, mail, order, ring, pwdBackup, pwdManager, device, seed, accBackup, closed, only, pair, p, q}
+use Rattle.worked_examples.specs.Sheets.{bench, ordpw, mailpw, token, mail, order, ring, pwdBackup, pwdManager, device, seed, accBackup, closed, only, pair, p, q}
 use Rattle.worked_examples.specs.Table.{Example, lockout, marks, setOf, AllHold}
-use Rattle.worked_examples.proofs.Reading.{_&_, all-read, reads-well}
+use Rattle.worked_examples.proofs.Reading.{_&_, reads-well, read-bench, read-ring, read-closed, read-pair}
 use Rattle.worked_examples.proofs.Table.{held, all-hold, table-holds, further-holds}
 use Rattle.worked_examples.proofs.Settled.{closure-settled, way-counted, bases-settled, bases-counted, score-settled, marks-settled}
 
 -- ---- what is known of the examples
-
-pub read-bench : Reads bench
-read-bench = all-read .0
-
-read-ring : Reads ring
-read-ring = all-read .1 .0
-
-pub read-closed : Reads closed
-read-closed = all-read .1 .1 .1 .0
-
-read-pair : Reads pair
-read-pair = all-read .1 .1 .1 .1 .1 .0
 
 well : WellFormed (bench .setup)
 well = reads-well bench read-bench

@@ -26,11 +26,11 @@ use Rattle.forecasts.specs.Inner.{ReachingSet}
 use Rattle.forecasts.proofs.Finding.{Finding, finding-none, finding-more, finding-done}
 use Rattle.forecasts.proofs.Bounds.{forecast-holds}
 use Rattle.sheet_format.specs.Rows.{Each}
-use Rattle.sheet_format.proofs.Tests.{and-parts}
+use Rattle.vertex_set.proofs.Decisions.{and-parts}
 use Rattle.worked_examples.specs.Sheets.{Reads}
 use Rattle.worked_examples.specs.Table.{setOf}
 use Rattle.worked_examples.specs.Forecasts.{ForecastExample, Foretells, forecasts, AllForetell}
-use Rattle.worked_examples.proofs.Reading.{_&_, all-read, reads-well}
+use Rattle.worked_examples.proofs.Reading.{_&_, reads-well, read-bench, read-ring, read-alone, read-closed, read-loop, read-spare}
 
 -- ---- what is found when some vertices are looked at in turn
 
@@ -161,20 +161,14 @@ all-foretold (x ∷ l) s = (foretold x (s .0 .0) (s .0 .1) (s .0 .2), all-foreto
 all-shown : Each Shown forecasts
 unfolding needsBelow foundBy seenBy canLook countsRight choose ones onesIn
 all-shown =
-    let bench = all-read .0 in
-    let ring = all-read .1 .0 in
-    let alone = all-read .1 .1 .0 in
-    let closed = all-read .1 .1 .1 .0 in
-    let loop = all-read .1 .1 .1 .1 .0 in
-    let spare = all-read .1 .1 .1 .1 .1 .1 .0 in
-    (4 ∷ 0 ∷ 2 ∷ 3 ∷ 1 ∷ [], bench, record { place = refl; order = refl; done = refl; low = refl; few = refl; counts = refl; ways = refl })
-    & (3 ∷ 1 ∷ [], bench, record { place = refl; order = refl; done = refl; low = refl; few = refl; counts = refl; ways = refl })
-    & (0 ∷ 1 ∷ 5 ∷ 4 ∷ 2 ∷ 3 ∷ [], ring, record { place = refl; order = refl; done = refl; low = refl; few = refl; counts = refl; ways = refl })
-    & (2 ∷ [], ring, record { place = refl; order = refl; done = refl; low = refl; few = refl; counts = refl; ways = refl })
-    & (0 ∷ [], alone, record { place = refl; order = refl; done = refl; low = refl; few = refl; counts = refl; ways = refl })
-    & (0 ∷ [], closed, record { place = refl; order = refl; done = refl; low = refl; few = refl; counts = refl; ways = refl })
-    & (0 ∷ [], loop, record { place = refl; order = refl; done = refl; low = refl; few = refl; counts = refl; ways = refl })
-    & (2 ∷ 0 ∷ 1 ∷ [], spare, record { place = refl; order = refl; done = refl; low = refl; few = refl; counts = refl; ways = refl })
+    (4 ∷ 0 ∷ 2 ∷ 3 ∷ 1 ∷ [], read-bench, record { place = refl; order = refl; done = refl; low = refl; few = refl; counts = refl; ways = refl })
+    & (3 ∷ 1 ∷ [], read-bench, record { place = refl; order = refl; done = refl; low = refl; few = refl; counts = refl; ways = refl })
+    & (0 ∷ 1 ∷ 5 ∷ 4 ∷ 2 ∷ 3 ∷ [], read-ring, record { place = refl; order = refl; done = refl; low = refl; few = refl; counts = refl; ways = refl })
+    & (2 ∷ [], read-ring, record { place = refl; order = refl; done = refl; low = refl; few = refl; counts = refl; ways = refl })
+    & (0 ∷ [], read-alone, record { place = refl; order = refl; done = refl; low = refl; few = refl; counts = refl; ways = refl })
+    & (0 ∷ [], read-closed, record { place = refl; order = refl; done = refl; low = refl; few = refl; counts = refl; ways = refl })
+    & (0 ∷ [], read-loop, record { place = refl; order = refl; done = refl; low = refl; few = refl; counts = refl; ways = refl })
+    & (2 ∷ 0 ∷ 1 ∷ [], read-spare, record { place = refl; order = refl; done = refl; low = refl; few = refl; counts = refl; ways = refl })
     & tt
 
 pub all-foretell : AllForetell

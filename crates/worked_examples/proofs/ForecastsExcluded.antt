@@ -1,7 +1,7 @@
 -- Wrong forecasts that the contract excludes, each at an example.
 -- Assumes nothing.
 use mathlib.Core.Path.{_≡_, _∙_}
-use mathlib.Core.List.{[], _∷_}
+use mathlib.Core.List.{[], _∷_, head-eq-of-cons-eq}
 use Prim.Native.Nat.{ℕ, _<_}
 use native.Mathlib.Omega.{arith}
 use Rattle.setup.specs.declared.Setup.{Setup}
@@ -11,7 +11,7 @@ use Rattle.forecasts.specs.Answers.{ForecastCall}
 use Rattle.forecasts.proofs.Unique.{forecast-unique}
 use Rattle.worked_examples.specs.Sheets.{bench, ordpw, mailpw, token, mail, order, ring, pwdBackup, pwdManager, device, seed, spare, pw, key, acc}
 use Rattle.worked_examples.specs.Table.{setOf}
-use Rattle.worked_examples.proofs.Reading.{all-read, reads-well}
+use Rattle.worked_examples.proofs.Reading.{reads-well, read-bench, read-ring, read-spare}
 use Rattle.worked_examples.proofs.Table.{held}
 use Rattle.worked_examples.proofs.Forecasts.{all-foretell}
 
@@ -19,31 +19,27 @@ use Rattle.worked_examples.proofs.Forecasts.{all-foretell}
 settled : (s : Setup) (target counted n m : ℕ) → WellFormed s → target < s .count → Forecast s target counted n → ForecastCall s target 0 (m ∷ []) → m ≡ n
 settled s target counted n m w l f c =
     let a = c .answers w l in
-    let e : m ≡ a .1 = first (a .3) in
-    e ∙ forecast-unique s target (a .0) counted (a .1) n (a .4) f
-  where
-    first : {x y : ℕ} → x ∷ [] ≡ y ∷ [] → x ≡ y
-    first e = cc
+    head-eq-of-cons-eq (a .3) ∙ forecast-unique s target (a .0) counted (a .1) n (a .4) f
 
 order-is : (m : ℕ) → ForecastCall (bench .setup) order 0 (m ∷ []) → m ≡ 3
 order-is m =
-    settled (bench .setup) order (setOf (ordpw ∷ mailpw ∷ token ∷ [])) 3 m (reads-well bench (all-read .0)) (omega arith)
-    (held bench (λ (s : Setup). Forecast s order (setOf (ordpw ∷ mailpw ∷ token ∷ [])) 3) (all-read .0) (all-foretell .0))
+    settled (bench .setup) order (setOf (ordpw ∷ mailpw ∷ token ∷ [])) 3 m (reads-well bench read-bench) (omega arith)
+    (held bench (λ (s : Setup). Forecast s order (setOf (ordpw ∷ mailpw ∷ token ∷ [])) 3) read-bench (all-foretell .0))
 
 mail-is : (m : ℕ) → ForecastCall (bench .setup) mail 0 (m ∷ []) → m ≡ 1
 mail-is m =
-    settled (bench .setup) mail (setOf (mailpw ∷ [])) 1 m (reads-well bench (all-read .0)) (omega arith)
-    (held bench (λ (s : Setup). Forecast s mail (setOf (mailpw ∷ [])) 1) (all-read .0) (all-foretell .1 .0))
+    settled (bench .setup) mail (setOf (mailpw ∷ [])) 1 m (reads-well bench read-bench) (omega arith)
+    (held bench (λ (s : Setup). Forecast s mail (setOf (mailpw ∷ [])) 1) read-bench (all-foretell .1 .0))
 
 backup-is : (m : ℕ) → ForecastCall (ring .setup) pwdBackup 0 (m ∷ []) → m ≡ 6
 backup-is m =
-    settled (ring .setup) pwdBackup (setOf (pwdBackup ∷ pwdManager ∷ device ∷ seed ∷ [])) 6 m (reads-well ring (all-read .1 .0)) (omega arith)
-    (held ring (λ (s : Setup). Forecast s pwdBackup (setOf (pwdBackup ∷ pwdManager ∷ device ∷ seed ∷ [])) 6) (all-read .1 .0) (all-foretell .1 .1 .0))
+    settled (ring .setup) pwdBackup (setOf (pwdBackup ∷ pwdManager ∷ device ∷ seed ∷ [])) 6 m (reads-well ring read-ring) (omega arith)
+    (held ring (λ (s : Setup). Forecast s pwdBackup (setOf (pwdBackup ∷ pwdManager ∷ device ∷ seed ∷ [])) 6) read-ring (all-foretell .1 .1 .0))
 
 acc-is : (m : ℕ) → ForecastCall (spare .setup) acc 0 (m ∷ []) → m ≡ 2
 acc-is m =
-    settled (spare .setup) acc (setOf (pw ∷ key ∷ [])) 2 m (reads-well spare (all-read .1 .1 .1 .1 .1 .1 .0)) (omega arith)
-    (held spare (λ (s : Setup). Forecast s acc (setOf (pw ∷ key ∷ [])) 2) (all-read .1 .1 .1 .1 .1 .1 .0) (all-foretell .1 .1 .1 .1 .1 .1 .1 .0))
+    settled (spare .setup) acc (setOf (pw ∷ key ∷ [])) 2 m (reads-well spare read-spare) (omega arith)
+    (held spare (λ (s : Setup). Forecast s acc (setOf (pw ∷ key ∷ [])) 2) read-spare (all-foretell .1 .1 .1 .1 .1 .1 .1 .0))
 
 -- All items that reach order counted, starting ones or not: they are 5, mail and order itself among them, and 2 of 5 are chosen in 10 ways.
 pub no-others-counted : ForecastCall (bench .setup) order 0 (10 ∷ []) → ⊥

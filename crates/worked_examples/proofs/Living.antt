@@ -1,25 +1,23 @@
 -- The histories hold: each call's answer is computed, and the contracts leave no other.
 -- Assumes nothing.
-use mathlib.Core.Path.{_≡_, refl, sym, subst}
+use mathlib.Core.Path.{_≡_, refl}
 use mathlib.Core.Bool.{true, false}
-use mathlib.Core.List.{List, [], _∷_}
+use mathlib.Core.List.{List}
 use mathlib.Core.Logic.{_⊎_, inl, inr, ⊎-elim}
 use Prim.Native.Nat.{ℕ, _-_, _^_, _≤_, _<_}
 use native.Mathlib.Omega.{arith}
 use lib.Count.{ones}
-use Rattle.vertex_set.specs.declared.VertexSet.{VertexSet}
-use Rattle.vertex_set.specs.Set.{Member, Iff}
+use Rattle.vertex_set.specs.Set.{Member}
 use Rattle.vertex_set.proofs.Cases.{false-true}
-use Rattle.vertex_set.proofs.Decisions.{iff-refl}
+use Rattle.vertex_set.proofs.Decisions.{iff-refl, decide-yes}
 use Rattle.vertex_set.proofs.Sets.{in-one, none-in-zero}
 use Rattle.vertex_set.proofs.Places.{in-removed}
 use Rattle.setup.specs.Bounds.{mostEdges}
 use Rattle.setup.specs.declared.Graph.{Graph}
 use Rattle.setup.specs.declared.Setup.{Setup}
 use Rattle.setup.specs.Setup.{row, Edge, edgeCount}
-use Rattle.setup.specs.Inner.{withRow}
+use Rattle.setup.specs.Inner.{graphWithRow}
 use Rattle.formed.specs.WellFormed.{WellFormed}
-use Rattle.derivations.specs.Access.{AccessFrom}
 use Rattle.living.specs.Calls.{Call, TakeIn, TakeOut, AddEdge, RemoveEdge, Placed, CallOf}
 use Rattle.living.specs.Inner.{RowPlace, EdgeMore, EdgeLess}
 use Rattle.living.proofs.Calls.{hold-done, hold-asked, vertex-beyond, asked-colour, add-asked, add-there, add-done, remove-missing, remove-done}
@@ -31,16 +29,12 @@ use Rattle.reference.specs.Closures.{isComplete, isBroken, colourOf, isAdded, p
 use Rattle.reference.proofs.Graphs.{own-graph}
 use Rattle.reference.proofs.Closures.{closure-of}
 use Rattle.reference.proofs.Tests.{in-with}
-use Rattle.histories.proofs.Reaching.{holding}
+use Rattle.histories.proofs.Reaching.{withHeld}
 use Rattle.worked_examples.specs.Sheets.{Yields, bench, ordpw, mailpw, mail}
 use Rattle.worked_examples.specs.Living.{LeadsTo, AllLive}
-use Rattle.worked_examples.proofs.Reading.{_&_, all-read, reads-well}
+use Rattle.worked_examples.proofs.Reading.{_&_, reads-well, read-bench}
 
 -- ---- answers, computed
-
--- The setup with x held.
-abbrev holds : Setup → ℕ → Setup
-holds s x = holding s (record { 0 = x }) (record { 0 = closureOf false (s .count) (s .graph) x })
 
 -- The setup with other graphs.
 abbrev draws : Setup → Graph → Graph → Setup
@@ -59,18 +53,18 @@ formed-after c s t w a = ⊎-elim (λ k. k .formed) (λ k. absurd (k .number ref
 
 -- The graph with an edge more; the graphs without an edge that is no recovery edge.
 more : Setup → ℕ → ℕ → ℕ → Graph
-more s f v c = withRow (s .graph) v c (withVertex (row (s .graph) v c) f)
+more s f v c = graphWithRow (s .graph) v c (withVertex (row (s .graph) v c) f)
 
 less : Setup → ℕ → ℕ → ℕ → Graph
-less s f v c = withRow (s .graph) v c (row (s .graph) v c - 2 ^ f)
+less s f v c = graphWithRow (s .graph) v c (row (s .graph) v c - 2 ^ f)
 
 unmarked : Setup → ℕ → ℕ → ℕ → Graph
-unmarked s f v c = withRow (s .recovery) v c (row (s .recovery) v c)
+unmarked s f v c = graphWithRow (s .recovery) v c (row (s .recovery) v c)
 
 module _ (s : Setup) (w : WellFormed s) where
-  takes-in : (v : ℕ) → v < s .count → CallOf (TakeIn v) s 0 (holds s (withVertex (s .held .0) v))
+  takes-in : (v : ℕ) → v < s .count → CallOf (TakeIn v) s 0 (withHeld s (withVertex (s .held .0) v))
   takes-in v l =
-      hold-done s v (TakeIn v) (holds s (withVertex (s .held .0) v)) w l
+      hold-done s v (TakeIn v) 0 (withHeld s (withVertex (s .held .0) v)) refl w l
       (record {
         count = refl;
         vertices = refl;
@@ -81,9 +75,9 @@ module _ (s : Setup) (w : WellFormed s) where
         opened = closure-of false s (s .graph) w (own-graph s w) (withVertex (s .held .0) v);
       })
 
-  takes-out : (v : ℕ) → v < s .count → Member (s .held .0) v → CallOf (TakeOut v) s 0 (holds s (s .held .0 - 2 ^ v))
+  takes-out : (v : ℕ) → v < s .count → Member (s .held .0) v → CallOf (TakeOut v) s 0 (withHeld s (s .held .0 - 2 ^ v))
   takes-out v l m =
-      hold-done s v (TakeOut v) (holds s (s .held .0 - 2 ^ v)) w l
+      hold-done s v (TakeOut v) 0 (withHeld s (s .held .0 - 2 ^ v)) refl w l
       (record {
         count = refl;
         vertices = refl;
@@ -95,7 +89,7 @@ module _ (s : Setup) (w : WellFormed s) where
       })
 
   beyond : (v : ℕ) → s .count ≤ v → CallOf (TakeIn v) s 13 s
-  beyond v l = hold-asked s v (TakeIn v) 13 (vertex-beyond s v w l) (λ e. omega arith)
+  beyond v l = hold-asked s v (TakeIn v) true 13 (decide-yes w) (vertex-beyond true (s .count) v refl l) (λ e. omega arith)
 
   module _ (f v c : ℕ) (q : Placed s f v c) where
     place : RowPlace v c
@@ -115,7 +109,7 @@ module _ (s : Setup) (w : WellFormed s) where
 
     adds : (Edge (s .graph) f v c → ⊥) → edgeCount (s .graph) < mostEdges → CallOf (AddEdge f v c false) s 0 (draws s (more s f v c) (s .recovery))
     adds n l =
-        add-done s f v c false (draws s (more s f v c) (s .recovery)) w q n l
+        add-done s f v c false 0 (draws s (more s f v c) (s .recovery)) refl w q n l
         (add-redrawn s (draws s (more s f v c) (s .recovery)) f v c w q (more s f v c) (s .recovery)
         (record { count = refl; vertices = refl; isGraph = refl; isRecovery = refl; held = refl; opened = closure-of false s (more s f v c) w more-graph (s .held .0) })
         false is-more (record { marked = λ e. absurd (false-true e); unmarked = λ e. refl }))
@@ -138,7 +132,7 @@ module _ (s : Setup) (w : WellFormed s) where
 
       removes : (Edge (s .recovery) f v c → ⊥) → CallOf (RemoveEdge f v c) s 0 (draws s (less s f v c) (unmarked s f v c))
       removes n =
-          remove-done s f v c (draws s (less s f v c) (unmarked s f v c)) w q e
+          remove-done s f v c 0 (draws s (less s f v c) (unmarked s f v c)) refl w q e
           (remove-redrawn s (draws s (less s f v c) (unmarked s f v c)) f v c w q (less s f v c) (unmarked s f v c)
           (record { count = refl; vertices = refl; isGraph = refl; isRecovery = refl; held = refl; opened = closure-of false s (less s f v c) w less-graph (s .held .0) })
           is-less (is-unmarked n))
@@ -149,11 +143,11 @@ abbrev fresh : Setup
 fresh = bench .setup
 
 well : WellFormed fresh
-well = reads-well bench (all-read .0)
+well = reads-well bench read-bench
 
 -- the mail password is held
 abbrev one : Setup
-one = holds fresh (withVertex 0 mailpw)
+one = withHeld fresh (withVertex 0 mailpw)
 
 first : CallOf (TakeIn mailpw) fresh 0 one
 first = takes-in fresh well mailpw (omega arith)
@@ -186,7 +180,7 @@ abbrev three : Setup
 three = draws two (less two ordpw mail 0) (unmarked two ordpw mail 0)
 
 there : Edge (two .graph) ordpw mail 0
-unfolding more withRow
+unfolding more graphWithRow
 there = in-with 2 ordpw ordpw .from (inr refl)
 
 no-mark : Edge (two .recovery) ordpw mail 0 → ⊥
@@ -197,7 +191,7 @@ third = removes two two-well ordpw mail 0 (placed two refl) there no-mark
 
 -- mail, which is open, is taken in, and its opener out
 abbrev four : Setup
-four = holds one (withVertex (withVertex 0 mailpw) mail)
+four = withHeld one (withVertex (withVertex 0 mailpw) mail)
 
 fourth : CallOf (TakeIn mail) one 0 four
 fourth = takes-in one one-well mail (omega arith)
@@ -206,28 +200,28 @@ four-well : WellFormed four
 four-well = formed-after (TakeIn mail) one four one-well fourth
 
 abbrev five : Setup
-five = holds four (withVertex (withVertex 0 mailpw) mail - 2 ^ mailpw)
+five = withHeld four (withVertex (withVertex 0 mailpw) mail - 2 ^ mailpw)
 
 fifth : CallOf (TakeOut mailpw) four 0 five
 fifth = takes-out four four-well mailpw (omega arith) (in-with (withVertex 0 mailpw) mail mailpw .from (inl (in-with 0 mailpw mailpw .from (inr refl))))
 
 -- .. or taken out itself
 abbrev six : Setup
-six = holds four (withVertex (withVertex 0 mailpw) mail - 2 ^ mail)
+six = withHeld four (withVertex (withVertex 0 mailpw) mail - 2 ^ mail)
 
 sixth : CallOf (TakeOut mail) four 0 six
 sixth = takes-out four four-well mail (omega arith) (in-with (withVertex 0 mailpw) mail mail .from (inr refl))
 
 -- held already
 abbrev seven : Setup
-seven = holds one (withVertex (withVertex 0 mailpw) mailpw)
+seven = withHeld one (withVertex (withVertex 0 mailpw) mailpw)
 
 seventh : CallOf (TakeIn mailpw) one 0 seven
 seventh = takes-in one one-well mailpw (omega arith)
 
 -- refused
 colour-eight : CallOf (AddEdge ordpw mail 8 false) one 18 one
-colour-eight = add-asked one ordpw mail 8 false 18 (asked-colour one ordpw mail 8 one-well (omega arith) (omega arith) (omega arith)) (λ e. omega arith)
+colour-eight = add-asked one ordpw mail 8 false true 18 (decide-yes one-well) (asked-colour true (one .count) ordpw mail 8 refl (omega arith) (omega arith) (omega arith)) (λ e. omega arith)
 
 not-there : CallOf (RemoveEdge ordpw mail 0) one 20 one
 not-there = remove-missing one ordpw mail 0 one-well (placed one refl) no-edge
@@ -241,7 +235,7 @@ sixth-item = beyond one one-well 5 (omega arith)
 -- ---- what is held and opened then, computed
 
 pub all-live : AllLive
-unfolding lowest some every isMember isWithin isMeeting withVertex isComplete isBroken colourOf isAdded passOf passesOf closureOf more less unmarked withRow
+unfolding lowest some every isMember isWithin isMeeting withVertex isComplete isBroken colourOf isAdded passOf passesOf closureOf more less unmarked graphWithRow
 all-live =
     led (record { setup = one; ran = (one, first, refl); isHeld = refl; isOpened = refl })
     & led (record { setup = two; ran = (one, first, (two, second, refl)); isHeld = refl; isOpened = refl })
@@ -254,4 +248,4 @@ all-live =
     & tt
   where
     led : {calls : List Call} {numbers : List ℕ} {held opened : ℕ} → LeadsTo calls numbers held opened fresh → Yields bench (LeadsTo calls numbers held opened)
-    led l = record { setup = fresh; reading = all-read .0; holds = l }
+    led l = record { setup = fresh; reading = read-bench; holds = l }

@@ -10,20 +10,20 @@ use Rattle.sheet_format.specs.Rows.{Each}
 use Rattle.reference.specs.Tests.{lowest, some, every, filtered, isListed, isMember, isWithin, isMeeting, withVertex}
 use Rattle.reference.specs.Closures.{isComplete, isBroken, colourOf, isAdded, passOf, passesOf, closureOf, derivesOf}
 use Rattle.reference.specs.Bases.{isChosen, setsOfSize, setsUpTo, setsOf, targetSetsOf, isMinimal, baseOf}
-use Rattle.multisets.specs.Multisets.{AtMost, valuesOver, highestFirst, placesOf}
+use Rattle.multisets.specs.Multisets.{BagAtMost, valuesOver, highestFirst, placesOf}
 use Rattle.multisets.specs.Meaning.{isHigh}
 use Rattle.multiset_scores.specs.Scores.{multisetOf, MultisetScore}
 use Rattle.multiset_scores.proofs.Computed.{fewerAt, decide-pairing, isAtMost, someAtMost, lowestOf, scoreOf, score-of}
 use Rattle.worked_examples.specs.Sheets.{Reads}
 use Rattle.worked_examples.specs.Multisets.{MultisetsOrdered, MultisetExample, Scored, multisetExamples, AllScored, PlacesWritten}
-use Rattle.worked_examples.proofs.Reading.{_&_, all-read, reads-well}
+use Rattle.worked_examples.proofs.Reading.{_&_, reads-well, read-bench, read-closed, read-spare, read-figure6, read-zeroed, read-outer, read-inner, read-later}
 
 -- ---- the order, at examples
 
-yes-of : (m n : List ℕ) → length m ≤ 14 → length n ≤ 14 → fewerAt m m n ≡ true → AtMost m n
+yes-of : (m n : List ℕ) → length m ≤ 14 → length n ≤ 14 → fewerAt m m n ≡ true → BagAtMost m n
 yes-of m n a b e = record { first = a; second = b; pairing = decide-pairing m n .yes e }
 
-no-of : (m n : List ℕ) → fewerAt m m n ≡ false → AtMost m n → ⊥
+no-of : (m n : List ℕ) → fewerAt m m n ≡ false → BagAtMost m n → ⊥
 no-of m n e h = decide-pairing m n .no e (h .pairing)
 
 pub multisets-ordered : MultisetsOrdered
@@ -67,16 +67,8 @@ all-scored-of (x ∷ l) s = (
 all-shown : Each Shown multisetExamples
 unfolding lowest some every filtered isListed isMember isWithin isMeeting withVertex isComplete isBroken colourOf isAdded passOf passesOf closureOf derivesOf isChosen setsOfSize setsUpTo setsOf targetSetsOf isMinimal baseOf valuesOver isHigh isAtMost someAtMost lowestOf scoreOf
 all-shown =
-    let bench = all-read .0 in
-    let closed = all-read .1 .1 .1 .0 in
-    let spare = all-read .1 .1 .1 .1 .1 .1 .0 in
-    let figure6 = all-read .1 .1 .1 .1 .1 .1 .1 .1 .1 .1 .1 .0 in
-    let zeroed = all-read .1 .1 .1 .1 .1 .1 .1 .1 .1 .1 .1 .1 .0 in
-    let outer = all-read .1 .1 .1 .1 .1 .1 .1 .1 .1 .1 .1 .1 .1 .0 in
-    let inner = all-read .1 .1 .1 .1 .1 .1 .1 .1 .1 .1 .1 .1 .1 .1 .0 in
-    let later = all-read .1 .1 .1 .1 .1 .1 .1 .1 .1 .1 .1 .1 .1 .1 .1 .0 in
-    (figure6, refl, refl) & (figure6, refl, refl) & (figure6, refl, refl) & (zeroed, refl, refl) & (outer, refl, refl) & (inner, refl, refl) & (later, refl, refl) & (bench, refl, refl) & (spare, refl, refl) & (bench, refl, refl)
-    & (closed, refl, refl) & tt
+    (read-figure6, refl, refl) & (read-figure6, refl, refl) & (read-figure6, refl, refl) & (read-zeroed, refl, refl) & (read-outer, refl, refl) & (read-inner, refl, refl) & (read-later, refl, refl) & (read-bench, refl, refl) & (read-spare, refl, refl) & (read-bench, refl, refl)
+    & (read-closed, refl, refl) & tt
 
 pub all-scored : AllScored
 all-scored = all-scored-of multisetExamples all-shown

@@ -11,7 +11,7 @@ use Rattle.multiset_scores.specs.Scores.{multisetOf, MultisetScore, FirstInScor
 use Rattle.worked_examples.specs.Sheets.{Reads, zeroed, outer, inner, later}
 use Rattle.worked_examples.specs.Table.{setOf}
 use Rattle.worked_examples.specs.Multisets.{MultisetExample, Scored}
-use Rattle.worked_examples.proofs.Reading.{all-read}
+use Rattle.worked_examples.proofs.Reading.{read-zeroed, read-outer, read-inner, read-later}
 use Rattle.worked_examples.proofs.Table.{held}
 use Rattle.worked_examples.proofs.Multisets.{all-scored}
 
@@ -22,16 +22,16 @@ only-score x r h l m =
     exactly-unique (FirstInScore (x .sheet .setup) (x .target)) l (x .sets) m k
 
 zeroed-is : (l : List ℕ) → MultisetScore (zeroed .setup) 5 l → l ≡ setOf (0 ∷ []) ∷ setOf (1 ∷ 2 ∷ []) ∷ []
-zeroed-is = only-score _ (all-read .1 .1 .1 .1 .1 .1 .1 .1 .1 .1 .1 .1 .0) (all-scored .1 .1 .1 .0)
+zeroed-is = only-score _ read-zeroed (all-scored .1 .1 .1 .0)
 
 outer-is : (l : List ℕ) → MultisetScore (outer .setup) 6 l → l ≡ setOf (0 ∷ 1 ∷ []) ∷ setOf (2 ∷ 3 ∷ []) ∷ []
-outer-is = only-score _ (all-read .1 .1 .1 .1 .1 .1 .1 .1 .1 .1 .1 .1 .1 .0) (all-scored .1 .1 .1 .1 .0)
+outer-is = only-score _ read-outer (all-scored .1 .1 .1 .1 .0)
 
 inner-is : (l : List ℕ) → MultisetScore (inner .setup) 6 l → l ≡ setOf (0 ∷ 1 ∷ []) ∷ setOf (2 ∷ 3 ∷ []) ∷ []
-inner-is = only-score _ (all-read .1 .1 .1 .1 .1 .1 .1 .1 .1 .1 .1 .1 .1 .1 .0) (all-scored .1 .1 .1 .1 .1 .0)
+inner-is = only-score _ read-inner (all-scored .1 .1 .1 .1 .1 .0)
 
 later-is : (l : List ℕ) → MultisetScore (later .setup) 4 l → l ≡ setOf (2 ∷ 3 ∷ []) ∷ []
-later-is = only-score _ (all-read .1 .1 .1 .1 .1 .1 .1 .1 .1 .1 .1 .1 .1 .1 .1 .0) (all-scored .1 .1 .1 .1 .1 .1 .0)
+later-is = only-score _ read-later (all-scored .1 .1 .1 .1 .1 .1 .0)
 
 first-of : (l k : List ℕ) → l ≡ k → getD l 0 0 ≡ getD k 0 0
 first-of l k e = ap (λ (m : List ℕ). getD m 0 0) e

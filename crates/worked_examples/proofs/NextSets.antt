@@ -7,7 +7,7 @@ use Rattle.bases.specs.Base.{Base}
 use Rattle.next_sets.proofs.Walks.{whole-walk}
 use Rattle.worked_examples.specs.Sheets.{Reads}
 use Rattle.worked_examples.specs.NextSets.{WalkExample, Walks, AllWalk}
-use Rattle.worked_examples.proofs.Reading.{_&_, all-read, reads-well}
+use Rattle.worked_examples.proofs.Reading.{_&_, reads-well, read-bench, read-ring, read-loop, read-spare}
 use Rattle.worked_examples.proofs.Table.{held, table-holds, further-holds}
 
 walked : (x : WalkExample) → Reads (x .sheet) → x .target < x .sheet .setup .count → Base false (x .sheet .setup) (x .sheet .setup .graph) (x .target) (x .sets) → Walks x
@@ -16,13 +16,9 @@ walked x r l b =
 
 pub all-walk : AllWalk
 all-walk =
-    let bench = all-read .0 in
-    let ring = all-read .1 .0 in
-    let loop = all-read .1 .1 .1 .1 .0 in
-    let spare = all-read .1 .1 .1 .1 .1 .1 .0 in
-    walked _ bench (omega arith) (held _ _ bench (table-holds .1 .1 .0))
-    & walked _ ring (omega arith) (held _ _ ring (further-holds .1 .1 .1 .1 .1 .1 .1 .1 .1 .0))
-    & walked _ ring (omega arith) (held _ _ ring (table-holds .1 .1 .1 .1 .1 .1 .1 .1 .0))
-    & walked _ loop (omega arith) (held _ _ loop (table-holds .1 .1 .1 .1 .1 .1 .1 .1 .1 .1 .1 .0))
-    & walked _ spare (omega arith) (held _ _ spare (further-holds .1 .1 .1 .1 .1 .1 .1 .1 .1 .1 .1 .1 .1 .1 .1 .0))
+    walked _ read-bench (omega arith) (held _ _ read-bench (table-holds .1 .1 .0))
+    & walked _ read-ring (omega arith) (held _ _ read-ring (further-holds .1 .1 .1 .1 .1 .1 .1 .1 .1 .0))
+    & walked _ read-ring (omega arith) (held _ _ read-ring (table-holds .1 .1 .1 .1 .1 .1 .1 .1 .0))
+    & walked _ read-loop (omega arith) (held _ _ read-loop (table-holds .1 .1 .1 .1 .1 .1 .1 .1 .1 .1 .1 .0))
+    & walked _ read-spare (omega arith) (held _ _ read-spare (further-holds .1 .1 .1 .1 .1 .1 .1 .1 .1 .1 .1 .1 .1 .1 .1 .0))
     & tt

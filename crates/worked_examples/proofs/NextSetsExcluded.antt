@@ -21,7 +21,7 @@ use Rattle.next_sets.specs.Walks.{Walk}
 use Rattle.next_sets.proofs.Calls.{next-answers}
 use Rattle.next_sets.proofs.Unique.{one-next-answer}
 use Rattle.worked_examples.specs.Sheets.{ring, seed}
-use Rattle.worked_examples.proofs.Reading.{all-read, reads-well}
+use Rattle.worked_examples.proofs.Reading.{reads-well, read-ring}
 use Rattle.worked_examples.proofs.Table.{held, further-holds}
 use Rattle.worked_examples.proofs.NextSets.{all-walk}
 
@@ -29,13 +29,13 @@ abbrev s : Setup
 s = ring .setup
 
 well : WellFormed s
-well = reads-well ring (all-read .1 .0)
+well = reads-well ring read-ring
 
 shown : Walk s seed 0 (8 ∷ 5 ∷ 6 ∷ [])
-shown = held ring (λ (t : Setup). Walk t seed 0 (8 ∷ 5 ∷ 6 ∷ [])) (all-read .1 .0) (all-walk .1 .0)
+shown = held ring (λ (t : Setup). Walk t seed 0 (8 ∷ 5 ∷ 6 ∷ [])) read-ring (all-walk .1 .0)
 
 base : Base false s (s .graph) seed (8 ∷ 5 ∷ 6 ∷ [])
-base = held ring (λ (t : Setup). Base false t (t .graph) seed (8 ∷ 5 ∷ 6 ∷ [])) (all-read .1 .0) (further-holds .1 .1 .1 .1 .1 .1 .1 .1 .1 .0)
+base = held ring (λ (t : Setup). Base false t (t .graph) seed (8 ∷ 5 ∷ 6 ∷ [])) read-ring (further-holds .1 .1 .1 .1 .1 .1 .1 .1 .1 .0)
 
 -- two answers after one set have the same values
 same : (last : ℕ) (v v′ : List ℕ) → NextCall s seed last 0 v → NextCall s seed last 0 v′ → v ≡ v′

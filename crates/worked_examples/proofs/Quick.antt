@@ -24,9 +24,9 @@ use Rattle.reference.proofs.Tests.{in-with}
 use Rattle.worked_examples.specs.Sheets.{Sheet, Reads, bench, ordpw, mailpw, token, mail, order, closed}
 use Rattle.worked_examples.specs.Table.{setOf}
 use Rattle.worked_examples.specs.Quick.{AllTell}
-use Rattle.worked_examples.proofs.Reading.{_&_, reads-well}
+use Rattle.worked_examples.proofs.Reading.{_&_, reads-well, read-bench, read-closed}
 use Rattle.worked_examples.proofs.Table.{held}
-use Rattle.worked_examples.proofs.Excluded.{read-bench, read-closed, inside}
+use Rattle.worked_examples.proofs.Excluded.{inside}
 
 -- ---- the examples
 

@@ -24,7 +24,7 @@ use Rattle.reference.proofs.Marks.{counts-of}
 use Rattle.reference.proofs.Meaning.{meaning}
 use Rattle.worked_examples.specs.Sheets.{Sheet, Reads, Yields}
 use Rattle.worked_examples.specs.Table.{Example, closure, passes, loss, opening, lockout, score, risk, way, marks, lockMarks, Holds, table, further, AllHold}
-use Rattle.worked_examples.proofs.Reading.{_&_, all-read, reads-well}
+use Rattle.worked_examples.proofs.Reading.{_&_, reads-well, read-bench, read-ring, read-alone, read-closed, read-loop, read-pair, read-spare, read-full, read-halves}
 
 -- The sheet of an example.
 abbrev pub sheetOf : Example → Sheet
@@ -95,14 +95,8 @@ all-hold (e ∷ l) s = (holds e (s .0 .0) (s .0 .1), all-hold l (s .1))
 table-shown : Each Shown table
 unfolding lowest some every filtered isListed isMember isWithin isMeeting withVertex isComplete isBroken colourOf isAdded passOf passesOf countOf closureOf passCountOf derivesOf nextVertex stepsOf wayOf isChosen setsOfSize setsUpTo setsOf targetSetsOf isMinimal baseOf leastSum scoreOf markOf marksFrom countsOf marksOf sumOver
 table-shown =
-    let bench = all-read .0 in
-    let ring = all-read .1 .0 in
-    let alone = all-read .1 .1 .0 in
-    let closed = all-read .1 .1 .1 .0 in
-    let loop = all-read .1 .1 .1 .1 .0 in
-    let pair = all-read .1 .1 .1 .1 .1 .0 in
-    (bench, refl) & (bench, refl) & (bench, refl) & (bench, refl) & (bench, refl) & (bench, refl) & (bench, (refl, refl)) & (bench, refl)
-    & (ring, refl) & (alone, refl) & (closed, refl) & (loop, refl) & (loop, refl) & (pair, refl) & tt
+    (read-bench, refl) & (read-bench, refl) & (read-bench, refl) & (read-bench, refl) & (read-bench, refl) & (read-bench, refl) & (read-bench, (refl, refl)) & (read-bench, refl)
+    & (read-ring, refl) & (read-alone, refl) & (read-closed, refl) & (read-loop, refl) & (read-loop, refl) & (read-pair, refl) & tt
 
 -- B1 to B12
 pub table-holds : AllHold table
@@ -111,17 +105,10 @@ table-holds = all-hold table table-shown
 further-shown : Each Shown further
 unfolding lowest some every filtered isListed isMember isWithin isMeeting withVertex isComplete isBroken colourOf isAdded passOf passesOf countOf closureOf passCountOf derivesOf nextVertex stepsOf wayOf isChosen setsOfSize setsUpTo setsOf targetSetsOf isMinimal baseOf leastSum scoreOf markOf marksFrom countsOf marksOf sumOver
 further-shown =
-    let bench = all-read .0 in
-    let ring = all-read .1 .0 in
-    let closed = all-read .1 .1 .1 .0 in
-    let pair = all-read .1 .1 .1 .1 .1 .0 in
-    let spare = all-read .1 .1 .1 .1 .1 .1 .0 in
-    let full = all-read .1 .1 .1 .1 .1 .1 .1 .0 in
-    let halves = all-read .1 .1 .1 .1 .1 .1 .1 .1 .0 in
-    (bench, (refl, refl)) & (bench, (refl, refl)) & (bench, (refl, refl)) & (bench, (refl, refl)) & (bench, (refl, refl)) & (ring, (refl, refl))
-    & (pair, (refl, refl)) & (bench, refl) & (bench, refl) & (ring, refl) & (bench, (refl, refl)) & (bench, (refl, refl)) & (closed, refl) & (bench, refl) & (bench, refl)
-    & (spare, refl) & (spare, refl) & (spare, refl) & (spare, refl) & (spare, (refl, refl)) & (full, refl) & (full, refl) & (halves, refl) & (halves, refl)
-    & (halves, refl) & (halves, refl) & (halves, refl) & tt
+    (read-bench, (refl, refl)) & (read-bench, (refl, refl)) & (read-bench, (refl, refl)) & (read-bench, (refl, refl)) & (read-bench, (refl, refl)) & (read-ring, (refl, refl))
+    & (read-pair, (refl, refl)) & (read-bench, refl) & (read-bench, refl) & (read-ring, refl) & (read-bench, (refl, refl)) & (read-bench, (refl, refl)) & (read-closed, refl) & (read-bench, refl) & (read-bench, refl)
+    & (read-spare, refl) & (read-spare, refl) & (read-spare, refl) & (read-spare, refl) & (read-spare, (refl, refl)) & (read-full, refl) & (read-full, refl) & (read-halves, refl) & (read-halves, refl)
+    & (read-halves, refl) & (read-halves, refl) & (read-halves, refl) & tt
 
 -- and what B1 to B12 leave open
 pub further-holds : AllHold further

@@ -4,7 +4,7 @@ use mathlib.Core.List.{List, [], _∷_, _++_}
 use Prim.Native.Nat.{ℕ}
 use lib.ListN.{replicate}
 use Rattle.sheet_format.specs.Rows.{Each}
-use Rattle.attackers.specs.Attackers.{AtMost, Weaker, GetsIn, AttackerScore}
+use Rattle.attackers.specs.Attackers.{KindAtMost, Weaker, GetsIn, AttackerScore}
 use Rattle.worked_examples.specs.Sheets.{Sheet, Yields, bench, order, alone, closed, only, spare, acc, full, first, figure1, accMail, accShop}
 use Rattle.worked_examples.specs.Table.{setOf}
 
@@ -33,8 +33,8 @@ pub record KindsOrdered : Type 0 where
   pub some : Weaker remNone remSome
   pub expert : Weaker remSome remExp
   pub both : Weaker remSome locExp
-  pub neither : AtMost remExp locNone → ⊥
-  pub norBack : AtMost locNone remExp → ⊥
+  pub neither : KindAtMost remExp locNone → ⊥
+  pub norBack : KindAtMost locNone remExp → ⊥
 
 -- A sheet, a list of kinds, a target, and the kinds of its score.
 pub record AttackerExample : Type 0 where

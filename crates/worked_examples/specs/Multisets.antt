@@ -5,20 +5,20 @@ use mathlib.Core.List.{List, [], _∷_, _++_, map}
 use Prim.Native.Nat.{ℕ}
 use lib.ListN.{replicate}
 use Rattle.sheet_format.specs.Rows.{Each}
-use Rattle.multisets.specs.Multisets.{AtMost, highestFirst}
+use Rattle.multisets.specs.Multisets.{BagAtMost, highestFirst}
 use Rattle.multiset_scores.specs.Scores.{multisetOf, MultisetScore, allPlaces, allLengths}
 use Rattle.worked_examples.specs.Sheets.{Sheet, Yields, bench, mailpw, token, order, closed, only, spare, pw, acc, figure6, pwdA, pwdB, deviceB, accA, accB, either, zeroed, outer, inner, later}
 use Rattle.worked_examples.specs.Table.{setOf}
 
 -- One is at most the other, and not the other way round.
 pub record Below (m n : List ℕ) : Type 0 where
-  pub atMost : AtMost m n
-  pub notBack : AtMost n m → ⊥
+  pub atMost : BagAtMost m n
+  pub notBack : BagAtMost n m → ⊥
 
 -- Neither is at most the other.
 pub record Incomparable (m n : List ℕ) : Type 0 where
-  pub notFirst : AtMost m n → ⊥
-  pub notSecond : AtMost n m → ⊥
+  pub notFirst : BagAtMost m n → ⊥
+  pub notSecond : BagAtMost n m → ⊥
 
 pub record MultisetsOrdered : Type 0 where
   -- example 10
@@ -31,11 +31,11 @@ pub record MultisetsOrdered : Type 0 where
   pub zero : Incomparable (3 ∷ 0 ∷ []) (4 ∷ [])
   pub nothing : Below [] (0 ∷ [])
   -- the order of writing does not matter
-  pub turned : AtMost (1 ∷ 2 ∷ []) (2 ∷ 1 ∷ [])
+  pub turned : BagAtMost (1 ∷ 2 ∷ []) (2 ∷ 1 ∷ [])
   -- 14 values are a bag, and 15 are none, whatever stands against them
-  pub fourteen : AtMost (replicate 14 5) (replicate 14 5)
-  pub fifteen : AtMost (replicate 15 5) (replicate 15 5) → ⊥
-  pub against : AtMost [] (replicate 15 5) → ⊥
+  pub fourteen : BagAtMost (replicate 14 5) (replicate 14 5)
+  pub fifteen : BagAtMost (replicate 15 5) (replicate 15 5) → ⊥
+  pub against : BagAtMost [] (replicate 15 5) → ⊥
 
 -- A sheet, a target, the first sets that have the multisets of its score, and these multisets with their highest values first.
 pub record MultisetExample : Type 0 where

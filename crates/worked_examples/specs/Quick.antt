@@ -17,8 +17,8 @@ pub record QuickExample : Type 0 where
 abbrev pub quick : Sheet → ℕ → List ℕ → ℕ → List ℕ → QuickExample
 quick sheet target given opens held = record { sheet = sheet; target = target; given = given; opens = opens; held = held }
 
-abbrev pub Tells : QuickExample → Type 0
-Tells x = Yields (x .sheet) (λ s. QuickCall s (x .target) (setOf (x .given)) 0 (x .opens ∷ setOf (x .held) ∷ []))
+abbrev pub QuickHolds : QuickExample → Type 0
+QuickHolds x = Yields (x .sheet) (λ s. QuickCall s (x .target) (setOf (x .given)) 0 (x .opens ∷ setOf (x .held) ∷ []))
 
 abbrev pub quickAnswers : List QuickExample
 quickAnswers =
@@ -38,4 +38,4 @@ quickAnswers =
     ∷ []
 
 abbrev pub AllTell : Type 0
-AllTell = Each Tells quickAnswers
+AllTell = Each QuickHolds quickAnswers

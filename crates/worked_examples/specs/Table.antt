@@ -9,7 +9,8 @@ use Rattle.derivations.specs.Lockout.{LockoutFrom}
 use Rattle.derivations.specs.Passes.{Passes}
 use Rattle.derivations.specs.Way.{Way}
 use Rattle.bases.specs.Base.{Base}
-use Rattle.bases.specs.Score.{Score, never}
+use Rattle.scores.specs.Never.{never}
+use Rattle.bases.specs.Score.{Score}
 use Rattle.bases.specs.Marks.{Counts}
 use Rattle.sheet_format.specs.Rows.{Each}
 use Rattle.worked_examples.specs.Sheets.{Sheet, Yields, bench, ordpw, mailpw, token, mail, order, ring, pwdBackup, pwdManager, device, seed, code, accBackup, alone, closed, loop, only, pair, p, q, spare, pw, key, acc, full, first, last, halves, whole, half, other, level, sum}

@@ -9,6 +9,7 @@ use native.Mathlib.Omega.{arith}
 use borrow.Author.Tests.{lt-ltb, le-ltb}
 use Rattle.vertex_set.proofs.Cases.{less-or}
 use Rattle.sheet_format.specs.Fields.{digitsIn, decimal}
+use Rattle.sheet_format.proofs.Numbers.{digits-more}
 use Rattle.writing.specs.Inner.{lastTwo}
 
 pub decimal-one : (n : ℕ) → n < 10 → decimal n ≡ (48 + n) ∷ []
@@ -24,10 +25,6 @@ digits-enough (suc k) n h =
     ⊎-elim (λ l. rw (lt-ltb n 10 l))
     (λ l. rw (le-ltb n 10 l) (ap (λ (f : List ℕ). f ++ ((48 + n % 10) ∷ [])) (digits-enough k (n / 10) (omega arith))))
     (less-or n 10)
-
-digits-more : (k n : ℕ) → 10 ≤ n → digitsIn (suc k) n ≡ digitsIn k (n / 10) ++ ((48 + n % 10) ∷ [])
-unfolding digitsIn
-digits-more k n l = rw (le-ltb n 10 l)
 
 pub decimal-more : (n : ℕ) → 10 ≤ n → n < 2 ^ 64 → decimal n ≡ decimal (n / 10) ++ ((48 + n % 10) ∷ [])
 unfolding decimal

@@ -3,9 +3,10 @@
 use mathlib.Core.Path.{_≡_, refl, sym, ap, _∙_}
 use mathlib.Core.List.{List, [], _∷_, _++_}
 use Prim.Native.Nat.{ℕ, suc, _+_, _≤_}
+use native.Mathlib.Nat.{zero-add}
 use native.Mathlib.Omega.{arith}
-use lib.ListN.{length, set, length-append}
-use lib.Seq.{sets, length-sets}
+use lib.ListN.{length, drop, set, length-append}
+use lib.Seq.{sets, sets-eq, length-sets}
 use Rattle.written.specs.Inner.{Wrote}
 
 -- ---- one write
@@ -21,6 +22,10 @@ wrote-length entry at xs exit r w = ap length (w .exit) ∙ length-sets entry at
 
 pub wrote-inside : (entry : List ℕ) (at : ℕ) (xs exit : List ℕ) (r : ℕ) → Wrote entry at xs exit r → at + length xs ≤ length entry → r ≤ length exit
 wrote-inside entry at xs exit r w h = let l = wrote-length entry at xs exit r w in let n = w .next in omega arith
+
+-- what is written to the front of a list
+pub wrote-front : (entry xs exit : List ℕ) (r : ℕ) → length xs ≤ length entry → Wrote entry 0 xs exit r → exit ≡ xs ++ drop (length xs) entry
+wrote-front entry xs exit r h w = w .exit ∙ (sets-eq xs entry 0 (omega arith) ∙ ap (λ (n : ℕ). xs ++ drop n entry) (zero-add (length xs)))
 
 -- ---- what is still to be written
 

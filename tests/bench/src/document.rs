@@ -1,4 +1,4 @@
-//! docs/PERFORMANCE.md and its charts.
+//! docs/PERFORMANCE.md with its charts, and records/performance.md, which has the tables.
 
 use crate::calls::{Series, EDGE_STEPS, STARTS};
 use crate::chart::{Chart, Line};
@@ -12,8 +12,21 @@ pub const NOT_MEASURED: &str = "\
 ## Not measured
 
 - All lists of a sheet by the proved code within one process: no call gives them.
-- Stack use, which docs/TRUST.md has by call.
+- Stack use, which records/stack.md has by call.
+- The gate, whose time by crate is in records/gate-times.txt.
 ";
+
+/// How the record begins.
+const TABLES: &str = "\
+# Performance: the tables
+
+Written by `make bench` in the run of which docs/PERFORMANCE.md tells: what is timed, on which sheets
+and on which machine, and which targets are met. The part \"Trials\" at the end is written by hand, and
+a run keeps it.
+";
+
+/// Where the part of the record begins that is written by hand.
+const TRIALS: &str = "\n## Trials\n";
 
 /// The kinds of sheets, for the document.
 const SHEETS: &str = "
@@ -34,7 +47,8 @@ ones, and 256 edges where the kind allows it.
 ## Charts
 
 Both lists of one target, each point the mean over five random sheets. A table always has all 2^14
-masks; with fewer initial vertices less can be opened, and the tables settle sooner.
+masks; with fewer initial vertices less can be opened, and the tables settle sooner. The numbers are the
+last two tables of the record.
 
 ![Time against initial vertices](performance-starts.svg)
 
@@ -42,21 +56,22 @@ masks; with fewer initial vertices less can be opened, and the tables settle soo
 
 ";
 
-/// Writes the document and the charts.
-pub fn write(folder: &Path, verdicts: &str, grids: &[Grid], series: &[Series; 2]) {
+/// Writes the document, its charts and the record to the folders docs and records of `folder`. What is
+/// kept of the record is that of the repository at `root`.
+pub fn write(root: &Path, folder: &Path, verdicts: &str, grids: &[Grid], series: &[Series; 2]) {
     let put = |name: &str, text: String| {
-        std::fs::write(folder.join(name), text).unwrap_or_else(|why| panic!("{name}: {why}"));
+        let path = folder.join(name);
+        let made = std::fs::create_dir_all(path.parent().expect("a file stands in a folder"));
+        let written = made.and_then(|()| std::fs::write(&path, text));
+        written.unwrap_or_else(|why| panic!("{name}: {why}"));
     };
-    put("performance-starts.svg", starts_chart(&series[0]));
-    put("performance-edges.svg", edges_chart(&series[1]));
-    let mut text = opening();
-    text += verdicts;
-    text += SHEETS;
-    for grid in grids {
-        text += &grid.text();
-        text += "\n";
-    }
-    put("PERFORMANCE.md", text + NOT_MEASURED);
+    put("docs/performance-starts.svg", starts_chart(&series[0]));
+    put("docs/performance-edges.svg", edges_chart(&series[1]));
+    put("docs/PERFORMANCE.md", opening() + verdicts.trim_end() + "\n" + SHEETS + NOT_MEASURED);
+    let before = std::fs::read_to_string(root.join("records/performance.md")).unwrap_or_default();
+    let mut tables = TABLES.to_string();
+    grids.iter().for_each(|grid| tables += &format!("\n{}", grid.text()));
+    put("records/performance.md", tables + before.find(TRIALS).map_or("", |at| &before[at..]));
 }
 
 /// What was run, where and when.
@@ -66,10 +81,11 @@ fn opening() -> String {
     let date = today();
     format!(
         "# Performance\n\n\
-         Written by `make bench`. Everything is measured side by side in one run, with release builds.\n\
-         Calls are timed by the clock, programs by their processor time (user and system); each time is\n\
-         a median, unless it is said otherwise. a / b tells how many times b's time a takes.\n\n\
-         - Proved: the Rattle code, by the harness's library or as the program `report`.\n\
+         Written by `make bench`, with all tables in [records/performance.md](../records/performance.md).\n\
+         Everything is measured side by side in one run, with release builds. Calls are timed by the\n\
+         clock, programs by their processor time (user and system); each time is a median, unless it is\n\
+         said otherwise. a / b tells how many times b's time a takes.\n\n\
+         - Proved: the Rattle code, by the library that `make lib` makes or as the program `report`.\n\
          - Twin: the same algorithm in plain Rust, step by step (`tests/bench/src/twin.rs`).\n\
          - Lean twin: with two shortcuts besides. The vertices that need another are found once and\n  \
            not at each growth, and vertices that need nothing are never looked at.\n\

@@ -32,19 +32,25 @@ impl Grid {
         self.rows.push(cells);
     }
 
-    /// The table as it is printed and as it stands in the document.
+    /// The table as it is printed, and as it stands in the record.
     pub fn text(&self) -> String {
-        let widths: Vec<usize> = (0..self.rows[0].len())
-            .map(|column| {
-                self.rows.iter().map(|row| row[column].chars().count()).max().unwrap_or(0)
-            })
-            .collect();
+        let width = |column: usize| self.rows.iter().map(|row| row[column].chars().count()).max();
+        let columns = 0..self.rows[0].len();
+        self.laid_out(&columns.map(|column| width(column).unwrap_or(0)).collect::<Vec<_>>())
+    }
+
+    /// The table in as few bytes as may be: the cells are not filled up.
+    pub fn narrow(&self) -> String {
+        self.laid_out(&vec![1; self.rows[0].len()])
+    }
+
+    fn laid_out(&self, widths: &[usize]) -> String {
         let mut text = format!("## {}\n\n", self.title);
         self.notes.iter().for_each(|note| text += &format!("{}\n", wrapped(note)));
         for (number, row) in self.rows.iter().enumerate() {
-            text += &self.line(row, &widths);
+            text += &self.line(row, widths);
             if number == 0 {
-                text += &self.rule(&widths);
+                text += &self.rule(widths);
             }
         }
         text

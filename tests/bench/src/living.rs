@@ -157,7 +157,11 @@ pub fn changes(kinds: &[Kind], rounds: &Rounds, targets: &mut Vec<Target>) -> Gr
             ratios.push((format!("{}, {name}", kind.name), time / same));
         }
     }
-    targets.push(at_most("a call that changes a setup, proved / twin by value", 1.3, &ratios));
+    let what = "a call that changes a setup, proved / twin by value";
+    targets.push(at_most(what, 1.3, &ratios).because(
+        "Each call copies the setup, some 10 KB, more than one time, and both graphs besides where an \
+         edge changes.",
+    ));
     grid
 }
 

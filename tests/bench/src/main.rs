@@ -1,12 +1,12 @@
 //! Times the proved code beside the same algorithm in plain Rust, a brute force, and plain
-//! programs. `bench` prints tables and writes docs/PERFORMANCE.md with two charts; `bench quick`
-//! makes few rounds and writes the same files to build/bench/. `bench marking` prints the table of
-//! marks alone, `bench rows` that of the report with the most rows, `bench reports` those of reading
-//! and of reports, `bench forecast` that of forecasts,
-//! `bench next` that of next sets, `bench living` that of calls that change a setup, `bench closing` that of closures, `bench opens` that of quick
-//! answers, `bench cuts` that of cut sets, `bench intruders` that of kinds of intruder, and `bench
-//! register` that of the class register,
-//! `bench bags` that of bag scores, and `bench pool` that of two sheets pooled.
+//! programs. `bench` prints tables and writes docs/PERFORMANCE.md with two charts and
+//! records/performance.md; `bench quick` makes few rounds and writes the same files to the folders docs
+//! and records of build/bench/. With another word it prints a part alone: `bench marking` the table of
+//! marks, `rows` that of the report with the most rows, `reports` those of reading and of reports,
+//! `forecast` that of forecasts, `next` that of next sets, `living` those of calls that change a setup,
+//! `closing` that of closures, `opens` that of quick answers, `cuts` that of cut sets, `intruders` that
+//! of kinds of intruder, `register` that of the class register, `bags` that of bag scores, and `pool`
+//! that of two sheets pooled.
 
 mod bags;
 mod calls;
@@ -18,7 +18,6 @@ mod cuts;
 mod document;
 mod forecast;
 mod formed;
-mod gate;
 mod grid;
 mod intruders;
 mod kinds;
@@ -80,7 +79,7 @@ fn main() -> ExitCode {
     let arguments: Vec<String> = std::env::args().skip(1).collect();
     let words: Vec<&str> = arguments.iter().map(String::as_str).collect();
     match words[..] {
-        [] => run(&FULL, "docs"),
+        [] => run(&FULL, ""),
         ["quick"] => run(&QUICK, "build/bench"),
         ["marking"] => print_marking(),
         ["rows"] => print_rows(),
@@ -141,14 +140,13 @@ fn run(rounds: &Rounds, folder: &str) {
     let series = [calls::by_starts(rounds), calls::by_edges(rounds)];
     show(calls::series_grid("The first chart's numbers", "initial and losable", &series[0]));
     show(calls::series_grid("The second chart's numbers", "edges", &series[1]));
-    gate::times(&root).into_iter().for_each(&mut show);
     let verdicts = targets::grid(&targets);
     let reasons = targets::reasons(&targets);
     println!("{}\n{reasons}", verdicts.text());
     println!("{}", document::NOT_MEASURED);
     println!("bench: {} seconds", start.elapsed().as_secs());
-    let verdicts = format!("{}\n{reasons}", verdicts.text());
-    document::write(&root.join(folder), &verdicts, &grids, &series);
+    let verdicts = format!("{}\n{reasons}", verdicts.narrow());
+    document::write(&root, &root.join(folder), &verdicts, &grids, &series);
 }
 
 /// The sheet on which sets are marked.

@@ -1,7 +1,8 @@
-//! Compares the proved code, linked as two static libraries, with the brute force.
+//! Compares the proved code, linked as a static library, with the brute force.
 //!
 //! `harness gate` compares a fixed part. `harness fuzz SEED SECONDS` goes on for as long as it is
-//! told. The first difference is printed with its input, and the exit status is 1.
+//! told. `harness lists` makes all lists of up to 3 calls that change a setup on all graphs of two items
+//! and two colours. The first difference is printed with its input, and the exit status is 1.
 
 mod bags;
 mod compare;
@@ -35,8 +36,9 @@ fn main() -> ExitCode {
         (Some("fuzz"), Some(seed), Some(seconds)) => {
             run("fuzz", seed, |run| run.fuzz(Duration::from_secs(seconds)))
         }
+        (Some("lists"), None, None) => run("lists", SEED, Run::lists),
         _ => {
-            eprintln!("usage: harness gate | harness fuzz SEED SECONDS");
+            eprintln!("usage: harness gate | harness fuzz SEED SECONDS | harness lists");
             ExitCode::from(2)
         }
     }

@@ -21,6 +21,7 @@ use brute::cases::{
     tiny, Rng, SetupCase, SheetCase,
 };
 use std::fmt;
+use std::thread;
 use std::time::{Duration, Instant};
 
 type Outcome = Result<(), Box<Difference>>;
@@ -203,6 +204,24 @@ impl Run {
         self.counts.steps += compare_every_step()? as u64;
         for drawing in (0..DRAWINGS).step_by(APART) {
             self.counts.lives += compare_short_lists(drawing)? as u64;
+        }
+        Ok(())
+    }
+
+    /// All lists of up to 3 calls on every graph of two items and two colours, made one by one on every
+    /// processor: it takes minutes, so that the gate makes those of a few graphs.
+    pub fn lists(&mut self) -> Outcome {
+        let many = thread::available_parallelism().map_or(1, usize::from);
+        let part = |first| {
+            let mut graphs = (first as u64..DRAWINGS).step_by(many);
+            graphs.try_fold(0, |lists, drawing| Ok(lists + compare_short_lists(drawing)?))
+        };
+        let parts: Vec<Result<usize, Box<Difference>>> = thread::scope(|scope| {
+            let threads: Vec<_> = (0..many).map(|first| scope.spawn(move || part(first))).collect();
+            threads.into_iter().map(|one| one.join().expect("a thread ends")).collect()
+        });
+        for lists in parts {
+            self.counts.lives += lists? as u64;
         }
         Ok(())
     }

@@ -112,7 +112,9 @@ pub fn compare_unheeding(label: &str, setup: &Setup, rng: &mut Rng, depth: Depth
     let words = in_other_words(rng, words);
     let subject = Subject { label, sheet: None, setup: Some(setup) };
     let calls = Calls::new(&setup.nothing_held());
-    Compare { subject, words, calls: &calls, rng, depth }.all()
+    let mut compare = Compare { subject, words, calls: &calls, rng, depth };
+    compare.all()?;
+    compare.register(&mut Met::default())
 }
 
 /// The same setup in a buffer without the zeros at its end (of which older ones, where nothing is held,

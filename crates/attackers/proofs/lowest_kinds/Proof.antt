@@ -10,7 +10,7 @@ use Rattle.attackers.proofs.Trying.{Trying, trying-none, trying-known, 
 use Rattle.attackers.proofs.lowest_kinds.Statement.{statement}
 use Rattle.attackers.proofs.lowest_kinds.Tie as tie
 
--- The kinds of able get in, those of unable do not, and they tell of each kind whose place has been passed.
+-- The kinds of able get in, those of unable do not, and they settle each kind whose place has been passed.
 abbrev Inv-loop : tie.InvT-loop
 Inv-loop graph kinds initial target list able₀ unable₀ place₀ able unable place =
     (place ≤ 6) × Successors graph list × Trying graph kinds (initial .0) target place (able .0) (unable .0)

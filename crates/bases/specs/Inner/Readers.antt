@@ -3,8 +3,9 @@ use mathlib.Core.Path.{_≡_}
 use mathlib.Core.Bool.{Bool}
 use mathlib.Core.List.{List}
 use Prim.Native.Nat.{ℕ, _≤_, _<_}
-use lib.ListN.{length}
+use lib.ListN.{length, getD}
 use lib.Count.{ones}
+use Rattle.setup.specs.Bounds.{mostChosen}
 use Rattle.setup.specs.declared.Graph.{Graph}
 use Rattle.setup.specs.declared.Setup.{Setup}
 use Rattle.setup.specs.Setup.{ChosenSet}
@@ -15,6 +16,7 @@ use Rattle.families.specs.Inner.Exact.{OnChosen}
 use Rattle.family_lists.specs.Inner.Lists.{ListOf}
 use Rattle.tables.specs.Inner.Table.{FamilyOf}
 use Rattle.bases.specs.Base.{Base}
+use Rattle.bases.specs.Score.{pointsAt, Score, ScoreOver}
 
 -- What base_family asks for.
 pub record CanList (loss : Bool) (s : Setup) (target chosen : ℕ) (out : List ℕ) : Type 0 where
@@ -26,7 +28,7 @@ pub record CanList (loss : Bool) (s : Setup) (target chosen : ℕ) (out : List �
 -- The family m has n members, and their sets in order are the target's base.
 pub record BaseFamily (loss : Bool) (s : Setup) (g : Graph) (target chosen : ℕ) (m : List ℕ) (n : ℕ) : Type 0 where
   pub words : length m ≡ familyWords
-  pub few : ones chosen ≤ 14
+  pub few : ones chosen ≤ mostChosen
   pub exact : OnChosen chosen m
   pub count : size m ≡ n
   pub base : List ℕ
@@ -39,3 +41,13 @@ pub record BothFamilies (loss : Bool) (s : Setup) (g : Graph) (target chosen : �
   pub isFamily : FamilyOf (ruleOf loss g) chosen target f
   pub isMinimal : MinimalMembers f m
   pub base : BaseFamily loss s g target chosen m n
+
+-- r has the values of all vertices.
+pub record Values (loss : Bool) (s : Setup) (r : List ℕ) : Type 0 where
+  pub long : length r ≡ 64
+  pub each : (v : ℕ) → getD r v 0 ≡ pointsAt loss s v
+
+-- r is the score, over all sets and so over the base.
+pub record ScoreBoth (loss : Bool) (s : Setup) (g : Graph) (target r : ℕ) : Type 0 where
+  pub all : Score loss s g target r
+  pub base : (l : List ℕ) → Base loss s g target l → ScoreOver loss s l r

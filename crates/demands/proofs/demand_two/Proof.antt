@@ -1,5 +1,6 @@
 use Rattle.register.proofs.Afternoon.{register-law}
 use Rattle.demands.proofs.Pools.{pool-meaning}
+use Rattle.demands.proofs.Living.{living-meaning}
 use borrow.Author.Needs.{needs}
 use Rattle.demands.proofs.demand_two.Statement.{statement}
 use Rattle.demands.proofs.demand_two.Tie as tie
@@ -99,6 +100,7 @@ returns c =
       next = x .next-access-set .ensures;
       register = register-law;
       pool = pool-meaning;
+      living = living-meaning;
       bagAtMost = b .ask-bags .ensures .0;
       bagScore = b .ask-bags .ensures .1;
     }

@@ -5,8 +5,9 @@ use Prim.Native.Nat.{ℕ, _-_, _≤_, _<_}
 use native.Mathlib.Omega.{arith}
 use lib.ListN.{length, getD}
 use borrow.Author.Needs.{needs}
+use Rattle.vertex_set.proofs.Filling.{fill-more}
 use Rattle.families.specs.Inner.Steps.{LeastWord}
-use Rattle.families.proofs.Families.{minimal-members, word-more}
+use Rattle.families.proofs.Families.{minimal-members}
 use Rattle.families.proofs.minimal_members.Statement.{statement}
 use Rattle.families.proofs.minimal_members.Tie as tie
 
@@ -39,7 +40,7 @@ loop-again c =
     let b = c .before .before in (
       search needs,
       search needs,
-      word-more (b .before .before .before .args .f .now) (b .loop .out) (b .loop .b) (c .least-word .result) (search needs) (b .loop .inv .2)
+      fill-more 0 (LeastWord (b .before .before .before .args .f .now)) (b .loop .out) (b .loop .b) (c .least-word .result) (search needs) (b .loop .inv .2)
           (c .least-word .ensures),
     )
 

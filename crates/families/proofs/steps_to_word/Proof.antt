@@ -1,4 +1,4 @@
--- `families::steps_to_word` meets its contract. The loop's invariant: the lanes have the words without a bit below j.
+-- `families::steps_to_word` meets its contract. The loop's invariant: `lanes` has the lanes of the words numbered b less one of its bits below j.
 -- Assumes nothing.
 use mathlib.Core.Path.{_≡_}
 use mathlib.Core.Logic.{⊎-elim}

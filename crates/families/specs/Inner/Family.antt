@@ -9,7 +9,11 @@ use Rattle.vertex_set.specs.Set.{Member, Within, ProperlyWithin, Iff}
 abbrev pub familyWords : ℕ
 familyWords = 256
 
--- The number of masks: a family has a bit for each.
+-- The most bits of a mask, and so the most chosen vertices.
+abbrev pub maskBits : ℕ
+maskBits = 14
+
+-- The number of masks, 2^14: a family has a bit for each.
 abbrev pub masks : ℕ
 masks = 16384
 

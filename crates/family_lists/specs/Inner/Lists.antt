@@ -6,7 +6,8 @@ use lib.Count.{ones}
 use lib.ListN.{length, drop}
 use Rattle.vertex_set.specs.Set.{Member}
 use Rattle.vertex_set.specs.Order.{Listed, Ordered, sumOver}
-use Rattle.families.specs.Inner.Family.{In, size, familyWords, masks}
+use Rattle.scores.specs.Never.{never}
+use Rattle.families.specs.Inner.Family.{In, size, familyWords, maskBits, masks}
 use Rattle.families.specs.Inner.Masks.{SetOfMask}
 use Rattle.families.specs.Inner.Exact.{OnChosen}
 use Rattle.family_lists.specs.Inner.Tables.{TablesFit, sumBy}
@@ -20,7 +21,7 @@ pub record ListOf (chosen : ℕ) (f l : List ℕ) : Type 0 where
 -- What write_sets asks for: a family of 256 words on at most 14 chosen vertices, and room for all its members.
 pub record Writable (chosen : ℕ) (f : List ℕ) (places : ℕ) : Type 0 where
   pub words : length f ≡ familyWords
-  pub few : ones chosen ≤ 14
+  pub few : ones chosen ≤ maskBits
   pub exact : OnChosen chosen f
   pub room : size f ≤ places
 
@@ -32,16 +33,16 @@ pub record WroteSets (chosen : ℕ) (f entry : List ℕ) (r : ℕ) (exit : List 
   pub all : size f ≡ length list
   pub wrote : exit ≡ list ++ drop (length list) entry
 
--- What sums of values ask for: at most 14 chosen vertices, with values below 2^56, of which 64 stay below 2^62.
+-- What sums of values ask for: at most 14 chosen vertices, with values below 2^56, of which 64 stay below never.
 pub record Summable (chosen : ℕ) (value : ℕ → ℕ) : Type 0 where
-  pub few : ones chosen ≤ 14
+  pub few : ones chosen ≤ maskBits
   pub small : (v : ℕ) → Member chosen v → value v < 2 ^ 56
 
--- The two tables give for each mask the sum of the values of its set, and every sum stays below 2^62.
+-- The two tables give for each mask the sum of the values of its set, and every sum stays below never.
 pub record SumTables (chosen : ℕ) (value : ℕ → ℕ) (low high : List ℕ) : Type 0 where
   pub fit : TablesFit low high
   pub word : chosen < 2 ^ 64
-  pub below : (m : ℕ) → m < masks → sumBy low high m < 2 ^ 62
+  pub below : (m : ℕ) → m < masks → sumBy low high m < never
   pub sum : (m x : ℕ) → m < masks → SetOfMask chosen m x → sumBy low high m ≡ sumOver value x
 
 -- Some member of f stands for a set whose values sum up to r.
@@ -53,10 +54,10 @@ pub record SumOfMember (chosen : ℕ) (f : List ℕ) (value : ℕ → ℕ) (r : 
   pub of : SetOfMask chosen mask set
   pub sum : r ≡ sumOver value set
 
--- r is the least sum of values over the sets of the members of f, and 2^62, which is above every such sum, where f is empty.
+-- r is the least sum of values over the sets of the members of f, and never, which is above every such sum, where f is empty.
 pub record LeastSum (chosen : ℕ) (f : List ℕ) (value : ℕ → ℕ) (r : ℕ) : Type 0 where
-  pub never : ((m : ℕ) → m < masks → In f m → ⊥) → r ≡ 2 ^ 62
-  pub below : (m : ℕ) → m < masks → In f m → r < 2 ^ 62
+  pub none : ((m : ℕ) → m < masks → In f m → ⊥) → r ≡ never
+  pub below : (m : ℕ) → m < masks → In f m → r < never
   pub reached : (m : ℕ) → m < masks → In f m → SumOfMember chosen f value r
   pub least : (m x : ℕ) → m < masks → In f m → SetOfMask chosen m x → r ≤ sumOver value x
 

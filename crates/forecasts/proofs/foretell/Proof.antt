@@ -1,4 +1,4 @@
--- `forecasts::foretell` meets its contract: at most 14 vertices are counted, and the table has the forecast for so many.
+-- `forecasts::foretell` meets its contract: at most 14 vertices are counted, and the table has the forecast for each number up to 14.
 -- Assumes nothing.
 use Prim.Native.Nat.{_≤_}
 use native.Mathlib.Omega.{arith}

@@ -14,7 +14,7 @@ use Rattle.formed.proofs.Edges.{graphs-by-edges}
 use Rattle.formed.proofs.graphs_fit.Statement.{statement}
 use Rattle.formed.proofs.graphs_fit.Tie as tie
 
--- The rows of each place before v fit, and have so many edges, which are at most 512 for each of them.
+-- The rows of each place before v fit; `edges` is how many edges they have, at most 512 for each place.
 abbrev Inv-loop : tie.InvT-loop
 Inv-loop count graph recovery edges₀ v₀ edges v =
     (v ≤ 64)
@@ -73,6 +73,9 @@ loop-again c =
     let q = c .row-sizes .ensures .1 in
     (omega arith, below-more _ (l .v) (l .inv .1) (b .edges-fit .ensures .yes (c .before .if1 .taken)), omega arith, omega arith)
 
+cast-result : tie.Need-cast-result Inv-loop μ-loop
+cast-result c = search needs
+
 returns-2 : tie.Need-returns-2 Inv-loop μ-loop
 returns-2 c =
     let l = c .before .loop in
@@ -98,4 +101,5 @@ graphs-fit-spec =
     add-v
     loop-less
     loop-again
+    cast-result
     returns-2)

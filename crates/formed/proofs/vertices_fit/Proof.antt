@@ -13,7 +13,7 @@ use Rattle.formed.proofs.Vertices.{chosen-whole, vertices-by-losable}
 use Rattle.formed.proofs.vertices_fit.Statement.{statement}
 use Rattle.formed.proofs.vertices_fit.Tie as tie
 
--- The vertex of each place before v fits, and so many of them have a start value, and so many a loss value.
+-- The vertex of each place before v fits; `initial` and `losable` count those with a start value and those with a loss value.
 abbrev Inv-loop : tie.InvT-loop
 Inv-loop count vertices initial₀ losable₀ v₀ initial losable v =
     (v ≤ 64)
@@ -76,6 +76,9 @@ loop-again c =
     let q′ = c .count-given2 .ensures .1 in
     (omega arith, below-more _ (l .v) (l .inv .1) (b .vertex-fits .ensures .yes (c .before .before .if1 .taken)), omega arith, omega arith, omega arith, omega arith)
 
+cast-most : tie.Need-cast-most Inv-loop μ-loop
+cast-most c = search needs
+
 returns-2 : tie.Need-returns-2 Inv-loop μ-loop
 returns-2 c =
     let l = c .before .before .loop in
@@ -112,5 +115,6 @@ vertices-fit-spec =
     add-v
     loop-less
     loop-again
+    cast-most
     returns-2
     returns-3)

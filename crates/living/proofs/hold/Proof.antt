@@ -11,15 +11,17 @@ closure-requires c κs = search needs
 
 returns : tie.Need-returns
 returns c =
-    let l = c .before in
-    record {
-      count = refl;
-      vertices = refl;
-      graph = refl;
-      recovery = refl;
-      isHeld = refl;
-      opened = passes-closure (access _) (access-lawful _) (l .closure .result .passes) _ _ (l .closure .ensures);
-    }
+    let l = c .before in (
+      refl,
+      record {
+        count = refl;
+        vertices = refl;
+        graph = refl;
+        recovery = refl;
+        isHeld = refl;
+        opened = passes-closure (access _) (access-lawful _) (l .closure .result .passes) _ _ (l .closure .ensures);
+      },
+    )
 
 pub hold-spec : {M : Type 1} → statement M
 hold-spec = tie.close (tie.spec closure-requires returns)

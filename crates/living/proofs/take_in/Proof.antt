@@ -6,14 +6,18 @@ use Rattle.living.proofs.Drawing.{in-redrawn}
 use Rattle.living.proofs.take_in.Statement.{statement}
 use Rattle.living.proofs.take_in.Tie as tie
 
+well-formed-requires : tie.Need-well-formed-requires
+well-formed-requires c κs = search needs
+
 ask-vertex-requires : tie.Need-ask-vertex-requires
 ask-vertex-requires c κs = search needs
 
 returns : tie.Need-returns
 returns c =
     let k = c .before in
-    let a = k .before .args in
-    hold-asked (a .s) (a .v) (TakeIn (a .v)) (k .ask-vertex .result) (k .ask-vertex .ensures) (c .if1 .taken)
+    let f = k .before in
+    let a = f .before .args in
+    hold-asked (a .s) (a .v) (TakeIn (a .v)) (f .well-formed .result) (k .ask-vertex .result) (f .well-formed .ensures) (k .ask-vertex .ensures) (c .if1 .taken)
 
 insert-requires : tie.Need-insert-requires
 insert-requires c κs = search needs
@@ -30,11 +34,13 @@ returns-2 c =
     let h = o .before in
     let e = h .before in
     let k = e .before in
-    let a = k .before .args in
+    let f = k .before in
+    let a = f .before .args in
     let y = k .ask-vertex .ensures .yes (e .if1 .left) in
-    hold-done (a .s) (a .v) (TakeIn (a .v)) (c .hold .result) (y .0) (y .1)
-    (in-redrawn (a .s) (c .hold .result) (a .v) (h .insert .result .0) (o .insert2 .result .0) (y .0) (lt-of-lt-of-le (y .1) (y .0 .most))
-    (h .insert .ensures) (o .insert2 .ensures) (c .hold .ensures))
+    let w = f .well-formed .ensures .yes (y .0) in
+    hold-done (a .s) (a .v) (TakeIn (a .v)) (c .hold .result .number) (c .hold .result .setup) (c .hold .ensures .0) w (y .1)
+    (in-redrawn (a .s) (c .hold .result .setup) (a .v) (h .insert .result .0) (o .insert2 .result .0) w (lt-of-lt-of-le (y .1) (w .most))
+    (h .insert .ensures) (o .insert2 .ensures) (c .hold .ensures .1))
 
 pub take-in-spec : {M : Type 1} → statement M
-take-in-spec = tie.close (tie.spec ask-vertex-requires returns insert-requires insert-requires-2 hold-requires returns-2)
+take-in-spec = tie.close (tie.spec well-formed-requires ask-vertex-requires returns insert-requires insert-requires-2 hold-requires returns-2)

@@ -4,6 +4,7 @@ use mathlib.Core.Bool.{Bool}
 use mathlib.Core.List.{List, []}
 use Prim.Native.Nat.{ℕ, _^_, _≤_, _<_}
 use lib.Count.{ones}
+use Rattle.setup.specs.Bounds.{mostChosen}
 use Rattle.setup.specs.declared.Graph.{Graph}
 use Rattle.setup.specs.declared.Setup.{Setup}
 use Rattle.setup.specs.Setup.{ChosenSet}
@@ -15,7 +16,7 @@ use Rattle.bases.specs.Marks.{Mark, Repeated, Shut, Loose, Right, MarkedAs, tal
 -- The families of the target's sets and of the minimal ones, as marking reads them.
 pub record Markable (loss : Bool) (s : Setup) (g : Graph) (target chosen : ℕ) (family minimal : List ℕ) : Type 0 where
   pub fits : chosen < 2 ^ 64
-  pub few : ones chosen ≤ 14
+  pub few : ones chosen ≤ mostChosen
   pub isChosen : ChosenSet loss s chosen
   pub isFamily : FamilyOf (ruleOf loss g) chosen target family
   pub isMinimal : MinimalMembers family minimal

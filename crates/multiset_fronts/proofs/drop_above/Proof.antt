@@ -5,7 +5,7 @@ use mathlib.Core.Path.{sym, subst, _∙_}
 use Prim.Native.Nat.{_-_}
 use native.Mathlib.Omega.{arith}
 use borrow.Author.Needs.{needs}
-use Rattle.multiset_keys.specs.Inner.{Key}
+use Rattle.multiset_keys.specs.Inner.{CountKey}
 use Rattle.multiset_fronts.proofs.Dropping.{Dropping, dropping-none, dropping-more, dropping-same, dropping-all}
 use Rattle.multiset_fronts.proofs.drop_above.Statement.{statement}
 use Rattle.multiset_fronts.proofs.drop_above.Tie as tie
@@ -88,8 +88,8 @@ both-at-most-requires c κs =
     let t = c .before .before .before .loop-test .taken in (
       p .first,
       p .second,
-      subst Key (sym (l .loop .inv .rest-low (l .loop .i) (omega arith))) (p .lows (l .loop .i) t),
-      subst Key (sym (l .loop .inv .rest-high (l .loop .i) (omega arith))) (p .highs (l .loop .i) t),
+      subst CountKey (sym (l .loop .inv .rest-low (l .loop .i) (omega arith))) (p .lows (l .loop .i) t),
+      subst CountKey (sym (l .loop .inv .rest-high (l .loop .i) (omega arith))) (p .highs (l .loop .i) t),
     )
 
 add-i : tie.Need-add-i Inv-loop μ-loop

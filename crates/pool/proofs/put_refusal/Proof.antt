@@ -8,7 +8,7 @@ use Rattle.written.proofs.Writing.{wrote-then, room-then}
 use Rattle.sheet_format.specs.Text.{bytesOf}
 use Rattle.sheet_format.specs.Fields.{decimal}
 use Rattle.writing.specs.Inner.{ended}
-use Rattle.pool.specs.Inner.{refusalLine}
+use Rattle.pool.specs.Printed.{refusalLine}
 use Rattle.pool.proofs.Telling.{number-short, line-written}
 use borrow.Author.Needs.{needs}
 use Rattle.pool.proofs.put_refusal.Statement.{statement}

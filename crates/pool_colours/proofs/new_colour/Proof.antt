@@ -9,7 +9,7 @@ use Rattle.pool_colours.proofs.Renaming.{NewSoFar, taken-none, taken-sa
 use Rattle.pool_colours.proofs.new_colour.Statement.{statement}
 use Rattle.pool_colours.proofs.new_colour.Tie as tie
 
--- What is taken before the colour b is renamed is in the set.
+-- `taken` has the colours that are taken before the second sheet's colour b is renamed.
 abbrev Inv-loop : tie.InvT-loop
 Inv-loop colour second taken₀ b₀ taken b = (b ≤ colour) × NewSoFar (taken₀ .0) second b (taken .0)
 

@@ -4,17 +4,17 @@ use Rattle.pool_items.proofs.Items.{kind-other, start-other, loss-other
 use Rattle.pool_items.proofs.same_vertex.Statement.{statement}
 use Rattle.pool_items.proofs.same_vertex.Tie as tie
 
-kind-code-requires : tie.Need-kind-code-requires
-kind-code-requires c κs = search needs
+kind-number-requires : tie.Need-kind-number-requires
+kind-number-requires c κs = search needs
 
-kind-code-requires-2 : tie.Need-kind-code-requires-2
-kind-code-requires-2 c κs = search needs
+kind-number-requires-2 : tie.Need-kind-number-requires-2
+kind-number-requires-2 c κs = search needs
 
 returns : tie.Need-returns
 returns c =
     let k = c .before in
     let q = k .before .before .args in
-    kind-other (q .a) (q .b) _ _ (k .before .kind-code .ensures) (k .kind-code2 .ensures) (c .if1 .taken)
+    kind-other (q .a) (q .b) _ _ (k .before .kind-number .ensures) (k .kind-number2 .ensures) (c .if1 .taken)
 
 same-value-requires : tie.Need-same-value-requires
 same-value-requires c κs = search needs
@@ -39,15 +39,15 @@ returns-4 c =
     let e = s .before .before in
     let k = e .before in
     let q = k .before .before .args in
-    rank-told (q .a) (q .b) _ _ (k .before .kind-code .ensures) (k .kind-code2 .ensures) (e .if1 .left) (s .before .same-value .result) (l .before .same-value2 .result)
+    rank-told (q .a) (q .b) _ _ (k .before .kind-number .ensures) (k .kind-number2 .ensures) (e .if1 .left) (s .before .same-value .result) (l .before .same-value2 .result)
     (s .before .same-value .ensures) (s .if2 .left) (l .before .same-value2 .ensures) (l .if3 .left)
 
 pub same-vertex-spec : {M : Type 1} → statement M
 same-vertex-spec =
     tie.close
     (tie.spec
-    kind-code-requires
-    kind-code-requires-2
+    kind-number-requires
+    kind-number-requires-2
     returns
     same-value-requires
     returns-2

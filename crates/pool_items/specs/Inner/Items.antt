@@ -31,18 +31,18 @@ pub record WithItem (r : Remaining) (x : Vertex) (size : ℕ) (q : Remaining) : 
   pub bytes : q .bytes ≡ r .bytes + size
 
 -- The places at which rows begin rise.
-pub record Rising (from : List ℕ) (count : ℕ) : Type 0 where
+pub record PlacesRise (from : List ℕ) (count : ℕ) : Type 0 where
   pub few : count ≤ 64
   pub rise : (j : ℕ) → j < count → getD from j 0 ≤ getD from (suc j) 0
   pub most : (j : ℕ) → j < count → getD from (suc j) 0 ≤ mostBytes
 
 -- The items ys have the vertices, and their rows have the bytes between the places.
-pub record RowsOf (ys : List ItemRow) (vertices : List Vertex) (from : List ℕ) : Type 0 where
+pub record ItemRowsAt (ys : List ItemRow) (vertices : List Vertex) (from : List ℕ) : Type 0 where
   pub vertex : (j : ℕ) (y : ItemRow) → StandsAt ys j y → getD vertices j unusedVertex ≡ vertexOf y
   pub bytes : (j : ℕ) (y : ItemRow) → StandsAt ys j y → getD from j 0 + length (lineText (itemFields y)) ≡ getD from (suc j) 0
 
 -- What is counted of the items zs.
-pub record Counts (zs : List ItemRow) (r : Remaining) : Type 0 where
+pub record ItemCounts (zs : List ItemRow) (r : Remaining) : Type 0 where
   pub items : r .items ≡ length zs
   pub starts : r .starts ≡ startCount zs
   pub losses : r .losses ≡ lossCount zs
@@ -50,4 +50,4 @@ pub record Counts (zs : List ItemRow) (r : Remaining) : Type 0 where
 
 -- For whatever item rows the places are of, those that remain are counted.
 pub record CountsRemaining (vertices : List Vertex) (nb : ℕ) (places : List ℕ) (na : ℕ) (from : List ℕ) (r : Remaining) : Type 0 where
-  pub each : (xs ys : List ItemRow) → Places xs ys places → na ≡ length xs → nb ≡ length ys → RowsOf ys vertices from → Counts (remaining xs ys) r
+  pub each : (xs ys : List ItemRow) → Places xs ys places → na ≡ length xs → nb ≡ length ys → ItemRowsAt ys vertices from → ItemCounts (remaining xs ys) r

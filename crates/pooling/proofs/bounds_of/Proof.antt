@@ -3,7 +3,8 @@ use borrow.Author.Needs.{needs}
 use native.Mathlib.Omega.{arith}
 use mathlib.Core.Path.{refl}
 use Prim.Native.Nat.{_+_, _≤_}
-use Rattle.pooling.proofs.Calls.{rows-rise, lines-enough, edges-small, zeros, sums-small, bounds-of}
+use Rattle.vertex_set.proofs.Lists.{zeros}
+use Rattle.pooling.proofs.Calls.{rows-rise, lines-enough, edges-small, sums-small, bounds-of}
 use Rattle.pooling.proofs.bounds_of.Statement.{statement}
 use Rattle.pooling.proofs.bounds_of.Tie as tie
 

@@ -3,7 +3,7 @@ use Prim.Native.Nat.{_+_}
 use native.Mathlib.Omega.{arith}
 use Rattle.answers.specs.declared.RiskAnswer.{RiskAnswer}
 use Rattle.answers.specs.Answers.{riskNumber, riskValues}
-use Rattle.bases.specs.Score.{never}
+use Rattle.scores.specs.Never.{never}
 use Rattle.portal.specs.Inner.{Coded}
 use Rattle.portal.proofs.Portal.{coded-value, coded-refusal}
 use borrow.Author.Needs.{needs}

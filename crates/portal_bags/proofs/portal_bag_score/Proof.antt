@@ -3,7 +3,7 @@ use mathlib.Core.List.{List}
 use Prim.Native.Nat.{ℕ}
 use Rattle.setup.specs.declared.Setup.{Setup}
 use Rattle.multiset_scores.specs.Answers.{MultisetsCall}
-use Rattle.portal_results.specs.Inner.{Tells}
+use Rattle.portal_results.specs.Inner.{InStruct}
 use Rattle.portal_results.specs.Told.{Told}
 use Rattle.portal_results.proofs.Telling.{told}
 use borrow.Author.Needs.{needs}
@@ -11,7 +11,7 @@ use Rattle.portal_bags.proofs.portal_bag_score.Statement.{statement}
 use Rattle.portal_bags.proofs.portal_bag_score.Tie as tie
 
 told-bags : (s t : Setup) → s ≡ t → (target : ℕ) (places places′ lengths lengths′ : List ℕ) (number : ℕ) (values : List ℕ) (r : ℕ) (fields : List ℕ)
-    → MultisetsCall s target number values places places′ lengths lengths′ → Tells number values r fields
+    → MultisetsCall s target number values places places′ lengths lengths′ → InStruct number values r fields
     → Told (λ n v. MultisetsCall t target n v places places′ lengths lengths′) r fields
 told-bags s t e target places places′ lengths lengths′ =
     told (λ (x : Setup) (n : ℕ) (v : List ℕ). MultisetsCall x target n v places places′ lengths lengths′) s t e

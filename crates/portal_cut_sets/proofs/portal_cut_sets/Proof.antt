@@ -3,7 +3,7 @@ use mathlib.Core.List.{List}
 use Prim.Native.Nat.{ℕ}
 use Rattle.setup.specs.declared.Setup.{Setup}
 use Rattle.cut_sets.specs.Answers.{CutsCall}
-use Rattle.portal_results.specs.Inner.{Tells}
+use Rattle.portal_results.specs.Inner.{InStruct}
 use Rattle.portal_results.specs.Told.{Told}
 use Rattle.portal_results.proofs.Telling.{told}
 use borrow.Author.Needs.{needs}
@@ -11,7 +11,7 @@ use Rattle.portal_cut_sets.proofs.portal_cut_sets.Statement.{statement}
 use Rattle.portal_cut_sets.proofs.portal_cut_sets.Tie as tie
 
 told-cuts : (s t : Setup) → s ≡ t → (target : ℕ) (entry exit : List ℕ) (number : ℕ) (values : List ℕ) (r : ℕ) (fields : List ℕ)
-    → CutsCall s target number values entry exit → Tells number values r fields → Told (λ n v. CutsCall t target n v entry exit) r fields
+    → CutsCall s target number values entry exit → InStruct number values r fields → Told (λ n v. CutsCall t target n v entry exit) r fields
 told-cuts s t e target entry exit = told (λ (x : Setup) (n : ℕ) (v : List ℕ). CutsCall x target n v entry exit) s t e
 
 setup-in-requires : tie.Need-setup-in-requires

@@ -1,6 +1,6 @@
 use native.Mathlib.Omega.{arith}
 use lib.ListN.{length-set}
-use Rattle.portal_setup.specs.Words.{wordsOf}
+use Rattle.portal_setup.specs.Words.{setupWords, wordsOf}
 use Rattle.portal_setup.proofs.Writing.{all-one, all-long, all-next, all-then}
 use borrow.Author.Needs.{needs}
 use Rattle.portal_setup.proofs.put_setup.Statement.{statement}
@@ -17,14 +17,14 @@ add-put-vertices c = search needs
 
 put-vertices-requires : tie.Need-put-vertices-requires
 put-vertices-requires c κs =
-    let st = c .before .before .before .before .before .before in
+    let st = c .before .before .before .before .before .before .before in
     let k = length-set (st .args .out .now) (st .args .at) (st .args .s .count) in
     omega arith
 
 put-graph-requires : tie.Need-put-graph-requires
 put-graph-requires c κs =
     let v = c .before .before .before in
-    let st = v .before .before .before .before .before .before .before in
+    let st = v .before .before .before .before .before .before .before .before in
     let k = length-set (st .args .out .now) (st .args .at) (st .args .s .count) in
     let l = all-long 256 _ _ _ _ _ (v .put-vertices .ensures) in
     let n = all-next 256 _ _ _ _ _ (v .put-vertices .ensures) in
@@ -34,7 +34,7 @@ put-graph-requires-2 : tie.Need-put-graph-requires-2
 put-graph-requires-2 c κs =
     let g = c .before .before .before in
     let v = g .before .before .before .before in
-    let st = v .before .before .before .before .before .before .before in
+    let st = v .before .before .before .before .before .before .before .before in
     let k = length-set (st .args .out .now) (st .args .at) (st .args .s .count) in
     let l = all-long 256 _ _ _ _ _ (v .put-vertices .ensures) in
     let n = all-next 256 _ _ _ _ _ (v .put-vertices .ensures) in
@@ -47,7 +47,7 @@ put-sets-requires c κs =
     let h = c .before .before .before in
     let g = h .before .before .before .before in
     let v = g .before .before .before .before in
-    let st = v .before .before .before .before .before .before .before in
+    let st = v .before .before .before .before .before .before .before .before in
     let k = length-set (st .args .out .now) (st .args .at) (st .args .s .count) in
     let l = all-long 256 _ _ _ _ _ (v .put-vertices .ensures) in
     let n = all-next 256 _ _ _ _ _ (v .put-vertices .ensures) in
@@ -64,14 +64,14 @@ returns c =
     let h = b .before .before .before .before in
     let g = h .before .before .before .before in
     let v = g .before .before .before .before in
-    let a = v .before .before .before .before .before .before .before .args in
+    let a = v .before .before .before .before .before .before .before .before .args in
     all-then 1 _ _ _ _ _ (all-one (a .out .now) (a .at) (a .s .count)) 1282 _ _ _
     (all-then 256 _ _ _ _ _ (v .put-vertices .ensures) 1026 _ _ _
     (all-then 512 _ _ _ _ _ (g .put-graph .ensures) 514 _ _ _
     (all-then 512 _ _ _ _ _ (h .put-graph2 .ensures) 2 _ _ _ (b .put-sets .ensures))))
 
 same-length : tie.Need-same-length
-same-length c = all-long 1283 _ _ _ _ _ (returns c)
+same-length c = all-long setupWords _ _ _ _ _ (returns c)
 
 pub put-setup-spec : {M : Type 1} → statement M
 put-setup-spec =

@@ -1,7 +1,7 @@
 use mathlib.Core.Path.{_≡_, sym, _∙_, ap}
 use mathlib.Core.Bool.{Bool, true, false, cond}
 use Prim.Native.Nat.{ℕ}
-use Rattle.records.specs.Inner.{removeOf, layOf, stepOf}
+use Rattle.records.specs.Inner.{withdrawalTurn, handInTurn, stepOf}
 use Rattle.records.specs.declared.Record.{Record}
 use Rattle.records.specs.declared.Task.{Task}
 use Rattle.records.specs.declared.Pass.{Pass}
@@ -10,13 +10,13 @@ use borrow.Author.Needs.{needs}
 use Rattle.records.proofs.step.Statement.{statement}
 use Rattle.records.proofs.step.Tie as tie
 
-by-true : (t : Task) (p : Pass) (r : Record) (i : ℕ) (d : Turn) → t .remove ≡ true → d ≡ removeOf t p r i → d ≡ stepOf t p r i
+by-true : (t : Task) (p : Pass) (r : Record) (i : ℕ) (d : Turn) → t .remove ≡ true → d ≡ withdrawalTurn t p r i → d ≡ stepOf t p r i
 unfolding stepOf
-by-true t p r i d e h = h ∙ sym (ap (λ (b : Bool). cond b (removeOf t p r i) (layOf t p r i)) e)
+by-true t p r i d e h = h ∙ sym (ap (λ (b : Bool). cond b (withdrawalTurn t p r i) (handInTurn t p r i)) e)
 
-by-false : (t : Task) (p : Pass) (r : Record) (i : ℕ) (d : Turn) → t .remove ≡ false → d ≡ layOf t p r i → d ≡ stepOf t p r i
+by-false : (t : Task) (p : Pass) (r : Record) (i : ℕ) (d : Turn) → t .remove ≡ false → d ≡ handInTurn t p r i → d ≡ stepOf t p r i
 unfolding stepOf
-by-false t p r i d e h = h ∙ sym (ap (λ (b : Bool). cond b (removeOf t p r i) (layOf t p r i)) e)
+by-false t p r i d e h = h ∙ sym (ap (λ (b : Bool). cond b (withdrawalTurn t p r i) (handInTurn t p r i)) e)
 
 remove-requires : tie.Need-remove-requires
 remove-requires c κs = search needs

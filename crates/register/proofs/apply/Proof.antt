@@ -48,7 +48,7 @@ use denote.Triple.Spec.{Meets, tripleOf}
 use denote.Triple.Table.{entered, cited}
 use denote.Triple.Walked.{says, Stays, stay-slice, stay-none, walkOf, goes-slice, goes-none, Walks, ends-at, walked, walk-meets}
 use denote.Exit.{yes}
-use Rattle.records.specs.Inner.{blank, stepOf, turnsOf, beginOf, finishOf, End, endOf}
+use Rattle.records.specs.Inner.{blankRecord, stepOf, turnsOf, beginOf, finishOf, End, endOf}
 use Rattle.records.proofs.Laws.{told, turns-fit, begin-turns, step-at}
 use Rattle.records.specs.declared.Record.{Record}
 use Rattle.records.specs.declared.Task.{Task}
@@ -296,7 +296,7 @@ module _ {M : Type 1} (𝓤 : URA M) (H : Heap 𝓤) (A : Atoms 𝓤) (W : Given
 
     -- a turn
     more : (i : ℕ) (p : Pass) (l : List Record) (X : SProp 𝓤) → i < n → length l ≡ length ys → Is P.the-row p (P′.lowered p ∷ [])
-        → ((d : Turn) → d ≡ stepOf t p (getD l i blank) i → Is P.the-row (d .pass) (P′.lowered (d .pass) ∷ []) → ent 𝓤 (⋆ 𝓤 H A (At (i + 1) (d .pass) (set l (d .at) (d .row)))) X)
+        → ((d : Turn) → d ≡ stepOf t p (getD l i blankRecord) i → Is P.the-row (d .pass) (P′.lowered (d .pass) ∷ []) → ent 𝓤 (⋆ 𝓤 H A (At (i + 1) (d .pass) (set l (d .at) (d .row)))) X)
         → ent 𝓤 (⋆ 𝓤 H A (At i p l)) (Wp 𝓤 H C Λ E code.Mir.turn-1 (afterTurn 𝓤 H X Left))
     unfolding afterTurn
     more i p l X small same g-p k =
@@ -308,10 +308,10 @@ module _ {M : Type 1} (𝓤 : URA M) (H : Heap 𝓤) (A : Atoms 𝓤) (W : Given
         assigns ! (bin ! (load ! (from ! (stop !)) (look ! 1 refl)) (lit ! tt) (record { fits = i-fits })) (from ! (stop !)) (init ! 4 refl (tt, record { fits = i-fits })) $
         assigns ! (bin ! (load ! (from ! (fld ! refl (stop !))) (look-in ! 11 (sub ! 0 refl (whole !)))) (load ! (from ! (stop !)) (look ! 4 refl)) tt) (from ! (stop !)) (init ! 5 refl (tt, tt)) $
         rewrite ! 5 (λ (u : ℕ). ‵ (fat fullShare tyPtr l₁₃ 0 (vptr b u))) (sym (place-is 64 o i)) refl $
-        elem-out ! T.the-row (Is T.the-row) (shows 𝓤 H A T.the-row) (LL.vals T.the-type T′.the-laws) (LL.tells T.the-type T′.the-laws) fullShare l i blank b o within (λ g.
+        elem-out ! T.the-row (Is T.the-row) (shows 𝓤 H A T.the-row) (LL.vals T.the-type T′.the-laws) (LL.tells T.the-type T′.the-laws) fullShare l i blankRecord b o within (λ g.
         assigns ! (of-opd ! (load ! (from ! (hop ! (look ! 7 refl) (stop !))) (look-raw ! 0 refl))) (from ! (stop !)) (init ! 8 refl (LL.lawful T.the-type T′.the-laws 𝓤 H A W .typed r _ g .0)) $
         assigns ! (of-opd ! (load ! (from ! (stop !)) (look ! 8 refl))) (from ! (stop !)) (init ! 9 refl (LL.lawful T.the-type T′.the-laws 𝓤 H A W .typed r _ g .0)) $
-        elem-back ! T.the-row fullShare l i blank (T′.lowered r ∷ []) b o within $
+        elem-back ! T.the-row fullShare l i blankRecord (T′.lowered r ∷ []) b o within $
         -- `step` says what goes where
         nothing ! $ use1 W (raw (Step 𝓤 H A mem run .pre (to-step p r i))) (goes-step p r i next-fits g-p g) $
         calls-at ! fm (Step 𝓤 H A mem run) known-step (to-step p r i) (and-then ! (load ! (from ! (stop !)) (look ! 17 refl)) (and-then ! (load ! (from ! (stop !)) (look ! 3 refl)) (and-then ! (load ! (from ! (stop !)) (look ! 8 refl)) (and-then ! (load ! (from ! (stop !)) (look ! 2 refl)) (no-more !))))) (λ v.
@@ -325,7 +325,7 @@ module _ {M : Type 1} (𝓤 : URA M) (H : Heap 𝓤) (A : Atoms 𝓤) (W : Given
         assigns ! (bin ! (load ! (from ! (stop !)) (look ! 9 refl)) (lit ! tt) (record { fits = at-fits d e })) (from ! (stop !)) (store ! 4 refl (tt, record { fits = at-fits d e })) $
         assigns ! (bin ! (load ! (from ! (fld ! refl (stop !))) (look-in ! 11 (sub ! 0 refl (whole !)))) (load ! (from ! (stop !)) (look ! 4 refl)) tt) (from ! (stop !)) (init ! 10 refl (tt, tt)) $
         rewrite ! 10 (λ (u : ℕ). ‵ (fat fullShare tyPtr l₁₅ 0 (vptr b u))) (sym (place-is 64 o (d .at))) refl $
-        elem-out ! T.the-row (Is T.the-row) (shows 𝓤 H A T.the-row) (LL.vals T.the-type T′.the-laws) (LL.tells T.the-type T′.the-laws) fullShare l (d .at) blank b o (at-within d e) (λ _.
+        elem-out ! T.the-row (Is T.the-row) (shows 𝓤 H A T.the-row) (LL.vals T.the-type T′.the-laws) (LL.tells T.the-type T′.the-laws) fullShare l (d .at) blankRecord b o (at-within d e) (λ _.
         assigns ! (of-opd ! (load ! (from ! (fld ! refl (stop !))) (look-in ! 10 (sub ! 1 refl (whole !))))) (from ! (hop ! (look ! 12 refl) (stop !))) (store-raw ! 0 refl (LL.lawful T.the-type T′.the-laws 𝓤 H A W .typed (d .row) _ (LL.owed D.the-type D′.the-laws d _ is .1 .0) .0)) $
         move ! (1 ∷ []) $ drop ! $ owned ! T.the-row (Is T.the-row) (LL.makes T.the-type T′.the-plain 𝓤 H A) (d .row) _ (LL.owed D.the-type D′.the-laws d _ is .1 .0) $ move ! (1 ∷ 0 ∷ []) $ elem-put ! T.the-row fullShare l (d .at) (d .row) (T′.lowered (d .row) ∷ []) b o (at-within d e) $
         assigns ! (of-opd ! (load ! (from ! (fld ! refl (stop !))) (look-in ! 8 (sub ! 2 refl (whole !))))) (from ! (stop !)) (store ! 2 refl (LL.lawful P.the-type P′.the-laws 𝓤 H A W .typed (d .pass) _ (LL.owed D.the-type D′.the-laws d _ is .1 .1 .0) .0)) $
@@ -334,7 +334,7 @@ module _ {M : Type 1} (𝓤 : URA M) (H : Heap 𝓤) (A : Atoms 𝓤) (W : Given
         by ! (k d e (LL.owed D.the-type D′.the-laws d _ is .1 .1 .0))))))))
       where
         r : Record
-        r = getD l i blank
+        r = getD l i blankRecord
 
         in-list : i < length ys
         in-list = lt-le i n (length ys) small n-fits

@@ -32,8 +32,8 @@ loop-holds c =
     let b = c .before .before .before in
     printing-begun _ _ _ _ _ _ _ (b .begin .result) (b .begin .ensures) (search needs) (search needs) (search needs) (search needs)
 
-going-requires : tie.Need-going-requires Inv-loop μ-loop
-going-requires c κs = search needs
+unfinished-requires : tie.Need-unfinished-requires Inv-loop μ-loop
+unfinished-requires c κs = search needs
 
 slice-aggregate-fill : tie.Need-slice-aggregate-fill Inv-loop μ-loop
 slice-aggregate-fill c = search needs
@@ -71,7 +71,7 @@ returns : tie.Need-returns Inv-loop μ-loop
 returns c = search needs
 
 loop-less : tie.Need-loop-less Inv-loop μ-loop
-loop-less c = let f = c .before .before .before .before .before .before in f .fill .ensures .less (left-some _ _ (f .before .before .before .before .before .before .going .ensures .yes (search needs)))
+loop-less c = let f = c .before .before .before .before .before .before in f .fill .ensures .less (left-some _ _ (f .before .before .before .before .before .before .unfinished .ensures .yes (search needs)))
 
 loop-again : tie.Need-loop-again Inv-loop μ-loop
 loop-again c = let f = c .before .before .before .before .before .before in printing-more _ _ _ _ _ _ _ _ _ _ (f .before .before .before .before .before .before .before .loop .inv) (f .fill .ensures) (f .fill .kept .1 .1 .1 .1 .1 .0) (f .fill .kept .1 .1 .1 .1 .1 .1 .0)
@@ -90,7 +90,7 @@ print-report-spec =
     slice-aggregate-begin-2
     begin-requires
     loop-holds
-    going-requires
+    unfinished-requires
     slice-aggregate-fill
     slice-aggregate-fill-2
     slice-aggregate-fill-3

@@ -11,7 +11,7 @@ use Rattle.setup.specs.Setup.{ChosenSet}
 use Rattle.formed.specs.WellFormed.{WellFormed}
 use Rattle.sheet_format.specs.Text.{linesOf}
 use Rattle.derivations.specs.Both.{ruleOf}
-use Rattle.bases.specs.Score.{Values}
+use Rattle.bases.specs.Inner.Readers.{Values}
 use Rattle.reference.specs.Bases.{scoreOf}
 use Rattle.sheet_format.specs.Names.{hasItem, nameOf}
 use Rattle.report_text.specs.Report.{isAccount, isBackdoor, isIdle, isOutOfRank}

@@ -4,7 +4,8 @@ use mathlib.Core.Bool.{true}
 use mathlib.Core.List.{List}
 use Prim.Native.Nat.{ℕ, _≤_, _<_}
 use lib.ListN.{getD}
-use Rattle.vertex_set.specs.Set.{Member, Iff}
+use Rattle.vertex_set.specs.Set.{Member}
+use Rattle.vertex_set.specs.Inner.{TakenBelow}
 use Rattle.scores.specs.declared.SecurityScore.{SecurityScore}
 use Rattle.scores.specs.declared.RecoverabilityScore.{RecoverabilityScore}
 use Rattle.scores.specs.Inner.Lists.{securityAt, recoverabilityAt}
@@ -12,21 +13,17 @@ use Rattle.setup.specs.declared.Setup.{Setup}
 use Rattle.setup.specs.Setup.{vertexAt}
 use Rattle.report_text.specs.Report.{isAccount}
 
--- r is the set of the vertices below n that have the property.
-pub record Passing (P : ℕ → Type 0) (n r : ℕ) : Type 0 where
-  pub each : (v : ℕ) → Iff (Member r v) ((v < n) × P v)
-
 -- r is the set of the setup's accounts.
 abbrev pub AccountSet : Setup → ℕ → Type 0
-AccountSet s r = Passing (λ v. isAccount s v ≡ true) 64 r
+AccountSet s r = TakenBelow (λ v. isAccount s v ≡ true) 64 r
 
 -- r is the set of the vertices whose score is below that without recovery.
 abbrev pub WeakerSet : List SecurityScore → List SecurityScore → ℕ → Type 0
-WeakerSet scores without r = Passing (λ v. securityAt scores v < securityAt without v) 64 r
+WeakerSet scores without r = TakenBelow (λ v. securityAt scores v < securityAt without v) 64 r
 
 -- r is the set of the vertices whose risk is at most that without recovery.
 abbrev pub IdleSet : List RecoverabilityScore → List RecoverabilityScore → ℕ → Type 0
-IdleSet risks without r = Passing (λ v. recoverabilityAt risks v ≤ recoverabilityAt without v) 64 r
+IdleSet risks without r = TakenBelow (λ v. recoverabilityAt risks v ≤ recoverabilityAt without v) 64 r
 
 -- r has the ranks of all vertices.
 pub record Ranks (s : Setup) (r : List ℕ) : Type 0 where
@@ -44,7 +41,7 @@ pub record OutOfRank (accounts : ℕ) (ranks : List ℕ) (scores : List Security
 
 -- r is the set of the accounts that are out of rank with v above.
 abbrev pub BelowOne : ℕ → List ℕ → List SecurityScore → ℕ → ℕ → Type 0
-BelowOne accounts ranks scores v r = Passing (OutOfRank accounts ranks scores v) 64 r
+BelowOne accounts ranks scores v r = TakenBelow (OutOfRank accounts ranks scores v) 64 r
 
 -- r has for each vertex v the set of the accounts that are out of rank with v above.
 pub record BelowAll (accounts : ℕ) (ranks : List ℕ) (scores : List SecurityScore) (r : List ℕ) : Type 0 where

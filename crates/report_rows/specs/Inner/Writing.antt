@@ -16,7 +16,7 @@ pub record NamePlace (sheet from to : List ℕ) (v : ℕ) : Type 0 where
   pub is : take (getD to v 0 - getD from v 0) (drop (getD from v 0) sheet) ≡ nameOf sheet v
 
 -- So does the name of each vertex of the set x.
-pub record NamePlaces (sheet from to : List ℕ) (x : ℕ) : Type 0 where
+pub record SetNamePlaces (sheet from to : List ℕ) (x : ℕ) : Type 0 where
   pub each : (v : ℕ) → Member x v → NamePlace sheet from to v
 
 -- A `+` where another name follows.

@@ -5,7 +5,7 @@ use mathlib.Core.List.{List}
 use Prim.Native.Nat.{ℕ, _*_, _≤_, _<_}
 use lib.Count.{ones}
 use lib.ListN.{length, getD, take, drop}
-use Rattle.setup.specs.Bounds.{largest}
+use Rattle.setup.specs.Bounds.{largest, mostChosen}
 use Rattle.setup.specs.declared.Graph.{Graph}
 use Rattle.setup.specs.declared.Setup.{Setup}
 use Rattle.setup.specs.Setup.{ChosenSet}
@@ -56,7 +56,7 @@ pub record Numbers (numbers : List ℕ) (score : ℕ → ℕ) : Type 0 where
 pub record CanRead (w : List ℕ) (chosen target : ℕ) (out : List ℕ) : Type 0 where
   pub vertex : target < 64
   pub room : length out ≡ listRoom
-  pub few : ones chosen ≤ 14
+  pub few : ones chosen ≤ mostChosen
   pub loss : Bool
   pub graph : Graph
   pub table : BaseTable (ruleOf loss graph) chosen w

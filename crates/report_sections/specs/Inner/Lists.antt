@@ -17,15 +17,15 @@ use Rattle.report_text.specs.Inner.{longestRow}
 use Rattle.report_text.specs.Rows.{textsOf, setRow}
 use Rattle.sheet_format.specs.Names.{nameOf}
 use Rattle.report_text.specs.Report.{isAccount}
-use Rattle.report_rows.specs.Inner.Writing.{NamePlace, NamePlaces}
+use Rattle.report_rows.specs.Inner.Writing.{NamePlace, SetNamePlaces}
 use Rattle.report_scores.specs.Inner.Scores.{listRoom, BaseTable}
 use Rattle.report_facts.specs.Texts.{slotList}
 use Rattle.report_facts.specs.Inner.Parts.{Part}
 
 -- The names of the vertices of x have places, and are short.
 pub record SetReady (sheet from to : List ℕ) (x : ℕ) : Type 0 where
-  pub few : ones x ≤ 14
-  pub names : NamePlaces sheet from to x
+  pub few : ones x ≤ mostChosen
+  pub names : SetNamePlaces sheet from to x
   pub short : (v : ℕ) → Member x v → length (nameOf sheet v) ≤ 16
 
 -- The n sets of the list can be written, and row i comes next.
@@ -40,24 +40,24 @@ pub record RowsReady (sheet from to values list : List ℕ) (target i n : ℕ) :
   pub here : n ≤ length list
 
 -- The row of the set x.
-unfoldable pub rowOf : (ℕ → List ℕ) → Bool → ℕ → List ℕ → ℕ → List ℕ
-rowOf name loss target values x = setRow name loss target x (sumOver (λ (v : ℕ). getD values v 0) x)
+unfoldable pub rowOfSet : (ℕ → List ℕ) → Bool → ℕ → List ℕ → ℕ → List ℕ
+rowOfSet name loss target values x = setRow name loss target x (sumOver (λ (v : ℕ). getD values v 0) x)
 
 -- The rows from row i on.
-unfoldable pub rowsFrom : (ℕ → List ℕ) → Bool → ℕ → List ℕ → List ℕ → ℕ → ℕ → List ℕ
-rowsFrom name loss target values list n i = textsOf (rowOf name loss target values) (drop i (take n list))
+unfoldable pub setRowsFrom : (ℕ → List ℕ) → Bool → ℕ → List ℕ → List ℕ → ℕ → ℕ → List ℕ
+setRowsFrom name loss target values list n i = textsOf (rowOfSet name loss target values) (drop i (take n list))
 
 -- The rows from i up to `row` stand, and with room for a row there is one at least.
 pub record RowsPut (name : ℕ → List ℕ) (loss : Bool) (target : ℕ) (values list : List ℕ) (i n : ℕ) (entry : List ℕ) (at : ℕ) (exit : List ℕ) (row r : ℕ) : Type 0 where
-  pub part : Part entry at (rowsFrom name loss target values list n i) (rowsFrom name loss target values list n row) exit r
+  pub part : Part entry at (setRowsFrom name loss target values list n i) (setRowsFrom name loss target values list n row) exit r
   pub most : row ≤ n
   pub more : i < n → at + longestRow ≤ length entry → i < row
 
 -- The tables of bases of some graph, and room for every list.
 pub record CanLoad (k initial losable : ℕ) (opening lockout list : List ℕ) : Type 0 where
   pub vertex : k / 2 < 64
-  pub few : ones initial ≤ 14
-  pub fewLosable : ones losable ≤ 14
+  pub few : ones initial ≤ mostChosen
+  pub fewLosable : ones losable ≤ mostChosen
   pub room : length list ≡ listRoom
   pub graph : Graph
   pub opens : BaseTable (ruleOf false graph) initial opening

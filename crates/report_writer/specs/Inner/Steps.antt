@@ -5,7 +5,7 @@ use mathlib.Core.List.{List}
 use Prim.Native.Nat.{ℕ, _+_, _-_, _*_, _^_, _≤_, _<_}
 use lib.ListN.{length, take}
 use Rattle.setup.specs.declared.Setup.{Setup}
-use Rattle.bases.specs.Score.{Values}
+use Rattle.bases.specs.Inner.Readers.{Values}
 use Rattle.sheet_format.specs.Names.{nameOf}
 use Rattle.report_scores.specs.Inner.Scores.{listRoom}
 use Rattle.report_facts.specs.declared.Facts.{Facts}

@@ -1,6 +1,6 @@
 use mathlib.Core.Path.{sym, _∙_}
 use Rattle.vertex_set.proofs.Cases.{false-true}
-use Rattle.sheet_fields.proofs.Names.{name-length}
+use Rattle.sheet_format.proofs.Fields.{name-length}
 use borrow.Author.Needs.{needs}
 use Rattle.sheet_fields.proofs.read_name.Statement.{statement}
 use Rattle.sheet_fields.proofs.read_name.Tie as tie

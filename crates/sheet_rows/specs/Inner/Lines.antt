@@ -4,6 +4,7 @@ use mathlib.Core.List.{List, [], _∷_}
 use mathlib.Core.Bool.{Bool, cond, _&&_}
 use Prim.Native.Nat.{ℕ, _+_, _≤_, _<_}
 use lib.Dec.{eqb, leb}
+use Rattle.setup.specs.Bounds.{mostItems, highest, highestColour, mostChosen}
 use Rattle.setup.specs.declared.Vertex.{Vertex}
 use Rattle.setup.specs.Setup.{given}
 use Rattle.sheet_format.specs.Text.{fieldsOf}
@@ -24,7 +25,7 @@ use Rattle.sheet_rows.specs.Inner.NameKeys.{NameKeys}
 
 -- Question 5 of the four fields behind an item's name.
 unfoldable pub vertexForm : List (List ℕ) → Bool
-vertexForm fs = isKind (field fs 0) && isValue (field fs 1) && isValue (field fs 2) && isNumberTo 9 (field fs 3)
+vertexForm fs = isKind (field fs 0) && isValue (field fs 1) && isValue (field fs 2) && isNumberTo highest (field fs 3)
 
 -- The vertex that these fields state.
 unfoldable pub vertexFrom : List (List ℕ) → Vertex
@@ -61,12 +62,12 @@ pub record ReadsItem (l : List ℕ) (r : ItemLine) : Type 0 where
 pub record TakesItem (l low high : List ℕ) (count starts losses : ℕ) (r : TakenItem) : Type 0 where
   pub number : (above : Doc) → NameKeys (above .items) low high count → starts ≡ startCount (above .items) → losses ≡ lossCount (above .items)
       → r .number ≡ firstNo (itemQuestions above (fieldsOf l))
-  pub room : r .number ≡ 0 → count < 64
+  pub room : r .number ≡ 0 → count < mostItems
   pub key : r .number ≡ 0 → r .key ≡ keyOf (itemOf (fieldsOf l) .name)
   pub vertex : r .number ≡ 0 → r .vertex ≡ vertexOf (itemOf (fieldsOf l))
   pub moreStarts : r .number ≡ 0 → r .starts ≡ starts + given (itemOf (fieldsOf l) .start)
   pub moreLosses : r .number ≡ 0 → r .losses ≡ losses + given (itemOf (fieldsOf l) .loss)
-  pub within : r .number ≡ 0 → (r .starts ≤ 14) × (r .losses ≤ 14)
+  pub within : r .number ≡ 0 → (r .starts ≤ mostChosen) × (r .losses ≤ mostChosen)
 
 -- What the fields of an edge row state, where question 5 has a yes.
 pub record StatesEdge (fs : List (List ℕ)) (r : EdgeLine) : Type 0 where
@@ -77,7 +78,7 @@ pub record StatesEdge (fs : List (List ℕ)) (r : EdgeLine) : Type 0 where
 
 -- Question 5 of an edge row, by what the readers of its fields answer.
 pub record JoinsEnds (from to : NameField) (colour rec : ℕ) (r : EdgeLine) : Type 0 where
-  pub number : r .number ≡ firstNo (ask 5 (from .ok && to .ok && leb colour 7 && leb rec 1) ∷ [])
+  pub number : r .number ≡ firstNo (ask 5 (from .ok && to .ok && leb colour highestColour && leb rec 1) ∷ [])
   pub ends : r .number ≡ 0 → (r .from ≡ from .key) × (r .to ≡ to .key)
   pub marks : r .number ≡ 0 → (r .colour ≡ colour) × (r .rec ≡ eqb rec 1)
 

@@ -1,4 +1,4 @@
--- `sums::singles` meets its contract. The loop's invariant: each number below v stands there.
+-- `sums::singles` meets its contract. The loop's invariant: at each place below v stands the number of the set with that vertex alone.
 -- Assumes nothing.
 use borrow.Author.Needs.{needs}
 use mathlib.Core.Path.{_≡_}

@@ -1,4 +1,4 @@
--- `sums::weights_of` meets its contract. The loop's invariant: the values of the chosen vertices passed, then zeros.
+-- `sums::weights_of` meets its contract. The loop's invariant: the first n places have the values of the chosen vertices passed, the others 0.
 -- Assumes nothing.
 use Prim.Native.Nat.{ℕ, _≤_}
 use native.Mathlib.Omega.{arith}

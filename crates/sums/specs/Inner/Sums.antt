@@ -4,6 +4,7 @@ use mathlib.Core.List.{List, [], _∷_}
 use Prim.Native.Nat.{ℕ, _+_, _*_, _/_, _%_, _^_, _<_}
 use lib.ListN.{length, getD, drop}
 use Rattle.vertex_set.specs.Order.{sumOver}
+use Rattle.families.specs.Inner.Family.{maskBits}
 use Rattle.families.specs.Inner.Masks.{SetOfMask}
 
 -- At v stands the number of the set that has v alone.
@@ -17,7 +18,7 @@ sumAt (w ∷ ws) m = m % 2 * w + sumAt ws (m / 2)
 
 -- The weights at a mask's bits sum up to the values of its set.
 pub record WeightsOf (chosen : ℕ) (value : ℕ → ℕ) (ws : List ℕ) : Type 0 where
-  pub long : length ws ≡ 14
+  pub long : length ws ≡ maskBits
   pub sum : (m x : ℕ) → SetOfMask chosen m x → sumAt ws m ≡ sumOver value x
 
 -- No sum of weights is too large for a word.

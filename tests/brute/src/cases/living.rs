@@ -322,17 +322,17 @@ fn full_drawings() -> Vec<LivingCase> {
         (TakeIn(3), 0, 8, 8),
     ];
     vec![
-        full("255 edges, then the 256th and 257th", 255, false, &steps),
-        full("255 marked edges, then the 256th and 257th", 255, true, &steps),
+        full("255 edges, then the 256th and 257th", MAX_EDGES - 1, false, &steps),
+        full("255 marked edges, then the 256th and 257th", MAX_EDGES - 1, true, &steps),
         full(
             "256 edges",
-            256,
+            MAX_EDGES,
             false,
             &[(over, 7, 0, 0), (last, 19, 0, 0), (remove(15, 15, 0), 0, 0, 0)],
         ),
         full(
             "256 marked edges",
-            256,
+            MAX_EDGES,
             true,
             &[(over, 7, 0, 0), (last, 19, 0, 0), (TakeIn(0), 0, 1, 1)],
         ),

@@ -4,6 +4,7 @@
 use super::draft::joined;
 use super::random::random_draft;
 use super::{Rng, SheetCase};
+use crate::sheet::MAX_BYTES;
 
 /// Random texts of all kinds in turn.
 pub fn noise(seed: u64, count: usize) -> impl Iterator<Item = SheetCase> {
@@ -25,7 +26,7 @@ pub fn noise(seed: u64, count: usize) -> impl Iterator<Item = SheetCase> {
 /// Any bytes.
 fn any_bytes(rng: &mut Rng) -> Vec<u8> {
     let some = rng.below(300);
-    let length = *rng.pick(&[0, 1, 2, some, some, some, some, 16_384, 16_385, 20_000]);
+    let length = *rng.pick(&[0, 1, 2, some, some, some, some, MAX_BYTES, MAX_BYTES + 1, 20_000]);
     (0..length).map(|_| rng.number() as u8).collect()
 }
 

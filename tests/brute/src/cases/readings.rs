@@ -1,6 +1,7 @@
 //! 01's own sheet, and small sheets that settle one reading of the sheet's rules each.
 
 use super::SheetCase;
+use crate::sheet::MAX_BYTES;
 
 /// The sheet of 01, "Report and portal".
 pub const ORDER_SHEET: &str = "\
@@ -98,10 +99,10 @@ fn whole_text() -> Vec<SheetCase> {
         refused("a NUL behind the last LF", [ORDER_SHEET.as_bytes(), &[0]].concat(), 2, 0),
         refused("CR LF lines", ORDER_SHEET.replace('\n', "\r\n"), 2, 0),
         refused("one CR, at the last line", format!("{cut}\r\n"), 2, 0),
-        refused("too long and without LF: 1 before 2", vec![b'x'; 16_385], 1, 0),
+        refused("too long and without LF: 1 before 2", vec![b'x'; MAX_BYTES + 1], 1, 0),
         refused("too long and of NUL bytes: 1 before 2", vec![0; 20_000], 1, 0),
-        refused("too long, of LF alone", vec![b'\n'; 16_385], 1, 0),
-        refused("at the length, of LF alone", vec![b'\n'; 16_384], 3, 1),
+        refused("too long, of LF alone", vec![b'\n'; MAX_BYTES + 1], 1, 0),
+        refused("at the length, of LF alone", vec![b'\n'; MAX_BYTES], 3, 1),
         refused("byte 32 is text", byte_in(32), 3, 1),
         refused("byte 126 is text", byte_in(126), 3, 1),
     ];

@@ -9,7 +9,7 @@ use brute::cases::tiny::{all_marked, all_unmarked};
 use brute::cases::{Rng, SetupCase};
 use brute::lists::Table;
 use brute::report::{portal_risk, portal_score, report};
-use brute::setup::{holds, take_in, within, COLOURS, MAX_VALUE};
+use brute::setup::{holds, take_in, within, COLOURS, MAX_STARTING, MAX_VALUE};
 use brute::{graph, Calls, Least, Marks, Setup};
 
 /// Whether an item has a colour all of which is in the set (003, definition 3).
@@ -262,7 +262,7 @@ fn hold_sums(sheet: &[u8], item: u64, score: u64, risk: u64) {
 #[test]
 fn sums_of_the_largest_values() {
     let [fourteen, halves] = &largest_sums()[..] else { panic!("two sheets") };
-    let (one, all) = (4_000_000_000, 56_000_000_000);
+    let (one, all) = (MAX_VALUE, MAX_STARTING as u64 * MAX_VALUE);
     hold_sums(&fourteen.sheet, 14, all, one);
     hold_sums(&fourteen.sheet, 16, one, all);
     let text = String::from_utf8(report(&fourteen.sheet)).expect("a text");

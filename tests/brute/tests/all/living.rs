@@ -7,6 +7,7 @@ use brute::cases::living::{beginning, living_cases, random_edit, redrawing, Met,
 use brute::cases::setups::{malformed_living, malformed_setups};
 use brute::cases::Rng;
 use brute::living::{self, Edit, Named};
+use brute::register::{hand_in, Attempt, Record};
 use brute::setup::MAX_EDGES;
 use brute::{Calls, Setup};
 use std::collections::{BTreeMap, BTreeSet, HashSet};
@@ -172,6 +173,7 @@ fn a_malformed_setup_gets_12_before_all_else() {
 
 #[test]
 fn a_stale_opened_set_gets_12_from_every_call() {
+    let attempt = Attempt { student: 7, target: 0, lock: false, sets: Vec::new() };
     for case in malformed_living(84, 10) {
         let label = &case.label;
         assert!(case.setup.nothing_held().well_formed(), "{label}");
@@ -186,11 +188,16 @@ fn a_stale_opened_set_gets_12_from_every_call() {
         assert_eq!(calls.cut_sets(0, &mut []), Err(12), "{label}");
         assert_eq!((calls.forecast(0), calls.kinds(0, &[])), (Err(12), Err(12)), "{label}");
         assert_eq!(calls.next_opening(0, 0), Err(12), "{label}");
+        assert_eq!(calls.bag_score(0), Err(12), "{label}");
         assert_eq!((calls.score(0), calls.risk(0)), (Err(12), Err(12)), "{label}");
         assert_eq!(calls.mark_openings(0, &[]), Err(12), "{label}");
         assert_eq!(calls.mark_lockouts(0, &[]), Err(12), "{label}");
         assert_eq!((calls.backdoor(0), calls.idle(0)), (Err(12), Err(12)), "{label}");
         assert_eq!(calls.out_of_rank(0, 0), Err(12), "{label}");
+        let mut records = [Record::default()];
+        assert_eq!(hand_in(&calls, &mut records, 0, &attempt), (12, 0), "{label}");
+        assert_eq!(hand_in(&calls, &mut records, 2, &attempt), (25, 2), "{label}: 25 is first");
+        assert_eq!(records, [Record::default()], "{label}");
     }
 }
 

@@ -5,22 +5,22 @@ use mathlib.Core.Bool.{true}
 use mathlib.Core.Logic.{⊎-elim}
 use native.Mathlib.Omega.{arith}
 use Rattle.vertex_set.specs.declared.VertexSet.{VertexSet}
+use Rattle.vertex_set.specs.Inner.{TakenBelow}
 use Rattle.vertex_set.proofs.Cases.{false-true}
 use Rattle.report_text.specs.Report.{isAccount}
-use Rattle.report_facts.specs.Inner.Sets.{Passing}
-use Rattle.report_facts.proofs.Gathering.{passing-none, passing-more, passing-same}
+use Rattle.vertex_set.proofs.Taking.{taken-none, taken-more, taken-same}
 use Rattle.report_facts.proofs.sets.accounts_of.Statement.{statement}
 use Rattle.report_facts.proofs.sets.accounts_of.Tie as tie
 
 -- r is the set of the accounts among the vertices before v.
 abbrev Inv-loop : tie.InvT-loop
-Inv-loop s r₀ v₀ r v = (v ≤ 64) × Passing (λ i. isAccount s i ≡ true) v (r .0)
+Inv-loop s r₀ v₀ r v = (v ≤ 64) × TakenBelow (λ i. isAccount s i ≡ true) v (r .0)
 
 abbrev μ-loop : tie.MeasureT-loop
 μ-loop s r₀ v₀ r v = 64 - v
 
 loop-holds : tie.Need-loop-holds Inv-loop μ-loop
-loop-holds c = (search needs, passing-none _)
+loop-holds c = (search needs, taken-none _)
 
 mul-vertex : tie.Need-mul-vertex Inv-loop μ-loop
 mul-vertex c = search needs
@@ -49,10 +49,10 @@ loop-again c =
     let e = c .before .is-account .ensures in (
       omega arith,
       ⊎-elim
-          (λ w. subst (λ (x : VertexSet). Passing (λ i. isAccount s i ≡ true) (l .loop .v + 1) (x .0)) (sym (w .2))
-          (passing-more (λ i. isAccount s i ≡ true) (l .loop .v) (l .loop .r .0) (l .loop .inv .1) (w .1 .result .0) below (sym e ∙ w .0 .taken) (w .1 .ensures)))
-          (λ w. subst (λ (x : VertexSet). Passing (λ i. isAccount s i ≡ true) (l .loop .v + 1) (x .0)) (sym (w .1))
-          (passing-same (λ i. isAccount s i ≡ true) (l .loop .v) (l .loop .r .0) (l .loop .inv .1) (λ t. false-true (sym (w .0 .left) ∙ e ∙ t))))
+          (λ w. subst (λ (x : VertexSet). TakenBelow (λ i. isAccount s i ≡ true) (l .loop .v + 1) (x .0)) (sym (w .2))
+          (taken-more (λ i. isAccount s i ≡ true) (l .loop .v) (l .loop .r .0) (l .loop .inv .1) (w .1 .result .0) below (sym e ∙ w .0 .taken) (w .1 .ensures)))
+          (λ w. subst (λ (x : VertexSet). TakenBelow (λ i. isAccount s i ≡ true) (l .loop .v + 1) (x .0)) (sym (w .1))
+          (taken-same (λ i. isAccount s i ≡ true) (l .loop .v) (l .loop .r .0) (l .loop .inv .1) (λ t. false-true (sym (w .0 .left) ∙ e ∙ t))))
           (c .if1 .came),
     )
 

@@ -6,14 +6,16 @@ use native.Mathlib.Omega.{arith}
 use lib.ListN.{getD}
 use Rattle.vertex_set.specs.declared.VertexSet.{VertexSet}
 use Rattle.scores.specs.Inner.Lists.{securityAt}
-use Rattle.report_facts.specs.Inner.Sets.{Passing, Above}
-use Rattle.report_facts.proofs.Gathering.{passing-none, passing-more, passing-same, below-one}
+use Rattle.vertex_set.specs.Inner.{TakenBelow}
+use Rattle.report_facts.specs.Inner.Sets.{Above}
+use Rattle.vertex_set.proofs.Taking.{taken-none, taken-more, taken-same}
+use Rattle.report_facts.proofs.Gathering.{below-one}
 use Rattle.report_facts.proofs.sets.below_one.Statement.{statement}
 use Rattle.report_facts.proofs.sets.below_one.Tie as tie
 
 -- r is the set of the vertices before w, accounts or not, that have a lower rank than v and at least its score.
 abbrev Inv-loop : tie.InvT-loop
-Inv-loop accounts v ranks scores rank score r₀ w₀ r w = (w ≤ 64) × Passing (λ (i : ℕ). Above rank (getD ranks i 0) (score .0) (securityAt scores i)) w (r .0)
+Inv-loop accounts v ranks scores rank score r₀ w₀ r w = (w ≤ 64) × TakenBelow (λ (i : ℕ). Above rank (getD ranks i 0) (score .0) (securityAt scores i)) w (r .0)
 
 abbrev μ-loop : tie.MeasureT-loop
 μ-loop accounts v ranks scores rank score r₀ w₀ r w = 64 - w
@@ -31,7 +33,7 @@ array-copy-out-score : tie.Need-array-copy-out-score Inv-loop μ-loop
 array-copy-out-score c = search needs
 
 loop-holds : tie.Need-loop-holds Inv-loop μ-loop
-loop-holds c = (search needs, passing-none _)
+loop-holds c = (search needs, taken-none _)
 
 mul-than : tie.Need-mul-than Inv-loop μ-loop
 mul-than c = search needs
@@ -65,10 +67,10 @@ loop-again c =
     let d = c .before .is-above .ensures in (
       omega arith,
       ⊎-elim
-          (λ w. subst (λ (x : VertexSet). Passing (λ (i : ℕ). Above (getD (a .t2) (a .v) 0) (getD (a .t2) i 0) (securityAt (a .t3) (a .v)) (securityAt (a .t3) i)) (l .loop .w + 1) (x .0)) (sym (w .2))
-          (passing-more (λ (i : ℕ). Above (getD (a .t2) (a .v) 0) (getD (a .t2) i 0) (securityAt (a .t3) (a .v)) (securityAt (a .t3) i)) (l .loop .w) (l .loop .r .0) (l .loop .inv .1) (w .1 .result .0) small (d .yes (w .0 .taken)) (w .1 .ensures)))
-          (λ w. subst (λ (x : VertexSet). Passing (λ (i : ℕ). Above (getD (a .t2) (a .v) 0) (getD (a .t2) i 0) (securityAt (a .t3) (a .v)) (securityAt (a .t3) i)) (l .loop .w + 1) (x .0)) (sym (w .1))
-          (passing-same (λ (i : ℕ). Above (getD (a .t2) (a .v) 0) (getD (a .t2) i 0) (securityAt (a .t3) (a .v)) (securityAt (a .t3) i)) (l .loop .w) (l .loop .r .0) (l .loop .inv .1) (d .no (w .0 .left))))
+          (λ w. subst (λ (x : VertexSet). TakenBelow (λ (i : ℕ). Above (getD (a .t2) (a .v) 0) (getD (a .t2) i 0) (securityAt (a .t3) (a .v)) (securityAt (a .t3) i)) (l .loop .w + 1) (x .0)) (sym (w .2))
+          (taken-more (λ (i : ℕ). Above (getD (a .t2) (a .v) 0) (getD (a .t2) i 0) (securityAt (a .t3) (a .v)) (securityAt (a .t3) i)) (l .loop .w) (l .loop .r .0) (l .loop .inv .1) (w .1 .result .0) small (d .yes (w .0 .taken)) (w .1 .ensures)))
+          (λ w. subst (λ (x : VertexSet). TakenBelow (λ (i : ℕ). Above (getD (a .t2) (a .v) 0) (getD (a .t2) i 0) (securityAt (a .t3) (a .v)) (securityAt (a .t3) i)) (l .loop .w + 1) (x .0)) (sym (w .1))
+          (taken-same (λ (i : ℕ). Above (getD (a .t2) (a .v) 0) (getD (a .t2) i 0) (securityAt (a .t3) (a .v)) (securityAt (a .t3) i)) (l .loop .w) (l .loop .r .0) (l .loop .inv .1) (d .no (w .0 .left))))
           (c .if1 .came),
     )
 

@@ -24,21 +24,21 @@ loop-holds c =
 sub-loop : tie.Need-sub-loop Inv-loop μ-loop
 sub-loop c = c .loop .inv .inside
 
-going-requires : tie.Need-going-requires Inv-loop μ-loop
-going-requires c κs = tt
+unfinished-requires : tie.Need-unfinished-requires Inv-loop μ-loop
+unfinished-requires c κs = tt
 
 advance-requires-2 : tie.Need-advance-requires-2 Inv-loop μ-loop
 advance-requires-2 c κs = let l = c .before .before .before .before .before .loop in (l .inv .going, let i = l .inv .inside in omega arith)
 
 loop-less : tie.Need-loop-less Inv-loop μ-loop
 loop-less c =
-    let g = c .before .before .before .before .before .before .before .before .going in
+    let g = c .before .before .before .before .before .before .before .before .unfinished in
     c .before .before .before .before .advance2 .ensures .less (left-some _ _ (g .ensures .yes (c .before .before .before .before .before .before .before .if1 .taken)))
 
 loop-again : tie.Need-loop-again Inv-loop μ-loop
 loop-again c =
     let l = c .before .before .before .before .before .before .before .before .before .before .loop in
-    filling-more _ _ _ _ _ _ _ _ _ _ _ _ _ _ _ (l .inv) (c .before .before .before .before .advance2 .kept .1 .1 .1 .1 .1 .0) (left-some _ _ (c .before .before .before .before .before .before .before .before .going .ensures .yes (c .before .before .before .before .before .before .before .if1 .taken))) (c .before .before .before .before .advance2 .ensures)
+    filling-more _ _ _ _ _ _ _ _ _ _ _ _ _ _ _ (l .inv) (c .before .before .before .before .advance2 .kept .1 .1 .1 .1 .1 .0) (left-some _ _ (c .before .before .before .before .before .before .before .before .unfinished .ensures .yes (c .before .before .before .before .before .before .before .if1 .taken))) (c .before .before .before .before .advance2 .ensures)
 
 same-length : tie.Need-same-length Inv-loop μ-loop
 same-length c = c .before .before .before .loop .inv .longList ∙ c .before .before .before .before .before .before .before .before .advance .kept .1 .1 .1 .1 .1 .0
@@ -69,7 +69,7 @@ fill-spec =
     advance-requires
     loop-holds
     sub-loop
-    going-requires
+    unfinished-requires
     advance-requires-2
     loop-less
     loop-again

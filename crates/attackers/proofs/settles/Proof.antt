@@ -3,8 +3,8 @@ use Rattle.vertex_set.specs.Set.{Member}
 use Rattle.vertex_set.proofs.Decisions.{decide-yes, decide-no, decide-iff}
 use Rattle.attackers.specs.Inner.{BothAtMost}
 use borrow.Author.Needs.{needs}
-use Rattle.attackers.proofs.tells.Statement.{statement}
-use Rattle.attackers.proofs.tells.Tie as tie
+use Rattle.attackers.proofs.settles.Statement.{statement}
+use Rattle.attackers.proofs.settles.Tie as tie
 
 -- the kind does not get in, or is not at most the other
 not-able : (c : tie.Joined1)
@@ -40,8 +40,8 @@ returns-3 c =
     let h = c .before in
     decide-no (⊎-elim (not-able (h .before)) (λ p. h .has2 .ensures .no (c .if3 .left) (p .0)))
 
-pub tells-spec : {M : Type 1} → statement M
-tells-spec =
+pub settles-spec : {M : Type 1} → statement M
+settles-spec =
     tie.close
     (tie.spec
     has-requires

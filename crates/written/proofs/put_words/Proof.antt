@@ -1,19 +1,19 @@
--- `multiset_rows::put_row` meets its contract. The loop's invariant: the first i values of the row stand from `at` on.
+-- `written::put_words` meets its contract. The loop's invariant: the first i words stand from `at` on, and every other place is as it was.
 -- Assumes nothing.
-use mathlib.Core.Path.{_≡_, refl}
+use borrow.Author.Needs.{needs}
 use Prim.Native.Nat.{_-_, _≤_}
+use mathlib.Core.Path.{_≡_, refl}
 use native.Mathlib.Omega.{arith}
 use lib.ListN.{length}
-use borrow.Author.Needs.{needs}
 use Rattle.written.proofs.Copying.{Copying, copying-none, copying-more, copying-end}
-use Rattle.multiset_rows.proofs.put_row.Statement.{statement}
-use Rattle.multiset_rows.proofs.put_row.Tie as tie
+use Rattle.written.proofs.put_words.Statement.{statement}
+use Rattle.written.proofs.put_words.Tie as tie
 
 abbrev Inv-loop : tie.InvT-loop
-Inv-loop row out₀ at i₀ i-end out i = (i ≤ length row) × (i-end ≡ length row) × Copying row out₀ at out i
+Inv-loop words out₀ at i₀ i-end out i = (i ≤ length words) × (i-end ≡ length words) × Copying words out₀ at out i
 
 abbrev μ-loop : tie.MeasureT-loop
-μ-loop row out₀ at i₀ i-end out i = length row - i
+μ-loop words out₀ at i₀ i-end out i = length words - i
 
 loop-holds : tie.Need-loop-holds Inv-loop μ-loop
 loop-holds c = (omega arith, refl, copying-none _ _ _)
@@ -43,7 +43,7 @@ loop-again : tie.Need-loop-again Inv-loop μ-loop
 loop-again c =
     let b = c .before .before in
     let a = b .before .args in
-    (search needs, b .loop .inv .1, copying-more (a .row .now) (a .out .now) (a .at) (b .loop .out) (b .loop .i) (search needs) (b .loop .inv .2))
+    (search needs, b .loop .inv .1, copying-more (a .words .now) (a .out .now) (a .at) (b .loop .out) (b .loop .i) (search needs) (b .loop .inv .2))
 
 add-result : tie.Need-add-result Inv-loop μ-loop
 add-result c = search needs
@@ -55,11 +55,11 @@ returns : tie.Need-returns Inv-loop μ-loop
 returns c =
     let b = c .before in
     let a = b .before .args in
-    let e : b .loop .i ≡ length (a .row .now) = omega arith in
-    copying-end (a .row .now) (a .out .now) (a .at) (b .loop .out) (b .loop .i) e (b .loop .inv .2)
+    let e : b .loop .i ≡ length (a .words .now) = omega arith in
+    copying-end (a .words .now) (a .out .now) (a .at) (b .loop .out) (b .loop .i) e (b .loop .inv .2)
 
-pub put-row-spec : {M : Type 1} → statement M
-put-row-spec =
+pub put-words-spec : {M : Type 1} → statement M
+put-words-spec =
     tie.close
     (tie.spec
     Inv-loop

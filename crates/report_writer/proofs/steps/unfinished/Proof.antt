@@ -1,8 +1,8 @@
 use native.Mathlib.Omega.{arith}
 use Rattle.report_writer.proofs.Stepping.{still-going, at-end}
 use borrow.Author.Needs.{needs}
-use Rattle.report_writer.proofs.steps.going.Statement.{statement}
-use Rattle.report_writer.proofs.steps.going.Tie as tie
+use Rattle.report_writer.proofs.steps.unfinished.Statement.{statement}
+use Rattle.report_writer.proofs.steps.unfinished.Tie as tie
 
 enum-told : tie.Need-enum-told
 enum-told c = search needs
@@ -40,8 +40,8 @@ returns-5 c = still-going _ _ (c .enum-told5 .given .1) (omega arith)
 returns-6 : tie.Need-returns-6
 returns-6 c = at-end _ (c .enum-told6 .given .1)
 
-pub going-spec : {M : Type 1} → statement M
-going-spec =
+pub unfinished-spec : {M : Type 1} → statement M
+unfinished-spec =
     tie.close
     (tie.spec
     enum-told

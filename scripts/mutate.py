@@ -4,6 +4,7 @@
     python3 scripts/mutate.py                    all crates whose sources, or those of crates below them, have changed since they were tried
     python3 scripts/mutate.py bases              this crate
     python3 scripts/mutate.py --written [bases]  of all such crates, or of this one, the edits in the folder `mutations` alone
+    python3 scripts/mutate.py --count            nothing: the record's head is written anew
 
 The crates are copied to target/mutate, so that nothing of the project is changed. records/mutation.md is both the record that is
 read and the one that is written. The exit status is 1 where an edit was not refused and scripts/survivors.txt does not say why, and
@@ -442,6 +443,11 @@ def untried(sections, order):
     return [crate for crate in never if has_functions(crate) or written_edits(crate)]
 
 
+def unseen(sections):
+    """How many edits written by hand have no row."""
+    return sum(f"edit {path.stem}" not in {row[0] for row in sections.get(crate, Section()).rows} for crate in dependencies() for path in written_edits(crate))
+
+
 def was_tried(row):
     """Is the row that of an edit, and not of a function of which none was made?"""
     return row[4] not in ("no edit", "walked")
@@ -470,7 +476,8 @@ nothing. None of them is tried; they decide nothing, and what they call does.
 "Where" is the place of the first error about the edited function, or `search` where it has no proof file and the prover finds no proof by
 itself. A crate is tried again when its own files, or the code or definitions of a crate below it, have changed: the sum beside its name
 tells; "moved" says that its functions were tried in the crates that became its modules. A second sum is that of a later run of the
-written edits alone (`mutate.py --written`). Not tried yet: {untried}.
+written edits alone (`mutate.py --written`). Not tried yet: {untried}. Of {older} crates the sources, or those of crates below them, have
+changed since they were tried whole, and {unseen} of the edits written by hand have no row yet; `make mutate` tries both.
 """
 
 
@@ -496,6 +503,8 @@ def write_record(sections, order, notes):
         "written": sum(row[0].startswith("edit ") for row in tried),
         "refused": sum(row[4].startswith("refused") for row in tried),
         "survived": len(left),
+        "older": sum(section.total != sum_of(crate, dependencies()) for crate, section in sections.items()),
+        "unseen": unseen(sections),
         "untried": ", ".join(f"`{crate}`" for crate in untried(sections, order)) or "none",
         "shape": sum(row[4] == "refused by shape" for row in tried),
         "walked": sum(row[4] == "walked" for _, row in everything),
@@ -528,12 +537,12 @@ def try_crate(crate, table, shapes, total, alone):
 def main(words):
     table = dependencies()
     order = [name for name in table if name not in LEFT_OUT]
-    alone, asked = "--written" in words, [name for name in words if name and name != "--written"]
+    alone, asked = "--written" in words, [name for name in words if name and not name.startswith("--")]
     unknown = [name for name in asked if name not in order]
     if unknown:
         sys.exit(f"mutate: no such crate: {' '.join(unknown)}")
     shapes = shapes_of(order)
-    for crate in asked or order:
+    for crate in [] if "--count" in words else asked or order:
         total = sum_of(crate, table)
         done = not asked and read_record().get(crate, Section()).is_of(total, alone)
         if done or not (written_edits(crate) or has_functions(crate) and not alone):

@@ -27,7 +27,7 @@ pub record OnlyHolding (s t : Setup) : Type 0 where
   pub graph : s .graph ≡ t .graph
   pub recovery : s .recovery ≡ t .recovery
 
--- What each call may answer on the one, with all that is lent to it, it may answer on the other; and each has one answer only.
+-- What each call may answer on the one, with all that is lent to it, it may answer on the other.
 pub record SameAnswers (s t : Setup) : Type 0 where
   pub closure : (set n : ℕ) (v : List ℕ) → ClosureCall s set n v → ClosureCall t set n v
   pub lost : (set n : ℕ) (v : List ℕ) → LostCall s set n v → LostCall t set n v

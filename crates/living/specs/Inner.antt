@@ -84,7 +84,7 @@ pub record Drawn (s : Setup) (graph recovery : Graph) (s′ : Setup) : Type 0 wh
   pub opened : AccessFrom graph (s .held .0) (s′ .opened .0)
 
 -- s′ is s with the edge of colour c from f to v, and with its mark.
-pub record Added (s : Setup) (f v c : ℕ) (mark : Bool) (s′ : Setup) : Type 0 where
+pub record EdgeAdded (s : Setup) (f v c : ℕ) (mark : Bool) (s′ : Setup) : Type 0 where
   pub graph : Graph
   pub recovery : Graph
   pub more : EdgeMore (s .graph) f v c graph
@@ -92,7 +92,7 @@ pub record Added (s : Setup) (f v c : ℕ) (mark : Bool) (s′ : Setup) : Type 0
   pub drawn : Drawn s graph recovery s′
 
 -- s′ is s without the edge of colour c from f to v, and without its mark.
-pub record Removed (s : Setup) (f v c : ℕ) (s′ : Setup) : Type 0 where
+pub record EdgeRemoved (s : Setup) (f v c : ℕ) (s′ : Setup) : Type 0 where
   pub graph : Graph
   pub recovery : Graph
   pub less : EdgeLess (s .graph) f v c graph

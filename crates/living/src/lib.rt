@@ -4,13 +4,13 @@
 //
 // A function copies what it is given by value, and a setup has 11 KB. So question 12 is asked in the
 // calls themselves, and its answer is handed on; where an edge changes, the rows of one vertex are
-// handed on, and no graph but the new ones.
+// handed on to the functions that change them, and not the graph.
 ghost use mathlib.Core.Path.{_≡_};
 ghost use Prim.Native.Nat.{_≤_};
 ghost use Rattle.vertex_set.specs.Set.{Decides};
 ghost use Rattle.setup.specs.Setup.{Edge, edgeCount};
 ghost use Rattle.living.specs.Calls.{TakeIn, TakeOut, AddEdge, RemoveEdge, CallOf};
-ghost use Rattle.living.specs.Inner.{LetGo, RowPlace, EdgePlace, Holds, Drawn, VertexAsked, PlaceAsked, RowsWithEdge, RowsWithoutEdge, RowsMarked, Added, Removed};
+ghost use Rattle.living.specs.Inner.{LetGo, RowPlace, EdgePlace, Holds, Drawn, VertexAsked, PlaceAsked, RowsWithEdge, RowsWithoutEdge, RowsMarked, EdgeAdded, EdgeRemoved};
 use setup::Graph;
 use setup::Rows;
 use setup::Setup;
@@ -184,7 +184,7 @@ fn with_mark(marks: Rows, from: usize, colour: usize, rec: bool) -> Rows
 // Accepts: the setup with an edge more, and with its mark.
 fn draw_edge(s: Setup, from: usize, to: usize, colour: usize, rec: bool) -> Redrawing
     requires { ⌜ EdgePlace from to colour ⌝ }
-    ensures { λ r. ⌜ (r .number ≡ 0) × Added s from to colour rec (r .setup) ⌝ }
+    ensures { λ r. ⌜ (r .number ≡ 0) × EdgeAdded s from to colour rec (r .setup) ⌝ }
 {
     let mut graph = s.graph;
     let rows = graph.rows[to];
@@ -200,7 +200,7 @@ fn draw_edge(s: Setup, from: usize, to: usize, colour: usize, rec: bool) -> Redr
 // Accepts: the setup without an edge, and without its mark.
 fn erase_edge(s: Setup, from: usize, to: usize, colour: usize) -> Redrawing
     requires { ⌜ EdgePlace from to colour ⌝ }
-    ensures { λ r. ⌜ (r .number ≡ 0) × Removed s from to colour (r .setup) ⌝ }
+    ensures { λ r. ⌜ (r .number ≡ 0) × EdgeRemoved s from to colour (r .setup) ⌝ }
 {
     let mut graph = s.graph;
     let rows = graph.rows[to];

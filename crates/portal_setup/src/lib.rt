@@ -106,7 +106,8 @@ fn vertices_in(words: &[u64]) -> [Vertex; 64]
     r
 }
 
-// The setup that the words say, whatever they are.
+// The setup that the words say, whatever they are. It is put together at the end alone: one that
+// is made first and filled later would be copied whole once more.
 pub fn setup_in(words: &[u64]) -> Setup
     ensures { λ r. ⌜ r ≡ setupIn (now (words .entry)) ⌝ }
 {

@@ -1,5 +1,5 @@
--- The sheet's bounds (document 01, and of the largest value document 02, point 5): each number stands here, and nowhere else in the definitions. That
--- a set is 64 bits wide, a setup has 64 places and a place eight rows is no bound but the shape of a setup: such lengths stay numbers.
+-- The sheet's bounds (document 01, and of the largest value document 02, point 5): each number stands here, and in no other definition that must be
+-- believed. That a set is 64 bits wide, a setup has 64 places and a place eight rows is no bound but the shape of a setup: such lengths stay numbers.
 use Prim.Native.Nat.{ℕ}
 
 -- The most items.

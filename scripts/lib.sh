@@ -5,21 +5,37 @@ set -euo pipefail
 cd "$(dirname "$0")/.."
 
 lib=build/lib
-log=$(mktemp)
-objects=$(mktemp -d)
-trap 'rm -rf "$log" "$objects"' EXIT
+rooms=$(mktemp -d)
+trap 'rm -rf "$rooms"' EXIT
 mapfile -t crates < <(grep -l 'extern "C"' crates/portal*/src/lib.rt | cut -d/ -f2)
 major=$(($(sed -n 's/^#define PORTAL_VERSION \([0-9]*\)$/\1/p' include/portal.h) / 10000))
 
-for crate in "${crates[@]}"; do
-    rt staticlib "$crate" > "$log" 2>&1 || { cat "$log"; exit 1; }
-    (cd "$objects" && ar x "$OLDPWD/target/staticlib/lib$crate.a")
-done
+# archives ROOM CRATE..: the archives of these crates. Two `rt` in one folder would write over each other's notes, so each
+# works in a room of its own, which is lent the sources and what is proved.
+archives() {
+    local room=$rooms/$1
+    shift
+    mkdir -p "$room/target"
+    ln -s "$PWD/crates" "$PWD/crates.txt" "$room"
+    ln -s "$PWD/target/rlib" "$PWD/target/stamp" "$room/target"
+    for crate; do
+        (cd "$room" && rt staticlib "$crate") > "$room/log" 2>&1 || { cat "$room/log"; return 1; }
+    done
+}
 
-mkdir -p "$lib"
+rt check "${crates[@]}" > "$rooms/log" 2>&1 || { cat "$rooms/log"; exit 1; }
+half=$(((${#crates[@]} + 1) / 2))
+archives first "${crates[@]:0:half}" &
+archives second "${crates[@]:half}"
+wait $!
+
+mkdir -p "$lib" "$rooms/objects"
+for archive in "$rooms"/*/target/staticlib/*.a; do
+    (cd "$rooms/objects" && ar x "$archive")
+done
 rm -f "$lib"/libportal.*
-gcc -shared -Wl,-soname,"libportal.so.$major" -Wl,-z,noexecstack -o "$lib/libportal.so.$major" "$objects"/*.o
+gcc -shared -Wl,-soname,"libportal.so.$major" -Wl,-z,noexecstack -o "$lib/libportal.so.$major" "$rooms"/objects/*.o
 ln -s "libportal.so.$major" "$lib/libportal.so"
 # last, since its time tells whether the library is older than a source
-ar rcs "$lib/libportal.a" "$objects"/*.o
+ar rcs "$lib/libportal.a" "$rooms"/objects/*.o
 echo "lib: ${#crates[@]} crates in $lib/libportal.a and $lib/libportal.so.$major"

@@ -118,8 +118,32 @@ impl Run {
         Ok(())
     }
 
-    /// The gate's part: the same inputs in every run with one seed.
+    /// The gate's part: the same inputs in every run with one seed. The tiny sheets take longer than
+    /// all others, which are compared beside them.
     pub fn gate(&mut self, seed: u64) -> Outcome {
+        let mut tiny = Run::new(seed, None);
+        let outcomes = thread::scope(|scope| {
+            let beside = scope.spawn(|| tiny.tiny_sheets());
+            [self.other_inputs(seed), beside.join().expect("a thread ends")]
+        });
+        self.counts.tiny += tiny.counts.tiny;
+        self.met.add(&tiny.met);
+        for outcome in outcomes {
+            outcome?;
+        }
+        let too_few = self.met.too_few(&REGISTERED);
+        assert!(too_few.is_empty(), "too few of {too_few:?} were registered: {:?}", self.met);
+        Ok(())
+    }
+
+    fn tiny_sheets(&mut self) -> Outcome {
+        for case in tiny::all_unmarked().chain(tiny::all_marked(401)) {
+            self.tiny(case, MANY)?;
+        }
+        Ok(())
+    }
+
+    fn other_inputs(&mut self, seed: u64) -> Outcome {
         compare_long_lists(seed)?;
         compare_known_passes()?;
         compare_known_kinds()?;
@@ -159,9 +183,6 @@ impl Run {
             self.counts.texts += 1;
             self.sheet(&case, FULL, false)?;
         }
-        for case in tiny::all_unmarked().chain(tiny::all_marked(401)) {
-            self.tiny(case, MANY)?;
-        }
         for (number, case) in random::random_sheets(seed, 2_500).enumerate() {
             self.counts.random += 1;
             let depth = if number % 20 == 0 { FULL } else { MANY };
@@ -188,8 +209,6 @@ impl Run {
         for case in &given {
             self.setup(case, MANY)?;
         }
-        let too_few = self.met.too_few(&REGISTERED);
-        assert!(too_few.is_empty(), "too few of {too_few:?} were registered: {:?}", self.met);
         Ok(())
     }
 

@@ -84,6 +84,13 @@ impl Met {
         }
     }
 
+    /// Counts what another run has met, too.
+    pub fn add(&mut self, other: &Met) {
+        for (&name, many) in &other.0 {
+            *self.0.entry(name).or_default() += many;
+        }
+    }
+
     /// The outcomes that were met less often than is asked for, with how often they were.
     pub fn too_few(&self, fewest: &[(&'static str, usize)]) -> Vec<(&'static str, usize)> {
         let met = fewest.iter().map(|&(name, many)| (name, self.of(name), many));

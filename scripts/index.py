@@ -1,13 +1,13 @@
 #!/usr/bin/env python3
-"""Checks docs/INDEX.md, and the line counts in docs/TRUST.md, against the tree, and the believed names against each other.
+"""Checks docs/INDEX.md, and the line counts in docs/TRUST.md, against the tree, and the defined names against each other.
 
 `index.py --write` first puts the rows of docs/TRUST.md's list of what must be believed right. scripts/belief.py checks that list: line
 counts and texts are the files' own, a file stands behind those that it uses, and the statements above the list cite each definition in it.
 
 What stands in backquotes in the index is a path, or a name directly behind a path or behind another of its names: the file
 defines it, or the directory has an edit of that name. Every row of a table names a path, and every public function of a crate
-that is offered (crates.txt, no comment with the word `inner`) stands in the index. And a name that must be believed means one thing:
-no two crates define it. Else the exit status is 1.
+that is offered (crates.txt, no comment with the word `inner`) stands in the index. And a defined name means one thing, whether
+it must be believed or is an inner one: no two crates have a definition of that name. Else the exit status is 1.
 """
 import re
 import sys
@@ -16,7 +16,7 @@ from pathlib import Path
 import belief
 
 ROOT = Path(__file__).resolve().parent.parent
-FEWEST = {"files": 100, "names": 250, "public functions": 40, "line counts": 20, "believed names": 500}
+FEWEST = {"files": 100, "names": 250, "public functions": 40, "line counts": 20, "defined names": 1000}
 DEFINES = {
     ".antt": r"^\s*(?:(?:abbrev|unfoldable) (?:pub )?|pub (?:record |data )?){}(?=[ \n])",
     ".rt": r'^\s*(?:pub )?(?:extern "C" )?(?:fn|struct|enum) {}\b',
@@ -37,11 +37,11 @@ def defines(path, name):
     return re.search(DEFINES.get(Path(path).suffix, "(?!)").format(re.escape(name)), text, re.M) is not None
 
 
-def two_meanings(believed):
+def two_meanings():
     """The public names that the definitions of two crates share, with the files, and how many names there are."""
     places = {}
-    for file in sorted(believed):
-        for name in re.findall(r"^(?:(?:abbrev|unfoldable) )?pub (?:record |data )?([^\s:({]+)", read(f"crates/{file}"), re.M):
+    for file in sorted(str(p.relative_to(ROOT / "crates")) for p in ROOT.glob("crates/*/specs/**/*.antt")):
+        for name in re.findall(r"^(?:(?:abbrev|unfoldable) )?pub (?!mod |use )(?:record |data )?([^\s:({]+)", read(f"crates/{file}"), re.M):
             places.setdefault(name, {}).setdefault(file.split("/")[0], file)
     return [f"{name} means two things: {' and '.join(by.values())}" for name, by in sorted(places.items()) if len(by) > 1], len(places)
 
@@ -76,9 +76,9 @@ faults += [f"docs/TRUST.md lists {file}, which is inner" for file in counts if f
 # None of them cites an inner one, but for the statement that the printed parts are the whole report, as TRUST.md says.
 citing = {file for file in believed if "specs.Inner" in read(f"crates/{file}")} - {"report_writer/specs/Whole.antt"}
 faults += [f"{file} rests on an inner definition" for file in sorted(citing)]
-twice, believed_names = two_meanings(believed)
+twice, defined_names = two_meanings()
 faults += twice
-numbers = dict(zip(FEWEST, (len(files), len(names), len(calls), len(counts), believed_names)))
+numbers = dict(zip(FEWEST, (len(files), len(names), len(calls), len(counts), defined_names)))
 faults += [f"only {numbers[what]} {what}" for what in FEWEST if numbers[what] < FEWEST[what]]
 print(*(f"index: {fault}\n" for fault in faults), sep="", end="")
 print("index:", ", ".join(f"{n} {what}" for what, n in numbers.items()) + f", {len(faults)} faults")

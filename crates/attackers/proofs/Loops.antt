@@ -17,7 +17,7 @@ use Rattle.derivations.proofs.Rules.{monotone}
 use Rattle.derivations.proofs.Graphs.{access-lawful}
 use Rattle.successors.specs.Inner.{VertexOf, Without}
 use Rattle.successors.proofs.Members.{Passed, passed-none, passed-more, passed-all, left-within}
-use Rattle.attackers.specs.Inner.{BothAtMost, FitOver, Holds, HeldBy, KindOpens}
+use Rattle.attackers.specs.Inner.{BothAtMost, FitOver, OfKind, HeldBy, KindOpens}
 
 module _ (kinds : List ℕ) (initial : ℕ) (word : initial < 2 ^ 64) where
   pub fit-done : ((i : ℕ) → i < 64 → Member initial i × (6 ≤ getD kinds i 0) → ⊥) → FitOver kinds initial
@@ -80,6 +80,6 @@ pub opens-decided : (g : Graph) (kinds : List ℕ) (initial target t held : ℕ)
 opens-decided g kinds initial target t held r h d =
     let more = monotone (access g) (access-lawful g) in
     decide-iff (record {
-      to = more (Member held) (Holds kinds initial t) (λ v. h .each v .to) target;
-      from = more (Holds kinds initial t) (Member held) (λ v. h .each v .from) target;
+      to = more (Member held) (OfKind kinds initial t) (λ v. h .each v .to) target;
+      from = more (OfKind kinds initial t) (Member held) (λ v. h .each v .from) target;
     }) d

@@ -8,7 +8,7 @@ use Rattle.vertex_set.specs.Set.{Member, Inserted}
 use Rattle.vertex_set.proofs.Cases.{same-or}
 use Rattle.vertex_set.proofs.Sets.{none-in-zero}
 use Rattle.attackers.specs.Attackers.{KindAtMost}
-use Rattle.attackers.specs.Inner.{BothAtMost, BothWeaker, SomeWeaker, Lowest}
+use Rattle.attackers.specs.Inner.{BothAtMost, BothWeaker, SomeWeaker, LowestKinds}
 use Rattle.attackers.proofs.Table.{at-most-refl, at-most-trans, at-most-le}
 
 pub both-trans : (a b c : ℕ) → BothAtMost a b → BothAtMost b c → BothAtMost a c
@@ -68,5 +68,5 @@ module _ (P : ℕ → Type 0) where
             let le = at-most-le (c .0) j (c .2 .is) in
             n (record { attacker = c .0; member = c .1; weaker = record { atMost = both-trans (c .0) j t (c .2) (w .atMost); other = λ e. omega (arith, e) } })
 
-  pub lowering-done : (r : ℕ) → Lowering 6 r → Lowest P r
+  pub lowering-done : (r : ℕ) → Lowering 6 r → LowestKinds P r
   lowering-done r h = record { is = h .is; lowest = h .lowest; cover = h .cover }

@@ -21,7 +21,7 @@ use Rattle.reference.proofs.Graphs.{own-graph, chosen-below}
 use Rattle.reference.proofs.Closures.{decide-derives}
 use Rattle.reference.proofs.Bases.{minimal-within}
 use Rattle.attackers.specs.Attackers.{KindAtMost, Weaker, attackerOf, OfBase, KindInScore, GetsIn, AttackerScore, EntriesFit, SixKinds, NobodyIn, KindsSound}
-use Rattle.attackers.specs.Inner.{Holds, KindOpens, LowestOpen}
+use Rattle.attackers.specs.Inner.{OfKind, KindOpens, LowestOpen}
 use Rattle.attackers.proofs.Table.{at-most-refl, at-most-trans, at-most-same, at-most-le, at-most-or}
 use Rattle.attackers.proofs.Scans.{taken-below}
 use Rattle.attackers.proofs.Sets.{attacker-small, each-at-most, least-attacker}
@@ -87,14 +87,14 @@ module _ (s : Setup) (kinds : List ℕ) (target : ℕ) (w : WellFormed s) (fit :
   -- ---- the score: the lowest kinds that get in
 
   -- k gets in, and of the six kinds none that is below k does.
-  pub record Lowest (k : ℕ) : Type 0 where
+  pub record LowestKinds (k : ℕ) : Type 0 where
     pub able : GetsIn s kinds target k
     pub none : (j : ℕ) → j < 6 → GetsIn s kinds target j → Weaker j k → ⊥
 
-  pub score-lowest : (k : ℕ) → Iff (KindInScore s kinds target k) (Lowest k)
+  pub score-lowest : (k : ℕ) → Iff (KindInScore s kinds target k) (LowestKinds k)
   score-lowest k = record { to = to; from = from }
     where
-      to : KindInScore s kinds target k → Lowest k
+      to : KindInScore s kinds target k → LowestKinds k
       to h =
           record {
             able = base-gets-in k k (h .is) (at-most-refl k);
@@ -106,7 +106,7 @@ module _ (s : Setup) (kinds : List ℕ) (target : ℕ) (w : WellFormed s) (fit :
                 });
           }
 
-      from : Lowest k → KindInScore s kinds target k
+      from : LowestKinds k → KindInScore s kinds target k
       from h =
           let q = in-by-set k (h .able) in
           let n : (j : ℕ) → OfBase s kinds target j → Weaker j k → ⊥ = λ j p. h .none j (base-small j p) (base-gets-in j j p (at-most-refl j)) in
@@ -152,8 +152,8 @@ module _ (s : Setup) (kinds : List ℕ) (target : ℕ) (w : WellFormed s) (fit :
     opens-iff : (t : ℕ) → t < 6 → Iff (KindOpens (s .graph) kinds initial target t) (GetsIn s kinds target t)
     opens-iff t l =
         record {
-          to = more (Holds kinds initial t) (λ v. Chosen false s v × KindAtMost (getD kinds v 0) t) (λ v p. (c .each v .to (p .0), p .1 .is));
-          from = more (λ v. Chosen false s v × KindAtMost (getD kinds v 0) t) (Holds kinds initial t)
+          to = more (OfKind kinds initial t) (λ v. Chosen false s v × KindAtMost (getD kinds v 0) t) (λ v p. (c .each v .to (p .0), p .1 .is));
+          from = more (λ v. Chosen false s v × KindAtMost (getD kinds v 0) t) (OfKind kinds initial t)
               (λ v p. (c .each v .from (p .0), record { first = let f = fit .each v (p .0) in omega arith; second = l; is = p .1 }));
         }
 

@@ -16,7 +16,7 @@ use Rattle.setup.specs.declared.Graph.{Graph}
 use Rattle.derivations.specs.Access.{access}
 use Rattle.derivations.proofs.Rules.{monotone}
 use Rattle.derivations.proofs.Graphs.{access-lawful}
-use Rattle.attackers.specs.Inner.{BothAtMost, Holds, KindOpens, KindSettled, Lowest, LowestOpen}
+use Rattle.attackers.specs.Inner.{BothAtMost, OfKind, KindOpens, KindSettled, LowestKinds, LowestOpen}
 use Rattle.attackers.proofs.Table.{at-most-refl, at-most-le}
 use Rattle.attackers.proofs.Lowering.{both-trans, weaker-less}
 
@@ -53,7 +53,7 @@ module _ (g : Graph) (kinds : List ℕ) (initial target : ℕ) where
   -- who is above one that gets in gets in
   opens-up : (j t : ℕ) → BothAtMost j t → KindOpens g kinds initial target j → KindOpens g kinds initial target t
   opens-up j t b =
-      monotone (access g) (access-lawful g) (Holds kinds initial j) (Holds kinds initial t) (λ v p. (p .0, both-trans (getD kinds v 0) j t (p .1) b)) target
+      monotone (access g) (access-lawful g) (OfKind kinds initial j) (OfKind kinds initial t) (λ v p. (p .0, both-trans (getD kinds v 0) j t (p .1) b)) target
 
   -- The kinds of able open the target, those of unable do not, and they settle each kind at the places below n.
   pub record Trying (n able unable : ℕ) : Type 0 where
@@ -98,7 +98,7 @@ module _ (g : Graph) (kinds : List ℕ) (initial target : ℕ) where
         taken = i .taken (omega (arith, low))
 
   -- the lowest of those that were tried and get in are the lowest of all that do
-  pub trying-done : (able unable r : ℕ) → Trying 6 able unable → Lowest (Member able) r → LowestOpen g kinds initial target r
+  pub trying-done : (able unable r : ℕ) → Trying 6 able unable → LowestKinds (Member able) r → LowestOpen g kinds initial target r
   trying-done able unable r h w =
       record {
         is = λ k m. let p = w .is k m in (p .0, h .opens k (p .1));

@@ -25,16 +25,16 @@ pub record FitOver (kinds : List ℕ) (initial : ℕ) : Type 0 where
   pub each : (v : ℕ) → Member initial v → getD kinds v 0 ≤ 5
 
 -- v is one of these vertices, and its kind at most t.
-abbrev pub Holds : List ℕ → ℕ → ℕ → ℕ → Type 0
-Holds kinds initial t v = Member initial v × BothAtMost (getD kinds v 0) t
+abbrev pub OfKind : List ℕ → ℕ → ℕ → ℕ → Type 0
+OfKind kinds initial t v = Member initial v × BothAtMost (getD kinds v 0) t
 
 -- r is the set of these vertices whose kind is at most t.
 pub record HeldBy (kinds : List ℕ) (initial t r : ℕ) : Type 0 where
-  pub each : (v : ℕ) → Iff (Member r v) (Holds kinds initial t v)
+  pub each : (v : ℕ) → Iff (Member r v) (OfKind kinds initial t v)
 
 -- Those of these vertices whose kind is at most t open the target.
 abbrev pub KindOpens : Graph → List ℕ → ℕ → ℕ → ℕ → Type 0
-KindOpens g kinds initial target t = HasAccess g (Holds kinds initial t) target
+KindOpens g kinds initial target t = HasAccess g (OfKind kinds initial t) target
 
 -- The kind j settles the kind t: it gets in and is at most t, or it does not and t is at most it.
 abbrev pub Settles : ℕ → ℕ → ℕ → ℕ → Type 0
@@ -52,11 +52,11 @@ pub record SomeWeaker (set k : ℕ) : Type 0 where
   pub weaker : BothWeaker attacker k
 
 -- r has kinds with the property, none of which has another such kind below; and below each of the six that has it there is one of r, or it is one.
-pub record Lowest (P : ℕ → Type 0) (r : ℕ) : Type 0 where
+pub record LowestKinds (P : ℕ → Type 0) (r : ℕ) : Type 0 where
   pub is : (k : ℕ) → Member r k → (k < 6) × P k
   pub lowest : (k j : ℕ) → Member r k → P j → BothWeaker j k → ⊥
   pub cover : (j : ℕ) → j < 6 → P j → (i : ℕ) × Member r i × BothAtMost i j
 
 -- r has the lowest kinds whose vertices open the target.
 abbrev pub LowestOpen : Graph → List ℕ → ℕ → ℕ → ℕ → Type 0
-LowestOpen g kinds initial target r = Lowest (KindOpens g kinds initial target) r
+LowestOpen g kinds initial target r = LowestKinds (KindOpens g kinds initial target) r

@@ -6,7 +6,7 @@ ghost use Rattle.vertex_set.specs.Set.{Member, Decides};
 ghost use Rattle.derivations.specs.Access.{HasAccess};
 ghost use Rattle.successors.specs.Inner.{Successors};
 ghost use Rattle.attackers.specs.Answers.{attackerNumber, attackerValues, AttackerCall};
-ghost use Rattle.attackers.specs.Inner.{BothAtMost, BothWeaker, FitOver, HeldBy, Settles, KindSettled, SomeWeaker, Lowest, LowestOpen};
+ghost use Rattle.attackers.specs.Inner.{BothAtMost, BothWeaker, FitOver, HeldBy, Settles, KindSettled, SomeWeaker, LowestKinds, LowestOpen};
 use setup::Graph;
 use setup::Setup;
 use vertex_set::VertexSet;
@@ -168,7 +168,7 @@ fn has_weaker(set: VertexSet, k: usize) -> bool
 // The lowest kinds of a set. A kind comes behind all that are below it, so that it is enough to
 // compare it with those that were kept.
 fn lowest_of(able: VertexSet) -> VertexSet
-    ensures { λ r. ⌜ Lowest (Member (able .0)) (r .0) ⌝ }
+    ensures { λ r. ⌜ LowestKinds (Member (able .0)) (r .0) ⌝ }
 {
     let mut found = VertexSet(0);
     for t in 0..6usize {

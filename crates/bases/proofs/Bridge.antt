@@ -29,7 +29,7 @@ use Rattle.families.proofs.Exact.{minimal-on-chosen}
 use Rattle.family_lists.proofs.Order.{Words}
 use Rattle.family_lists.proofs.SetLists.{setsOf, list-of, length-sets-of}
 use Rattle.family_lists.proofs.SetsOfFamily.{Has, MaskFor, mask-for, set-for, smallest-within, list-smallest}
-use Rattle.tables.specs.Inner.Table.{FamilyOf}
+use Rattle.tables.specs.Inner.Table.{FamilyOfVertex}
 use Rattle.tables.proofs.Tables.{derivation-rising}
 use Rattle.bases.specs.Inner.Readers.{BothFamilies}
 use Rattle.bases.proofs.Formed.{few}
@@ -37,7 +37,7 @@ use Rattle.bases.specs.Base.{TargetSet, MinimalSet, Base}
 use Rattle.bases.specs.Score.{sumOf, Score}
 
 -- minimal masks have no bit beyond the chosen vertices
-pub on-chosen : (loss : Bool) (g : Graph) (target chosen : ℕ) (f m : List ℕ) → FamilyOf (ruleOf loss g) chosen target f → MinimalMembers f m → OnChosen chosen m
+pub on-chosen : (loss : Bool) (g : Graph) (target chosen : ℕ) (f m : List ℕ) → FamilyOfVertex (ruleOf loss g) chosen target f → MinimalMembers f m → OnChosen chosen m
 on-chosen loss g target chosen f m fam min =
     minimal-on-chosen chosen (λ held. Derivation (ruleOf loss g) held target) (derivation-rising loss g target) f fam m min
 
@@ -70,7 +70,7 @@ module _ (loss : Bool) (s : Setup) (g : Graph) (target chosen : ℕ) (ch : Chose
         from = λ h. record { is = target-has x .from (h .is); minimal = λ y p d. h .none y p (within-trans (p .within) (h .is .0), d) };
       }
 
-  module _ (f : List ℕ) (fits : chosen < 2 ^ 64) (small : ones chosen ≤ 14) (fam : FamilyOf (ruleOf loss g) chosen target f) where
+  module _ (f : List ℕ) (fits : chosen < 2 ^ 64) (small : ones chosen ≤ 14) (fam : FamilyOfVertex (ruleOf loss g) chosen target f) where
     -- every set with a derivation has a minimal one within it
     pub minimal-within : (x : ℕ) → TargetSet loss s g target x → (y : ℕ) × Within y x × MinimalSet loss s g target y
     minimal-within x t =
@@ -108,7 +108,7 @@ module _ (loss : Bool) (s : Setup) (g : Graph) (target chosen : ℕ) (ch : Chose
 -- ---- a family whose sets are the base
 
 pub both-families : (loss : Bool) (s : Setup) (g : Graph) (target chosen : ℕ) (f m : List ℕ) (n : ℕ) → chosen < 2 ^ 64 → WellFormed s → ChosenSet loss s chosen
-    → FamilyOf (ruleOf loss g) chosen target f → MinimalMembers f m → length m ≡ familyWords → Words m → n ≡ size m → BothFamilies loss s g target chosen f m n
+    → FamilyOfVertex (ruleOf loss g) chosen target f → MinimalMembers f m → length m ≡ familyWords → Words m → n ≡ size m → BothFamilies loss s g target chosen f m n
 both-families loss s g target chosen f m n fits w ch fam min long words e =
     record {
       isFamily = fam;

@@ -19,11 +19,11 @@ use Rattle.setup.specs.declared.Value.{Value}
 use Rattle.setup.specs.declared.Value.the-variants.{Blank, Of}
 use Rattle.setup.specs.declared.Vertex.{Vertex}
 use Rattle.setup.specs.declared.Setup.{Setup}
-use Rattle.setup.specs.Setup.{given, valueOf, vertexAt, unusedVertex, total, chosenCount, ChosenSet}
+use Rattle.setup.specs.Setup.{points, given, valueOf, vertexAt, unusedVertex, total, chosenCount, ChosenSet}
 use Rattle.formed.specs.WellFormed.{InRange, ValidVertex, WellFormed}
 use Rattle.formed.proofs.Facts.{not-in-use}
 use Rattle.scores.specs.Never.{never}
-use Rattle.bases.specs.Score.{points, pointsAt, sumOf, SumsHold}
+use Rattle.bases.specs.Score.{pointsAt, sumOf, SumsHold}
 
 pub few : (loss : Bool) (s : Setup) (chosen : ℕ) → WellFormed s → ChosenSet loss s chosen → ones chosen ≤ 14
 few false s chosen w c = let a = w .initial in let b = c .size in omega arith

@@ -11,9 +11,9 @@ use Rattle.vertex_set.proofs.Cases.{less-or}
 use Rattle.vertex_set.proofs.Filling.{fill-more}
 use Rattle.setup.specs.declared.Vertex.{Vertex}
 use Rattle.setup.specs.declared.Setup.{Setup}
-use Rattle.setup.specs.Setup.{valueOf, unusedVertex}
+use Rattle.setup.specs.Setup.{points, valueOf, unusedVertex}
 use Rattle.bases.specs.Inner.Readers.{Values}
-use Rattle.bases.specs.Score.{points, pointsAt}
+use Rattle.bases.specs.Score.{pointsAt}
 use Rattle.bases.proofs.Formed.{blank}
 
 -- ---- a list filled from the front

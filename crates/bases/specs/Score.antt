@@ -7,18 +7,11 @@ use Rattle.vertex_set.specs.Set.{Member}
 use Rattle.vertex_set.specs.Order.{Listed, sumOver}
 use Rattle.scores.specs.Never.{never}
 use Rattle.setup.specs.Bounds.{largest, mostChosen}
-use Rattle.setup.specs.declared.Value.{Value}
-use Rattle.setup.specs.declared.Value.the-variants.{Blank, Of}
 use Rattle.setup.specs.declared.Graph.{Graph}
 use Rattle.setup.specs.declared.Setup.{Setup}
-use Rattle.setup.specs.Setup.{valueOf, vertexAt, Chosen}
+use Rattle.setup.specs.Setup.{points, valueOf, vertexAt, Chosen}
 use Rattle.formed.specs.WellFormed.{WellFormed}
 use Rattle.bases.specs.Base.{TargetSet}
-
--- The number of a value; a blank has none, and counts as 0 where it is asked.
-abbrev pub points : Value → ℕ
-points Blank = 0
-points (Of n) = n
 
 -- The start value of the vertex v, or for lockout its loss value.
 abbrev pub pointsAt : Bool → Setup → ℕ → ℕ

@@ -4,14 +4,12 @@ ghost use Prim.Native.Nat.{_<_};
 ghost use lib.ListN.{length};
 ghost use Rattle.formed.specs.WellFormed.{WellFormed};
 ghost use Rattle.derivations.specs.Both.{ruleOf};
-ghost use Rattle.tables.specs.Inner.Table.{FamilyOf};
+ghost use Rattle.tables.specs.Inner.Table.{FamilyOfVertex};
 ghost use Rattle.families.specs.Inner.Family.{familyWords};
-ghost use Rattle.bases.specs.Score.{points};
 ghost use Rattle.bases.specs.Inner.Readers.{CanList, BaseFamily, BothFamilies, Values, ScoreBoth};
 use families::WORDS;
 use setup::Graph;
 use setup::Setup;
-use setup::Value;
 use tables::TABLE;
 use vertex_set::VertexSet;
 
@@ -19,21 +17,12 @@ use vertex_set::VertexSet;
 // all vertices is a local of this function alone.
 pub fn family_of(graph: Graph, chosen: VertexSet, loss: bool, target: usize, out: &mut [u64])
     requires { ⌜ (target < 64) × (length (now out) ≡ familyWords) ⌝ }
-    ensures { λ _. ⌜ (length (now (out .exit)) ≡ familyWords) × FamilyOf (ruleOf loss graph) (chosen .0) target (now (out .exit)) ⌝ }
+    ensures { λ _. ⌜ (length (now (out .exit)) ≡ familyWords) × FamilyOfVertex (ruleOf loss graph) (chosen .0) target (now (out .exit)) ⌝ }
 {
     let mut w = [0u64; TABLE];
     tables::fill(graph, chosen, loss, &mut w);
     let from = target * WORDS;
     family_words::copy_in(out, &w[from..from + WORDS]);
-}
-
-fn points_of(x: Value) -> u64
-    ensures { λ r. ⌜ r ≡ points x ⌝ }
-{
-    match x {
-        Value::Blank => 0,
-        Value::Of(n) => n,
-    }
 }
 
 // The start values of all vertices, or for a loss the loss values; 0 for a blank.
@@ -44,7 +33,7 @@ pub fn values_of(s: Setup, loss: bool) -> [u64; 64]
     for v in 0..64usize {
         let vertex = s.vertices[v];
         let value = setup::value_of(loss, vertex);
-        r[v] = points_of(value);
+        r[v] = setup::points_of(value);
     }
     r
 }

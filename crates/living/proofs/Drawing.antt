@@ -22,7 +22,7 @@ use Rattle.derivations.specs.Access.{access, AccessFrom}
 use Rattle.derivations.proofs.Graphs.{access-lawful}
 use Rattle.derivations.proofs.Closures.{closure-on}
 use Rattle.living.specs.Calls.{TakeIn, TakeOut, AddEdge, RemoveEdge, IsEdge, Drawing, drawingOf, after, Redrawn, Placed}
-use Rattle.living.specs.Inner.{LetGo, RowPlace, rowsWith, RowsWithEdge, RowsWithoutEdge, RowsMarked, EdgeMore, EdgeLess, MarkMore, Holds, Drawn}
+use Rattle.living.specs.Inner.{LetGo, RowPlace, rowsWith, RowsWithEdge, RowsWithoutEdge, RowsMarked, EdgeMore, EdgeLess, MarkMore, WithHeld, Drawn}
 
 -- two statements that follow from a third and it from them
 pub both : {P Q R : Type 0} → Iff P R → Iff Q R → Iff P Q
@@ -50,7 +50,7 @@ shaped-as s t e h g r = record { places = ap length e ∙ h .places; graph = g; 
 
 -- ---- what is held
 
-module _ (s t : Setup) (held start : ℕ) (w : WellFormed s) (h : Holds s held start t) where
+module _ (s t : Setup) (held start : ℕ) (w : WellFormed s) (h : WithHeld s held start t) where
   held-redrawn : (d : Drawing) → ((f v c : ℕ) → Iff (Edge (s .graph) f v c) (d .Edges f v c)) → ((f v c : ℕ) → Iff (Edge (s .recovery) f v c) (d .Marks f v c))
       → ((i : ℕ) → Iff (Member held i) (d .Held i))
       → AccessFrom (s .graph) held (t .opened .0) → Redrawn s d t
@@ -66,14 +66,14 @@ module _ (s t : Setup) (held start : ℕ) (w : WellFormed s) (h : Holds s held s
       }
 
 -- taking in goes on from what is open
-pub in-redrawn : (s t : Setup) (v held start : ℕ) → WellFormed s → v < 64 → Inserted (s .held .0) v held → Inserted (s .opened .0) v start → Holds s held start t
+pub in-redrawn : (s t : Setup) (v held start : ℕ) → WellFormed s → v < 64 → Inserted (s .held .0) v held → Inserted (s .opened .0) v start → WithHeld s held start t
     → Redrawn s (after (TakeIn v) (drawingOf s)) t
 in-redrawn s t v held start w l a b h =
     held-redrawn s t held start w h (after (TakeIn v) (drawingOf s)) (λ f u c. iff-refl) (λ f u c. iff-refl) (a .taken l)
     (closure-on (access (s .graph)) (access-lawful (s .graph)) (s .held .0) (s .opened .0) v held start (t .opened .0) (w .opens) (a .taken l) (b .taken l) (h .opened))
 
 -- taking out starts from what is held
-pub out-redrawn : (s t : Setup) (v held : ℕ) → WellFormed s → LetGo (s .held .0) v held → Holds s held held t → Redrawn s (after (TakeOut v) (drawingOf s)) t
+pub out-redrawn : (s t : Setup) (v held : ℕ) → WellFormed s → LetGo (s .held .0) v held → WithHeld s held held t → Redrawn s (after (TakeOut v) (drawingOf s)) t
 out-redrawn s t v held w a h = held-redrawn s t held held w h (after (TakeOut v) (drawingOf s)) (λ f u c. iff-refl) (λ f u c. iff-refl) (a .each) (h .opened)
 
 -- ---- one edge

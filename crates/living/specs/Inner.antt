@@ -66,7 +66,7 @@ pub record MarkMore (g : Graph) (f v c : ℕ) (mark : Bool) (r : Graph) : Type 0
   pub unmarked : mark ≡ false → r ≡ g
 
 -- s′ is s with another held set, and opened is what `start` opens.
-pub record Holds (s : Setup) (held start : ℕ) (s′ : Setup) : Type 0 where
+pub record WithHeld (s : Setup) (held start : ℕ) (s′ : Setup) : Type 0 where
   pub count : s′ .count ≡ s .count
   pub vertices : s′ .vertices ≡ s .vertices
   pub graph : s′ .graph ≡ s .graph

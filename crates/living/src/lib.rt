@@ -10,7 +10,7 @@ ghost use Prim.Native.Nat.{_≤_};
 ghost use Rattle.vertex_set.specs.Set.{Decides};
 ghost use Rattle.setup.specs.Setup.{Edge, edgeCount};
 ghost use Rattle.living.specs.Calls.{TakeIn, TakeOut, AddEdge, RemoveEdge, CallOf};
-ghost use Rattle.living.specs.Inner.{LetGo, RowPlace, EdgePlace, Holds, Drawn, VertexAsked, PlaceAsked, RowsWithEdge, RowsWithoutEdge, RowsMarked, EdgeAdded, EdgeRemoved};
+ghost use Rattle.living.specs.Inner.{LetGo, RowPlace, EdgePlace, WithHeld, Drawn, VertexAsked, PlaceAsked, RowsWithEdge, RowsWithoutEdge, RowsMarked, EdgeAdded, EdgeRemoved};
 use setup::Graph;
 use setup::Rows;
 use setup::Setup;
@@ -53,7 +53,7 @@ fn edge_count(graph: Graph) -> u32
 
 // Accepts: the setup with this held set; its opened set is what `start` opens.
 fn hold(s: Setup, held: VertexSet, start: VertexSet) -> Redrawing
-    ensures { λ r. ⌜ (r .number ≡ 0) × Holds s (held .0) (start .0) (r .setup) ⌝ }
+    ensures { λ r. ⌜ (r .number ≡ 0) × WithHeld s (held .0) (start .0) (r .setup) ⌝ }
 {
     let graph = s.graph;
     let closed = closures::closure(false, graph, start);

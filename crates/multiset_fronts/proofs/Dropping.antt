@@ -10,7 +10,7 @@ use lib.ListN.{length, getD, take, set, length-set}
 use lib.Seq.{getD-set-same, getD-set-other, take-set-le}
 use Rattle.vertex_set.proofs.Cases.{same-or, false-true}
 use Rattle.vertex_set.proofs.Sorted.{only}
-use Rattle.multiset_fronts.specs.Inner.{bothLe, SomeBelow, Keyed, notAbove, Dropped, TakenIn}
+use Rattle.multiset_fronts.specs.Inner.{bothLe, SomeBelow, Keyed, notAbove, Dropped, SetTakenIn}
 use Rattle.multiset_fronts.proofs.Lists.{listed-take, take-place, take-more, take-stored, only-more, only-same}
 
 -- ---- pairs of keys
@@ -148,7 +148,7 @@ dropping-all kept₀ low₀ high₀ n a b kept low high i left e p =
 
 module _ (kept low high : List ℕ) (n x a b : ℕ) (room : n ≤ length kept) where
   -- some kept one is at most x
-  pub taken-same : SomeBelow low high n a b → TakenIn kept low high kept low high n x a b n
+  pub taken-same : SomeBelow low high n a b → SetTakenIn kept low high kept low high n x a b n
   taken-same s =
       record {
         most = omega arith;
@@ -165,7 +165,7 @@ module _ (kept low high : List ℕ) (n x a b : ℕ) (room : n ≤ length kept) w
 
   -- none is
   pub taken-more : (SomeBelow low high n a b → ⊥) → (kept′ low′ high′ : List ℕ) (r : ℕ) → Dropped kept low high kept′ low′ high′ n a b r
-      → r < length kept′ → r < length low′ → r < length high′ → TakenIn kept low high (set kept′ r x) (set low′ r a) (set high′ r b) n x a b (r + 1)
+      → r < length kept′ → r < length low′ → r < length high′ → SetTakenIn kept low high (set kept′ r x) (set low′ r a) (set high′ r b) n x a b (r + 1)
   taken-more none kept′ low′ high′ r d lk ll lh =
       record {
         most = let m = d .most in omega arith;

@@ -16,7 +16,7 @@ use Rattle.family_lists.specs.Inner.Tables.{sumBy}
 use Rattle.multiset_keys.specs.Inner.{CountKey}
 use Rattle.vertex_set.proofs.Decisions.{and-parts, and-both}
 use Rattle.multiset_keys.proofs.Lanes.{key-refl, key-trans}
-use Rattle.multiset_fronts.specs.Inner.{bothLe, Keyed, notAbove, Takes, TakenIn, KeysLe, Front, CanKeep, KeptLowest}
+use Rattle.multiset_fronts.specs.Inner.{bothLe, Keyed, notAbove, CanTakeIn, SetTakenIn, KeysLe, Front, CanKeep, KeptLowest}
 use Rattle.multiset_fronts.proofs.Lists.{listed-take, listed-longer, sorted-place, take-more}
 use Rattle.multiset_fronts.proofs.Front.{front-same, front-more}
 
@@ -70,7 +70,7 @@ module _ (list : List ℕ) (n : ℕ) (low₁ high₁ low₂ high₂ : List ℕ) 
 
   -- the next mask can be taken in
   pub keeping-takes : length kept ≡ length list → length low ≡ 3432 → length high ≡ 3432 → (a b : ℕ)
-      → a ≡ sumBy low₁ high₁ (getD kept i 0) → b ≡ sumBy low₂ high₂ (getD kept i 0) → Takes kept low high count a b
+      → a ≡ sumBy low₁ high₁ (getD kept i 0) → b ≡ sumBy low₂ high₂ (getD kept i 0) → CanTakeIn kept low high count a b
   keeping-takes e f g a b p q =
       let m = k .most in
       record {
@@ -87,7 +87,7 @@ module _ (list : List ℕ) (n : ℕ) (low₁ high₁ low₂ high₂ : List ℕ) 
         room-high = omega (arith, can .few);
       }
 
-  takes-in : (kept′ low′ high′ : List ℕ) (x r : ℕ) → x ≡ getD list i 0 → TakenIn kept low high kept′ low′ high′ count x (sumBy low₁ high₁ x) (sumBy low₂ high₂ x) r
+  takes-in : (kept′ low′ high′ : List ℕ) (x r : ℕ) → x ≡ getD list i 0 → SetTakenIn kept low high kept′ low′ high′ count x (sumBy low₁ high₁ x) (sumBy low₂ high₂ x) r
       → Keeping list (sumBy low₁ high₁) (sumBy low₂ high₂) (i + 1) kept′ low′ high′ r
   takes-in kept′ low′ high′ x r at t =
       record {
@@ -125,11 +125,11 @@ module _ (list : List ℕ) (n : ℕ) (low₁ high₁ low₂ high₂ : List ℕ) 
           (λ y. not-true (bothLe (f x) (g x) (f y) (g y))) (λ y. true-or (bothLe (f x) (g x) (f y) (g y))) (h .0))
 
   pub keeping-more : (kept′ low′ high′ : List ℕ) (a b r : ℕ) → a ≡ sumBy low₁ high₁ (getD kept i 0) → b ≡ sumBy low₂ high₂ (getD kept i 0)
-      → TakenIn kept low high kept′ low′ high′ count (getD kept i 0) a b r → Keeping list (sumBy low₁ high₁) (sumBy low₂ high₂) (i + 1) kept′ low′ high′ r
+      → SetTakenIn kept low high kept′ low′ high′ count (getD kept i 0) a b r → Keeping list (sumBy low₁ high₁) (sumBy low₂ high₂) (i + 1) kept′ low′ high′ r
   keeping-more kept′ low′ high′ a b r p q t =
       takes-in kept′ low′ high′ (getD kept i 0) r (k .rest i (omega arith))
-      (subst (λ (z : ℕ). TakenIn kept low high kept′ low′ high′ count (getD kept i 0) (sumBy low₁ high₁ (getD kept i 0)) z r) q
-      (subst (λ (z : ℕ). TakenIn kept low high kept′ low′ high′ count (getD kept i 0) z b r) p t))
+      (subst (λ (z : ℕ). SetTakenIn kept low high kept′ low′ high′ count (getD kept i 0) (sumBy low₁ high₁ (getD kept i 0)) z r) q
+      (subst (λ (z : ℕ). SetTakenIn kept low high kept′ low′ high′ count (getD kept i 0) z b r) p t))
 
 pub keeping-all : (list : List ℕ) (n : ℕ) (low₁ high₁ low₂ high₂ : List ℕ) (i : ℕ) (kept low high : List ℕ) (count : ℕ) → i ≡ n
     → Keeping list (sumBy low₁ high₁) (sumBy low₂ high₂) i kept low high count → KeptLowest list n low₁ high₁ low₂ high₂ kept count

@@ -48,7 +48,7 @@ pub record Dropped (kept low high kept′ low′ high′ : List ℕ) (n a b r : 
   pub rest : (j : ℕ) → n ≤ j → getD kept′ j 0 ≡ getD kept j 0
 
 -- What taking in a set asks for: keys, and room for one more set in each list.
-pub record Takes (kept low high : List ℕ) (n a b : ℕ) : Type 0 where
+pub record CanTakeIn (kept low high : List ℕ) (n a b : ℕ) : Type 0 where
   pub comparable : Comparable low high n a b
   pub room : n < length kept
   pub room-low : n < length low
@@ -60,7 +60,7 @@ Either f g old new x a b =
     ((y : ℕ) × Listed old y × (bothLe (f y) (g y) a b ≡ true) × (new ≡ old))
     ⊎ (((y : ℕ) → Listed old y → bothLe (f y) (g y) a b ≡ true → ⊥) × (new ≡ only (notAbove f g a b) old ++ (x ∷ [])))
 
-pub record TakenIn (kept low high kept′ low′ high′ : List ℕ) (n x a b r : ℕ) : Type 0 where
+pub record SetTakenIn (kept low high kept′ low′ high′ : List ℕ) (n x a b r : ℕ) : Type 0 where
   pub most : r ≤ n + 1
   pub either : (f g : ℕ → ℕ) → Keyed f g kept low high n → f x ≡ a → g x ≡ b → Either f g (take n kept) (take r kept′) x a b
   pub keyed : (f g : ℕ → ℕ) → Keyed f g kept low high n → f x ≡ a → g x ≡ b → Keyed f g kept′ low′ high′ r

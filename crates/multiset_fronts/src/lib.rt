@@ -6,7 +6,7 @@ ghost use Prim.Native.Nat.{_≤_};
 ghost use lib.ListN.{length};
 ghost use Rattle.vertex_set.specs.Set.{Decides};
 ghost use Rattle.multiset_keys.specs.Inner.{CountKey};
-ghost use Rattle.multiset_fronts.specs.Inner.{bothLe, Comparable, SomeBelow, Dropped, Takes, TakenIn, CanKeep, KeptLowest};
+ghost use Rattle.multiset_fronts.specs.Inner.{bothLe, Comparable, SomeBelow, Dropped, CanTakeIn, SetTakenIn, CanKeep, KeptLowest};
 use antichains::MOST_SETS;
 
 // Is the pair of keys a, b at most the pair c, d: at most in each lane of both?
@@ -74,8 +74,8 @@ fn take_in(
     a: u64,
     b: u64,
 ) -> usize
-    requires { ⌜ Takes (now kept) (now low) (now high) n a b ⌝ }
-    ensures { λ r. ⌜ TakenIn (now (kept .entry)) (now (low .entry)) (now (high .entry)) (now (kept .exit)) (now (low .exit)) (now (high .exit)) n x a b r ⌝ }
+    requires { ⌜ CanTakeIn (now kept) (now low) (now high) n a b ⌝ }
+    ensures { λ r. ⌜ SetTakenIn (now (kept .entry)) (now (low .entry)) (now (high .entry)) (now (kept .exit)) (now (low .exit)) (now (high .exit)) n x a b r ⌝ }
 {
     if some_below(low, high, n, a, b) {
         return n;

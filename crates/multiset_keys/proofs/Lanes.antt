@@ -14,7 +14,7 @@ use Rattle.vertex_set.specs.Set.{Iff}
 use Rattle.vertex_set.specs.Order.{Listed}
 use Rattle.vertex_set.proofs.Cases.{byTest, less-or, same-or}
 use Rattle.vertex_set.proofs.Decisions.{decide-leb, and-parts, and-both}
-use Rattle.multiset_keys.specs.Inner.{packed, lanesLe, SmallLanes, guards, CountKey, keyLe}
+use Rattle.multiset_keys.specs.Inner.{packedCounts, lanesLe, SmallLanes, guards, CountKey, keyLe}
 
 -- ---- the test by the free bits
 
@@ -118,37 +118,37 @@ key-trans a b c h k = lanes-trans 7 a b c h k
 -- ---- packed lists
 
 module _ (f g : ℕ → ℕ) (small : (t : ℕ) → f t < 128) (low : (t : ℕ) → g t < 128) where
-  packed-lanes : (n : ℕ) (l : List ℕ) → length l ≤ n → SmallLanes n (packed (map f l))
+  packed-lanes : (n : ℕ) (l : List ℕ) → length l ≤ n → SmallLanes n (packedCounts (map f l))
   packed-lanes zero [] h = refl
   packed-lanes zero (t ∷ l) h = absurd (omega arith)
   packed-lanes (suc n) [] h = (omega arith, packed-lanes n [] (omega arith))
   packed-lanes (suc n) (t ∷ l) h =
       let s = small t in
       let r = packed-lanes n l (omega arith) in
-      let e : (f t + 256 * packed (map f l)) / 256 ≡ packed (map f l) = omega arith in
+      let e : (f t + 256 * packedCounts (map f l)) / 256 ≡ packedCounts (map f l) = omega arith in
       (omega arith, rw e r)
 
-  pub packed-key : (l : List ℕ) → length l ≤ 7 → CountKey (packed (map f l))
+  pub packed-key : (l : List ℕ) → length l ≤ 7 → CountKey (packedCounts (map f l))
   unfolding CountKey
   packed-key l h = packed-lanes 7 l h
 
-  packed-le : (n : ℕ) (l : List ℕ) → length l ≤ n → Iff (lanesLe n (packed (map f l)) (packed (map g l)) ≡ true) ((t : ℕ) → Listed l t → f t ≤ g t)
+  packed-le : (n : ℕ) (l : List ℕ) → length l ≤ n → Iff (lanesLe n (packedCounts (map f l)) (packedCounts (map g l)) ≡ true) ((t : ℕ) → Listed l t → f t ≤ g t)
   packed-le n [] h = record { to = λ e t m. absurd m; from = λ e. lanes-refl n 0 }
   packed-le zero (t ∷ l) h = absurd (omega arith)
   packed-le (suc n) (t ∷ l) h =
       let s = small t in
       let k = low t in
       let r = packed-le n l (omega arith) in
-      let a : (f t + 256 * packed (map f l)) / 256 ≡ packed (map f l) = omega arith in
-      let b : (g t + 256 * packed (map g l)) / 256 ≡ packed (map g l) = omega arith in
-      let c : (f t + 256 * packed (map f l)) % 256 ≡ f t = omega arith in
-      let d : (g t + 256 * packed (map g l)) % 256 ≡ g t = omega arith in
+      let a : (f t + 256 * packedCounts (map f l)) / 256 ≡ packedCounts (map f l) = omega arith in
+      let b : (g t + 256 * packedCounts (map g l)) / 256 ≡ packedCounts (map g l) = omega arith in
+      let c : (f t + 256 * packedCounts (map f l)) % 256 ≡ f t = omega arith in
+      let d : (g t + 256 * packedCounts (map g l)) % 256 ≡ g t = omega arith in
       rw (a, b, c, d)
       (record {
         to = λ e u. let p = and-parts _ _ e in ⊎-elim (λ q. rw q (decide-leb (f t) (g t) .yes (p .0))) (λ m. r .to (p .1) u m);
         from = λ e. and-both _ _ (leb-yes _ _ (e t (inl refl))) (r .from (λ u m. e u (inr m)));
       })
 
-  pub packed-key-le : (l : List ℕ) → length l ≤ 7 → Iff (keyLe (packed (map f l)) (packed (map g l)) ≡ true) ((t : ℕ) → Listed l t → f t ≤ g t)
+  pub packed-key-le : (l : List ℕ) → length l ≤ 7 → Iff (keyLe (packedCounts (map f l)) (packedCounts (map g l)) ≡ true) ((t : ℕ) → Listed l t → f t ≤ g t)
   unfolding keyLe
   packed-key-le l h = packed-le 7 l h

@@ -21,7 +21,7 @@ use Rattle.multisets.specs.Multisets.{valuesBelow, valuesOver}
 use Rattle.multisets.specs.Meaning.{isHigh, atLeast}
 use Rattle.multisets.proofs.Counts.{is-high, not-high, at-least-most}
 use Rattle.multisets.proofs.Sets.{at-least-over, length-values}
-use Rattle.multiset_keys.specs.Inner.{packed, guards, highMarks, Columns, countKeyOf, KeysOf, KeyTables, CountKey, keyLe}
+use Rattle.multiset_keys.specs.Inner.{packedCounts, guards, highMarks, Columns, countKeyOf, MaskKeys, KeyTables, CountKey, keyLe}
 use Rattle.multiset_keys.proofs.Lanes.{packed-key, packed-key-le, key-most}
 
 -- ---- a value's column
@@ -32,17 +32,17 @@ is-high-most t x = ⊎-elim (λ l. let e = not-high t x l in omega arith) (λ l.
 pub is-high-small : (t x b : ℕ) → b ≡ isHigh t x → b < 128
 is-high-small t x b e = let h = is-high-most t x in omega arith
 
-pub column-most : (thresholds : List ℕ) (value : ℕ) → length thresholds ≤ 7 → packed (highMarks thresholds value) ≤ guards 7
+pub column-most : (thresholds : List ℕ) (value : ℕ) → length thresholds ≤ 7 → packedCounts (highMarks thresholds value) ≤ guards 7
 column-most l value h = key-most _ (packed-key (λ t. isHigh t value) (λ t. 0) (λ t. is-high-most t value) (λ t. omega arith) l h)
 
 -- The lanes of the thresholds from k on are there.
 pub record Pushing (thresholds : List ℕ) (value k key : ℕ) : Type 0 where
   pub inside : k ≤ length thresholds
-  pub is : key ≡ packed (highMarks (drop k thresholds) value)
+  pub is : key ≡ packedCounts (highMarks (drop k thresholds) value)
 
 module _ (l : List ℕ) (value : ℕ) where
   pub pushing-none : Pushing l value (length l) 0
-  pushing-none = record { inside = omega arith; is = sym (ap (λ (q : List ℕ). packed (highMarks q value)) (drop-length l)) }
+  pushing-none = record { inside = omega arith; is = sym (ap (λ (q : List ℕ). packedCounts (highMarks q value)) (drop-length l)) }
 
   module _ (k key : ℕ) (p : Pushing l value k key) where
     -- six lanes at most are there before the last is pushed in
@@ -53,10 +53,10 @@ module _ (l : List ℕ) (value : ℕ) where
         let m = rest-most (drop k l) (omega arith) in
         let e = p .is in omega arith
       where
-        rest-most : (q : List ℕ) → length q ≤ 6 → packed (highMarks q value) ≤ guards 6
+        rest-most : (q : List ℕ) → length q ≤ 6 → packedCounts (highMarks q value) ≤ guards 6
         rest-most q g = lanes q 6 g
           where
-            lanes : (r : List ℕ) (n : ℕ) → length r ≤ n → packed (highMarks r value) ≤ guards n
+            lanes : (r : List ℕ) (n : ℕ) → length r ≤ n → packedCounts (highMarks r value) ≤ guards n
             lanes [] n f = omega arith
             lanes (t ∷ r) zero f = absurd (omega arith)
             lanes (t ∷ r) (suc n) f = let a = is-high-most t value in let b = lanes r n (omega arith) in omega arith
@@ -66,26 +66,26 @@ module _ (l : List ℕ) (value : ℕ) where
         let i = p .inside in
         let j : suc (k - 1) ≡ k = omega arith in
         let d : drop (k - 1) l ≡ getD l (k - 1) 0 ∷ drop k l = drop-cons l (k - 1) 0 (omega arith) ∙ ap (λ (m : ℕ). getD l (k - 1) 0 ∷ drop m l) j in
-        let f = ap (λ (q : List ℕ). packed (highMarks q value)) d in
+        let f = ap (λ (q : List ℕ). packedCounts (highMarks q value)) d in
         record { inside = omega arith; is = let g = p .is in omega arith }
 
-  pub pushing-all : (k key : ℕ) → k ≡ 0 → Pushing l value k key → key ≡ packed (highMarks l value)
-  pushing-all k key z p = p .is ∙ ap (λ (j : ℕ). packed (highMarks (drop j l) value)) z
+  pub pushing-all : (k key : ℕ) → k ≡ 0 → Pushing l value k key → key ≡ packedCounts (highMarks l value)
+  pushing-all k key z p = p .is ∙ ap (λ (j : ℕ). packedCounts (highMarks (drop j l) value)) z
 
 -- The columns of the vertices below n are there.
 pub record ColumnsBelow (values thresholds : List ℕ) (n : ℕ) (out : List ℕ) : Type 0 where
   pub long : length out ≡ 64
-  pub each : (v : ℕ) → v < n → getD out v 0 ≡ packed (highMarks thresholds (getD values v 0))
+  pub each : (v : ℕ) → v < n → getD out v 0 ≡ packedCounts (highMarks thresholds (getD values v 0))
 
 pub columns-none : (values thresholds out : List ℕ) → length out ≡ 64 → ColumnsBelow values thresholds 0 out
 columns-none values thresholds out e = record { long = e; each = λ v l. absurd (omega arith) }
 
 pub columns-more : (values thresholds : List ℕ) (n : ℕ) (out : List ℕ) (key : ℕ) → n < 64 → ColumnsBelow values thresholds n out
-    → key ≡ packed (highMarks thresholds (getD values n 0)) → ColumnsBelow values thresholds (n + 1) (set out n key)
+    → key ≡ packedCounts (highMarks thresholds (getD values n 0)) → ColumnsBelow values thresholds (n + 1) (set out n key)
 columns-more values thresholds n out key l b e =
     record {
       long = length-set out n key ∙ b .long;
-      each = fill-more 0 (λ v y. y ≡ packed (highMarks thresholds (getD values v 0))) out n key (let w = b .long in omega arith) (b .each) e;
+      each = fill-more 0 (λ v y. y ≡ packedCounts (highMarks thresholds (getD values v 0))) out n key (let w = b .long in omega arith) (b .each) e;
     }
 
 pub columns-all : (values thresholds : List ℕ) (n : ℕ) (out : List ℕ) → length thresholds ≤ 7 → n ≡ 64 → ColumnsBelow values thresholds n out
@@ -105,7 +105,7 @@ columns-sum-up chosen values thresholds columns few c =
 -- ---- a set's key has its counts
 
 module _ (value : ℕ → ℕ) (x : ℕ) where
-  sum-packed : (l : List ℕ) (n : ℕ) → sumBelow (λ (v : ℕ). packed (highMarks l (value v))) x n ≡ packed (map (λ (t : ℕ). sumBelow (λ (v : ℕ). isHigh t (value v)) x n) l)
+  sum-packed : (l : List ℕ) (n : ℕ) → sumBelow (λ (v : ℕ). packedCounts (highMarks l (value v))) x n ≡ packedCounts (map (λ (t : ℕ). sumBelow (λ (v : ℕ). isHigh t (value v)) x n) l)
   sum-packed [] n = zeros n
     where
       zeros : (n : ℕ) → sumBelow (λ (v : ℕ). 0) x n ≡ 0
@@ -116,17 +116,17 @@ module _ (value : ℕ → ℕ) (x : ℕ) where
       lane : (d a b : ℕ) → d < 2 → d * (a + 256 * b) ≡ d * a + 256 * (d * b)
       lane d a b h = ⊎-elim (λ k. let e : d ≡ 0 = omega arith in rw e (omega arith)) (λ k. let e : d ≡ 1 = omega arith in rw e (omega arith)) (less-or d 1)
 
-      two : (n : ℕ) → sumBelow (λ (v : ℕ). isHigh t (value v) + 256 * packed (highMarks l (value v))) x n
-          ≡ sumBelow (λ (v : ℕ). isHigh t (value v)) x n + 256 * sumBelow (λ (v : ℕ). packed (highMarks l (value v))) x n
+      two : (n : ℕ) → sumBelow (λ (v : ℕ). isHigh t (value v) + 256 * packedCounts (highMarks l (value v))) x n
+          ≡ sumBelow (λ (v : ℕ). isHigh t (value v)) x n + 256 * sumBelow (λ (v : ℕ). packedCounts (highMarks l (value v))) x n
       two zero = refl
-      two (suc n) = let r = two n in let k = lane (digit x n) (isHigh t (value n)) (packed (highMarks l (value n))) (digit-lt x n) in omega arith
+      two (suc n) = let r = two n in let k = lane (digit x n) (isHigh t (value n)) (packedCounts (highMarks l (value n))) (digit-lt x n) in omega arith
 
-  sum-over-packed : (l : List ℕ) → sumOver (λ (v : ℕ). packed (highMarks l (value v))) x ≡ packed (map (λ (t : ℕ). sumOver (λ (v : ℕ). isHigh t (value v)) x) l)
+  sum-over-packed : (l : List ℕ) → sumOver (λ (v : ℕ). packedCounts (highMarks l (value v))) x ≡ packedCounts (map (λ (t : ℕ). sumOver (λ (v : ℕ). isHigh t (value v)) x) l)
   unfolding sumOver
   sum-over-packed l = sum-packed l 64
 
-  key-packed : (l : List ℕ) → sumOver (λ (v : ℕ). packed (highMarks l (value v))) x ≡ packed (map (λ (t : ℕ). atLeast (valuesOver value x) t) l)
-  key-packed l = sum-over-packed l ∙ ap packed (map-same _ _ l (λ t m. sym (at-least-over value x t)))
+  key-packed : (l : List ℕ) → sumOver (λ (v : ℕ). packedCounts (highMarks l (value v))) x ≡ packedCounts (map (λ (t : ℕ). atLeast (valuesOver value x) t) l)
+  key-packed l = sum-over-packed l ∙ ap packedCounts (map-same _ _ l (λ t m. sym (at-least-over value x t)))
 
   few-values : length (valuesOver value x) ≤ 64
   unfolding valuesOver
@@ -147,11 +147,11 @@ sum-agrees value other x (suc n) h =
 
 -- the key of a set of 64 vertices, by its counts
 module _ (values thresholds columns : List ℕ) (c : Columns values thresholds columns) where
-  columns-sum : (x : ℕ) → countKeyOf columns x ≡ sumOver (λ (v : ℕ). packed (highMarks thresholds (getD values v 0))) x
+  columns-sum : (x : ℕ) → countKeyOf columns x ≡ sumOver (λ (v : ℕ). packedCounts (highMarks thresholds (getD values v 0))) x
   unfolding sumOver
-  columns-sum x = sum-agrees (λ (v : ℕ). getD columns v 0) (λ (v : ℕ). packed (highMarks thresholds (getD values v 0))) x 64 (c .each)
+  columns-sum x = sum-agrees (λ (v : ℕ). getD columns v 0) (λ (v : ℕ). packedCounts (highMarks thresholds (getD values v 0))) x 64 (c .each)
 
-  key-counts : (x : ℕ) → countKeyOf columns x ≡ packed (map (λ (t : ℕ). atLeast (valuesOver (λ (v : ℕ). getD values v 0) x) t) thresholds)
+  key-counts : (x : ℕ) → countKeyOf columns x ≡ packedCounts (map (λ (t : ℕ). atLeast (valuesOver (λ (v : ℕ). getD values v 0) x) t) thresholds)
   key-counts x = columns-sum x ∙ key-packed (λ (v : ℕ). getD values v 0) x thresholds
 
   pub is-key : (x : ℕ) → CountKey (countKeyOf columns x)
@@ -164,7 +164,7 @@ module _ (values thresholds columns : List ℕ) (c : Columns values thresholds c
       ((t : ℕ) → Listed thresholds t → atLeast (valuesOver (λ (v : ℕ). getD values v 0) x) t ≤ atLeast (valuesOver (λ (v : ℕ). getD values v 0) y) t)
   keys-compare x y =
       subst (λ (k : ℕ). Iff (keyLe k (countKeyOf columns y) ≡ true) (Counts x y)) (sym (key-counts x))
-      (subst (λ (k : ℕ). Iff (keyLe (packed (map (count x) thresholds)) k ≡ true) (Counts x y)) (sym (key-counts y))
+      (subst (λ (k : ℕ). Iff (keyLe (packedCounts (map (count x) thresholds)) k ≡ true) (Counts x y)) (sym (key-counts y))
       (packed-key-le (count x) (count y) (count-small (λ (v : ℕ). getD values v 0) x) (count-small (λ (v : ℕ). getD values v 0) y) thresholds (c .few)))
     where
       count : ℕ → ℕ → ℕ
@@ -174,7 +174,7 @@ module _ (values thresholds columns : List ℕ) (c : Columns values thresholds c
       Counts x y = (t : ℕ) → Listed thresholds t → count x t ≤ count y t
 
 -- two tables of keys give keys
-pub key-tables : (chosen : ℕ) (values thresholds low high : List ℕ) → KeysOf chosen values thresholds low high → KeyTables low high
+pub key-tables : (chosen : ℕ) (values thresholds low high : List ℕ) → MaskKeys chosen values thresholds low high → KeyTables low high
 key-tables chosen values thresholds low high k =
     record {
       fit = k .sums .fit;

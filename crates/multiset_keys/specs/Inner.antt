@@ -13,9 +13,9 @@ use Rattle.family_lists.specs.Inner.Lists.{SumTables}
 use Rattle.multisets.specs.Meaning.{isHigh}
 
 -- The numbers of a list, 8 bits for each, the first in the lowest.
-abbrev pub packed : List ℕ → ℕ
-packed [] = 0
-packed (c ∷ l) = c + 256 * packed l
+abbrev pub packedCounts : List ℕ → ℕ
+packedCounts [] = 0
+packedCounts (c ∷ l) = c + 256 * packedCounts l
 
 -- Is each of the n lowest lanes of a at most that of b?
 abbrev pub lanesLe : ℕ → ℕ → ℕ → Bool
@@ -48,14 +48,14 @@ highMarks thresholds value = map (λ (t : ℕ). isHigh t value) thresholds
 pub record Columns (values thresholds columns : List ℕ) : Type 0 where
   pub long : length columns ≡ 64
   pub few : length thresholds ≤ 7
-  pub each : (v : ℕ) → v < 64 → getD columns v 0 ≡ packed (highMarks thresholds (getD values v 0))
+  pub each : (v : ℕ) → v < 64 → getD columns v 0 ≡ packedCounts (highMarks thresholds (getD values v 0))
 
 -- The key of a set: the sum of its vertices' columns.
 abbrev pub countKeyOf : List ℕ → ℕ → ℕ
 countKeyOf columns x = sumOver (λ (v : ℕ). getD columns v 0) x
 
 -- The two tables give for each mask the key of its set.
-pub record KeysOf (chosen : ℕ) (values thresholds low high : List ℕ) : Type 0 where
+pub record MaskKeys (chosen : ℕ) (values thresholds low high : List ℕ) : Type 0 where
   pub columns : List ℕ
   pub are : Columns values thresholds columns
   pub sums : SumTables chosen (λ (v : ℕ). getD columns v 0) low high

@@ -8,7 +8,7 @@ ghost use lib.Count.{ones};
 ghost use Rattle.families.specs.Inner.Family.{maskBits, masks};
 ghost use Rattle.family_lists.specs.Inner.Tables.{TablesFit, sumBy};
 ghost use Rattle.multisets.specs.Meaning.{isHigh};
-ghost use Rattle.multiset_keys.specs.Inner.{packed, highMarks, keyLe, CountKey, Columns, KeysOf};
+ghost use Rattle.multiset_keys.specs.Inner.{packedCounts, highMarks, keyLe, CountKey, Columns, MaskKeys};
 use vertex_set::VertexSet;
 
 // The free bits of the seven lanes.
@@ -27,7 +27,7 @@ fn is_high(threshold: u64, value: u64) -> u64
 // The key of one value. The last threshold is taken first, so that it ends in the highest lane.
 fn column(value: u64, thresholds: &[u64]) -> u64
     requires { ⌜ length (now thresholds) ≤ 7 ⌝ }
-    ensures { λ r. ⌜ r ≡ packed (highMarks (now (thresholds .entry)) value) ⌝ }
+    ensures { λ r. ⌜ r ≡ packedCounts (highMarks (now (thresholds .entry)) value) ⌝ }
 {
     let mut key: u64 = 0;
     let mut k = thresholds.len();
@@ -64,7 +64,7 @@ pub fn fill_keys(
     requires { ⌜ length (now thresholds) ≤ 7 ⌝ }
     requires { ⌜ length (now low) ≡ 128 ⌝ }
     requires { ⌜ length (now high) ≡ 128 ⌝ }
-    ensures { λ _. ⌜ KeysOf (chosen .0) values (now (thresholds .entry)) (now (low .exit)) (now (high .exit)) ⌝ }
+    ensures { λ _. ⌜ MaskKeys (chosen .0) values (now (thresholds .entry)) (now (low .exit)) (now (high .exit)) ⌝ }
 {
     let mut columns = [0u64; 64];
     fill_columns(values, thresholds, &mut columns);

@@ -17,7 +17,7 @@ use Rattle.formed.specs.WellFormed.{WellFormed}
 use Rattle.bases.specs.Inner.Readers.{Values}
 use Rattle.written.specs.Inner.{Wrote}
 use Rattle.multiset_fronts.proofs.Lists.{listed-take}
-use Rattle.multiset_rows.specs.Inner.{rowsOf, RowsFit}
+use Rattle.multiset_rows.specs.Inner.{rowsOf, RowsHaveRoom}
 use Rattle.written.proofs.Writing.{wrote-front}
 use Rattle.multiset_rows.proofs.Writing.{rows-long}
 use Rattle.multiset_scores.specs.Scores.{allPlaces, allLengths}
@@ -62,7 +62,7 @@ module _ (s : Setup) (target : ℕ) (places lengths : List ℕ) where
     each : (i : ℕ) → i < n → (getD kept i 0 < 2 ^ 64) × (ones (getD kept i 0) ≤ 14)
     each i l = f .few (getD kept i 0) (listed-take kept n i l (let k = inside-kept in omega arith))
 
-    pub rows-fit : 14 * n ≤ length places → RowsFit kept n places
+    pub rows-fit : 14 * n ≤ length places → RowsHaveRoom kept n places
     rows-fit h = record { sets = inside-kept; few = λ i l. each i l .1; room = h }
 
     module _ (points : List ℕ) (p : Values false s points) (places′ : List ℕ) (r : ℕ) (a : Wrote places 0 (rowsOf (λ (v : ℕ). getD points v 0) (take n kept)) places′ r)

@@ -15,7 +15,7 @@ use Rattle.setup.specs.Setup.{ChosenSet}
 use Rattle.formed.specs.Inner.Answerable.{Answerable}
 use Rattle.bases.specs.Inner.Readers.{Values}
 use Rattle.multisets.specs.Multisets.{Pairing, valuesOver}
-use Rattle.multiset_keys.specs.Inner.{KeysOf}
+use Rattle.multiset_keys.specs.Inner.{MaskKeys}
 use Rattle.antichains.specs.Antichains.{mostSets}
 use Rattle.multiset_fronts.specs.Inner.{Front}
 use Rattle.multiset_scores.specs.Scores.{multisetOf, MultisetScore}
@@ -49,8 +49,8 @@ pub record CanCompare (list : List ℕ) (n initial : ℕ) : Type 0 where
 pub record BothKeys (initial : ℕ) (points low₁ high₁ low₂ high₂ : List ℕ) : Type 0 where
   pub thresholds : List ℕ
   pub values : WeightsOf initial (λ (v : ℕ). getD points v 0) thresholds
-  pub first : KeysOf initial points (take 7 thresholds) low₁ high₁
-  pub second : KeysOf initial points (take 7 (drop 7 thresholds)) low₂ high₂
+  pub first : MaskKeys initial points (take 7 thresholds) low₁ high₁
+  pub second : MaskKeys initial points (take 7 (drop 7 thresholds)) low₂ high₂
 
 -- The sets of masks, one after the other.
 abbrev pub setsOfMasks : ℕ → List ℕ → List ℕ

@@ -22,11 +22,11 @@ use Rattle.vertex_set.proofs.Decisions.{and-parts, and-both, or-parts, or-left,
 use Rattle.vertex_set.proofs.Taking as taking
 use Rattle.pool_format.specs.Rows.{usesColour, lowestFree, isTaken, newColour}
 use Rattle.pool_format.proofs.Colours.{lowest-most, lowest-taken, lowest-free}
-use Rattle.pool_colours.specs.Inner.Colours.{Lowest, Used, RowsOfItem, NewColour}
+use Rattle.pool_colours.specs.Inner.Colours.{LowestFree, Used, RowsOfItem, NewColour}
 
 -- ---- the lowest free one
 
-lowest-is : (t : ℕ → Bool) (s r : ℕ) → ((k : ℕ) → Iff (t k ≡ true) (Member s k)) → Lowest s r → r ≡ lowestFree t 0 16
+lowest-is : (t : ℕ → Bool) (s r : ℕ) → ((k : ℕ) → Iff (t k ≡ true) (Member s k)) → LowestFree s r → r ≡ lowestFree t 0 16
 lowest-is t s r iff l =
     let most = lowest-most t 0 16 in
     let top = l .most in
@@ -48,10 +48,10 @@ below-none s = record { each = λ j l. absurd (not-suc-le-zero l) }
 pub below-more : (s k : ℕ) → MembersBelow s k → Member s k → MembersBelow s (k + 1)
 below-more s k b m = record { each = λ j l. ⊎-elim (λ e. rw e m) (λ d. b .each j (omega (arith, d))) (same-or j k) }
 
-pub lowest-found : (s k : ℕ) → k ≤ 16 → MembersBelow s k → (Member s k → ⊥) → Lowest s k
+pub lowest-found : (s k : ℕ) → k ≤ 16 → MembersBelow s k → (Member s k → ⊥) → LowestFree s k
 lowest-found s k l b n = record { most = l; below = b .each; free = λ t. n }
 
-pub lowest-none : (s k : ℕ) → k ≤ 16 → 16 ≤ k → MembersBelow s k → Lowest s k
+pub lowest-none : (s k : ℕ) → k ≤ 16 → 16 ≤ k → MembersBelow s k → LowestFree s k
 lowest-none s k l h b = record { most = l; below = b .each; free = λ t. absurd (omega arith) }
 
 -- ---- the colours whose rows are not empty
@@ -96,7 +96,7 @@ pub taken-none : (second : Rows) (s : ℕ) → NewSoFar s second 0 s
 unfolding isTaken
 taken-none second s = record { each = λ es fs n a b. record { each = a .each } }
 
-new-of : (es fs : List EdgeRow) (n : List ℕ) (c s r : ℕ) → TakenBy es fs n c s → Lowest s r → r ≡ newColour es fs n c
+new-of : (es fs : List EdgeRow) (n : List ℕ) (c s r : ℕ) → TakenBy es fs n c s → LowestFree s r → r ≡ newColour es fs n c
 unfolding newColour
 new-of es fs n c s r t l = lowest-is (isTaken es fs n c) s r (t .each) l
 
@@ -116,7 +116,7 @@ module _ (start : ℕ) (second : Rows) (c s : ℕ) (u : NewSoFar start second c 
         };
       })
 
-  pub taken-more : (new s′ : ℕ) → (rowOf second c ≡ 0 → ⊥) → Lowest s new → Inserted s new s′ → NewSoFar start second (c + 1) s′
+  pub taken-more : (new s′ : ℕ) → (rowOf second c ≡ 0 → ⊥) → LowestFree s new → Inserted s new s′ → NewSoFar start second (c + 1) s′
   unfolding isTaken newColour
   taken-more new s′ z l w =
       rw (add-one c)
@@ -139,7 +139,7 @@ module _ (start : ℕ) (second : Rows) (c s : ℕ) (u : NewSoFar start second c 
             };
       })
 
-  pub new-is : (first : Rows) (r : ℕ) → Used first start → Lowest s r → NewColour first second c r
+  pub new-is : (first : Rows) (r : ℕ) → Used first start → LowestFree s r → NewColour first second c r
   new-is first r w l =
       record {
         each = λ es fs n a b.

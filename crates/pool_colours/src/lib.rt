@@ -5,7 +5,7 @@ use setup::Rows;
 use vertex_set::VertexSet;
 ghost use Prim.Native.Nat.{_≤_, _<_};
 ghost use lib.ListN.{length};
-ghost use Rattle.pool_colours.specs.Inner.Colours.{Lowest, Used, NewColour, EdgeColour, ColoursOf};
+ghost use Rattle.pool_colours.specs.Inner.Colours.{LowestFree, Used, NewColour, EdgeColour, ColoursOf};
 
 // One more than can be taken for an item: eight by the first sheet, seven by earlier renamings.
 const COLOUR_NUMBERS: usize = 16;
@@ -18,7 +18,7 @@ pub struct Colours {
 
 // The lowest colour that is not taken.
 fn lowest_free(taken: VertexSet) -> usize
-    ensures { λ r. ⌜ Lowest (taken .0) r ⌝ }
+    ensures { λ r. ⌜ LowestFree (taken .0) r ⌝ }
 {
     let mut k = 0;
     while k < COLOUR_NUMBERS {

@@ -12,13 +12,12 @@ use Rattle.setup.specs.declared.Kind.the-variants.{Credential, Account}
 use Rattle.setup.specs.declared.Value.{Value}
 use Rattle.setup.specs.declared.Value.the-variants.{Blank, Of}
 use Rattle.setup.specs.declared.Vertex.{Vertex}
-use Rattle.setup.specs.Setup.{given}
+use Rattle.setup.specs.Setup.{points, given}
 use Rattle.setup.specs.Inner.{kindNumber}
 use Rattle.sheet_format.specs.Text.{sameText}
 use Rattle.sheet_format.specs.Rows.{ItemRow, EdgeRow, Doc, Each, SameName, vertexOf, startCount, lossCount}
 use Rattle.sheet_format.proofs.Tests.{text-decided}
 use Rattle.pool_format.specs.Rows.{Agree, Fits}
-use Rattle.pool_format.specs.Inner.{amount}
 
 -- ---- the four fields
 
@@ -32,7 +31,7 @@ pub values-or : (a b : Value) → (a ≡ b) ⊎ (a ≡ b → ⊥)
 values-or Blank Blank = inl refl
 values-or Blank (Of n) = inr (λ e. let m = ap given e in omega arith)
 values-or (Of n) Blank = inr (λ e. let m = ap given e in omega arith)
-values-or (Of n) (Of m) = ⊎-elim (λ e. inl (ap Of e)) (λ d. inr (λ e. d (ap amount e))) (same-or n m)
+values-or (Of n) (Of m) = ⊎-elim (λ e. inl (ap Of e)) (λ d. inr (λ e. d (ap points e))) (same-or n m)
 
 pub vertices-or : (a b : Vertex) → (a ≡ b) ⊎ (a ≡ b → ⊥)
 vertices-or a b =

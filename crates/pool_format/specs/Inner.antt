@@ -3,16 +3,9 @@ use mathlib.Core.Path.{_≡_}
 use mathlib.Core.List.{List}
 use Prim.Native.Nat.{ℕ}
 use lib.ListN.{getD}
-use Rattle.setup.specs.declared.Value.{Value}
-use Rattle.setup.specs.declared.Value.the-variants.{Blank, Of}
 use Rattle.sheet_format.specs.Rows.{ItemRow, numberIn}
 use Rattle.sheet_format.specs.Stated.{StandsAt}
 
--- The number of a value.
-abbrev pub amount : Value → ℕ
-amount Blank = 0
-amount (Of n) = n
-
 -- The numbers that the items ys have among the items xs, as many as xs has where they are not there.
-pub record Places (xs ys : List ItemRow) (places : List ℕ) : Type 0 where
+pub record PlacesAmong (xs ys : List ItemRow) (places : List ℕ) : Type 0 where
   pub each : (j : ℕ) (y : ItemRow) → StandsAt ys j y → getD places j 0 ≡ numberIn xs (y .name)

@@ -18,7 +18,7 @@ use Rattle.vertex_set.proofs.Decisions.{decide-yes, decide-no}
 use Rattle.setup.specs.declared.Value.{Value}
 use Rattle.setup.specs.declared.Value.the-variants.{Blank, Of}
 use Rattle.setup.specs.declared.Vertex.{Vertex}
-use Rattle.setup.specs.Setup.{unusedVertex, given, total}
+use Rattle.setup.specs.Setup.{points, unusedVertex, given, total}
 use Rattle.setup.specs.Inner.{kindNumber}
 use Rattle.setup.proofs.Counts.{total-append}
 use Rattle.setup.proofs.KindNumbers.{kind-same}
@@ -28,14 +28,14 @@ use Rattle.sheet_format.specs.Stated.{StandsAt}
 use Rattle.sheet_format.proofs.Stated.{at-place, take-more}
 use Rattle.sheet_rows.proofs.Tables.{known-test}
 use Rattle.pool_format.specs.Rows.{remaining}
-use Rattle.pool_format.specs.Inner.{amount, Places}
+use Rattle.pool_format.specs.Inner.{PlacesAmong}
 use Rattle.pool_format.proofs.Recolouring.{remaining-known, remaining-new}
 use Rattle.pool_items.specs.declared.Remaining.{Remaining}
 use Rattle.pool_items.specs.Inner.Items.{AllAgree, WithItem, PlacesRise, ItemRowsAt, ItemCounts, CountsRemaining}
 
 -- ---- the four fields
 
-pub same-values : (a b : Value) → given a ≡ given b → amount a ≡ amount b → a ≡ b
+pub same-values : (a b : Value) → given a ≡ given b → points a ≡ points b → a ≡ b
 same-values Blank Blank e f = refl
 same-values Blank (Of n) e f = absurd (omega arith)
 same-values (Of n) Blank e f = absurd (omega arith)
@@ -45,11 +45,11 @@ pub same-fields : (a b : Vertex) → kindNumber (a .kind) ≡ kindNumber (b .kin
 same-fields a b k s l r = λ i. record { kind = kind-same (a .kind) (b .kind) k i; start = s i; loss = l i; rank = r i }
 
 module _ (a b : Value) (m n : ℕ) (p : m ≡ given a) (q : n ≡ given b) where
-  pub value-told : (x y : ℕ) → m ≡ n → x ≡ amount a → y ≡ amount b → Decides (a ≡ b) (eqb x y)
+  pub value-told : (x y : ℕ) → m ≡ n → x ≡ points a → y ≡ points b → Decides (a ≡ b) (eqb x y)
   value-told x y e f g =
       record {
         yes = λ t. same-values a b (sym p ∙ e ∙ q) (sym f ∙ eqb-true x y t ∙ g);
-        no = λ t h. eqb-false x y t (f ∙ ap amount h ∙ sym g);
+        no = λ t h. eqb-false x y t (f ∙ ap points h ∙ sym g);
       }
 
   pub value-other : (m ≡ n → ⊥) → Decides (a ≡ b) false
@@ -114,13 +114,13 @@ module _ (xs ys : List ItemRow) (j : ℕ) (y : ItemRow) (h : StandsAt ys j y) wh
       ap (λ (l : List ItemRow). remaining xs (take j ys) ++ l) (remaining-new xs y [] t)
 
 -- an item has a place among the first n where its name is known
-pub known-place : (xs ys : List ItemRow) (places : List ℕ) (n j : ℕ) (y : ItemRow) → Places xs ys places → n ≡ length xs → StandsAt ys j y → getD places j 0 < n
+pub known-place : (xs ys : List ItemRow) (places : List ℕ) (n j : ℕ) (y : ItemRow) → PlacesAmong xs ys places → n ≡ length xs → StandsAt ys j y → getD places j 0 < n
     → isKnown xs (y .name) ≡ true
 known-place xs ys places n j y p q h l =
     let e = p .each j y h in
     known-test xs (y .name) ∙ lt-ltb _ (length xs) (omega arith)
 
-pub unknown-place : (xs ys : List ItemRow) (places : List ℕ) (n j : ℕ) (y : ItemRow) → Places xs ys places → n ≡ length xs → StandsAt ys j y → n ≤ getD places j 0
+pub unknown-place : (xs ys : List ItemRow) (places : List ℕ) (n j : ℕ) (y : ItemRow) → PlacesAmong xs ys places → n ≡ length xs → StandsAt ys j y → n ≤ getD places j 0
     → isKnown xs (y .name) ≡ false
 unknown-place xs ys places n j y p q h l =
     let e = p .each j y h in
@@ -140,7 +140,7 @@ pub record CountsSoFar (vertices : List Vertex) (nb : ℕ) (places : List ℕ) (
   pub starts : r .starts ≤ j
   pub losses : r .losses ≤ j
   pub bytes : r .bytes ≤ getD from j 0
-  pub each : (xs ys : List ItemRow) → Places xs ys places → na ≡ length xs → nb ≡ length ys → ItemRowsAt ys vertices from → ItemCounts (remaining xs (take j ys)) r
+  pub each : (xs ys : List ItemRow) → PlacesAmong xs ys places → na ≡ length xs → nb ≡ length ys → ItemRowsAt ys vertices from → ItemCounts (remaining xs (take j ys)) r
 
 pub counts-none : (vertices : List Vertex) (nb : ℕ) (places : List ℕ) (na : ℕ) (from : List ℕ)
     → CountsSoFar vertices nb places na from (record { items = 0; starts = 0; losses = 0; bytes = 0 }) 0

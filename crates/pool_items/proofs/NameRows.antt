@@ -30,7 +30,7 @@ use Rattle.sheet_rows.specs.Inner.NameKeys.{lowOf, highOf, WellNamed, NameKeys,
 use Rattle.sheet_rows.specs.Inner.Lines.{ReadsItem}
 use Rattle.sheet_rows.proofs.Tables.{table-place}
 use Rattle.pool_items.specs.declared.Keys.{Keys}
-use Rattle.pool_items.specs.Inner.Keys.{KeysOf, PlacesOf}
+use Rattle.pool_items.specs.Inner.Keys.{SheetKeys, KeyPlaces}
 use Rattle.pool_items.proofs.Lines.{LineAt, line-found, item-line-at}
 
 -- ---- the key of one row
@@ -134,7 +134,7 @@ first-places f xs l n q h each =
     getD-take n l i 0 (omega arith) ∙ each i (p .0) (p .1) ∙ sym (image-at f xs i (p .0) (p .1)))
 
 pub keys-all : (s low high from : List ℕ) (count v at : ℕ) → count ≤ 64 → v ≡ count → KeysSoFar s low high from v at
-    → KeysOf s count (record { low = low; high = high; from = set from count at })
+    → SheetKeys s count (record { low = low; high = high; from = set from count at })
 keys-all s low high from count v at few same m =
     let n : KeysSoFar s low high from count at = rw same at m in
     record {
@@ -195,6 +195,6 @@ places-more low high na second nb r j p small n q =
           (same-or i j);
     }
 
-pub places-all : (first : Keys) (na : ℕ) (second : Keys) (nb : ℕ) (r : List ℕ) (j : ℕ) → j ≡ nb → PlacesSoFar (first .low) (first .high) na second nb r j → PlacesOf first na second nb r
+pub places-all : (first : Keys) (na : ℕ) (second : Keys) (nb : ℕ) (r : List ℕ) (j : ℕ) → j ≡ nb → PlacesSoFar (first .low) (first .high) na second nb r j → KeyPlaces first na second nb r
 places-all first na second nb r j e n =
     record { places = λ xs ys a b. record { each = λ i y h. n .each xs ys a b i y h (let l = stands-below ys i y h in let q = b .size in omega arith) } }

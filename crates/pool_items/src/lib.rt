@@ -7,9 +7,8 @@ use sheet_fields::Key;
 ghost use mathlib.Core.Path.{_≡_};
 ghost use Prim.Native.Nat.{_≤_};
 ghost use Rattle.vertex_set.specs.Set.{Decides};
-ghost use Rattle.pool_items.specs.Inner.Keys.{HasLines, KeysOf, PlacesOf};
+ghost use Rattle.pool_items.specs.Inner.Keys.{HasLines, SheetKeys, KeyPlaces};
 ghost use Rattle.setup.specs.Inner.{kindNumber};
-ghost use Rattle.pool_format.specs.Inner.{amount};
 ghost use Rattle.pool_items.specs.Inner.Items.{AllAgree, Small, WithItem, PlacesRise, CountsRemaining};
 
 // The keys of the names of a sheet's items, and where each item's row begins; behind the last of
@@ -32,7 +31,7 @@ pub struct Remaining {
 // The keys of the first `count` items: each row is a line below the header.
 pub fn keys_of(s: &[u8], count: usize) -> Keys
     requires { ⌜ HasLines (now s) count ⌝ }
-    ensures { λ r. ⌜ KeysOf (now (s .entry)) count r ⌝ }
+    ensures { λ r. ⌜ SheetKeys (now (s .entry)) count r ⌝ }
 {
     let mut low = [0u64; 64];
     let mut high = [0u64; 64];
@@ -55,7 +54,7 @@ pub fn keys_of(s: &[u8], count: usize) -> Keys
 // number of items where it is not there.
 pub fn places_of(first: Keys, known: usize, second: Keys, count: usize) -> [usize; 64]
     requires { ⌜ (known ≤ 64) × (count ≤ 64) ⌝ }
-    ensures { λ r. ⌜ PlacesOf first known second count r ⌝ }
+    ensures { λ r. ⌜ KeyPlaces first known second count r ⌝ }
 {
     let low = first.low;
     let high = first.high;
@@ -79,21 +78,12 @@ fn kind_number(k: Kind) -> u64
     }
 }
 
-fn amount_of(v: Value) -> u64
-    ensures { λ r. ⌜ r ≡ amount v ⌝ }
-{
-    match v {
-        Value::Blank => 0,
-        Value::Of(n) => n,
-    }
-}
-
 // A blank and 0 are not the same.
 fn same_value(a: Value, b: Value) -> bool
     ensures { λ r. ⌜ Decides (a ≡ b) r ⌝ }
 {
     if sheet_rows::count_value(a) == sheet_rows::count_value(b) {
-        amount_of(a) == amount_of(b)
+        setup::points_of(a) == setup::points_of(b)
     } else {
         false
     }

@@ -29,12 +29,12 @@ use Rattle.pool_format.specs.Rows.{remaining, pooled}
 use Rattle.pool_format.specs.Call.{PoolRefused, PoolsRows, PoolCall}
 use Rattle.pool_items.specs.declared.Keys.{Keys}
 use Rattle.pool_items.specs.declared.Remaining.{Remaining}
-use Rattle.pool_items.specs.Inner.Keys.{HasLines, KeysOf, PlacesOf}
+use Rattle.pool_items.specs.Inner.Keys.{HasLines, SheetKeys, KeyPlaces}
 use Rattle.pool_items.specs.Inner.Items.{PlacesRise, CountsRemaining}
 use Rattle.pool_text.specs.Inner.{freshRows, withDigits}
 use Rattle.pooling.specs.declared.Bounds.{Bounds}
 use Rattle.pooling.specs.declared.Plan.{Plan}
-use Rattle.pooling.specs.Inner.{Accepts, Starts, BothRead, InBounds, BoundsOf, pooledText, CanWrite, PlanFor, PlanOf, PoolsRead, disagrees, beyond, ready}
+use Rattle.pooling.specs.Inner.{Accepts, Starts, BothRead, CountsInBounds, BoundsOf, pooledText, CanWrite, PlanFor, PlanOf, PoolsRead, disagrees, beyond, ready}
 use Rattle.pooling.proofs.Sheets.{count-of, has-lines, edges-many, rising, start-inside}
 use Rattle.pooling.proofs.Plans.{Sheets, Counted, counted, bounds-for}
 
@@ -49,18 +49,18 @@ lines-end s at n m h p = let l = ap length (lines-over s at h) in omega arith
 
 -- ---- bounds
 
-pub bounds-last : (i s l e : ℕ) → i ≤ 64 → s ≤ 14 → l ≤ 14 → Decides (InBounds i s l e) (leb e 256)
+pub bounds-last : (i s l e : ℕ) → i ≤ 64 → s ≤ 14 → l ≤ 14 → Decides (CountsInBounds i s l e) (leb e 256)
 bounds-last i s l e a b c =
     let d = decide-leb e 256 in
     record { yes = λ t. record { most = a; starts = b; losses = c; many = d .yes t }; no = λ t h. d .no t (h .many) }
 
-pub items-over : (i s l e : ℕ) → 64 < i → Decides (InBounds i s l e) false
+pub items-over : (i s l e : ℕ) → 64 < i → Decides (CountsInBounds i s l e) false
 items-over i s l e h = decide-no (λ b. let m = b .most in omega arith)
 
-pub starts-over : (i s l e : ℕ) → 14 < s → Decides (InBounds i s l e) false
+pub starts-over : (i s l e : ℕ) → 14 < s → Decides (CountsInBounds i s l e) false
 starts-over i s l e h = decide-no (λ b. let m = b .starts in omega arith)
 
-pub losses-over : (i s l e : ℕ) → 14 < l → Decides (InBounds i s l e) false
+pub losses-over : (i s l e : ℕ) → 14 < l → Decides (CountsInBounds i s l e) false
 losses-over i s l e h = decide-no (λ b. let m = b .losses in omega arith)
 
 -- ---- accepted sheets have rows
@@ -166,7 +166,7 @@ module _ (first second : List ℕ) (a b : Setup) (begins from places zeros : Lis
       (omega arith, omega arith, omega arith)
 
   pub bounds-of : (lines others : ℕ) (r : Bounds) → lines ≡ length (linesOf first) → others ≡ length (linesOf second)
-      → Decides (InBounds (own .items + more .items) (own .starts + more .starts) (own .losses + more .losses) (lines - 3 - a .count + (others - 3 - b .count))) (r .ok)
+      → Decides (CountsInBounds (own .items + more .items) (own .starts + more .starts) (own .losses + more .losses) (lines - 3 - a .count + (others - 3 - b .count))) (r .ok)
       → r .bytes ≡ more .bytes → BoundsOf first second places r
   bounds-of lines others r l o h k =
       record {
@@ -190,7 +190,7 @@ edges-small s a lines h q =
 -- ---- what is known before the bounds are asked
 
 pub both-read : (first second : List ℕ) (a b : Setup) (own keys : Keys) (places : List ℕ) → Accepts first a × Accepts second b
-    → KeysOf first (a .count) own → KeysOf second (b .count) keys → PlacesOf own (a .count) keys (b .count) places
+    → SheetKeys first (a .count) own → SheetKeys second (b .count) keys → KeyPlaces own (a .count) keys (b .count) places
     → BothRead first second a b (own .from) (keys .from) places
 both-read first second a b own keys places h f g p =
     let d = rows-of-text first a (h .0) in

@@ -24,10 +24,10 @@ use Rattle.sheet_format.proofs.Rows.{edgeLine}
 use Rattle.sheet_format.proofs.Question12Lists.{In, each-of, of-each}
 use Rattle.sheet_format.proofs.Stated.{stands-below, at-place, stands-in, in-stands, number-stands, stands-number}
 use Rattle.pool_format.specs.Rows.{Agree, remaining, recoloured, pooled, Fits}
-use Rattle.pool_format.specs.Inner.{Places}
+use Rattle.pool_format.specs.Inner.{PlacesAmong}
 use Rattle.pool_items.specs.declared.Keys.{Keys}
 use Rattle.pool_items.specs.declared.Remaining.{Remaining}
-use Rattle.pool_items.specs.Inner.Keys.{KeysOf, PlacesOf}
+use Rattle.pool_items.specs.Inner.Keys.{SheetKeys, KeyPlaces}
 use Rattle.pool_items.specs.Inner.Items.{AllAgree, ItemCounts, CountsRemaining}
 use Rattle.pool_items.proofs.Items.{known-place}
 use Rattle.pool_colours.specs.declared.Colours.{Colours}
@@ -35,7 +35,7 @@ use Rattle.pool_colours.specs.Inner.Colours.{Both, ColoursOf}
 use Rattle.pool_text.specs.Inner.{freshRows, withDigits}
 use Rattle.pooling.specs.declared.Bounds.{Bounds}
 use Rattle.pooling.specs.declared.Plan.{Plan}
-use Rattle.pooling.specs.Inner.{Accepts, Starts, InBounds, BoundsHold, BoundsFor, BoundsOf, pooledText, Parts, PlanFor, PlanOf, disagrees, beyond, ready}
+use Rattle.pooling.specs.Inner.{Accepts, Starts, CountsInBounds, BoundsHold, BoundsFor, BoundsOf, pooledText, Parts, PlanFor, PlanOf, disagrees, beyond, ready}
 use Rattle.pooling.proofs.Sheets.{setup-of, count-of, vertex-of, tail, front, front-is, behind-is, from-inside, rows-of, within, row-is, edge-lines, edge-bytes, edges-many}
 use Rattle.pooling.proofs.Texts.{fresh-rows, edges-put, edges-can, together, together-is, same-long}
 
@@ -50,7 +50,7 @@ pub record Sheets (first second : List ℕ) (a b : Setup) (d e : Doc) : Type 0 w
   pub isFirst : first ≡ render d
   pub isSecond : second ≡ render e
 
-module _ (first second : List ℕ) (a b : Setup) (d e : Doc) (m : Sheets first second a b d e) (places : List ℕ) (p : Places (d .items) (e .items) places) where
+module _ (first second : List ℕ) (a b : Setup) (d e : Doc) (m : Sheets first second a b d e) (places : List ℕ) (p : PlacesAmong (d .items) (e .items) places) where
   sizeFirst : a .count ≡ length (d .items)
   sizeFirst = count-of first a d (m .acceptsFirst) (m .validFirst) (m .isFirst)
 
@@ -92,7 +92,7 @@ module _ (first second : List ℕ) (a b : Setup) (d e : Doc) (m : Sheets first s
 -- ---- bounds
 
 -- nothing is known of no items
-places-none : (ys : List ItemRow) (zeros : List ℕ) → ((j : ℕ) → getD zeros j 0 ≡ 0) → Places [] ys zeros
+places-none : (ys : List ItemRow) (zeros : List ℕ) → ((j : ℕ) → getD zeros j 0 ≡ 0) → PlacesAmong [] ys zeros
 unfolding numberIn
 places-none ys zeros h = record { each = λ j y k. h j }
 
@@ -107,7 +107,7 @@ pub record Counted (d e : Doc) (own more : Remaining) : Type 0 where
   pub second : ItemCounts (remaining (d .items) (e .items)) more
 
 pub counted : (first second : List ℕ) (a b : Setup) (d e : Doc) (begins from places zeros : List ℕ) (own more : Remaining) → Sheets first second a b d e
-    → Starts first a begins → Starts second b from → Places (d .items) (e .items) places → ((j : ℕ) → getD zeros j 0 ≡ 0)
+    → Starts first a begins → Starts second b from → PlacesAmong (d .items) (e .items) places → ((j : ℕ) → getD zeros j 0 ≡ 0)
     → CountsRemaining (a .vertices) (a .count) zeros 0 begins own → CountsRemaining (b .vertices) (b .count) places (a .count) from more → Counted d e own more
 counted first second a b d e begins from places zeros own more m s t p z x y =
     record {
@@ -119,7 +119,7 @@ counted first second a b d e begins from places zeros own more m s t p z x y =
     }
 
 pub bounds-for : (d e : Doc) (own more : Remaining) (edges : ℕ) (r : Bounds) → Counted d e own more → edges ≡ length (d .edges) + length (e .edges)
-    → Decides (InBounds (own .items + more .items) (own .starts + more .starts) (own .losses + more .losses) edges) (r .ok) → r .bytes ≡ more .bytes → BoundsFor d e r
+    → Decides (CountsInBounds (own .items + more .items) (own .starts + more .starts) (own .losses + more .losses) edges) (r .ok) → r .bytes ≡ more .bytes → BoundsFor d e r
 unfolding pooled startCount lossCount
 bounds-for d e own more edges r c q h k =
     let rest = remaining (d .items) (e .items) in
@@ -166,7 +166,7 @@ unfolding itemLines
 no-lines d = refl
 
 module _ (first second : List ℕ) (a b : Setup) (own keys : Keys) (places : List ℕ) (accepts : Accepts first a × Accepts second b)
-    (f : KeysOf first (a .count) own) (g : KeysOf second (b .count) keys) (p : PlacesOf own (a .count) keys (b .count) places) where
+    (f : SheetKeys first (a .count) own) (g : SheetKeys second (b .count) keys) (p : KeyPlaces own (a .count) keys (b .count) places) where
   sheets : (d e : Doc) → Valid d → Valid e → first ≡ render d → second ≡ render e → Sheets first second a b d e
   sheets d e v w t u = record { acceptsFirst = accepts .0; acceptsSecond = accepts .1; validFirst = v; validSecond = w; isFirst = t; isSecond = u }
 
@@ -180,7 +180,7 @@ module _ (first second : List ℕ) (a b : Setup) (own keys : Keys) (places : Lis
   both-start = (starts-first, starts-second)
 
   module _ (d e : Doc) (v : Valid d) (w : Valid e) (t : first ≡ render d) (u : second ≡ render e) where
-    place : Places (d .items) (e .items) places
+    place : PlacesAmong (d .items) (e .items) places
     place =
         p .places (d .items) (e .items) (f .keys d v t (count-of first a d (accepts .0) v t)) (g .keys e w u (count-of second b e (accepts .1) w u))
 

@@ -21,7 +21,7 @@ use Rattle.sheet_format.proofs.Rows.{edgeLine}
 use Rattle.sheet_format.proofs.Stated.{at-place}
 use Rattle.sheet_format.proofs.Question12Text.{digit-length, rec-length, four-fields}
 use Rattle.pool_format.specs.Rows.{remaining, recoloured, pooled}
-use Rattle.pool_format.specs.Inner.{Places}
+use Rattle.pool_format.specs.Inner.{PlacesAmong}
 use Rattle.pool_format.proofs.Recolouring.{re-from, re-to}
 use Rattle.pool_items.proofs.Items.{remains-not, remains, known-place, unknown-place, lines-append}
 use Rattle.pool_colours.specs.Inner.Colours.{DigitAt}
@@ -37,7 +37,7 @@ re-mark d e x = refl
 -- ---- the remaining item rows
 
 -- one row, where it is asked for
-fresh-row : (xs ys : List ItemRow) (places : List ℕ) (na j : ℕ) (y : ItemRow) (text : List ℕ) → Places xs ys places → na ≡ length xs → StandsAt ys j y
+fresh-row : (xs ys : List ItemRow) (places : List ℕ) (na j : ℕ) (y : ItemRow) (text : List ℕ) → PlacesAmong xs ys places → na ≡ length xs → StandsAt ys j y
     → text ≡ lineText (itemFields y) → itemLines (remaining xs (take j ys)) ++ cond (leb na (getD places j 0)) text [] ≡ itemLines (remaining xs (take (suc j) ys))
 unfolding itemLines
 fresh-row xs ys places na j y text p q h t =
@@ -49,7 +49,7 @@ fresh-row xs ys places na j y text p q h t =
     ap (λ (s : List ℕ). itemLines (remaining xs (take j ys)) ++ s) (append-nil (lineText (itemFields y)) ∙ sym t))))
     (less-or (getD places j 0) na)
 
-pub fresh-rows : (s from : List ℕ) (xs ys : List ItemRow) (places : List ℕ) (na : ℕ) → Places xs ys places → na ≡ length xs
+pub fresh-rows : (s from : List ℕ) (xs ys : List ItemRow) (places : List ℕ) (na : ℕ) → PlacesAmong xs ys places → na ≡ length xs
     → ((j : ℕ) (y : ItemRow) → StandsAt ys j y → rowAt s from j ≡ lineText (itemFields y)) → (n : ℕ) → n ≤ length ys
     → freshRows s from places na n ≡ itemLines (remaining xs (take n ys))
 unfolding freshRows remaining itemLines

@@ -13,7 +13,7 @@ use Rattle.sheet_format.specs.Names.{lineStart}
 use Rattle.pool_format.specs.declared.Pooled.{Pooled}
 use Rattle.pool_format.specs.Rows.{Agree, remaining, pooled, Fits}
 use Rattle.pool_format.specs.Call.{PoolsRows}
-use Rattle.pool_format.specs.Inner.{Places}
+use Rattle.pool_format.specs.Inner.{PlacesAmong}
 use Rattle.pool_text.specs.Inner.{RowsWithin, freshRows, withDigits, CanPut}
 use Rattle.pooling.specs.declared.Bounds.{Bounds}
 use Rattle.pooling.specs.declared.Plan.{Plan}
@@ -39,10 +39,10 @@ pub record BothRead (first second : List ℕ) (a b : Setup) (begins from places 
   pub validTwo : Valid two
   pub isFirst : first ≡ render one
   pub isSecond : second ≡ render two
-  pub placed : Places (one .items) (two .items) places
+  pub placed : PlacesAmong (one .items) (two .items) places
 
 -- The bounds of these counts of items, starting and losable ones, and edges.
-pub record InBounds (items initial losable edges : ℕ) : Type 0 where
+pub record CountsInBounds (items initial losable edges : ℕ) : Type 0 where
   pub most : items ≤ 64
   pub starts : initial ≤ mostChosen
   pub losses : losable ≤ mostChosen
@@ -50,14 +50,14 @@ pub record InBounds (items initial losable edges : ℕ) : Type 0 where
 
 -- The bounds of pooled rows are asked.
 abbrev pub BoundsHold : Doc → Type 0
-BoundsHold p = InBounds (length (p .items)) (startCount (p .items)) (lossCount (p .items)) (length (p .edges))
+BoundsHold p = CountsInBounds (length (p .items)) (startCount (p .items)) (lossCount (p .items)) (length (p .edges))
 
 pub record BoundsFor (d e : Doc) (r : Bounds) : Type 0 where
   pub answer : Decides (BoundsHold (pooled d e)) (r .ok)
   pub bytes : r .bytes ≡ length (itemLines (remaining (d .items) (e .items)))
 
 pub record BoundsOf (first second places : List ℕ) (r : Bounds) : Type 0 where
-  pub each : (d e : Doc) → Valid d → Valid e → first ≡ render d → second ≡ render e → Places (d .items) (e .items) places → BoundsFor d e r
+  pub each : (d e : Doc) → Valid d → Valid e → first ≡ render d → second ≡ render e → PlacesAmong (d .items) (e .items) places → BoundsFor d e r
 
 -- The first sheet up to its empty line, the second's remaining item rows, the rest of the first sheet, the second's edge rows.
 unfoldable pub pooledText : List ℕ → List ℕ → Plan → List ℕ

@@ -15,7 +15,7 @@ ghost use Rattle.written.specs.Inner.{Wrote};
 ghost use Rattle.sheet_format.specs.Text.{linesOf};
 ghost use Rattle.pool_format.specs.Call.{PoolCall};
 ghost use Rattle.pool_colours.specs.Inner.Colours.{ColoursOf};
-ghost use Rattle.pooling.specs.Inner.{InBounds, Accepts, BothRead, BoundsOf, PlanOf, pooledText, CanWrite, PoolsRead};
+ghost use Rattle.pooling.specs.Inner.{CountsInBounds, Accepts, BothRead, BoundsOf, PlanOf, pooledText, CanWrite, PoolsRead};
 
 // The lines of a sheet that are no rows: two headers and the empty line.
 const OTHER_LINES: usize = 3;
@@ -75,7 +75,7 @@ fn count_lines(s: &[u8]) -> usize
 }
 
 fn in_bounds(items: usize, starts: usize, losses: usize, edges: usize) -> bool
-    ensures { λ r. ⌜ Decides (InBounds items starts losses edges) r ⌝ }
+    ensures { λ r. ⌜ Decides (CountsInBounds items starts losses edges) r ⌝ }
 {
     if setup::MAX_ITEMS < items {
         return false;

@@ -27,7 +27,7 @@ use Rattle.report_text.proofs.Meaning.{less-unique}
 use Rattle.report_facts.specs.Inner.Sets.{AccountSet, WeakerSet, IdleSet, Ranks, BelowAll}
 use Rattle.report_scores.specs.Inner.Scores.{Scored}
 use Rattle.report_facts.specs.declared.names.Names.{Names}
-use Rattle.report_facts.specs.Inner.Places.{PlacesOf}
+use Rattle.report_facts.specs.Inner.Places.{NamesPlaced}
 use Rattle.report_facts.specs.declared.Facts.{Facts}
 use Rattle.report_facts.specs.Inner.Facts.{HasNames, FactsOf, TablesOf}
 use Rattle.report_facts.specs.declared.figures.Scores.{Scores}
@@ -80,7 +80,7 @@ module _ (s : Setup) (w : WellFormed s) where
 
   -- the facts, from all their parts
   pub facts-are : (sheet opening lockout : List ℕ) (names : Names) (findings : Findings) (accounts initial losable : VertexSet)
-      (ranks below starts losses : List ℕ) → HasNames sheet s → PlacesOf sheet (s .count) names → FindingsOf s opening lockout findings
+      (ranks below starts losses : List ℕ) → HasNames sheet s → NamesPlaced sheet (s .count) names → FindingsOf s opening lockout findings
       → AccountSet s (accounts .0) → Ranks s ranks → BelowAll (accounts .0) ranks (findings .scores) below
       → ChosenSet false s (initial .0) → ChosenSet true s (losable .0) → Values false s starts → Values true s losses
       → let f : Facts = record {

@@ -1,5 +1,5 @@
 // Where the names of a sheet's items stand in it.
-ghost use Rattle.report_facts.specs.Inner.Places.{HasItems, PlacesOf};
+ghost use Rattle.report_facts.specs.Inner.Places.{HasItems, NamesPlaced};
 
 // The name of the vertex v stands from from[v] up to to[v].
 pub struct Names {
@@ -10,7 +10,7 @@ pub struct Names {
 // The names of the first `count` items: each is the first field of a line below the header.
 pub fn name_places(sheet: &[u8], count: usize) -> Names
     requires { ⌜ HasItems (now sheet) count ⌝ }
-    ensures { λ r. ⌜ PlacesOf (now (sheet .entry)) count r ⌝ }
+    ensures { λ r. ⌜ NamesPlaced (now (sheet .entry)) count r ⌝ }
 {
     let mut from = [0usize; 64];
     let mut to = [0usize; 64];

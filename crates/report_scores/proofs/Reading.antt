@@ -21,7 +21,7 @@ use Rattle.families.specs.Inner.Family.{size, MinimalMembers}
 use Rattle.family_lists.specs.Inner.Lists.{ListOf, Writable, WroteSets, Summable, SumTables, LeastBy}
 use Rattle.family_lists.proofs.Order.{Words, size-bound}
 use Rattle.family_lists.proofs.MinimalSets.{least-of-minimal}
-use Rattle.tables.specs.Inner.Table.{Table, FamilyOf}
+use Rattle.tables.specs.Inner.Table.{Table, FamilyOfVertex}
 use Rattle.tables.proofs.Parts.{put-length, put-other}
 use Rattle.tables.proofs.Tables.{family-of}
 use Rattle.bases.specs.Base.{Base}
@@ -160,7 +160,7 @@ scored loss s g chosen values low high w exit out formed ch values-are sums t ke
           (kept .each v l .least .each chosen (pointsAt loss s) points));
     }
   where
-    family : (v : ℕ) → v < 64 → FamilyOf (ruleOf loss g) chosen v (wordsAt w v)
+    family : (v : ℕ) → v < 64 → FamilyOfVertex (ruleOf loss g) chosen v (wordsAt w v)
     family v l = family-of (ruleOf loss g) chosen v 256 w l refl t
 
     points : SumTables chosen (pointsAt loss s) low high

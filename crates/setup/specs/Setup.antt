@@ -66,6 +66,11 @@ abbrev pub given : Value → ℕ
 given Blank = 0
 given (Of n) = 1
 
+-- The number of a value; a blank has none, and counts as 0 where it is asked.
+abbrev pub points : Value → ℕ
+points Blank = 0
+points (Of n) = n
+
 -- The value by which a vertex counts: its start value for access, its loss value for lockout.
 abbrev pub valueOf : Bool → Vertex → Value
 valueOf false x = x .start

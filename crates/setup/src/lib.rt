@@ -2,7 +2,7 @@
 // losable vertices, and its graph without recovery.
 ghost use mathlib.Core.Path.{_≡_};
 ghost use Rattle.vertex_set.specs.Set.{Decides};
-ghost use Rattle.setup.specs.Setup.{given, valueOf, rowLess, ChosenSet, WithoutRecovery};
+ghost use Rattle.setup.specs.Setup.{given, points, valueOf, rowLess, ChosenSet, WithoutRecovery};
 ghost use Rattle.setup.specs.Inner.{RowsLess};
 use vertex_set::VERTICES;
 use vertex_set::VertexSet;
@@ -87,6 +87,16 @@ pub fn value_of(loss: bool, x: Vertex) -> Value
     }
     let value = x.start;
     value
+}
+
+// The number of a value, and 0 for a blank.
+pub fn points_of(x: Value) -> u64
+    ensures { λ r. ⌜ r ≡ points x ⌝ }
+{
+    match x {
+        Value::Blank => 0,
+        Value::Of(n) => n,
+    }
 }
 
 fn is_given(x: Value) -> bool

@@ -7,7 +7,7 @@ ghost use mathlib.Core.Path.{_≡_};
 ghost use Prim.Native.Nat.{_+_};
 ghost use Rattle.sheet_format.specs.Read.{refused, readSheet};
 ghost use Rattle.sheet_format.specs.Names.{nameOf, nameStart};
-ghost use Rattle.sheet_items.specs.Inner.Items.{InBounds};
+ghost use Rattle.sheet_items.specs.Inner.Items.{ItemsInBounds};
 ghost use Rattle.sheet.specs.Inner.Rest.{ReadsRest};
 
 // One byte more than a sheet may have tells that it is too long.
@@ -33,7 +33,7 @@ fn refuse(number: u64, line: u64) -> Reading
 
 // The second header and the edge rows.
 fn read_rest(s: &[u8], items: Items) -> Reading
-    requires { ⌜ InBounds items ⌝ }
+    requires { ⌜ ItemsInBounds items ⌝ }
     ensures { λ r. ⌜ ReadsRest (now (s .entry)) items r ⌝ }
 {
     let at = items.at;

@@ -7,7 +7,7 @@ ghost use lib.ListN.{length, drop};
 ghost use Rattle.sheet_format.specs.Fields.{isNameByte, isName};
 ghost use Rattle.sheet_fields.specs.Inner.Parts.{until, endAt, CutsFour};
 ghost use Rattle.sheet_fields.specs.Inner.Forms.{cappedNumber, cappedStep, ReadsKind, ReadsValue, tooLarge};
-ghost use Rattle.sheet_fields.specs.Inner.Keys.{packed, keyOf, ReadsName};
+ghost use Rattle.sheet_fields.specs.Inner.Keys.{packedBytes, keyOf, ReadsName};
 
 pub const SPACE: u8 = 32;
 
@@ -238,7 +238,7 @@ pub fn read_value(f: &[u8]) -> ValueField
 // At most eight bytes as one number, the first byte lowest.
 fn pack(f: &[u8]) -> u64
     requires { ⌜ length (now f) ≤ 8 ⌝ }
-    ensures { λ r. ⌜ r ≡ packed (now (f .entry)) ⌝ }
+    ensures { λ r. ⌜ r ≡ packedBytes (now (f .entry)) ⌝ }
 {
     let mut n: u64 = 0;
     let mut i = f.len();

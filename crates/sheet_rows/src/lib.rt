@@ -13,7 +13,7 @@ ghost use lib.ListN.{length, take};
 ghost use lib.Dec.{eqb, leb};
 ghost use Rattle.setup.specs.Bounds.{mostItems, mostChosen};
 ghost use Rattle.setup.specs.Setup.{given};
-ghost use Rattle.sheet_fields.specs.Inner.Parts.{Places, fourFields};
+ghost use Rattle.sheet_fields.specs.Inner.Parts.{CutPlaces, fourFields};
 ghost use Rattle.sheet_rows.specs.Inner.NameKeys.{placeOf};
 ghost use Rattle.sheet_rows.specs.Inner.Lines.{JoinsFields, ReadsFields, ReadsVertex, JoinsItem, ReadsItem, TakesItem, JoinsEnds, ReadsEnds, ReadsEdge, TakesEdge};
 
@@ -100,7 +100,7 @@ fn join_fields(kind: KindField, start: ValueField, loss: ValueField, rank: u64) 
 }
 
 fn read_fields(l: &[u8], first: usize, second: usize, third: usize) -> VertexFields
-    requires { ⌜ Places (now l) first second third ⌝ }
+    requires { ⌜ CutPlaces (now l) first second third ⌝ }
     ensures { λ r. ⌜ ReadsFields (fourFields (now (l .entry)) first second third) r ⌝ }
 {
     let kind = sheet_fields::read_kind(&l[..first]);
@@ -308,7 +308,7 @@ fn join_ends(from: NameField, to: NameField, colour: u64, rec: u64) -> EdgeLine
 }
 
 fn read_ends(l: &[u8], first: usize, second: usize, third: usize) -> EdgeLine
-    requires { ⌜ Places (now l) first second third ⌝ }
+    requires { ⌜ CutPlaces (now l) first second third ⌝ }
     ensures { λ r. ⌜ ReadsEnds (fourFields (now (l .entry)) first second third) r ⌝ }
 {
     let from = sheet_fields::read_name(&l[..first]);

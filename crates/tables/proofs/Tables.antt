@@ -19,7 +19,7 @@ use Rattle.families.proofs.Exact.{Rising}
 use Rattle.family_words.specs.Inner.Words.{At}
 use Rattle.lanes.specs.Inner.Lanes.{Lane}
 use Rattle.lanes.proofs.Scans.{part-lane}
-use Rattle.tables.specs.Inner.Table.{Table, FamilyOf}
+use Rattle.tables.specs.Inner.Table.{Table, FamilyOfVertex}
 use Rattle.tables.specs.Inner.Steps.{Closed, Started}
 
 -- lanes that are closed from their masks' sets are a table
@@ -41,7 +41,7 @@ tabled r chosen w e law s c =
     }
 
 -- the words from v * 256 on are the family of v
-pub family-of : (r : Rule) (chosen v k : ℕ) (w : List ℕ) → v < 64 → k ≡ 256 → Table r chosen w → FamilyOf r chosen v (take k (drop (v * 256) w))
+pub family-of : (r : Rule) (chosen v k : ℕ) (w : List ℕ) → v < 64 → k ≡ 256 → Table r chosen w → FamilyOfVertex r chosen v (take k (drop (v * 256) w))
 unfolding In At Lane
 family-of r chosen v k w h e t =
     record { each = λ m hm. iff-trans (part-lane w v k (m / 64) (m % 64) (omega arith)) (t .each v m h hm) }

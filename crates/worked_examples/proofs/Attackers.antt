@@ -27,7 +27,7 @@ use Rattle.reference.proofs.Bases.{own-base}
 use Rattle.attackers.specs.Attackers.{location, skill, Weaker, largestOver, attackerOf, OfBase, KindInScore, EntriesFit, AttackerScore}
 use Rattle.attackers.proofs.Scores.{base-small, score-small, score-whole}
 use Rattle.sheet_format.specs.Rows.{Each}
-use Rattle.worked_examples.specs.Sheets.{Sheet, Reads}
+use Rattle.worked_examples.specs.Sheets.{Sheet, ReadsSheet}
 use Rattle.worked_examples.specs.Table.{setOf}
 use Rattle.worked_examples.specs.Attackers.{remNone, locNone, KindsOrdered, AttackerExample, Scores, attackerExamples, AllScore}
 use Rattle.worked_examples.proofs.Reading.{_&_, reads-well, read-bench, read-alone, read-closed, read-spare, read-full, read-figure1}
@@ -133,17 +133,17 @@ module _ (s : Setup) (kinds : List ℕ) (target r : ℕ) (w : WellFormed s) (fit
         })
 
 -- question 17 of a sheet's setup, computed
-pub fits-of : (x : Sheet) (kinds : List ℕ) → Reads x → all (fitsAt (x .setup) kinds) 64 ≡ true → EntriesFit (x .setup) kinds
+pub fits-of : (x : Sheet) (kinds : List ℕ) → ReadsSheet x → all (fitsAt (x .setup) kinds) 64 ≡ true → EntriesFit (x .setup) kinds
 fits-of x kinds r e = fit (x .setup) kinds 0 0 (reads-well x r) e
 
 -- ---- the examples
 
-record Counted (x : AttackerExample) (r : Reads (x .sheet)) : Type 0 where
+record Counted (x : AttackerExample) (r : ReadsSheet (x .sheet)) : Type 0 where
   fits : all (fitsAt (x .sheet .setup) (x .kinds)) 64 ≡ true
   low : ltb (setOf (x .attackers)) 64 ≡ true
   right : all (rightAt (map (attackerOf (x .kinds)) (baseOf false (x .sheet .setup) (x .sheet .setup .graph) (x .target))) (setOf (x .attackers))) 6 ≡ true
 
-shown : (x : AttackerExample) (r : Reads (x .sheet)) → Counted x r → Scores x
+shown : (x : AttackerExample) (r : ReadsSheet (x .sheet)) → Counted x r → Scores x
 unfolding kindsOf
 shown x r c =
     record {
@@ -154,7 +154,7 @@ shown x r c =
 
 -- The sheet read, and all of it computed.
 abbrev Shown : AttackerExample → Type 0
-Shown x = (r : Reads (x .sheet)) × Counted x r
+Shown x = (r : ReadsSheet (x .sheet)) × Counted x r
 
 all-of : (l : List AttackerExample) → Each Shown l → Each Scores l
 all-of [] s = tt

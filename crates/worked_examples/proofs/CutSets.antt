@@ -8,13 +8,13 @@ use Rattle.reference.specs.Closures.{isComplete, isBroken, colourOf, isAdded, p
 use Rattle.reference.specs.Bases.{isChosen, setsOfSize, setsUpTo, setsOf, targetSetsOf, isMinimal, baseOf}
 use Rattle.cut_sets.specs.Cuts.{CutList}
 use Rattle.cut_sets.proofs.Computed.{meetsEach, smallerOf, isSmallest, transversalsOf, cutsOf, cuts-of}
-use Rattle.worked_examples.specs.Sheets.{Reads}
+use Rattle.worked_examples.specs.Sheets.{ReadsSheet}
 use Rattle.worked_examples.specs.CutSets.{CutExample, Cuts, cutExamples, AllCut}
 use Rattle.worked_examples.proofs.Reading.{_&_, reads-well, read-bench, read-ring, read-alone, read-closed, read-loop, read-spare, read-relay}
 
 -- The sheet is read, and the list computed.
 abbrev Shown : CutExample → Type 0
-Shown x = Reads (x .sheet) × (cutsOf (x .sheet .setup) (x .target) ≡ x .cuts)
+Shown x = ReadsSheet (x .sheet) × (cutsOf (x .sheet .setup) (x .target) ≡ x .cuts)
 
 all-cut-of : (l : List CutExample) → Each Shown l → Each Cuts l
 all-cut-of [] s = tt

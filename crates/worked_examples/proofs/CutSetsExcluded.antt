@@ -14,7 +14,7 @@ use Rattle.setup.specs.Calls.{ListWritten}
 use Rattle.formed.specs.WellFormed.{WellFormed}
 use Rattle.cut_sets.specs.Cuts.{CutSet, CutList}
 use Rattle.cut_sets.specs.Answers.{CutsCall}
-use Rattle.worked_examples.specs.Sheets.{Sheet, Reads, Yields, bench, order, ring, pwdBackup, pwdManager, closed, only, spare, pw, acc, relay, note, vault, shop}
+use Rattle.worked_examples.specs.Sheets.{Sheet, ReadsSheet, Yields, bench, order, ring, pwdBackup, pwdManager, closed, only, spare, pw, acc, relay, note, vault, shop}
 use Rattle.worked_examples.specs.Table.{setOf}
 use Rattle.worked_examples.proofs.Reading.{reads-well, read-bench, read-ring, read-closed, read-spare, read-relay}
 use Rattle.worked_examples.proofs.Table.{held}
@@ -35,7 +35,7 @@ written-first x cuts values entry exit w =
     (λ k. let r = w .room k in (r .1, ap (λ (y : List ℕ). getD y 0 0) (r .2)))
     (less-or (length entry) (length (x ∷ cuts)))
 
-module _ (x : Sheet) (target first : ℕ) (cuts : List ℕ) (r : Reads x) (l : target < x .setup .count) (h : Yields x (λ s. CutList s target (first ∷ cuts))) where
+module _ (x : Sheet) (target first : ℕ) (cuts : List ℕ) (r : ReadsSheet x) (l : target < x .setup .count) (h : Yields x (λ s. CutList s target (first ∷ cuts))) where
   is-written : (number : ℕ) (values entry exit : List ℕ) → CutsCall (x .setup) target number values entry exit
       → ListWritten (first ∷ cuts) (length (first ∷ cuts) ∷ []) number values entry exit
   is-written number values entry exit =

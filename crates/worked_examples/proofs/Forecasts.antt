@@ -27,7 +27,7 @@ use Rattle.forecasts.proofs.Finding.{Finding, finding-none, finding-more, findi
 use Rattle.forecasts.proofs.Bounds.{forecast-holds}
 use Rattle.sheet_format.specs.Rows.{Each}
 use Rattle.vertex_set.proofs.Decisions.{and-parts}
-use Rattle.worked_examples.specs.Sheets.{Reads}
+use Rattle.worked_examples.specs.Sheets.{ReadsSheet}
 use Rattle.worked_examples.specs.Table.{setOf}
 use Rattle.worked_examples.specs.Forecasts.{ForecastExample, Foretells, forecasts, AllForetell}
 use Rattle.worked_examples.proofs.Reading.{_&_, reads-well, read-bench, read-ring, read-alone, read-closed, read-loop, read-spare}
@@ -138,7 +138,7 @@ record Looked (x : ForecastExample) (vs : List ℕ) : Type 0 where
   counts : all (countsRight (x .sheet .setup) (foundBy (graphOf x) vs (2 ^ x .target)) (setOf (x .counted))) 64 ≡ true
   ways : x .sets ≡ choose (ones (setOf (x .counted))) (ones (setOf (x .counted)) / 2)
 
-foretold : (x : ForecastExample) (vs : List ℕ) → Reads (x .sheet) → Looked x vs → Foretells x
+foretold : (x : ForecastExample) (vs : List ℕ) → ReadsSheet (x .sheet) → Looked x vs → Foretells x
 foretold x vs r h =
     let s : Setup = x .sheet .setup in
     let found : ℕ = foundBy (graphOf x) vs (2 ^ x .target) in
@@ -152,7 +152,7 @@ foretold x vs r h =
 
 -- The order in which vertices are looked at, the sheet read, and all of it computed.
 abbrev Shown : ForecastExample → Type 0
-Shown x = (vs : List ℕ) × Reads (x .sheet) × Looked x vs
+Shown x = (vs : List ℕ) × ReadsSheet (x .sheet) × Looked x vs
 
 all-foretold : (l : List ForecastExample) → Each Shown l → Each Foretells l
 all-foretold [] s = tt

@@ -14,8 +14,8 @@ use Rattle.multisets.specs.Multisets.{BagAtMost, valuesOver, highestFirst, plac
 use Rattle.multisets.specs.Meaning.{isHigh}
 use Rattle.multiset_scores.specs.Scores.{multisetOf, MultisetScore}
 use Rattle.multiset_scores.proofs.Computed.{fewerAt, decide-pairing, isAtMost, someAtMost, lowestOf, scoreOf, score-of}
-use Rattle.worked_examples.specs.Sheets.{Reads}
-use Rattle.worked_examples.specs.Multisets.{MultisetsOrdered, MultisetExample, Scored, multisetExamples, AllScored, PlacesWritten}
+use Rattle.worked_examples.specs.Sheets.{ReadsSheet}
+use Rattle.worked_examples.specs.Multisets.{MultisetsOrdered, MultisetExample, HasBagScore, multisetExamples, AllScored, PlacesWritten}
 use Rattle.worked_examples.proofs.Reading.{_&_, reads-well, read-bench, read-closed, read-spare, read-figure6, read-zeroed, read-outer, read-inner, read-later}
 
 -- ---- the order, at examples
@@ -47,10 +47,10 @@ multisets-ordered =
 -- The sheet is read, and the score computed, with its multisets.
 abbrev Shown : MultisetExample → Type 0
 Shown x =
-    Reads (x .sheet) × (scoreOf (x .sheet .setup) (x .target) ≡ x .sets)
+    ReadsSheet (x .sheet) × (scoreOf (x .sheet .setup) (x .target) ≡ x .sets)
     × (map (λ y. highestFirst (multisetOf (x .sheet .setup) y)) (x .sets) ≡ x .multisets)
 
-all-scored-of : (l : List MultisetExample) → Each Shown l → Each Scored l
+all-scored-of : (l : List MultisetExample) → Each Shown l → Each HasBagScore l
 all-scored-of [] s = tt
 all-scored-of (x ∷ l) s = (
   record {

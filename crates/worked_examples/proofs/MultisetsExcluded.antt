@@ -8,15 +8,15 @@ use lib.ListN.{length, getD}
 use Rattle.vertex_set.proofs.Lists.{exactly-unique}
 use Rattle.multisets.specs.Multisets.{highestFirst}
 use Rattle.multiset_scores.specs.Scores.{multisetOf, MultisetScore, FirstInScore}
-use Rattle.worked_examples.specs.Sheets.{Reads, zeroed, outer, inner, later}
+use Rattle.worked_examples.specs.Sheets.{ReadsSheet, zeroed, outer, inner, later}
 use Rattle.worked_examples.specs.Table.{setOf}
-use Rattle.worked_examples.specs.Multisets.{MultisetExample, Scored}
+use Rattle.worked_examples.specs.Multisets.{MultisetExample, HasBagScore}
 use Rattle.worked_examples.proofs.Reading.{read-zeroed, read-outer, read-inner, read-later}
 use Rattle.worked_examples.proofs.Table.{held}
 use Rattle.worked_examples.proofs.Multisets.{all-scored}
 
 -- the score of an example is the only list that the definition allows
-only-score : (x : MultisetExample) → Reads (x .sheet) → Scored x → (l : List ℕ) → MultisetScore (x .sheet .setup) (x .target) l → l ≡ x .sets
+only-score : (x : MultisetExample) → ReadsSheet (x .sheet) → HasBagScore x → (l : List ℕ) → MultisetScore (x .sheet .setup) (x .target) l → l ≡ x .sets
 only-score x r h l m =
     let k = held (x .sheet) (λ s. MultisetScore s (x .target) (x .sets) × (map (λ y. highestFirst (multisetOf s y)) (x .sets) ≡ x .multisets)) r h .0 in
     exactly-unique (FirstInScore (x .sheet .setup) (x .target)) l (x .sets) m k

@@ -5,12 +5,12 @@ use Prim.Native.Nat.{_<_}
 use native.Mathlib.Omega.{arith}
 use Rattle.bases.specs.Base.{Base}
 use Rattle.next_sets.proofs.Walks.{whole-walk}
-use Rattle.worked_examples.specs.Sheets.{Reads}
+use Rattle.worked_examples.specs.Sheets.{ReadsSheet}
 use Rattle.worked_examples.specs.NextSets.{WalkExample, Walks, AllWalk}
 use Rattle.worked_examples.proofs.Reading.{_&_, reads-well, read-bench, read-ring, read-loop, read-spare}
 use Rattle.worked_examples.proofs.Table.{held, table-holds, further-holds}
 
-walked : (x : WalkExample) → Reads (x .sheet) → x .target < x .sheet .setup .count → Base false (x .sheet .setup) (x .sheet .setup .graph) (x .target) (x .sets) → Walks x
+walked : (x : WalkExample) → ReadsSheet (x .sheet) → x .target < x .sheet .setup .count → Base false (x .sheet .setup) (x .sheet .setup .graph) (x .target) (x .sets) → Walks x
 walked x r l b =
     record { setup = x .sheet .setup; reading = r; holds = whole-walk (x .sheet .setup) (x .target) (reads-well (x .sheet) r) l (x .sets) .from b }
 

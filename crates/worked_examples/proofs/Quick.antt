@@ -21,7 +21,7 @@ use Rattle.reference.specs.Closures.{isComplete, isBroken, colourOf, isAdded, p
 use Rattle.reference.proofs.Graphs.{own-graph}
 use Rattle.reference.proofs.Meaning.{meaning}
 use Rattle.reference.proofs.Tests.{in-with}
-use Rattle.worked_examples.specs.Sheets.{Sheet, Reads, bench, ordpw, mailpw, token, mail, order, closed}
+use Rattle.worked_examples.specs.Sheets.{Sheet, ReadsSheet, bench, ordpw, mailpw, token, mail, order, closed}
 use Rattle.worked_examples.specs.Table.{setOf}
 use Rattle.worked_examples.specs.Quick.{AllTell}
 use Rattle.worked_examples.proofs.Reading.{_&_, reads-well, read-bench, read-closed}
@@ -45,7 +45,7 @@ in-held g set (e ∷ d) v =
       from = λ k. h .from (⊎-elim (λ x. inl (w .from (inl x))) (λ a. ⊎-elim (λ q. inl (w .from (inr q))) (λ b. inr b) a) k);
     }
 
-module _ (x : Sheet) (r : Reads x) (target set : ℕ) (l : target < x .setup .count) (i : Inside (x .setup) set) where
+module _ (x : Sheet) (r : ReadsSheet x) (target set : ℕ) (l : target < x .setup .count) (i : Inside (x .setup) set) where
   yes-told : (q : ℕ) → derivesOf false (x .setup .count) (x .setup .graph) target set ≡ true → heldOf set (wayOf (x .setup .count) (x .setup .graph) target set) ≡ q
       → QuickCall (x .setup) target set 0 (1 ∷ q ∷ [])
   yes-told q d e =

@@ -9,7 +9,7 @@ use Rattle.setup.specs.Setup.{emptyGraph}
 use Rattle.sheet_format.specs.Questions.{question1, isTextByte, endsInLF, question2, question3, question10, noneEmpty, question4, question5Item, question5Edge, itemOf, edgeOf, isKnown, question6, question8, sameEdge, isRepeated, question9, question7Item, question7Edge}
 use Rattle.sheet_format.specs.Read.{itemQuestions, edgeQuestions, questionsOf, behind, firstNo, question11, unless, readLines, readSheet}
 use Rattle.sheet_format.proofs.Question12.{yielded-formed}
-use Rattle.worked_examples.specs.Sheets.{Sheet, Reads, AllRead, AllRefused, linesText, bench, ring, closed, pair, spare, relay, alone, loop, full, halves, figure1, figure6, zeroed, outer, inner, later}
+use Rattle.worked_examples.specs.Sheets.{Sheet, ReadsSheet, AllRead, AllRefused, linesText, bench, ring, closed, pair, spare, relay, alone, loop, full, halves, figure1, figure6, zeroed, outer, inner, later}
 
 -- One more entry shown.
 infixr 20 _&_
@@ -28,55 +28,55 @@ all-refused =
     & refl & refl & refl & refl & refl & refl & refl & refl & refl & refl & refl & refl & refl & refl & refl & refl & refl & tt
 
 -- question 12: what an accepted sheet yields is well formed
-pub reads-well : (x : Sheet) → Reads x → WellFormed (x .setup)
+pub reads-well : (x : Sheet) → ReadsSheet x → WellFormed (x .setup)
 reads-well x e = yielded-formed (linesText (x .lines)) (x .setup) e
 
 -- ---- one by one
 
-pub read-bench : Reads bench
+pub read-bench : ReadsSheet bench
 read-bench = all-read .0
 
-pub read-ring : Reads ring
+pub read-ring : ReadsSheet ring
 read-ring = all-read .1 .0
 
-pub read-alone : Reads alone
+pub read-alone : ReadsSheet alone
 read-alone = all-read .1 .1 .0
 
-pub read-closed : Reads closed
+pub read-closed : ReadsSheet closed
 read-closed = all-read .1 .1 .1 .0
 
-pub read-loop : Reads loop
+pub read-loop : ReadsSheet loop
 read-loop = all-read .1 .1 .1 .1 .0
 
-pub read-pair : Reads pair
+pub read-pair : ReadsSheet pair
 read-pair = all-read .1 .1 .1 .1 .1 .0
 
-pub read-spare : Reads spare
+pub read-spare : ReadsSheet spare
 read-spare = all-read .1 .1 .1 .1 .1 .1 .0
 
-pub read-full : Reads full
+pub read-full : ReadsSheet full
 read-full = all-read .1 .1 .1 .1 .1 .1 .1 .0
 
-pub read-halves : Reads halves
+pub read-halves : ReadsSheet halves
 read-halves = all-read .1 .1 .1 .1 .1 .1 .1 .1 .0
 
-pub read-relay : Reads relay
+pub read-relay : ReadsSheet relay
 read-relay = all-read .1 .1 .1 .1 .1 .1 .1 .1 .1 .0
 
-pub read-figure1 : Reads figure1
+pub read-figure1 : ReadsSheet figure1
 read-figure1 = all-read .1 .1 .1 .1 .1 .1 .1 .1 .1 .1 .0
 
-pub read-figure6 : Reads figure6
+pub read-figure6 : ReadsSheet figure6
 read-figure6 = all-read .1 .1 .1 .1 .1 .1 .1 .1 .1 .1 .1 .0
 
-pub read-zeroed : Reads zeroed
+pub read-zeroed : ReadsSheet zeroed
 read-zeroed = all-read .1 .1 .1 .1 .1 .1 .1 .1 .1 .1 .1 .1 .0
 
-pub read-outer : Reads outer
+pub read-outer : ReadsSheet outer
 read-outer = all-read .1 .1 .1 .1 .1 .1 .1 .1 .1 .1 .1 .1 .1 .0
 
-pub read-inner : Reads inner
+pub read-inner : ReadsSheet inner
 read-inner = all-read .1 .1 .1 .1 .1 .1 .1 .1 .1 .1 .1 .1 .1 .1 .0
 
-pub read-later : Reads later
+pub read-later : ReadsSheet later
 read-later = all-read .1 .1 .1 .1 .1 .1 .1 .1 .1 .1 .1 .1 .1 .1 .1 .0

@@ -22,7 +22,7 @@ use Rattle.reference.specs.Meaning.{Meaning}
 use Rattle.reference.proofs.Graphs.{own-graph}
 use Rattle.reference.proofs.Marks.{counts-of}
 use Rattle.reference.proofs.Meaning.{meaning}
-use Rattle.worked_examples.specs.Sheets.{Sheet, Reads, Yields}
+use Rattle.worked_examples.specs.Sheets.{Sheet, ReadsSheet, Yields}
 use Rattle.worked_examples.specs.Table.{Example, closure, passes, loss, opening, lockout, score, risk, way, marks, lockMarks, Holds, table, further, AllHold}
 use Rattle.worked_examples.proofs.Reading.{_&_, reads-well, read-bench, read-ring, read-alone, read-closed, read-loop, read-pair, read-spare, read-full, read-halves}
 
@@ -56,19 +56,19 @@ Computed (marks x target handed right repeated shut loose missing) =
 Computed (lockMarks x target handed right repeated shut loose missing) =
     marksOf true (x .setup) (x .setup .graph) target handed ≡ right ∷ repeated ∷ shut ∷ loose ∷ missing ∷ []
 
-means : (x : Sheet) → Reads x → Meaning (x .setup) (x .setup .graph)
+means : (x : Sheet) → ReadsSheet x → Meaning (x .setup) (x .setup .graph)
 means x r = let w = reads-well x r in meaning (x .setup) (x .setup .graph) w (own-graph (x .setup) w)
 
 -- what holds of the expected setup holds of what is read, if that is the expected one
-of-read : (x : Sheet) (P : Setup → Type 0) → Reads x → P (x .setup) → Yields x P
+of-read : (x : Sheet) (P : Setup → Type 0) → ReadsSheet x → P (x .setup) → Yields x P
 of-read x P r h = record { setup = x .setup; reading = r; holds = h }
 
 -- .. and the other way round
-pub held : (x : Sheet) (P : Setup → Type 0) → Reads x → Yields x P → P (x .setup)
+pub held : (x : Sheet) (P : Setup → Type 0) → ReadsSheet x → Yields x P → P (x .setup)
 held x P r y = subst P (ap (λ (z : Reading). z .setup) (sym (y .reading) ∙ r)) (y .holds)
 
 -- what is computed holds
-holds : (e : Example) → Reads (sheetOf e) → Computed e → Holds e
+holds : (e : Example) → ReadsSheet (sheetOf e) → Computed e → Holds e
 holds (closure x set result) r c = of-read x _ r (subst (AccessFrom (x .setup .graph) set) c (means x r .closure false set))
 holds (passes x set result n) r c =
     of-read x _ r (subst (Passes (access (x .setup .graph)) n set) (c .0)
@@ -86,7 +86,7 @@ holds (lockMarks x target handed right repeated shut loose missing) r c =
 
 -- An entry of the table is computed, and its sheet read.
 abbrev pub Shown : Example → Type 0
-Shown e = Reads (sheetOf e) × Computed e
+Shown e = ReadsSheet (sheetOf e) × Computed e
 
 pub all-hold : (l : List Example) → Each Shown l → AllHold l
 all-hold [] s = tt

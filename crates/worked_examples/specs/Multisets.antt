@@ -11,7 +11,7 @@ use Rattle.worked_examples.specs.Sheets.{Sheet, Yields, bench, mailpw, t
 use Rattle.worked_examples.specs.Table.{setOf}
 
 -- One is at most the other, and not the other way round.
-pub record Below (m n : List ℕ) : Type 0 where
+pub record ProperlyAtMost (m n : List ℕ) : Type 0 where
   pub atMost : BagAtMost m n
   pub notBack : BagAtMost n m → ⊥
 
@@ -22,14 +22,14 @@ pub record Incomparable (m n : List ℕ) : Type 0 where
 
 pub record MultisetsOrdered : Type 0 where
   -- example 10
-  pub higher : Below (1 ∷ 1 ∷ []) (1 ∷ 2 ∷ [])
-  pub more : Below (1 ∷ 2 ∷ []) (1 ∷ 1 ∷ 2 ∷ [])
+  pub higher : ProperlyAtMost (1 ∷ 1 ∷ []) (1 ∷ 2 ∷ [])
+  pub more : ProperlyAtMost (1 ∷ 2 ∷ []) (1 ∷ 1 ∷ 2 ∷ [])
   pub neither : Incomparable (1 ∷ 2 ∷ []) (1 ∷ 1 ∷ 1 ∷ [])
   -- example 13: two of 1, and one of 2
   pub parts : Incomparable (1 ∷ 1 ∷ []) (2 ∷ [])
   -- 0 is a value, and nothing is less than it
   pub zero : Incomparable (3 ∷ 0 ∷ []) (4 ∷ [])
-  pub nothing : Below [] (0 ∷ [])
+  pub nothing : ProperlyAtMost [] (0 ∷ [])
   -- the order of writing does not matter
   pub turned : BagAtMost (1 ∷ 2 ∷ []) (2 ∷ 1 ∷ [])
   -- 14 values are a bag, and 15 are none, whatever stands against them
@@ -47,8 +47,8 @@ pub record MultisetExample : Type 0 where
 abbrev pub scored : Sheet → ℕ → List ℕ → List (List ℕ) → MultisetExample
 scored sheet target sets multisets = record { sheet = sheet; target = target; sets = sets; multisets = multisets }
 
-abbrev pub Scored : MultisetExample → Type 0
-Scored x = Yields (x .sheet) (λ s. MultisetScore s (x .target) (x .sets) × (map (λ y. highestFirst (multisetOf s y)) (x .sets) ≡ x .multisets))
+abbrev pub HasBagScore : MultisetExample → Type 0
+HasBagScore x = Yields (x .sheet) (λ s. MultisetScore s (x .target) (x .sets) × (map (λ y. highestFirst (multisetOf s y)) (x .sets) ≡ x .multisets))
 
 abbrev pub multisetExamples : List MultisetExample
 multisetExamples =
@@ -73,7 +73,7 @@ multisetExamples =
     ∷ []
 
 abbrev pub AllScored : Type 0
-AllScored = Each Scored multisetExamples
+AllScored = Each HasBagScore multisetExamples
 
 -- What is written of a score: 14 places a multiset, with 0 in those that it does not use, and the numbers of values, which tell that one 0 is a value.
 pub record PlacesWritten : Type 0 where

@@ -39,8 +39,8 @@ pub record Sheet : Type 0 where
   pub setup : Setup
 
 -- Reading the sheet's bytes yields that setup.
-abbrev pub Reads : Sheet → Type 0
-Reads x = readSheet (linesText (x .lines)) ≡ accepted (x .setup)
+abbrev pub ReadsSheet : Sheet → Type 0
+ReadsSheet x = readSheet (linesText (x .lines)) ≡ accepted (x .setup)
 
 -- The sheet's bytes are accepted, and P holds of the setup that is read from them, whatever is expected.
 pub record Yields (x : Sheet) (P : Setup → Type 0) : Type 0 where
@@ -652,7 +652,7 @@ sheets = bench ∷ ring ∷ alone ∷ closed ∷ loop ∷ pair ∷ spare ∷ ful
 
 -- Each text is accepted, and yields the setup that stands beside it.
 abbrev pub AllRead : Type 0
-AllRead = Each Reads sheets
+AllRead = Each ReadsSheet sheets
 
 -- ---- refused sheets
 
@@ -662,8 +662,8 @@ pub record RefusedSheet : Type 0 where
   pub number : ℕ
   pub line : ℕ
 
-abbrev pub Refuses : RefusedSheet → Type 0
-Refuses x = readSheet (linesText (x .lines)) ≡ refused (x .number) (x .line)
+abbrev pub RefusesSheet : RefusedSheet → Type 0
+RefusesSheet x = readSheet (linesText (x .lines)) ≡ refused (x .number) (x .line)
 
 abbrev pub h1 : String
 h1 = "name kind start loss rank"
@@ -722,4 +722,4 @@ refusedSheets =
     ∷ []
 
 abbrev pub AllRefused : Type 0
-AllRefused = Each Refuses refusedSheets
+AllRefused = Each RefusesSheet refusedSheets

@@ -3,7 +3,7 @@ use Prim.Native.Nat.{_+_, _-_, _*_}
 use native.Mathlib.Omega.{arith}
 use Rattle.derivations.specs.Both.{ruleOf}
 use Rattle.families.specs.Inner.Family.{familyWords}
-use Rattle.tables.specs.Inner.Table.{FamilyOf}
+use Rattle.tables.specs.Inner.Table.{FamilyOfVertex}
 use Rattle.tables.proofs.Tables.{family-of}
 use borrow.Author.Needs.{needs}
 use Rattle.bases.proofs.family_of.Statement.{statement}
@@ -47,7 +47,7 @@ returns c =
     let a = st .args in
     let from = a .target * familyWords in (
       k .copy-in .kept .0 ∙ st .pre .1,
-      subst (FamilyOf (ruleOf (a .loss) (a .graph)) (a .chosen .0) (a .target)) (sym (k .copy-in .ensures))
+      subst (FamilyOfVertex (ruleOf (a .loss) (a .graph)) (a .chosen .0) (a .target)) (sym (k .copy-in .ensures))
           (family-of (ruleOf (a .loss) (a .graph)) (a .chosen .0) (a .target) (from + familyWords - from) _ (st .pre .0) (omega arith) (f .fill .ensures .1)),
     )
 

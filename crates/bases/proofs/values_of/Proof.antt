@@ -3,7 +3,8 @@ use Prim.Native.Nat.{_≤_, _-_}
 use mathlib.Core.Path.{_≡_, refl, ap, _∙_}
 use native.Mathlib.Omega.{arith}
 use lib.ListN.{length, length-map}
-use Rattle.bases.specs.Score.{points, pointsAt}
+use Rattle.setup.specs.Setup.{points}
+use Rattle.bases.specs.Score.{pointsAt}
 use Rattle.bases.proofs.Readers.{FilledBelow, filled-none, filled-more, values-all}
 use Rattle.bases.proofs.values_of.Statement.{statement}
 use Rattle.bases.proofs.values_of.Tie as tie

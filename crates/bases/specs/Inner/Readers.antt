@@ -14,7 +14,7 @@ use Rattle.derivations.specs.Both.{ruleOf}
 use Rattle.families.specs.Inner.Family.{MinimalMembers, size, familyWords}
 use Rattle.families.specs.Inner.Exact.{OnChosen}
 use Rattle.family_lists.specs.Inner.Lists.{ListOf}
-use Rattle.tables.specs.Inner.Table.{FamilyOf}
+use Rattle.tables.specs.Inner.Table.{FamilyOfVertex}
 use Rattle.bases.specs.Base.{Base}
 use Rattle.bases.specs.Score.{pointsAt, Score, ScoreOver}
 
@@ -38,7 +38,7 @@ pub record BaseFamily (loss : Bool) (s : Setup) (g : Graph) (target chosen : ℕ
 
 -- The target's family, and that of its minimal members.
 pub record BothFamilies (loss : Bool) (s : Setup) (g : Graph) (target chosen : ℕ) (f m : List ℕ) (n : ℕ) : Type 0 where
-  pub isFamily : FamilyOf (ruleOf loss g) chosen target f
+  pub isFamily : FamilyOfVertex (ruleOf loss g) chosen target f
   pub isMinimal : MinimalMembers f m
   pub base : BaseFamily loss s g target chosen m n
 

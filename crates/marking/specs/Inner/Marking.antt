@@ -10,7 +10,7 @@ use Rattle.setup.specs.declared.Setup.{Setup}
 use Rattle.setup.specs.Setup.{ChosenSet}
 use Rattle.derivations.specs.Both.{ruleOf}
 use Rattle.families.specs.Inner.Family.{MinimalMembers}
-use Rattle.tables.specs.Inner.Table.{FamilyOf}
+use Rattle.tables.specs.Inner.Table.{FamilyOfVertex}
 use Rattle.bases.specs.Marks.{Mark, Repeated, Shut, Loose, Right, MarkedAs, tally}
 
 -- The families of the target's sets and of the minimal ones, as marking reads them.
@@ -18,7 +18,7 @@ pub record Markable (loss : Bool) (s : Setup) (g : Graph) (target chosen : ℕ) 
   pub fits : chosen < 2 ^ 64
   pub few : ones chosen ≤ mostChosen
   pub isChosen : ChosenSet loss s chosen
-  pub isFamily : FamilyOf (ruleOf loss g) chosen target family
+  pub isFamily : FamilyOfVertex (ruleOf loss g) chosen target family
   pub isMinimal : MinimalMembers family minimal
 
 -- Whatever target the families are of: the counts are those of the marks of the list's sets.

@@ -15,11 +15,11 @@ use Rattle.sheet_format.proofs.Rows.{edgeLine}
 use Rattle.sheet_format.proofs.Question12Lists.{In}
 use Rattle.sheet_rows.specs.Inner.NameKeys.{NameKeys}
 use Rattle.pool_format.specs.Rows.{usesColour, newColour, recoloured}
-use Rattle.pool_format.specs.Inner.{Places}
+use Rattle.pool_format.specs.Inner.{PlacesAmong}
 use Rattle.pool_colours.specs.declared.Colours.{Colours}
 
 -- r is the lowest of 16 numbers that is no member, or 16.
-pub record Lowest (s r : ℕ) : Type 0 where
+pub record LowestFree (s r : ℕ) : Type 0 where
   pub most : r ≤ 16
   pub below : (k : ℕ) → k < r → Member s k
   pub free : r < 16 → Member s r → ⊥
@@ -40,7 +40,7 @@ pub record Both (d e : Doc) (low high : List ℕ) (count : ℕ) (places : List �
   pub validFirst : Valid d
   pub validSecond : Valid e
   pub keys : NameKeys (e .items) low high count
-  pub placed : Places (d .items) (e .items) places
+  pub placed : PlacesAmong (d .items) (e .items) places
   pub size : na ≡ length (d .items)
   pub firstGraph : first ≡ setupOf d .graph
   pub secondGraph : second ≡ setupOf e .graph

@@ -1,4 +1,4 @@
--- `pool_items::same_value` meets its contract: both are values or both are blanks, and of the same amount.
+-- `pool_items::same_value` meets its contract: both are values or both are blanks, and of the same number.
 use borrow.Author.Needs.{needs}
 use Rattle.pool_items.proofs.Items.{value-told, value-other}
 use Rattle.pool_items.proofs.same_value.Statement.{statement}
@@ -10,17 +10,17 @@ count-value-requires c κs = search needs
 count-value-requires-2 : tie.Need-count-value-requires-2
 count-value-requires-2 c κs = search needs
 
-amount-of-requires : tie.Need-amount-of-requires
-amount-of-requires c κs = search needs
+points-of-requires : tie.Need-points-of-requires
+points-of-requires c κs = search needs
 
-amount-of-requires-2 : tie.Need-amount-of-requires-2
-amount-of-requires-2 c κs = search needs
+points-of-requires-2 : tie.Need-points-of-requires-2
+points-of-requires-2 c κs = search needs
 
 returns : tie.Need-returns
 returns c =
     let t = c .before .before in
     let q = t .before .before .before .args in
-    value-told (q .a) (q .b) _ _ (t .before .before .count-value .ensures .0) (t .before .count-value2 .ensures .0) _ _ (t .if1 .taken) (c .before .amount-of .ensures) (c .amount-of2 .ensures)
+    value-told (q .a) (q .b) _ _ (t .before .before .count-value .ensures .0) (t .before .count-value2 .ensures .0) _ _ (t .if1 .taken) (c .before .points-of .ensures) (c .points-of2 .ensures)
 
 returns-2 : tie.Need-returns-2
 returns-2 c =
@@ -33,7 +33,7 @@ same-value-spec =
     (tie.spec
     count-value-requires
     count-value-requires-2
-    amount-of-requires
-    amount-of-requires-2
+    points-of-requires
+    points-of-requires-2
     returns
     returns-2)

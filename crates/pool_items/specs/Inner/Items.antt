@@ -9,7 +9,7 @@ use Rattle.setup.specs.Setup.{unusedVertex, given}
 use Rattle.sheet_format.specs.Rows.{ItemRow, vertexOf, startCount, lossCount, lineText, itemFields, itemLines}
 use Rattle.sheet_format.specs.Stated.{StandsAt}
 use Rattle.pool_format.specs.Rows.{remaining}
-use Rattle.pool_format.specs.Inner.{Places}
+use Rattle.pool_format.specs.Inner.{PlacesAmong}
 use Rattle.pool_items.specs.declared.Remaining.{Remaining}
 
 -- Each of the second vertices that has a place among the first na is the same as the one there.
@@ -50,4 +50,4 @@ pub record ItemCounts (zs : List ItemRow) (r : Remaining) : Type 0 where
 
 -- For whatever item rows the places are of, those that remain are counted.
 pub record CountsRemaining (vertices : List Vertex) (nb : ℕ) (places : List ℕ) (na : ℕ) (from : List ℕ) (r : Remaining) : Type 0 where
-  pub each : (xs ys : List ItemRow) → Places xs ys places → na ≡ length xs → nb ≡ length ys → ItemRowsAt ys vertices from → ItemCounts (remaining xs ys) r
+  pub each : (xs ys : List ItemRow) → PlacesAmong xs ys places → na ≡ length xs → nb ≡ length ys → ItemRowsAt ys vertices from → ItemCounts (remaining xs ys) r

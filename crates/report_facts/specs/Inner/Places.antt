@@ -16,5 +16,5 @@ pub record HasItems (sheet : List ℕ) (count : ℕ) : Type 0 where
   pub items : (v : ℕ) → v < count → hasItem sheet v ≡ true
 
 -- r has the places of the names of the first `count` items.
-pub record PlacesOf (sheet : List ℕ) (count : ℕ) (r : Names) : Type 0 where
+pub record NamesPlaced (sheet : List ℕ) (count : ℕ) (r : Names) : Type 0 where
   pub each : (v : ℕ) → v < count → NamePlace sheet (r .from) (r .to) v

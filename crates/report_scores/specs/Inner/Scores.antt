@@ -15,7 +15,7 @@ use Rattle.derivations.specs.Both.{ruleOf}
 use Rattle.families.specs.Inner.Family.{familyWords, masks, MinimalMembers}
 use Rattle.family_lists.specs.Inner.Lists.{LeastBy}
 use Rattle.lanes.specs.Inner.Lanes.{tableWords}
-use Rattle.tables.specs.Inner.Table.{FamilyOf}
+use Rattle.tables.specs.Inner.Table.{FamilyOfVertex}
 use Rattle.bases.specs.Base.{Base}
 use Rattle.bases.specs.Score.{Score}
 
@@ -35,7 +35,7 @@ wordsAt w v = take familyWords (drop (v * familyWords) w)
 -- m has the minimal ones of the masks from whose sets v has a derivation.
 pub record BaseAt (r : Rule) (chosen v : ℕ) (m : List ℕ) : Type 0 where
   pub family : List ℕ
-  pub isFamily : FamilyOf r chosen v family
+  pub isFamily : FamilyOfVertex r chosen v family
   pub isMinimal : MinimalMembers family m
 
 -- w is the table of bases of the rule r and the chosen vertices: for each vertex the family of its minimal masks.

@@ -3,14 +3,14 @@ use mathlib.Core.Path.{_≡_, _∙_}
 use Prim.Native.Nat.{_-_, _≤_}
 use native.Mathlib.Omega.{arith}
 use lib.ListN.{length, drop}
-use Rattle.sheet_fields.specs.Inner.Keys.{packed}
+use Rattle.sheet_fields.specs.Inner.Keys.{packedBytes}
 use Rattle.sheet_fields.proofs.Packing.{packed-back, packed-fits, packed-end}
 use Rattle.sheet_fields.proofs.pack.Statement.{statement}
 use Rattle.sheet_fields.proofs.pack.Tie as tie
 
 -- n is the number that the bytes from i on make.
 abbrev Inv-loop : tie.InvT-loop
-Inv-loop f n₀ i₀ n i = (i ≤ length f) × (n ≡ packed (drop i f))
+Inv-loop f n₀ i₀ n i = (i ≤ length f) × (n ≡ packedBytes (drop i f))
 
 abbrev μ-loop : tie.MeasureT-loop
 μ-loop f n₀ i₀ n i = i

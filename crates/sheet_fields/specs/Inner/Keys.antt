@@ -9,13 +9,13 @@ use Rattle.sheet_fields.specs.declared.Key.{Key}
 use Rattle.sheet_fields.specs.declared.NameField.{NameField}
 
 -- The number whose digits to the base 256 are the bytes, the first one lowest.
-unfoldable pub packed : List ℕ → ℕ
-packed [] = 0
-packed (b ∷ s) = packed s * 256 + b
+unfoldable pub packedBytes : List ℕ → ℕ
+packedBytes [] = 0
+packedBytes (b ∷ s) = packedBytes s * 256 + b
 
 -- The first eight bytes, and the others.
 unfoldable pub keyOf : List ℕ → Key
-keyOf n = record { low = packed (take 8 n); high = packed (drop 8 n) }
+keyOf n = record { low = packedBytes (take 8 n); high = packedBytes (drop 8 n) }
 
 pub record ReadsName (f : List ℕ) (r : NameField) : Type 0 where
   pub answer : r .ok ≡ isName f

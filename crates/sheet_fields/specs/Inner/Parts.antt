@@ -27,7 +27,7 @@ abbrev pub fourFields : List ℕ → ℕ → ℕ → ℕ → List (List ℕ)
 fourFields l a b c = take a l ∷ take (b - (a + 1)) (drop (a + 1) l) ∷ take (c - (b + 1)) (drop (b + 1) l) ∷ drop (c + 1) l ∷ []
 
 -- The places are in order, and within the line.
-pub record Places (l : List ℕ) (a b c : ℕ) : Type 0 where
+pub record CutPlaces (l : List ℕ) (a b c : ℕ) : Type 0 where
   pub first : a < b
   pub second : b < c
   pub third : c < length l
@@ -35,5 +35,5 @@ pub record Places (l : List ℕ) (a b c : ℕ) : Type 0 where
 -- A cut says whether a line has four fields, none empty, and if so where the first three end.
 pub record CutsFour (l : List ℕ) (r : Cut) : Type 0 where
   pub answer : r .ok ≡ question4 4 (fieldsOf l)
-  pub places : r .ok ≡ true → Places l (r .first) (r .second) (r .third)
+  pub places : r .ok ≡ true → CutPlaces l (r .first) (r .second) (r .third)
   pub fields : r .ok ≡ true → fieldsOf l ≡ fourFields l (r .first) (r .second) (r .third)

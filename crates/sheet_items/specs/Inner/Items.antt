@@ -10,7 +10,7 @@ use Rattle.sheet_rows.specs.Inner.NameKeys.{NameKeys}
 use Rattle.sheet_items.specs.declared.Items.{Items}
 
 -- The counts are within document 01's bounds, and the lists have place for as many keys.
-pub record InBounds (r : Items) : Type 0 where
+pub record ItemsInBounds (r : Items) : Type 0 where
   pub most : r .count ≤ 64
   pub above : r .line ≤ 66
   pub lows : r .count ≤ length (r .low)
@@ -20,7 +20,7 @@ pub record InBounds (r : Items) : Type 0 where
 pub record ItemsTaken (s : List ℕ) (start : ℕ) (r : Items) : Type 0 where
   pub items : List ItemRow
   pub table : NameKeys items (r .low) (r .high) (r .count)
-  pub bounds : InBounds r
+  pub bounds : ItemsInBounds r
   pub vertices : r .vertices ≡ verticesOf items
   pub reading : readLines AmongItems noRows 2 (linesOf (drop start s))
       ≡ readLines AtSecondHeader (record { items = items; edges = [] }) (r .line + 1) (linesOf (drop (r .at) s))

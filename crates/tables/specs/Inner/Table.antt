@@ -14,5 +14,5 @@ pub record Table (r : Rule) (chosen : ℕ) (w : List ℕ) : Type 0 where
   pub each : (v m : ℕ) → v < 64 → m < masks → Iff (Member (getD w (v * familyWords + m / 64) 0) (m % 64)) (Derivation r (Picked chosen m) v)
 
 -- f is the family of the masks from whose sets v has a derivation.
-abbrev pub FamilyOf : Rule → ℕ → ℕ → List ℕ → Type 0
-FamilyOf r chosen v f = exact.FamilyOf chosen (λ held. Derivation r held v) f
+abbrev pub FamilyOfVertex : Rule → ℕ → ℕ → List ℕ → Type 0
+FamilyOfVertex r chosen v f = exact.FamilyOf chosen (λ held. Derivation r held v) f

@@ -26,7 +26,7 @@ archives() {
 rt check "${crates[@]}" > "$rooms/log" 2>&1 || { cat "$rooms/log"; exit 1; }
 half=$(((${#crates[@]} + 1) / 2))
 archives first "${crates[@]:0:half}" &
-archives second "${crates[@]:half}"
+archives second "${crates[@]:half}" || { wait; exit 1; }
 wait $!
 
 mkdir -p "$lib" "$rooms/objects"

@@ -3,7 +3,7 @@ ghost use mathlib.Core.Path.{_≡_};
 ghost use Prim.Native.Nat.{_≤_, _<_};
 ghost use lib.Count.{ones};
 ghost use Rattle.vertex_set.specs.Set.{Decides};
-ghost use Rattle.setup.specs.Setup.{unusedVertex, given, total};
+ghost use Rattle.setup.specs.Setup.{unusedVertex, total};
 ghost use Rattle.formed.specs.WellFormed.{InRange, ValidVertex, WellFormed};
 ghost use Rattle.formed.specs.Inner.Parts.{VertexFits, RowsFit, MayNeed, EdgesFit, GraphsFit, VerticesFit, HoldingFits};
 use setup::Graph;
@@ -132,36 +132,26 @@ fn graphs_fit(count: usize, graph: Graph, recovery: Graph) -> bool
     edges <= setup::MAX_EDGES as u32
 }
 
-fn count_given(x: Value) -> u32
-    ensures { λ r. ⌜ (r ≡ given x) × (r ≤ 1) ⌝ }
-{
-    match x {
-        Value::Blank => 0,
-        Value::Of(_) => 1,
-    }
-}
-
 fn vertices_fit(count: usize, vertices: [Vertex; 64]) -> bool
     ensures { λ r. ⌜ Decides (VerticesFit count vertices) r ⌝ }
 {
-    let mut initial: u32 = 0;
-    let mut losable: u32 = 0;
+    let mut initial: usize = 0;
+    let mut losable: usize = 0;
     for v in 0..64usize {
         let vertex = vertices[v];
         if vertex_fits(count, v, vertex) {
             let start = vertex.start;
             let loss = vertex.loss;
-            initial += count_given(start);
-            losable += count_given(loss);
+            initial += setup::count_given(start);
+            losable += setup::count_given(loss);
         } else {
             return false;
         }
     }
-    let most = setup::MAX_CHOSEN as u32;
-    if most < initial {
+    if setup::MAX_CHOSEN < initial {
         return false;
     }
-    losable <= most
+    losable <= setup::MAX_CHOSEN
 }
 
 // Are only vertices of the setup held, and is `opened` what they open? A test for a closed set

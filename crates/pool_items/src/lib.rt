@@ -82,7 +82,7 @@ fn kind_number(k: Kind) -> u64
 fn same_value(a: Value, b: Value) -> bool
     ensures { λ r. ⌜ Decides (a ≡ b) r ⌝ }
 {
-    if sheet_rows::count_value(a) == sheet_rows::count_value(b) {
+    if setup::count_given(a) == setup::count_given(b) {
         setup::points_of(a) == setup::points_of(b)
     } else {
         false
@@ -142,8 +142,8 @@ fn with_item(r: Remaining, x: Vertex, size: usize) -> Remaining
 {
     let start = x.start;
     let loss = x.loss;
-    let starts = r.starts + sheet_rows::count_value(start);
-    let losses = r.losses + sheet_rows::count_value(loss);
+    let starts = r.starts + setup::count_given(start);
+    let losses = r.losses + setup::count_given(loss);
     Remaining {
         items: r.items + 1,
         starts,

@@ -1,6 +1,7 @@
 // A lab's account setup (document 003: the graph with V_init, Init and E_rec), its initial and
 // losable vertices, and its graph without recovery.
 ghost use mathlib.Core.Path.{_≡_};
+ghost use Prim.Native.Nat.{_≤_};
 ghost use Rattle.vertex_set.specs.Set.{Decides};
 ghost use Rattle.setup.specs.Setup.{given, points, valueOf, rowLess, ChosenSet, WithoutRecovery};
 ghost use Rattle.setup.specs.Inner.{RowsLess};
@@ -96,6 +97,16 @@ pub fn points_of(x: Value) -> u64
     match x {
         Value::Blank => 0,
         Value::Of(n) => n,
+    }
+}
+
+// 1 for a value, 0 for a blank.
+pub fn count_given(x: Value) -> usize
+    ensures { λ r. ⌜ (r ≡ given x) × (r ≤ 1) ⌝ }
+{
+    match x {
+        Value::Blank => 0,
+        Value::Of(_) => 1,
     }
 }
 

@@ -1,6 +1,5 @@
 // The rows of a sheet: an item row and an edge row, each by itself, and with the rows above it.
 use setup::Kind;
-use setup::Value;
 use setup::Vertex;
 use sheet_fields::Key;
 use sheet_fields::KindField;
@@ -12,7 +11,6 @@ ghost use mathlib.Core.Bool.{_&&_};
 ghost use lib.ListN.{length, take};
 ghost use lib.Dec.{eqb, leb};
 ghost use Rattle.setup.specs.Bounds.{mostItems, mostChosen};
-ghost use Rattle.setup.specs.Setup.{given};
 ghost use Rattle.sheet_fields.specs.Inner.Parts.{CutPlaces, fourFields};
 ghost use Rattle.sheet_rows.specs.Inner.NameKeys.{placeOf};
 ghost use Rattle.sheet_rows.specs.Inner.Lines.{JoinsFields, ReadsFields, ReadsVertex, JoinsItem, ReadsItem, TakesItem, JoinsEnds, ReadsEnds, ReadsEdge, TakesEdge};
@@ -193,16 +191,6 @@ pub fn find_name(low: &[u64], high: &[u64], count: usize, key: Key) -> usize
     i
 }
 
-// 1 for a value, 0 for a blank.
-pub fn count_value(v: Value) -> usize
-    ensures { λ r. ⌜ (r ≡ given v) × (r ≤ 1) ⌝ }
-{
-    match v {
-        Value::Blank => 0,
-        Value::Of(_) => 1,
-    }
-}
-
 fn no_taken(number: u64) -> TakenItem
     ensures { λ r. ⌜ r .number ≡ number ⌝ }
 {
@@ -253,8 +241,8 @@ pub fn take_item(
     let vertex = item.vertex;
     let start = vertex.start;
     let loss = vertex.loss;
-    let starts = starts + count_value(start);
-    let losses = losses + count_value(loss);
+    let starts = starts + setup::count_given(start);
+    let losses = losses + setup::count_given(loss);
     if has_room(count, starts, losses) {
         TakenItem {
             number: 0,

@@ -76,9 +76,6 @@ loop-again c =
     let q′ = c .count-given2 .ensures .1 in
     (omega arith, below-more _ (l .v) (l .inv .1) (b .vertex-fits .ensures .yes (c .before .before .if1 .taken)), omega arith, omega arith, omega arith, omega arith)
 
-cast-most : tie.Need-cast-most Inv-loop μ-loop
-cast-most c = search needs
-
 returns-2 : tie.Need-returns-2 Inv-loop μ-loop
 returns-2 c =
     let l = c .before .before .loop in
@@ -115,6 +112,5 @@ vertices-fit-spec =
     add-v
     loop-less
     loop-again
-    cast-most
     returns-2
     returns-3)

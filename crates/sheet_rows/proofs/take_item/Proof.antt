@@ -34,21 +34,21 @@ returns-2 c =
     item-used (a .l .now) (a .low .now) (a .high .now) (a .count) (a .starts) (a .losses) (p .read-item .result) (p .read-item .ensures)
     (z .if1 .left) (f .find-name .result) (f .find-name .ensures) (c .no-taken2 .result) (c .before .if2 .taken) (c .no-taken2 .ensures)
 
-count-value-requires : tie.Need-count-value-requires
-count-value-requires c κs = search needs
+count-given-requires : tie.Need-count-given-requires
+count-given-requires c κs = search needs
 
 add-starts : tie.Need-add-starts
 add-starts c =
-    let e = c .count-value .ensures .1 in
+    let e = c .count-given .ensures .1 in
     let p = c .before .before .before .before .before .before in
     omega (arith, p .before .before .before .before .pre .2)
 
-count-value-requires-2 : tie.Need-count-value-requires-2
-count-value-requires-2 c κs = search needs
+count-given-requires-2 : tie.Need-count-given-requires-2
+count-given-requires-2 c κs = search needs
 
 add-losses : tie.Need-add-losses
 add-losses c =
-    let e = c .count-value2 .ensures .1 in
+    let e = c .count-given2 .ensures .1 in
     let p = c .before .before .before .before .before .before .before in
     omega (arith, p .before .before .before .before .pre .3)
 
@@ -69,7 +69,7 @@ returns-3 c =
     let a = p .before .before .before .before .args in
     item-taken (a .l .now) (a .low .now) (a .high .now) (a .count) (a .starts) (a .losses) (p .read-item .result) (p .read-item .ensures)
     (z .if1 .left) (f .find-name .result) (f .find-name .ensures) _ _
-    (ap (λ (i : ℕ). a .starts + i) (k .count-value .ensures .0)) (ap (λ (i : ℕ). a .losses + i) (m .count-value2 .ensures .0)) (y .if2 .left)
+    (ap (λ (i : ℕ). a .starts + i) (k .count-given .ensures .0)) (ap (λ (i : ℕ). a .losses + i) (m .count-given2 .ensures .0)) (y .if2 .left)
     (sym (c .before .has-room .ensures) ∙ c .if3 .taken)
 
 returns-4 : tie.Need-returns-4
@@ -83,7 +83,7 @@ returns-4 c =
     let a = p .before .before .before .before .args in
     item-full (a .l .now) (a .low .now) (a .high .now) (a .count) (a .starts) (a .losses) (p .read-item .result) (p .read-item .ensures)
     (z .if1 .left) (f .find-name .result) (f .find-name .ensures) _ _
-    (ap (λ (i : ℕ). a .starts + i) (k .count-value .ensures .0)) (ap (λ (i : ℕ). a .losses + i) (m .count-value2 .ensures .0)) (y .if2 .left)
+    (ap (λ (i : ℕ). a .starts + i) (k .count-given .ensures .0)) (ap (λ (i : ℕ). a .losses + i) (m .count-given2 .ensures .0)) (y .if2 .left)
     (c .no-taken3 .result) (sym (c .before .before .has-room .ensures) ∙ c .before .if3 .left) (c .no-taken3 .ensures)
 
 pub take-item-spec : {M : Type 1} → statement M
@@ -96,9 +96,9 @@ take-item-spec =
     find-name-requires
     no-taken-requires-2
     returns-2
-    count-value-requires
+    count-given-requires
     add-starts
-    count-value-requires-2
+    count-given-requires-2
     add-losses
     has-room-requires
     no-taken-requires-3

@@ -37,7 +37,7 @@ if memory=$(mktemp -d /dev/shm/test.XXXXXX 2> /dev/null) && cp "$(type -P true)"
     export TMPDIR=$memory
 fi
 # Many at a time on two cores, since they wait for each other in batches and end at different times; each may take two gigabytes.
-jobs=$(awk '/^MemAvailable:/ { n = int($2 / 2000000); print n < 2 ? 2 : n > 8 ? 8 : n }' /proc/meminfo)
+jobs=$(awk '/^MemAvailable:/ { n = int($2 / 2000000); print(n < 2 ? 2 : n < 8 ? n : 8) }' /proc/meminfo)
 
 # The brute force needs nothing that is proved: it is compiled beside the first proofs, which leave a core idle now and then.
 (cd tests && cargo test --release --quiet --no-run -p brute > /dev/null 2>&1) &

@@ -1,8 +1,7 @@
 // What a set of vertices opens, what a loss takes away, and the way in.
-ghost use Rattle.derivations.specs.Both.{ruleOf};
-ghost use Rattle.access.specs.Answers.{closureNumber, closureValues, ClosureCall, lostNumber, lostValues, LostCall, wayNumber, wayValues, WayCall};
-ghost use Rattle.access.specs.Inner.{Closes, WayTaken};
-use setup::Graph;
+ghost use mathlib.Core.List.{[], _∷_};
+ghost use Rattle.questions.specs.Contract.{ends, Fulfils};
+ghost use Rattle.access.specs.Answers.{closureReply, closureCall, lostReply, lostCall, wayReply, wayCall};
 use setup::Setup;
 use vertex_set::VertexSet;
 
@@ -23,63 +22,34 @@ pub enum WayAnswer {
     Refused(u64),
 }
 
-// Asks 12 and 14, then makes passes by the rule of access or, with loss, by that of lockout.
-fn close(loss: bool, s: Setup, set: VertexSet) -> ClosureAnswer
-    ensures { λ r. ⌜ Closes (ruleOf loss (s .graph)) s (set .0) (closureNumber r) (closureValues r) ⌝ }
-{
-    if formed::well_formed(s) {
-        let vertices = VertexSet::below(s.count);
-        if set.within(vertices) {
-            let graph = s.graph;
-            let r = closures::closure(loss, graph, set);
-            let opened = r.set;
-            return ClosureAnswer::Opened(opened, r.passes);
-        }
-        return ClosureAnswer::Refused(14);
-    }
-    ClosureAnswer::Refused(12)
-}
-
 // What the set opens (document 01: its closure), and the number of passes (document 02, point 4).
 pub fn access_from(s: Setup, set: VertexSet) -> ClosureAnswer
-    ensures { λ r. ⌜ ClosureCall s (set .0) (closureNumber r) (closureValues r) ⌝ }
+    ensures { λ r. ⌜ Fulfils (closureCall s (set .0)) (ends (closureReply r) []) ⌝ }
 {
-    close(false, s, set)
+    let formed = formed::well_formed(s);
+    let asked = questions::ask_set(formed, s.count, set);
+    if asked != 0 {
+        return ClosureAnswer::Refused(asked);
+    }
+    let graph = s.graph;
+    let r = closures::closure(false, graph, set);
+    let opened = r.set;
+    ClosureAnswer::Opened(opened, r.passes)
 }
 
 // What the loss of the set takes away (document 01: its lost set).
 pub fn lockout_from(s: Setup, set: VertexSet) -> LostAnswer
-    ensures { λ r. ⌜ LostCall s (set .0) (lostNumber r) (lostValues r) ⌝ }
+    ensures { λ r. ⌜ Fulfils (lostCall s (set .0)) (ends (lostReply r) []) ⌝ }
 {
-    let answer = close(true, s, set);
-    match answer {
-        ClosureAnswer::Opened(r, passes) => LostAnswer::Lost(r),
-        ClosureAnswer::Refused(q) => LostAnswer::Refused(q),
+    let formed = formed::well_formed(s);
+    let asked = questions::ask_set(formed, s.count, set);
+    if asked != 0 {
+        return LostAnswer::Refused(asked);
     }
-}
-
-fn take_way(
-    graph: Graph,
-    target: usize,
-    set: VertexSet,
-    vertices: &mut [u8],
-    colours: &mut [u8],
-) -> WayAnswer
-    ensures { λ r. ⌜ WayTaken graph target (set .0) (wayNumber r) (wayValues r) (now (vertices .entry)) (now (vertices .exit)) (now (colours .entry)) (now (colours .exit)) ⌝ }
-{
-    let way = ways::follow_way(graph, target, set);
-    let count = way.count;
-    if way.found {
-        if vertices.len() < count {
-            return WayAnswer::Refused(15);
-        }
-        if colours.len() < count {
-            return WayAnswer::Refused(15);
-        }
-        ways::write_way(graph, target, set, vertices, colours);
-        return WayAnswer::Steps(count);
-    }
-    WayAnswer::Shut
+    let graph = s.graph;
+    let r = closures::closure(true, graph, set);
+    let lost = r.set;
+    LostAnswer::Lost(lost)
 }
 
 // The way in (document 003: a derivation by definition 3). The lists are the caller's: the steps'
@@ -91,18 +61,25 @@ pub fn access_derivation(
     vertices: &mut [u8],
     colours: &mut [u8],
 ) -> WayAnswer
-    ensures { λ r. ⌜ WayCall s target (set .0) (wayNumber r) (wayValues r) (now (vertices .entry)) (now (vertices .exit)) (now (colours .entry)) (now (colours .exit)) ⌝ }
+    ensures { λ r. ⌜ Fulfils (wayCall s target (set .0) (now (vertices .entry)) (now (colours .entry))) (ends (wayReply r) (now (vertices .exit) ∷ now (colours .exit) ∷ [])) ⌝ }
 {
-    if formed::well_formed(s) {
-        if target < s.count {
-            let known = VertexSet::below(s.count);
-            if set.within(known) {
-                let graph = s.graph;
-                return take_way(graph, target, set, vertices, colours);
-            }
-            return WayAnswer::Refused(14);
-        }
-        return WayAnswer::Refused(13);
+    let formed = formed::well_formed(s);
+    let asked = questions::ask_way(formed, s.count, target, set);
+    if asked != 0 {
+        return WayAnswer::Refused(asked);
     }
-    WayAnswer::Refused(12)
+    let graph = s.graph;
+    let way = ways::follow_way(graph, target, set);
+    let count = way.count;
+    if way.found {
+        if vertices.len() < count {
+            return WayAnswer::Refused(questions::SHORT);
+        }
+        if colours.len() < count {
+            return WayAnswer::Refused(questions::SHORT);
+        }
+        ways::write_way(graph, target, set, vertices, colours);
+        return WayAnswer::Steps(count);
+    }
+    WayAnswer::Shut
 }

@@ -2,10 +2,12 @@
 ghost use mathlib.Core.Path.{_≡_};
 ghost use mathlib.Core.Bool.{true, false};
 ghost use Prim.Native.Nat.{_-_, _<_};
-ghost use Rattle.answers.specs.Answers.{basesNumber, basesValues, BasesCall, scoreNumber, scoreValues, riskNumber, riskValues, ScoreCall, marksNumber, marksValues, MarksCall};
+ghost use mathlib.Core.List.{[], _∷_};
+ghost use Rattle.questions.specs.Contract.{ends, Answers, Fulfils};
+ghost use Rattle.answers.specs.Answers.{basesReply, basesCall, scoreReply, riskReply, scoreCall, marksReply, marksCall};
 ghost use Rattle.answers.specs.Demand3.{Demand3};
 ghost use Rattle.formed.specs.Inner.Answerable.{Answerable};
-ghost use Rattle.answers.specs.Inner.{BasesTaken, MarksTaken};
+ghost use Rattle.answers.specs.Inner.{MarksTaken};
 use families::WORDS;
 use scores::RecoverabilityScore;
 use scores::SecurityScore;
@@ -45,7 +47,7 @@ pub enum MarksAnswer {
 // so that a lent list which is too short stays as it was.
 fn write_bases(s: Setup, target: usize, out: &mut [u64]) -> BasesAnswer
     requires { ⌜ Answerable s target ⌝ }
-    ensures { λ r. ⌜ BasesTaken s target (basesNumber r) (basesValues r) (now (out .entry)) (now (out .exit)) ⌝ }
+    ensures { λ r. ⌜ Answers (basesCall s target (now (out .entry))) (ends (basesReply r) (now (out .exit) ∷ [])) ⌝ }
 {
     let graph = s.graph;
     let initial = setup::chosen(s, false);
@@ -55,10 +57,10 @@ fn write_bases(s: Setup, target: usize, out: &mut [u64]) -> BasesAnswer
     let n = bases::base_family(s, graph, false, target, initial, &mut opening);
     let m = bases::base_family(s, graph, true, target, losable, &mut lockout);
     if out.len() < n {
-        return BasesAnswer::Refused(15);
+        return BasesAnswer::Refused(questions::SHORT);
     }
     if out.len() - n < m {
-        return BasesAnswer::Refused(15);
+        return BasesAnswer::Refused(questions::SHORT);
     }
     let first = family_lists::write_sets(&opening, initial, out);
     let second = family_lists::write_sets(&lockout, losable, &mut out[first..]);
@@ -67,47 +69,44 @@ fn write_bases(s: Setup, target: usize, out: &mut [u64]) -> BasesAnswer
 
 // Both lists of the target in one lent list: the access base first, then the lockout base.
 pub fn both_bases(s: Setup, target: usize, out: &mut [u64]) -> BasesAnswer
-    ensures { λ r. ⌜ BasesCall s target (basesNumber r) (basesValues r) (now (out .entry)) (now (out .exit)) ⌝ }
+    ensures { λ r. ⌜ Fulfils (basesCall s target (now (out .entry))) (ends (basesReply r) (now (out .exit) ∷ [])) ⌝ }
 {
-    if formed::well_formed(s) {
-        if target < s.count {
-            return write_bases(s, target, out);
-        }
-        return BasesAnswer::Refused(13);
+    let formed = formed::well_formed(s);
+    let asked = questions::ask_target(formed, s.count, target);
+    if asked != 0 {
+        return BasesAnswer::Refused(asked);
     }
-    BasesAnswer::Refused(12)
+    write_bases(s, target, out)
 }
 
 // The target's security score (document 01: its score).
 pub fn security_score(s: Setup, target: usize) -> ScoreAnswer
-    ensures { λ r. ⌜ ScoreCall false s target (scoreNumber r) (scoreValues r) ⌝ }
+    ensures { λ r. ⌜ Fulfils (scoreCall false s target) (ends (scoreReply r) []) ⌝ }
 {
-    if formed::well_formed(s) {
-        if target < s.count {
-            let graph = s.graph;
-            let r = bases::score_of(s, graph, false, target);
-            let score = SecurityScore::of(r);
-            return ScoreAnswer::Score(score);
-        }
-        return ScoreAnswer::Refused(13);
+    let formed = formed::well_formed(s);
+    let asked = questions::ask_target(formed, s.count, target);
+    if asked != 0 {
+        return ScoreAnswer::Refused(asked);
     }
-    ScoreAnswer::Refused(12)
+    let graph = s.graph;
+    let r = bases::score_of(s, graph, false, target);
+    let score = SecurityScore::of(r);
+    ScoreAnswer::Score(score)
 }
 
 // The target's recoverability score (document 01: its risk).
 pub fn recoverability_score(s: Setup, target: usize) -> RiskAnswer
-    ensures { λ r. ⌜ ScoreCall true s target (riskNumber r) (riskValues r) ⌝ }
+    ensures { λ r. ⌜ Fulfils (scoreCall true s target) (ends (riskReply r) []) ⌝ }
 {
-    if formed::well_formed(s) {
-        if target < s.count {
-            let graph = s.graph;
-            let r = bases::score_of(s, graph, true, target);
-            let risk = RecoverabilityScore::of(r);
-            return RiskAnswer::Risk(risk);
-        }
-        return RiskAnswer::Refused(13);
+    let formed = formed::well_formed(s);
+    let asked = questions::ask_target(formed, s.count, target);
+    if asked != 0 {
+        return RiskAnswer::Refused(asked);
     }
-    RiskAnswer::Refused(12)
+    let graph = s.graph;
+    let r = bases::score_of(s, graph, true, target);
+    let risk = RecoverabilityScore::of(r);
+    RiskAnswer::Risk(risk)
 }
 
 // a - b, and 0 where b is larger.
@@ -139,28 +138,27 @@ fn take_marks(loss: bool, s: Setup, target: usize, handed: &[u64]) -> Marks
 }
 
 fn mark(loss: bool, s: Setup, target: usize, handed: &[u64]) -> MarksAnswer
-    ensures { λ r. ⌜ MarksCall loss s target (now (handed .entry)) (marksNumber r) (marksValues r) ⌝ }
+    ensures { λ r. ⌜ Fulfils (marksCall loss s target (now (handed .entry))) (ends (marksReply r) []) ⌝ }
 {
-    if formed::well_formed(s) {
-        if target < s.count {
-            let marks = take_marks(loss, s, target, handed);
-            return MarksAnswer::Marked(marks);
-        }
-        return MarksAnswer::Refused(13);
+    let formed = formed::well_formed(s);
+    let asked = questions::ask_target(formed, s.count, target);
+    if asked != 0 {
+        return MarksAnswer::Refused(asked);
     }
-    MarksAnswer::Refused(12)
+    let marks = take_marks(loss, s, target, handed);
+    MarksAnswer::Marked(marks)
 }
 
 // Marks for sets handed in as the target's access base (document 01: openings).
 pub fn mark_access(s: Setup, target: usize, handed: &[u64]) -> MarksAnswer
-    ensures { λ r. ⌜ MarksCall false s target (now (handed .entry)) (marksNumber r) (marksValues r) ⌝ }
+    ensures { λ r. ⌜ Fulfils (marksCall false s target (now (handed .entry))) (ends (marksReply r) []) ⌝ }
 {
     mark(false, s, target, handed)
 }
 
 // Marks for sets handed in as the target's lockout base (document 01: lockouts).
 pub fn mark_lockout(s: Setup, target: usize, handed: &[u64]) -> MarksAnswer
-    ensures { λ r. ⌜ MarksCall true s target (now (handed .entry)) (marksNumber r) (marksValues r) ⌝ }
+    ensures { λ r. ⌜ Fulfils (marksCall true s target (now (handed .entry))) (ends (marksReply r) []) ⌝ }
 {
     mark(true, s, target, handed)
 }
@@ -182,7 +180,7 @@ pub fn demand_three(
     opened: &[u64],
     locked: &[u64],
 ) -> AllAnswers
-    ensures { λ r. ⌜ Demand3 s target (now (out .entry)) (now (out .exit)) (basesNumber (r .bases)) (basesValues (r .bases)) (scoreNumber (r .score)) (scoreValues (r .score)) (riskNumber (r .risk)) (riskValues (r .risk)) (now (opened .entry)) (marksNumber (r .openings)) (marksValues (r .openings)) (now (locked .entry)) (marksNumber (r .lockouts)) (marksValues (r .lockouts)) ⌝ }
+    ensures { λ r. ⌜ Demand3 s target (now (out .entry)) (now (opened .entry)) (now (locked .entry)) (ends (basesReply (r .bases)) (now (out .exit) ∷ [])) (ends (scoreReply (r .score)) []) (ends (riskReply (r .risk)) []) (ends (marksReply (r .openings)) []) (ends (marksReply (r .lockouts)) []) ⌝ }
 {
     let bases = both_bases(s, target, out);
     let score = security_score(s, target);

@@ -1,4 +1,3 @@
 pub mod Finding
 pub mod Bounds
-pub mod Calls
 pub mod Unique

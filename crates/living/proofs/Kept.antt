@@ -1,7 +1,8 @@
 -- A call keeps a setup well formed: it is refused and leaves it, or is accepted and redraws it.
 -- Assumes nothing.
-use mathlib.Core.Path.{_≡_, refl, sym, subst}
-use mathlib.Core.Bool.{Bool}
+use mathlib.Core.Path.{_≡_, refl, sym, ap, subst, _∙_}
+use mathlib.Core.Bool.{Bool, true}
+use mathlib.Core.List.{[]}
 use mathlib.Core.Logic.{_⊎_, inl, inr, ⊎-elim}
 use Prim.Native.Nat.{ℕ, _-_, _^_, _≤_, _<_}
 use native.Mathlib.Omega.{arith}
@@ -18,10 +19,12 @@ use Rattle.setup.specs.Inner.{graphWithRow}
 use Rattle.setup.proofs.Graphs.{graph-same}
 use Rattle.setup.proofs.OneRow.{row-count}
 use Rattle.formed.specs.WellFormed.{WellFormed}
-use Rattle.living.specs.Calls.{Call, TakeIn, TakeOut, AddEdge, RemoveEdge, Drawing, drawingOf, after, Redrawn, Back, Done, Placed, CallOf}
-use Rattle.living.specs.Inner.{RowPlace, EdgeMore, EdgeLess}
+use Rattle.living.specs.Calls.{Call, TakeIn, TakeOut, AddEdge, RemoveEdge, Drawing, drawingOf, after, Redrawn, questionsOf, back, Done, CallOf}
+use Rattle.living.specs.declared.Redrawing.{Redrawing}
+use Rattle.questions.specs.Questions.{asks12}
+use Rattle.questions.proofs.Asks.{AllYes, positive, not-zero, first-no, asks-either}
+use Rattle.living.specs.Inner.{RowPlace, EdgeMore, EdgeLess, Placed}
 use Rattle.living.proofs.Drawing.{both, row-place, more-shaped, more-edges, less-shaped, less-edges}
-use Rattle.living.proofs.Unique.{by-place}
 
 -- Where the drawing that is left keeps the rules, so does the setup.
 -- t with count and vertices of s, which it has
@@ -140,47 +143,41 @@ module _ (s t : Setup) (w : WellFormed s) where
 -- ---- a call on a well-formed setup
 
 -- It was accepted, and has left the drawing that it says.
-pub record Took (c : Call) (s : Setup) (n : ℕ) (t : Setup) : Type 0 where
-  pub number : n ≡ 0
-  pub redrawn : Redrawn s (after c (drawingOf s)) t
-  pub formed : WellFormed t
+pub record Took (c : Call) (s : Setup) (r : Redrawing) : Type 0 where
+  pub number : r .number ≡ 0
+  pub redrawn : Redrawn s (after c (drawingOf s)) (r .setup)
+  pub formed : WellFormed (r .setup)
 
 -- It was refused.
-pub record Stayed (s : Setup) (n : ℕ) (t : Setup) : Type 0 where
-  pub number : n ≡ 0 → ⊥
-  pub same : t ≡ s
+pub record Stayed (s : Setup) (r : Redrawing) : Type 0 where
+  pub number : r .number ≡ 0 → ⊥
+  pub same : r .setup ≡ s
 
-module _ (s : Setup) (n : ℕ) (t : Setup) (w : WellFormed s) where
-  stayed : (c : Call) (q : ℕ) → 0 < q → Back q s n t → Took c s n t ⊎ Stayed s n t
-  stayed c q l b = let e = b .numbered in inr (record { number = λ z. omega arith; same = b .untouched })
+well-kept : (c : Call) (s t : Setup) → AllYes (questionsOf c s) → Redrawn s (after c (drawingOf s)) t → WellFormed t
+well-kept (TakeIn v) s t y = in-kept s t (y .0) v (y .1 .0)
+well-kept (TakeOut v) s t y = out-kept s t (y .0) v
+well-kept (AddEdge f v c m) s t y = add-kept s t (y .0) f v c (record { from = y .1 .0; to = y .1 .1 .0; colour = y .1 .1 .1 .0 }) m (y .1 .1 .1 .1 .1 .0)
+well-kept (RemoveEdge f v c) s t y = remove-kept s t (y .0) f v c (record { from = y .1 .0; to = y .1 .1 .0; colour = y .1 .1 .1 .0 }) (y .1 .1 .1 .1 .0)
 
-  took : (c : Call) → Done c s n t → (Redrawn s (after c (drawingOf s)) t → WellFormed t) → Took c s n t ⊎ Stayed s n t
-  took c d f = inl (record { number = d .numbered; redrawn = d .redrawn; formed = f (d .redrawn) })
+numbered : (c : Call) (s : Setup) → positive (questionsOf c s) ≡ true
+numbered (TakeIn v) s = refl
+numbered (TakeOut v) s = refl
+numbered (AddEdge f v c m) s = refl
+numbered (RemoveEdge f v c) s = refl
 
-  pub step : (c : Call) → CallOf c s n t → Took c s n t ⊎ Stayed s n t
-  step (TakeIn v) a =
-      ⊎-elim (λ l. took (TakeIn v) (a .done w l) (in-kept s t w v l)) (λ l. stayed (TakeIn v) 13 (omega arith) (a .noVertex w l)) (less-or v (s .count))
-  step (TakeOut v) a =
-      ⊎-elim (λ l. took (TakeOut v) (a .done w l) (out-kept s t w v)) (λ l. stayed (TakeOut v) 13 (omega arith) (a .noVertex w l)) (less-or v (s .count))
-  step (AddEdge f v c m) a =
-      by-place s f v c
-      (λ o. stayed (AddEdge f v c m) 13 (omega arith) (a .noVertex w o))
-      (λ i j l. stayed (AddEdge f v c m) 18 (omega arith) (a .noColour w i j l))
-      (λ q. ⊎-elim (λ e. stayed (AddEdge f v c m) 19 (omega arith) (a .there w q e))
-      (λ e. ⊎-elim (λ l. took (AddEdge f v c m) (a .done w q e l) (add-kept s t w f v c q m l)) (λ l. stayed (AddEdge f v c m) 7 (omega arith) (a .full w q e l))
-      (less-or (edgeCount (s .graph)) mostEdges))
-      (member-or (row (s .graph) v c) f))
-  step (RemoveEdge f v c) a =
-      by-place s f v c
-      (λ o. stayed (RemoveEdge f v c) 13 (omega arith) (a .noVertex w o))
-      (λ i j l. stayed (RemoveEdge f v c) 18 (omega arith) (a .noColour w i j l))
-      (λ q. ⊎-elim (λ e. took (RemoveEdge f v c) (a .done w q e) (remove-kept s t w f v c q e)) (λ e. stayed (RemoveEdge f v c) 20 (omega arith) (a .missing w q e))
-      (member-or (row (s .graph) v c) f))
+pub step : (c : Call) (s : Setup) (r : Redrawing) → CallOf c s r → Took c s r ⊎ Stayed s r
+step c s r a =
+    ⊎-elim (λ h. inl (record { number = h .1 .numbered; redrawn = h .1 .redrawn; formed = well-kept c s (r .setup) (h .0) (h .1 .redrawn) }))
+    (λ h. inr (record {
+      number = λ z. not-zero (questionsOf c s) (h .0) (numbered c s) (h .1) (sym (ap (λ (x : Redrawing). x .number) (h .2)) ∙ z);
+      same = ap (λ (x : Redrawing). x .setup) (h .2);
+    }))
+    (asks-either (back s) (Done c s) (questionsOf c s) r a)
 
 -- ---- a call on a malformed setup
 
-pub refused-malformed : (c : Call) (s : Setup) (n : ℕ) (t : Setup) → CallOf c s n t → (WellFormed s → ⊥) → n ≡ 12
-refused-malformed (TakeIn v) s n t a m = a .malformed m .numbered
-refused-malformed (TakeOut v) s n t a m = a .malformed m .numbered
-refused-malformed (AddEdge f v c r) s n t a m = a .malformed m .numbered
-refused-malformed (RemoveEdge f v c) s n t a m = a .malformed m .numbered
+pub refused-malformed : (c : Call) (s : Setup) (r : Redrawing) → CallOf c s r → (WellFormed s → ⊥) → r ≡ back s 12
+refused-malformed (TakeIn v) s r a m = first-no (back s) (Done (TakeIn v) s) [] (asks12 s) _ r a tt m
+refused-malformed (TakeOut v) s r a m = first-no (back s) (Done (TakeOut v) s) [] (asks12 s) _ r a tt m
+refused-malformed (AddEdge f v c k) s r a m = first-no (back s) (Done (AddEdge f v c k) s) [] (asks12 s) _ r a tt m
+refused-malformed (RemoveEdge f v c) s r a m = first-no (back s) (Done (RemoveEdge f v c) s) [] (asks12 s) _ r a tt m

@@ -9,8 +9,9 @@ ghost use mathlib.Core.Path.{_≡_};
 ghost use Prim.Native.Nat.{_≤_};
 ghost use Rattle.vertex_set.specs.Set.{Decides};
 ghost use Rattle.setup.specs.Setup.{Edge, edgeCount};
+ghost use Rattle.questions.specs.Inner.{FirstNo};
 ghost use Rattle.living.specs.Calls.{TakeIn, TakeOut, AddEdge, RemoveEdge, CallOf};
-ghost use Rattle.living.specs.Inner.{LetGo, RowPlace, EdgePlace, WithHeld, Drawn, VertexAsked, PlaceAsked, RowsWithEdge, RowsWithoutEdge, RowsMarked, EdgeAdded, EdgeRemoved};
+ghost use Rattle.living.specs.Inner.{LetGo, RowPlace, EdgePlace, WithHeld, Drawn, placeQuestions, RowsWithEdge, RowsWithoutEdge, RowsMarked, EdgeAdded, EdgeRemoved};
 use setup::Graph;
 use setup::Rows;
 use setup::Setup;
@@ -64,26 +65,12 @@ fn hold(s: Setup, held: VertexSet, start: VertexSet) -> Redrawing
     Redrawing { number: 0, setup }
 }
 
-// Questions 12 and 13, where a vertex is named: the number of the first no, and 0 where there is none.
-// `formed` is the answer to question 12.
-fn ask_vertex(formed: bool, count: usize, v: usize) -> u64
-    ensures { λ r. ⌜ VertexAsked formed count v r ⌝ }
-{
-    if formed {
-        if count <= v {
-            return 13;
-        }
-        return 0;
-    }
-    12
-}
-
 // Takes a vertex into the held set. What is open stays open, so that the passes go on from there.
 pub fn take_in(s: Setup, v: usize) -> Redrawing
-    ensures { λ r. ⌜ CallOf (TakeIn v) s (r .number) (r .setup) ⌝ }
+    ensures { λ r. ⌜ CallOf (TakeIn v) s r ⌝ }
 {
     let formed = formed::well_formed(s);
-    let asked = ask_vertex(formed, s.count, v);
+    let asked = questions::ask_target(formed, s.count, v);
     if asked != 0 {
         return Redrawing {
             number: asked,
@@ -98,10 +85,10 @@ pub fn take_in(s: Setup, v: usize) -> Redrawing
 // Takes a vertex out of the held set. It may still be open, by what else is held: the passes start
 // from what is held.
 pub fn take_out(s: Setup, v: usize) -> Redrawing
-    ensures { λ r. ⌜ CallOf (TakeOut v) s (r .number) (r .setup) ⌝ }
+    ensures { λ r. ⌜ CallOf (TakeOut v) s r ⌝ }
 {
     let formed = formed::well_formed(s);
-    let asked = ask_vertex(formed, s.count, v);
+    let asked = questions::ask_target(formed, s.count, v);
     if asked != 0 {
         return Redrawing {
             number: asked,
@@ -115,21 +102,21 @@ pub fn take_out(s: Setup, v: usize) -> Redrawing
 // Questions 12, 13 of both ends, and 18, which come first where an edge is named: the number of the
 // first no, and 0 where there is none. `formed` is the answer to question 12.
 fn ask_place(formed: bool, count: usize, from: usize, to: usize, colour: usize) -> u64
-    ensures { λ r. ⌜ PlaceAsked formed count from to colour r ⌝ }
+    ensures { λ r. ⌜ FirstNo (placeQuestions formed count from to colour) r ⌝ }
 {
     if formed {
         if count <= from {
-            return 13;
+            return questions::NO_ITEM;
         }
         if count <= to {
-            return 13;
+            return questions::NO_ITEM;
         }
         if setup::MAX_COLOUR < colour {
-            return 18;
+            return questions::NO_COLOUR;
         }
         return 0;
     }
-    12
+    questions::NO_SETUP
 }
 
 // Accepts: the setup with these graphs. An edge more can shut what was open, and an edge less can open
@@ -215,7 +202,7 @@ fn erase_edge(s: Setup, from: usize, to: usize, colour: usize) -> Redrawing
 
 // Adds an edge. A yes for `rec` marks it as a recovery edge, which stands in both graphs.
 pub fn add_edge(s: Setup, from: usize, to: usize, colour: usize, rec: bool) -> Redrawing
-    ensures { λ r. ⌜ CallOf (AddEdge from to colour rec) s (r .number) (r .setup) ⌝ }
+    ensures { λ r. ⌜ CallOf (AddEdge from to colour rec) s r ⌝ }
 {
     let formed = formed::well_formed(s);
     let asked = ask_place(formed, s.count, from, to, colour);
@@ -228,13 +215,13 @@ pub fn add_edge(s: Setup, from: usize, to: usize, colour: usize, rec: bool) -> R
     let graph = s.graph;
     if has_edge(graph, from, to, colour) {
         return Redrawing {
-            number: 19,
+            number: questions::EDGE_THERE,
             setup: s,
         };
     }
     if setup::MAX_EDGES as u32 <= edge_count(graph) {
         return Redrawing {
-            number: 7,
+            number: questions::BOUND,
             setup: s,
         };
     }
@@ -243,7 +230,7 @@ pub fn add_edge(s: Setup, from: usize, to: usize, colour: usize, rec: bool) -> R
 
 // Removes an edge from both graphs, whatever its mark.
 pub fn remove_edge(s: Setup, from: usize, to: usize, colour: usize) -> Redrawing
-    ensures { λ r. ⌜ CallOf (RemoveEdge from to colour) s (r .number) (r .setup) ⌝ }
+    ensures { λ r. ⌜ CallOf (RemoveEdge from to colour) s r ⌝ }
 {
     let formed = formed::well_formed(s);
     let asked = ask_place(formed, s.count, from, to, colour);
@@ -258,7 +245,7 @@ pub fn remove_edge(s: Setup, from: usize, to: usize, colour: usize) -> Redrawing
         return erase_edge(s, from, to, colour);
     }
     Redrawing {
-        number: 20,
+        number: questions::NO_EDGE,
         setup: s,
     }
 }

@@ -1,0 +1,4 @@
+pub mod Asks
+pub mod Contract
+pub mod Questions
+pub mod Told

@@ -1,0 +1,5 @@
+pub mod Asks
+pub mod Contract
+pub mod Questions
+pub mod Told
+pub mod Inner

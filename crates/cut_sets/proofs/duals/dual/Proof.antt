@@ -1,10 +1,10 @@
--- `duals::dual` meets its contract. The invariant: the words before b are those of the dual.
+-- `cut_sets::duals::dual` meets its contract. The invariant: the words before b are those of the dual.
 -- Assumes nothing.
 use Prim.Native.Nat.{_-_, _≤_}
 use borrow.Author.Needs.{needs}
-use Rattle.duals.proofs.Turning.{DualBelow, dual-word, below-none, below-more, below-all}
-use Rattle.duals.proofs.dual.Statement.{statement}
-use Rattle.duals.proofs.dual.Tie as tie
+use Rattle.cut_sets.proofs.Turning.{DualBelow, dual-word, below-none, below-more, below-all}
+use Rattle.cut_sets.proofs.duals.dual.Statement.{statement}
+use Rattle.cut_sets.proofs.duals.dual.Tie as tie
 
 abbrev Inv-loop : tie.InvT-loop
 Inv-loop f out₀ b₀ out b = (b ≤ 256) × DualBelow f out b

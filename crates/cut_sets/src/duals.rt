@@ -4,7 +4,7 @@
 ghost use mathlib.Core.Path.{_≡_};
 ghost use lib.ListN.{length};
 ghost use Rattle.families.specs.Inner.Family.{familyWords};
-ghost use Rattle.duals.specs.Inner.{TurnedRound, Dual};
+ghost use Rattle.cut_sets.specs.Inner.{TurnedRound, Dual};
 use families::WORDS;
 
 // The lanes in the opposite order: neighbours change places, then pairs, and so on up to halves.
@@ -21,7 +21,7 @@ fn turn_round(x: u64) -> u64
 
 // The dual of the family f, written to out. The mask of all other bits stands as far from the end
 // as the mask from the beginning: in the word opposite, in the lane opposite.
-pub fn dual(f: &[u64], out: &mut [u64])
+pub(crate) fn dual(f: &[u64], out: &mut [u64])
     requires { ⌜ length (now f) ≡ familyWords ⌝ }
     requires { ⌜ length (now out) ≡ familyWords ⌝ }
     ensures { λ _. ⌜ Dual (now (f .entry)) (now (out .exit)) ⌝ }

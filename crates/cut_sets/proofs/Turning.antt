@@ -17,7 +17,7 @@ use Rattle.vertex_set.proofs.Sets.{member-or, not-member, in-and, in-or, in-not
 use Rattle.vertex_set.proofs.Shifts.{in-low, in-high, in-shifted, all, all-at}
 use Rattle.vertex_set.proofs.Filling.{fill-more}
 use Rattle.families.specs.Inner.Family.{In}
-use Rattle.duals.specs.Inner.{TurnedRound, DualWord, Dual}
+use Rattle.cut_sets.specs.Inner.{TurnedRound, DualWord, Dual}
 
 -- ---- one exchange of lanes
 

@@ -1,7 +1,7 @@
 // The portal's call for the kinds of intruder that get in, for C.
 ghost use mathlib.Core.List.{[], _∷_};
 ghost use Rattle.attackers.specs.Answers.{attackerNumber, attackerValues, AttackerCall};
-ghost use Rattle.portal_setup.specs.Words.{setupIn};
+ghost use Rattle.portal_words.specs.Words.{setupIn};
 ghost use Rattle.portal_results.specs.Inner.{InStruct};
 ghost use Rattle.portal_results.specs.Told.{Told};
 use attackers::AttackerAnswer;
@@ -29,7 +29,7 @@ fn tell_kinds(answer: AttackerAnswer) -> PortalKinds
 pub extern "C" fn portal_kinds(setup: &[u64], target: u64, kinds: &[u8]) -> PortalKinds
     ensures { λ r. ⌜ Told (AttackerCall (setupIn (now (setup .entry))) target (now (kinds .entry))) (r .number) (r .kinds ∷ []) ⌝ }
 {
-    let s = portal_setup::setup_in(setup);
+    let s = portal_words::setup_in(setup);
     let answer = attackers::attacker_score(s, target as usize, kinds);
     tell_kinds(answer)
 }

@@ -3,7 +3,7 @@ ghost use mathlib.Core.List.{[], _∷_};
 ghost use Rattle.vertex_set.specs.Set.{Decides};
 ghost use Rattle.multisets.specs.Multisets.{BagAtMost};
 ghost use Rattle.multiset_scores.specs.Answers.{multisetNumber, multisetValues, MultisetsCall};
-ghost use Rattle.portal_setup.specs.Words.{setupIn};
+ghost use Rattle.portal_words.specs.Words.{setupIn};
 ghost use Rattle.portal_results.specs.Inner.{InStruct};
 ghost use Rattle.portal_results.specs.Told.{Told};
 use multiset_scores::MultisetAnswer;
@@ -44,7 +44,7 @@ pub extern "C" fn portal_bag_score(
 ) -> PortalBagScore
     ensures { λ r. ⌜ Told (λ number answers. MultisetsCall (setupIn (now (setup .entry))) target number answers (now (values .entry)) (now (values .exit)) (now (lengths .entry)) (now (lengths .exit))) (r .number) (r .bags ∷ []) ⌝ }
 {
-    let s = portal_setup::setup_in(setup);
+    let s = portal_words::setup_in(setup);
     let answer = multiset_scores::multiset_score(s, target as usize, values, lengths);
     tell_bags(answer)
 }

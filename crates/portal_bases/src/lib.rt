@@ -2,7 +2,7 @@
 ghost use mathlib.Core.Bool.{true, false};
 ghost use mathlib.Core.List.{[], _∷_};
 ghost use Rattle.answers.specs.Answers.{BasesCall, ScoreCall};
-ghost use Rattle.portal_setup.specs.Words.{setupIn};
+ghost use Rattle.portal_words.specs.Words.{setupIn};
 ghost use Rattle.portal_results.specs.Told.{Told};
 use portal_results::PortalLists;
 use portal_results::PortalSetupRisk;
@@ -13,7 +13,7 @@ use portal_results::PortalSetupScore;
 pub extern "C" fn portal_lists(setup: &[u64], target: u64, sets: &mut [u64]) -> PortalLists
     ensures { λ r. ⌜ Told (λ number values. BasesCall (setupIn (now (setup .entry))) target number values (now (sets .entry)) (now (sets .exit))) (r .number) (r .openings ∷ r .lockouts ∷ []) ⌝ }
 {
-    let s = portal_setup::setup_in(setup);
+    let s = portal_words::setup_in(setup);
     let answer = answers::both_bases(s, target as usize, sets);
     portal_results::tell_lists(answer)
 }
@@ -23,7 +23,7 @@ pub extern "C" fn portal_lists(setup: &[u64], target: u64, sets: &mut [u64]) -> 
 pub extern "C" fn portal_setup_score(setup: &[u64], target: u64) -> PortalSetupScore
     ensures { λ r. ⌜ Told (ScoreCall false (setupIn (now (setup .entry))) target) (r .number) (r .score ∷ []) ⌝ }
 {
-    let s = portal_setup::setup_in(setup);
+    let s = portal_words::setup_in(setup);
     let answer = answers::security_score(s, target as usize);
     portal_results::tell_score(answer)
 }
@@ -33,7 +33,7 @@ pub extern "C" fn portal_setup_score(setup: &[u64], target: u64) -> PortalSetupS
 pub extern "C" fn portal_setup_risk(setup: &[u64], target: u64) -> PortalSetupRisk
     ensures { λ r. ⌜ Told (ScoreCall true (setupIn (now (setup .entry))) target) (r .number) (r .risk ∷ []) ⌝ }
 {
-    let s = portal_setup::setup_in(setup);
+    let s = portal_words::setup_in(setup);
     let answer = answers::recoverability_score(s, target as usize);
     portal_results::tell_risk(answer)
 }

@@ -2,7 +2,7 @@
 // way in.
 ghost use mathlib.Core.List.{[], _∷_};
 ghost use Rattle.access.specs.Answers.{ClosureCall, LostCall, WayCall};
-ghost use Rattle.portal_setup.specs.Words.{setupIn};
+ghost use Rattle.portal_words.specs.Words.{setupIn};
 ghost use Rattle.portal_results.specs.Told.{Told};
 ghost use Rattle.portal_closures.specs.Check.{CheckCall};
 use portal_results::PortalClosure;
@@ -15,7 +15,7 @@ use vertex_set::VertexSet;
 pub extern "C" fn portal_check(setup: &[u64]) -> u64
     ensures { λ r. ⌜ CheckCall (setupIn (now (setup .entry))) r ⌝ }
 {
-    let s = portal_setup::setup_in(setup);
+    let s = portal_words::setup_in(setup);
     if formed::well_formed(s) {
         return 0;
     }
@@ -27,7 +27,7 @@ pub extern "C" fn portal_check(setup: &[u64]) -> u64
 pub extern "C" fn portal_closure(setup: &[u64], set: u64) -> PortalClosure
     ensures { λ r. ⌜ Told (ClosureCall (setupIn (now (setup .entry))) set) (r .number) (r .set ∷ r .passes ∷ []) ⌝ }
 {
-    let s = portal_setup::setup_in(setup);
+    let s = portal_words::setup_in(setup);
     let answer = access::access_from(s, VertexSet(set));
     portal_results::tell_closure(answer)
 }
@@ -37,7 +37,7 @@ pub extern "C" fn portal_closure(setup: &[u64], set: u64) -> PortalClosure
 pub extern "C" fn portal_lost(setup: &[u64], set: u64) -> PortalSet
     ensures { λ r. ⌜ Told (LostCall (setupIn (now (setup .entry))) set) (r .number) (r .set ∷ []) ⌝ }
 {
-    let s = portal_setup::setup_in(setup);
+    let s = portal_words::setup_in(setup);
     let answer = access::lockout_from(s, VertexSet(set));
     portal_results::tell_set(answer)
 }
@@ -53,7 +53,7 @@ pub extern "C" fn portal_way_in(
 ) -> PortalWay
     ensures { λ r. ⌜ Told (λ number values. WayCall (setupIn (now (setup .entry))) target set number values (now (items .entry)) (now (items .exit)) (now (colours .entry)) (now (colours .exit))) (r .number) (r .opens ∷ r .steps ∷ []) ⌝ }
 {
-    let s = portal_setup::setup_in(setup);
+    let s = portal_words::setup_in(setup);
     let answer = access::access_derivation(s, target as usize, VertexSet(set), items, colours);
     portal_results::tell_way(answer)
 }

@@ -2,7 +2,7 @@
 // left.
 ghost use mathlib.Core.List.{[], _∷_};
 ghost use Rattle.cut_sets.specs.Answers.{cutsNumber, cutsValues, CutsCall};
-ghost use Rattle.portal_setup.specs.Words.{setupIn};
+ghost use Rattle.portal_words.specs.Words.{setupIn};
 ghost use Rattle.portal_results.specs.Inner.{InStruct};
 ghost use Rattle.portal_results.specs.Told.{Told};
 use cut_sets::CutsAnswer;
@@ -33,7 +33,7 @@ fn tell_cuts(answer: CutsAnswer) -> PortalCutSets
 pub extern "C" fn portal_cut_sets(setup: &[u64], target: u64, sets: &mut [u64]) -> PortalCutSets
     ensures { λ r. ⌜ Told (λ number values. CutsCall (setupIn (now (setup .entry))) target number values (now (sets .entry)) (now (sets .exit))) (r .number) (r .count ∷ []) ⌝ }
 {
-    let s = portal_setup::setup_in(setup);
+    let s = portal_words::setup_in(setup);
     let answer = cut_sets::smallest_cuts(s, target as usize, sets);
     tell_cuts(answer)
 }

@@ -1,7 +1,7 @@
 // The portal's findings on recovery and ranks, for C: 1 for yes, 0 for no.
 ghost use mathlib.Core.List.{[], _∷_};
 ghost use Rattle.findings.specs.Answers.{BackdoorCall, IneffectiveCall, InconsistentCall};
-ghost use Rattle.portal_setup.specs.Words.{setupIn};
+ghost use Rattle.portal_words.specs.Words.{setupIn};
 ghost use Rattle.portal_results.specs.Told.{Told};
 use portal_results::PortalFinding;
 
@@ -10,7 +10,7 @@ use portal_results::PortalFinding;
 pub extern "C" fn portal_backdoor(setup: &[u64], item: u64) -> PortalFinding
     ensures { λ r. ⌜ Told (BackdoorCall (setupIn (now (setup .entry))) item) (r .number) (r .yes ∷ []) ⌝ }
 {
-    let s = portal_setup::setup_in(setup);
+    let s = portal_words::setup_in(setup);
     let answer = findings::has_backdoor(s, item as usize);
     portal_results::tell_finding(answer)
 }
@@ -20,7 +20,7 @@ pub extern "C" fn portal_backdoor(setup: &[u64], item: u64) -> PortalFinding
 pub extern "C" fn portal_idle(setup: &[u64], item: u64) -> PortalFinding
     ensures { λ r. ⌜ Told (IneffectiveCall (setupIn (now (setup .entry))) item) (r .number) (r .yes ∷ []) ⌝ }
 {
-    let s = portal_setup::setup_in(setup);
+    let s = portal_words::setup_in(setup);
     let answer = findings::ineffective_recovery(s, item as usize);
     portal_results::tell_finding(answer)
 }
@@ -30,7 +30,7 @@ pub extern "C" fn portal_idle(setup: &[u64], item: u64) -> PortalFinding
 pub extern "C" fn portal_out_of_rank(setup: &[u64], above: u64, below: u64) -> PortalFinding
     ensures { λ r. ⌜ Told (InconsistentCall (setupIn (now (setup .entry))) above below) (r .number) (r .yes ∷ []) ⌝ }
 {
-    let s = portal_setup::setup_in(setup);
+    let s = portal_words::setup_in(setup);
     let answer = findings::inconsistent(s, above as usize, below as usize);
     portal_results::tell_finding(answer)
 }

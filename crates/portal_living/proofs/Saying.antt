@@ -16,9 +16,9 @@ use Rattle.living.proofs.Unique.{one-living-answer}
 use Rattle.vertex_set.proofs.Stable.{by-cases}
 use Rattle.living.proofs.Setups.{stable-setup}
 use Rattle.living.proofs.Kept.{step, refused-malformed}
-use Rattle.portal_setup.specs.Words.{setupWords, setupIn, wordsOf}
-use Rattle.portal_setup.specs.Inner.{WroteAll}
-use Rattle.portal_setup.proofs.Saying.{words-say}
+use Rattle.portal_words.specs.Words.{setupWords, setupIn, wordsOf}
+use Rattle.portal_words.specs.Inner.{WroteAll}
+use Rattle.portal_words.proofs.Saying.{words-say}
 use Rattle.portal_reading.proofs.Saying.{well-formed-said}
 use Rattle.portal_living.specs.Living.{PutBack, LivingCall, SaysRedrawn, OneLivingResult}
 

@@ -6,7 +6,7 @@ use lib.ListN.{length}
 use Rattle.setup.specs.declared.Setup.{Setup}
 use Rattle.setup.specs.Calls.{written}
 use Rattle.living.specs.Calls.{Call, CallOf}
-use Rattle.portal_setup.specs.Words.{setupWords, setupIn, wordsOf}
+use Rattle.portal_words.specs.Words.{setupWords, setupIn, wordsOf}
 
 -- The call answers n and the setup t. A refusal leaves every word; so does 15, which is asked last: the buffer has fewer words than a setup. Else
 -- the words that say t stand in the first places, and the words behind them are unchanged.

@@ -4,7 +4,7 @@ ghost use lib.Dec.{eqb};
 ghost use Rattle.living.specs.Calls.{TakeIn, TakeOut, AddEdge, RemoveEdge};
 ghost use Rattle.portal_living.specs.Living.{PutBack, LivingCall};
 use living::Redrawing;
-use portal_setup::SETUP_WORDS;
+use portal_words::SETUP_WORDS;
 
 // Puts the setup back into its buffer where the call was accepted. The call's own questions come
 // before question 15, which asks for the buffer's room.
@@ -19,7 +19,7 @@ fn put_back(redrawing: Redrawing, setup: &mut [u64]) -> u64
         return 15;
     }
     let s = redrawing.setup;
-    portal_setup::put_setup(s, setup, 0);
+    portal_words::put_setup(s, setup, 0);
     0
 }
 
@@ -28,7 +28,7 @@ fn put_back(redrawing: Redrawing, setup: &mut [u64]) -> u64
 pub extern "C" fn portal_take_in(setup: &mut [u64], item: u64) -> u64
     ensures { λ r. ⌜ LivingCall (TakeIn item) r (now (setup .entry)) (now (setup .exit)) ⌝ }
 {
-    let s = portal_setup::setup_in(setup);
+    let s = portal_words::setup_in(setup);
     let redrawing = living::take_in(s, item as usize);
     put_back(redrawing, setup)
 }
@@ -38,7 +38,7 @@ pub extern "C" fn portal_take_in(setup: &mut [u64], item: u64) -> u64
 pub extern "C" fn portal_take_out(setup: &mut [u64], item: u64) -> u64
     ensures { λ r. ⌜ LivingCall (TakeOut item) r (now (setup .entry)) (now (setup .exit)) ⌝ }
 {
-    let s = portal_setup::setup_in(setup);
+    let s = portal_words::setup_in(setup);
     let redrawing = living::take_out(s, item as usize);
     put_back(redrawing, setup)
 }
@@ -54,7 +54,7 @@ pub extern "C" fn portal_add_edge(
 ) -> u64
     ensures { λ r. ⌜ LivingCall (AddEdge from to colour (not (eqb recovery 0))) r (now (setup .entry)) (now (setup .exit)) ⌝ }
 {
-    let s = portal_setup::setup_in(setup);
+    let s = portal_words::setup_in(setup);
     let redrawing = living::add_edge(
         s,
         from as usize,
@@ -70,7 +70,7 @@ pub extern "C" fn portal_add_edge(
 pub extern "C" fn portal_remove_edge(setup: &mut [u64], from: u64, to: u64, colour: u64) -> u64
     ensures { λ r. ⌜ LivingCall (RemoveEdge from to colour) r (now (setup .entry)) (now (setup .exit)) ⌝ }
 {
-    let s = portal_setup::setup_in(setup);
+    let s = portal_words::setup_in(setup);
     let redrawing = living::remove_edge(s, from as usize, to as usize, colour as usize);
     put_back(redrawing, setup)
 }

@@ -1,7 +1,7 @@
 // The portal's call for the next opening set, for C: an opening list shown one set at a time.
 ghost use mathlib.Core.List.{[], _∷_};
 ghost use Rattle.next_sets.specs.Answers.{nextNumber, nextValues, NextCall};
-ghost use Rattle.portal_setup.specs.Words.{setupIn};
+ghost use Rattle.portal_words.specs.Words.{setupIn};
 ghost use Rattle.portal_results.specs.Inner.{InStruct};
 ghost use Rattle.portal_results.specs.Told.{Told};
 use next_sets::NextAnswer;
@@ -41,7 +41,7 @@ fn tell_next(answer: NextAnswer) -> PortalNextOpening
 pub extern "C" fn portal_next_opening(setup: &[u64], target: u64, last: u64) -> PortalNextOpening
     ensures { λ r. ⌜ Told (NextCall (setupIn (now (setup .entry))) target last) (r .number) (r .more ∷ r .set ∷ []) ⌝ }
 {
-    let s = portal_setup::setup_in(setup);
+    let s = portal_words::setup_in(setup);
     let answer = next_sets::next_access_set(s, target as usize, VertexSet(last));
     tell_next(answer)
 }

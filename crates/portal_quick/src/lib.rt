@@ -1,7 +1,7 @@
 // The portal's call for a quick yes, for C: does a set open an item?
 ghost use mathlib.Core.List.{[], _∷_};
 ghost use Rattle.quick_yes.specs.Answers.{quickNumber, quickValues, QuickCall};
-ghost use Rattle.portal_setup.specs.Words.{setupIn};
+ghost use Rattle.portal_words.specs.Words.{setupIn};
 ghost use Rattle.portal_results.specs.Inner.{InStruct};
 ghost use Rattle.portal_results.specs.Told.{Told};
 use quick_yes::QuickAnswer;
@@ -41,7 +41,7 @@ fn tell_quick(answer: QuickAnswer) -> PortalQuick
 pub extern "C" fn portal_opens(setup: &[u64], target: u64, set: u64) -> PortalQuick
     ensures { λ r. ⌜ Told (QuickCall (setupIn (now (setup .entry))) target set) (r .number) (r .opens ∷ r .set ∷ []) ⌝ }
 {
-    let s = portal_setup::setup_in(setup);
+    let s = portal_words::setup_in(setup);
     let answer = quick_yes::opens(s, target as usize, VertexSet(set));
     tell_quick(answer)
 }

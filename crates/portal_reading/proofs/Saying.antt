@@ -19,8 +19,8 @@ use Rattle.sheet_format.specs.Rows.{setupOf}
 use Rattle.sheet_format.specs.Read.{noRows, readSheet}
 use Rattle.sheet_format.proofs.Meaning.{empty-setup, accepted-or-refused}
 use Rattle.sheet_format.proofs.Question12.{yielded-formed}
-use Rattle.portal_setup.specs.Words.{wordsOf}
-use Rattle.portal_setup.proofs.Saying.{Said, Sayable, words-say}
+use Rattle.portal_words.specs.Words.{wordsOf}
+use Rattle.portal_words.proofs.Saying.{Said, Sayable, words-say}
 use Rattle.portal_reading.specs.Reading.{SaysSetup}
 
 said : (x : Value) → InRange x → Said x

@@ -14,8 +14,8 @@ use Rattle.sheet_format.specs.Names.{hasItem, nameStart}
 use Rattle.sheet_names.specs.declared.Span.{Span}
 use Rattle.sheet_names.specs.Inner.Span.{spanOf}
 use Rattle.sheet.proofs.Names.{refused-none, beyond-none, item-there, name-none, start-none, row-there, span-order, span-inside, span-name, span-start}
-use Rattle.portal_setup.specs.Words.{setupWords, wordsOf}
-use Rattle.portal_setup.specs.Inner.{WroteAll}
+use Rattle.portal_words.specs.Words.{setupWords, wordsOf}
+use Rattle.portal_words.specs.Inner.{WroteAll}
 use Rattle.portal_reading.specs.Reading.{ReadingCall, NameCall}
 
 module _ (text : List ℕ) (r : Reading) (q : r ≡ readSheet text) where

@@ -6,7 +6,7 @@ use lib.ListN.{length, take, drop}
 use Rattle.sheet_format.specs.Read.{readSheet}
 use Rattle.sheet_format.specs.Names.{nameOf, nameStart}
 use Rattle.setup.specs.Calls.{written}
-use Rattle.portal_setup.specs.Words.{setupWords, setupIn, wordsOf}
+use Rattle.portal_words.specs.Words.{setupWords, setupIn, wordsOf}
 
 -- 30100 for version 3.1.0 of the calls, two digits for each of the last two parts.
 abbrev pub version : ℕ

@@ -4,7 +4,7 @@ ghost use mathlib.Core.Path.{_≡_};
 ghost use Rattle.portal_reading.specs.Reading.{version, ReadingCall, NameCall};
 use portal_results::PortalPart;
 use portal_results::PortalReading;
-use portal_setup::SETUP_WORDS;
+use portal_words::SETUP_WORDS;
 
 // Version 3.1.0.
 const VERSION: u64 = 30100;
@@ -33,7 +33,7 @@ pub extern "C" fn portal_read(sheet: &[u8], setup: &mut [u64]) -> PortalReading
         return PortalReading { number, line };
     }
     let s = reading.setup;
-    portal_setup::put_setup(s, setup, 0);
+    portal_words::put_setup(s, setup, 0);
     PortalReading { number, line }
 }
 

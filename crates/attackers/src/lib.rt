@@ -1,11 +1,13 @@
 // Who could get in (document 02, point 1; document 003: attackers). Of six kinds of attacker, the
 // lowest whose initial vertices open a target. No base is listed for it: at most four searches tell.
 ghost use mathlib.Core.Path.{_≡_};
+ghost use mathlib.Core.List.{[]};
 ghost use lib.ListN.{getD};
 ghost use Rattle.vertex_set.specs.Set.{Member, Decides};
 ghost use Rattle.derivations.specs.Access.{HasAccess};
 ghost use Rattle.successors.specs.Inner.{Successors};
-ghost use Rattle.attackers.specs.Answers.{attackerNumber, attackerValues, AttackerCall};
+ghost use Rattle.questions.specs.Contract.{ends, Fulfils};
+ghost use Rattle.attackers.specs.Answers.{attackerReply, attackerCall};
 ghost use Rattle.attackers.specs.Inner.{BothAtMost, BothWeaker, FitOver, HeldBy, Settles, KindSettled, SomeWeaker, LowestKinds, LowestOpen};
 use setup::Graph;
 use setup::Setup;
@@ -209,22 +211,21 @@ fn lowest_kinds(graph: Graph, kinds: &[u8], initial: VertexSet, target: usize) -
 // The target's score by kinds of attacker. `kinds` has one for each vertex; those of initial vertices
 // alone are read.
 pub fn attacker_score(s: Setup, target: usize, kinds: &[u8]) -> AttackerAnswer
-    ensures { λ r. ⌜ AttackerCall s target (now (kinds .entry)) (attackerNumber r) (attackerValues r) ⌝ }
+    ensures { λ r. ⌜ Fulfils (attackerCall s target (now (kinds .entry))) (ends (attackerReply r) []) ⌝ }
 {
-    if formed::well_formed(s) {
-        if s.count <= target {
-            return AttackerAnswer::Refused(13);
-        }
-        if kinds.len() != s.count {
-            return AttackerAnswer::Refused(16);
-        }
-        let initial = setup::chosen(s, false);
-        if entries_fit(kinds, initial) {
-            let graph = s.graph;
-            let score = lowest_kinds(graph, kinds, initial, target);
-            return AttackerAnswer::Attackers(score.0);
-        }
-        return AttackerAnswer::Refused(17);
+    let formed = formed::well_formed(s);
+    let asked = questions::ask_target(formed, s.count, target);
+    if asked != 0 {
+        return AttackerAnswer::Refused(asked);
     }
-    AttackerAnswer::Refused(12)
+    if kinds.len() != s.count {
+        return AttackerAnswer::Refused(questions::KINDS_LENGTH);
+    }
+    let initial = setup::chosen(s, false);
+    if entries_fit(kinds, initial) {
+        let graph = s.graph;
+        let score = lowest_kinds(graph, kinds, initial, target);
+        return AttackerAnswer::Attackers(score.0);
+    }
+    AttackerAnswer::Refused(questions::NO_KIND)
 }

@@ -10,10 +10,10 @@ use lib.Count.{ones}
 use lib.ListN.{length, length-map, getD}
 use Rattle.vertex_set.specs.Set.{Within}
 use Rattle.vertex_set.specs.Order.{Listed, Once, Before}
-use Rattle.vertex_set.proofs.Cases.{less-or, same-or}
+use Rattle.vertex_set.proofs.Cases.{same-or}
 use Rattle.vertex_set.proofs.Digits.{below-own-power}
 use Rattle.vertex_set.proofs.Lists.{once-le, once-map, ordered-once}
-use Rattle.vertex_set.proofs.Sets.{member-or, same-set}
+use Rattle.vertex_set.proofs.Sets.{same-set}
 use Rattle.vertex_set.proofs.Sorted.{listed-of-map}
 use Rattle.setup.specs.declared.Graph.{Graph}
 use Rattle.setup.specs.declared.Vertex.{Vertex}
@@ -22,34 +22,21 @@ use Rattle.setup.specs.Setup.{given, valueOf, unusedVertex, Chosen}
 use Rattle.families.specs.Inner.Masks.{Picked}
 use Rattle.families.proofs.Masks.{gather, gather-lt, in-gather}
 use Rattle.bases.specs.Base.{Derives, MinimalSet}
-use Rattle.next_sets.specs.Next.{OfInitial, NextSet}
-use Rattle.next_sets.specs.Answers.{Shows, Ends, NextCall}
-use Rattle.next_sets.specs.Walks.{Shown, KeepInitial, ShownRise, ShownEnd, DrawingAlone}
-use Rattle.next_sets.proofs.Order.{before-trans, before-stable}
-use Rattle.next_sets.proofs.Walks.{told-set}
+use Rattle.next_sets.specs.Next.{OfInitial}
+use Rattle.questions.proofs.Contract.{fulfils-alike}
+use Rattle.next_sets.specs.Answers.{Next, Shown, End, IsNext}
+use Rattle.next_sets.specs.Walks.{Showing, KeepInitial, ShownRise, ShownEnd, DrawingAlone}
+use Rattle.next_sets.proofs.Order.{before-trans}
+use Rattle.next_sets.proofs.Walks.{told-right}
 
 -- ---- what is shown rises
-
--- a set that was shown is the next one, for all that can be told without deciding question 12
-shown-next : (s : Setup) (target last x : ℕ) → NextCall s target last 0 (1 ∷ x ∷ []) → (NextSet s target last x → ⊥) → ⊥
-shown-next s target last x c not =
-    number 12 (c .malformed (λ w. ⊎-elim
-    (λ l. number 21 (c .stranger w l (λ i. not (told-set s target last x 0 (c .answers w l i))) .numbered) (omega arith))
-    (λ l. number 13 (c .noTarget w l .numbered) (omega arith))
-    (less-or target (s .count))) .numbered) (omega arith)
-  where
-    number : (q : ℕ) → 0 ≡ q → 0 < q → ⊥
-    number q e l = omega arith
-
-shown-before : (s : Setup) (target last x : ℕ) → NextCall s target last 0 (1 ∷ x ∷ []) → Before last x
-shown-before s target last x c = before-stable last x (λ not. shown-next s target last x c (λ n. not (n .after)))
 
 pub shown-rise : ShownRise
 shown-rise target last [] [] h = (λ y i. absurd i, tt)
 shown-rise target last [] (x ∷ l) h = absurd h
 shown-rise target last (s ∷ moments) [] h = absurd h
 shown-rise target last (s ∷ moments) (x ∷ l) h =
-    let b = shown-before s target last x (h .0) in
+    let b = told-right s target last (Shown x) (h .0) .after in
     let r = shown-rise target x moments l (h .1) in
     (λ y i. ⊎-elim (λ e. subst (Before last) (sym e) b) (λ k. before-trans last x y b (r .0 y k)) i, r)
 
@@ -87,7 +74,7 @@ module _ (c : ℕ) where
       let b = length-numbers (2 ^ ones c) in
       omega arith
 
-shown-within : (target last initial : ℕ) (moments : List Setup) (l : List ℕ) → KeepInitial initial moments → Shown target last moments l
+shown-within : (target last initial : ℕ) (moments : List Setup) (l : List ℕ) → KeepInitial initial moments → Showing target last moments l
     → (x : ℕ) → Listed l x → Within x initial
 shown-within target last initial [] [] k h x i = absurd i
 shown-within target last initial [] (y ∷ l) k h x i = absurd h
@@ -96,12 +83,7 @@ shown-within target last initial (s ∷ moments) (y ∷ l) k h x i =
     ⊎-elim (λ e. subst (λ (z : ℕ). Within z initial) (sym e) here) (shown-within target y initial moments l (k .1) (h .1) x) i
   where
     here : Within y initial
-    here =
-        record {
-          each = λ v m. ⊎-elim (λ o. o)
-              (λ o. absurd (shown-next s target last y (h .0) (λ n. o (k .0 .each v .from (n .is .is .chosen v m)))))
-              (member-or initial v);
-        }
+    here = record { each = λ v m. k .0 .each v .from (told-right s target last (Shown y) (h .0) .is .is .chosen v m) }
 
 pub shown-end : ShownEnd
 shown-end target last initial moments l k h =
@@ -123,28 +105,15 @@ module _ (s t : Setup) (target : ℕ) (vs : s .vertices ≡ t .vertices) (g : s 
         minimal = λ y p d. m .minimal y p (subst (λ (h : Graph). Derives false h target y) (sym g) d);
       }
 
-module _ (s t : Setup) (target last n : ℕ) (v : List ℕ) (vs : s .vertices ≡ t .vertices) (g : s .graph ≡ t .graph) where
-  back : (y : ℕ) → MinimalSet false t (t .graph) target y → MinimalSet false s (s .graph) target y
-  back = minimal-too t s target (sym vs) (sym g)
-
-  shows-too : Shows s target last n v → Shows t target last n v
-  shows-too p =
-      record {
-        set = p .set;
-        isNext = record { is = minimal-too s t target vs g (p .set) (p .isNext .is); after = p .isNext .after; first = λ y m b. p .isNext .first y (back y m) b };
-        numbered = p .numbered;
-        told = p .told;
-      }
-
-  ends-too : Ends s target last n v → Ends t target last n v
-  ends-too p = record { isLast = record { none = λ y m b. p .isLast .none y (back y m) b }; numbered = p .numbered; told = p .told }
+next-too : (s t : Setup) (target last : ℕ) → s .vertices ≡ t .vertices → s .graph ≡ t .graph → (a : Next) → IsNext s target last a → IsNext t target last a
+next-too s t target last vs g (Shown x) n =
+    record { is = minimal-too s t target vs g x (n .is); after = n .after; first = λ y m b. n .first y (minimal-too t s target (sym vs) (sym g) y m) b }
+next-too s t target last vs g End n = record { none = λ y m b. n .none y (minimal-too t s target (sym vs) (sym g) y m) b }
 
 pub drawing-alone : DrawingAlone
-drawing-alone s t target last n v w u c vs g a =
-    record {
-      malformed = λ m. absurd (m u);
-      noTarget = λ z l. a .noTarget w (omega arith);
-      stranger = λ z l o. a .stranger w (omega arith) (λ i. o (initial-too s t target vs g last i));
-      answers = λ z l i. ⊎-elim (λ p. inl (shows-too s t target last n v vs g p)) (λ p. inr (ends-too s t target last n v vs g p))
-          (a .answers w (omega arith) (initial-too t s target (sym vs) (sym g) last i));
-    }
+drawing-alone s t target last o w u c vs g f =
+    fulfils-alike _ _ _ _ _ _ _ _ _ (
+      refl,
+      record { to = λ k. u; from = λ k. w },
+      (refl, record { to = λ l. omega arith; from = λ l. omega arith }, (refl, record { to = initial-too s t target vs g last; from = initial-too t s target (sym vs) (sym g) last }, tt)),
+    ) (next-too s t target last vs g) (λ a. refl) o f

@@ -19,8 +19,10 @@ use Rattle.family_lists.proofs.SetLists.{setsOf, list-of}
 use Rattle.family_steps.specs.Inner.{NextMember}
 use Rattle.bases.specs.Base.{MinimalSet}
 use Rattle.bases.specs.Inner.Readers.{BaseFamily}
+use Rattle.questions.specs.Contract.{gives, ends, Answers}
+use Rattle.questions.proofs.Contract.{given}
 use Rattle.next_sets.specs.Next.{NextSet, NoMore}
-use Rattle.next_sets.specs.Inner.{Found}
+use Rattle.next_sets.specs.Answers.{Shown, End, nextCall}
 use Rattle.next_sets.proofs.Order.{before-or}
 
 -- sets in order have masks in order
@@ -70,8 +72,8 @@ module _ (s : Setup) (target chosen last k r n : ℕ) (g : List ℕ) (fits : cho
         none = λ y h a. let q = set-member y h in let f = next .first (q .0) (q .1) (q .2) (member-after (q .0) y (q .1) (q .2) (q .3) a) .0 in omega arith;
       }
 
-  pub found-set : (x : ℕ) → r < masks → SetOfMask chosen r x → Found s target last 0 (1 ∷ x ∷ [])
-  found-set x l p = record { either = inl (record { set = x; isNext = next-set x l p; numbered = refl; told = refl }) }
+  pub found-set : (x : ℕ) → r < masks → SetOfMask chosen r x → Answers (nextCall s target last) (ends (gives (1 ∷ x ∷ [])) [])
+  found-set x l p = given (nextCall s target last) (Shown x) (next-set x l p) tt _ refl
 
-  pub found-none : masks ≤ r → Found s target last 0 (0 ∷ [])
-  found-none l = record { either = inr (record { isLast = no-more l; numbered = refl; told = refl }) }
+  pub found-none : masks ≤ r → Answers (nextCall s target last) (ends (gives (0 ∷ [])) [])
+  found-none l = given (nextCall s target last) End (no-more l) tt _ refl

@@ -1,4 +1,4 @@
--- The order of sets is total, and a set that opens a target comes after the empty set.
+-- The order of sets is total, a set that opens a target comes after the empty set, and question 21.
 -- Assumes nothing.
 use mathlib.Core.Path.{_≡_, sym, subst}
 use mathlib.Core.Bool.{false}
@@ -6,15 +6,16 @@ use mathlib.Core.Logic.{_⊎_, inl, inr, ⊎-elim}
 use Prim.Native.Nat.{ℕ}
 use native.Mathlib.Omega.{arith}
 use lib.Count.{ones}
-use Rattle.vertex_set.specs.Set.{Member}
+use Rattle.vertex_set.specs.Set.{Member, Within}
 use Rattle.vertex_set.specs.Order.{Before}
 use Rattle.vertex_set.proofs.Cases.{same-or, less-or}
 use Rattle.vertex_set.proofs.Sets.{none-in-zero}
-use Rattle.vertex_set.proofs.Sorted.{not-before-self, before-one-way}
+use Rattle.vertex_set.proofs.Sorted.{before-one-way}
 use Rattle.setup.specs.declared.Setup.{Setup}
+use Rattle.setup.specs.Setup.{ChosenSet}
 use Rattle.derivations.proofs.Closures.{nothing-opens}
 use Rattle.bases.specs.Base.{MinimalSet}
-use Rattle.next_sets.specs.Next.{NextSet}
+use Rattle.next_sets.specs.Next.{OfInitial, NextSet}
 
 pub before-trans : (x y z : ℕ) → Before x y → Before y z → Before x z
 unfolding Before
@@ -32,13 +33,6 @@ before-or x y =
     (λ d. inr (inr (inl (omega (arith, d)))))
     (same-or (ones x) (ones y)))
     (less-or (ones x) (ones y))
-
--- what cannot fail to come before does
-pub before-stable : (x y : ℕ) → ((Before x y → ⊥) → ⊥) → Before x y
-before-stable x y n =
-    ⊎-elim (λ b. b)
-    (⊎-elim (λ e. absurd (n (λ b. not-before-self y (subst (λ (z : ℕ). Before z y) e b)))) (λ k. absurd (n (λ b. before-one-way x y b k))))
-    (before-or x y)
 
 -- there is one next set
 pub next-unique : (s : Setup) (target last x y : ℕ) → NextSet s target last x → NextSet s target last y → x ≡ y
@@ -60,3 +54,13 @@ after-empty s target x m =
     (λ e. absurd (nothing-opens (s .graph) (Member x) (λ i k. none-in-zero i (subst (λ (z : ℕ). Member z i) e k)) target (m .is .derives)))
     (λ n. ⊎-elim (λ b. b) (⊎-elim (λ e. absurd (n (sym e))) (λ b. absurd (none-before-empty x b))) (before-or 0 x))
     (same-or x 0)
+
+-- ---- question 21
+
+-- a set has initial vertices alone exactly where it is within the set of these
+module _ (s : Setup) (last initial : ℕ) (c : ChosenSet false s initial) where
+  pub of-initial : Within last initial → OfInitial s last
+  of-initial w = record { each = λ v m. c .each v .to (w .each v m) }
+
+  pub within-initial : OfInitial s last → Within last initial
+  within-initial i = record { each = λ v m. c .each v .from (i .each v m) }

@@ -3,7 +3,7 @@
 use mathlib.Core.Path.{_≡_, refl, sym, ap, subst}
 use mathlib.Core.Bool.{false}
 use mathlib.Core.List.{List, [], _∷_}
-use mathlib.Core.Logic.{_⊎_, inl, inr, ⊎-elim}
+use mathlib.Core.Logic.{inl, inr, ⊎-elim}
 use Prim.Native.Nat.{ℕ, _<_}
 use native.Mathlib.Omega.{arith}
 use lib.ListN.{getD}
@@ -14,22 +14,26 @@ use Rattle.setup.specs.declared.Setup.{Setup}
 use Rattle.formed.specs.WellFormed.{WellFormed}
 use Rattle.bases.specs.Base.{MinimalSet, Base}
 use Rattle.next_sets.specs.Next.{OfInitial, NextSet, NoMore}
-use Rattle.next_sets.specs.Answers.{Shows, Ends}
-use Rattle.next_sets.specs.Walks.{Walk, WholeWalk}
+use Rattle.questions.specs.Contract.{Outcome}
+use Rattle.questions.proofs.Contract.{answer-of, fulfilled, given}
+use Rattle.next_sets.specs.Answers.{Next, Shown, End, IsNext, nextValues, nextCall}
+use Rattle.next_sets.specs.Walks.{Tells, Walk, WholeWalk}
 use Rattle.next_sets.proofs.Order.{before-trans, after-empty}
-use Rattle.next_sets.proofs.Calls.{next-answers}
 
 -- ---- what the values tell
 
-pub told-set : (s : Setup) (target last x number : ℕ) → Shows s target last number (1 ∷ x ∷ []) ⊎ Ends s target last number (1 ∷ x ∷ []) → NextSet s target last x
-told-set s target last x number =
-    ⊎-elim
-    (λ p. subst (NextSet s target last) (sym (ap (λ (l : List ℕ). getD l 1 0) (p .told))) (p .isNext))
-    (λ p. absurd (let e : 1 ≡ 0 = ap (λ (l : List ℕ). getD l 0 0) (p .told) in omega arith))
+-- the values of a right answer tell which it is
+told-next : (s : Setup) (target last : ℕ) (a b : Next) → nextValues a ≡ nextValues b → IsNext s target last b → IsNext s target last a
+told-next s target last (Shown x) (Shown y) e n = subst (NextSet s target last) (sym (ap (λ (l : List ℕ). getD l 1 0) e)) n
+told-next s target last (Shown x) End e n = absurd (let d : 1 ≡ 0 = ap (λ (l : List ℕ). getD l 0 0) e in omega arith)
+told-next s target last End (Shown y) e n = absurd (let d : 0 ≡ 1 = ap (λ (l : List ℕ). getD l 0 0) e in omega arith)
+told-next s target last End End e n = n
 
-told-none : (s : Setup) (target last number : ℕ) → Shows s target last number (0 ∷ []) ⊎ Ends s target last number (0 ∷ []) → NoMore s target last
-told-none s target last number =
-    ⊎-elim (λ p. absurd (let e : 0 ≡ 1 = ap (λ (l : List ℕ). getD l 0 0) (p .told) in omega arith)) (λ p. p .isLast)
+-- what a call tells is right
+pub told-right : (s : Setup) (target last : ℕ) (a : Next) → Tells s target last a → IsNext s target last a
+told-right s target last a f =
+    let h = answer-of (nextCall s target last) refl _ refl f in
+    told-next s target last a (h .0) (ap (λ (o : Outcome). o .reply .values) (h .3)) (h .1)
 
 -- ---- sets shown one after the other
 
@@ -82,18 +86,16 @@ module _ (s : Setup) (target : ℕ) where
     shown-initial : (last x : ℕ) → NextSet s target last x → OfInitial s x
     shown-initial last x n = record { each = λ v m. n .is .is .chosen v m }
 
-    walk-listing : (last : ℕ) (l : List ℕ) → OfInitial s last → Walk s target last l → Listing last l
-    walk-listing last [] i c = told-none s target last 0 (c .answers w h i)
-    walk-listing last (x ∷ l) i c =
-        let n = told-set s target last x 0 (c .0 .answers w h i) in
-        (n, walk-listing x l (shown-initial last x n) (c .1))
+    tells : (last : ℕ) (a : Next) → OfInitial s last → IsNext s target last a → Tells s target last a
+    tells last a i n = fulfilled (nextCall s target last) _ (w, (h, (i, tt))) (given (nextCall s target last) a n tt _ refl)
+
+    walk-listing : (last : ℕ) (l : List ℕ) → Walk s target last l → Listing last l
+    walk-listing last [] c = told-right s target last End c
+    walk-listing last (x ∷ l) c = (told-right s target last (Shown x) (c .0), walk-listing x l (c .1))
 
     listing-walk : (last : ℕ) (l : List ℕ) → OfInitial s last → Listing last l → Walk s target last l
-    listing-walk last [] i n = next-answers s target last w h i 0 (0 ∷ []) (record { either = inr (record { isLast = n; numbered = refl; told = refl }) })
-    listing-walk last (x ∷ l) i n = (
-      next-answers s target last w h i 0 (1 ∷ x ∷ []) (record { either = inl (record { set = x; isNext = n .0; numbered = refl; told = refl }) }),
-      listing-walk x l (shown-initial last x (n .0)) (n .1),
-    )
+    listing-walk last [] i n = tells last End i n
+    listing-walk last (x ∷ l) i n = (tells last (Shown x) i (n .0), listing-walk x l (shown-initial last x (n .0)) (n .1))
 
     empty-initial : OfInitial s 0
     empty-initial = record { each = λ v m. absurd (none-in-zero v m) }
@@ -101,6 +103,6 @@ module _ (s : Setup) (target : ℕ) where
 pub whole-walk : WholeWalk
 whole-walk s target w h l =
     record {
-      to = λ c. listing-base s target l (walk-listing s target w h 0 l (empty-initial s target w h) c);
+      to = λ c. listing-base s target l (walk-listing s target w h 0 l c);
       from = λ b. listing-walk s target w h 0 l (empty-initial s target w h) (base-listing s target l b);
     }

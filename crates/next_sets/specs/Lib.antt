@@ -1,4 +1,3 @@
 pub mod Next
 pub mod Answers
 pub mod Walks
-pub mod Inner

@@ -11,19 +11,24 @@ use Rattle.setup.specs.declared.Setup.{Setup}
 use Rattle.setup.specs.Setup.{ChosenSet}
 use Rattle.formed.specs.WellFormed.{WellFormed}
 use Rattle.bases.specs.Base.{Base}
-use Rattle.next_sets.specs.Answers.{NextCall}
+use Rattle.questions.specs.Contract.{Outcome, gives, ends, Fulfils}
+use Rattle.next_sets.specs.Answers.{Next, Shown, End, nextValues, nextCall}
+
+-- A call on this setup answers with the next set, or with "no more".
+abbrev pub Tells : Setup → ℕ → ℕ → Next → Type 0
+Tells s target last a = Fulfils (nextCall s target last) (ends (gives (nextValues a)) [])
 
 -- Calls on one setup show the sets of the list one by one, from the one after `last` on, and then tell "no more".
 abbrev pub Walk : Setup → ℕ → ℕ → List ℕ → Type 0
-Walk s target last [] = NextCall s target last 0 (0 ∷ [])
-Walk s target last (x ∷ l) = NextCall s target last 0 (1 ∷ x ∷ []) × Walk s target x l
+Walk s target last [] = Tells s target last End
+Walk s target last (x ∷ l) = Tells s target last (Shown x) × Walk s target x l
 
 -- Calls show the sets of the list one by one, each on the setup of that moment.
-abbrev pub Shown : ℕ → ℕ → List Setup → List ℕ → Type 0
-Shown target last [] [] = Unit {0}
-Shown target last [] (x ∷ l) = ⊥
-Shown target last (s ∷ moments) [] = ⊥
-Shown target last (s ∷ moments) (x ∷ l) = NextCall s target last 0 (1 ∷ x ∷ []) × Shown target x moments l
+abbrev pub Showing : ℕ → ℕ → List Setup → List ℕ → Type 0
+Showing target last [] [] = Unit {0}
+Showing target last [] (x ∷ l) = ⊥
+Showing target last (s ∷ moments) [] = ⊥
+Showing target last (s ∷ moments) (x ∷ l) = Tells s target last (Shown x) × Showing target x moments l
 
 -- The set of the initial vertices is the same in all these setups.
 abbrev pub KeepInitial : ℕ → List Setup → Type 0
@@ -38,13 +43,13 @@ WholeWalk = (s : Setup) (target : ℕ) → WellFormed s → target < s .count �
 
 -- Whatever changes in between, the sets shown rise in the base's order from the last set on, so that nothing is shown twice.
 abbrev pub ShownRise : Type 0
-ShownRise = (target last : ℕ) (moments : List Setup) (l : List ℕ) → Shown target last moments l → Ordered (last ∷ l)
+ShownRise = (target last : ℕ) (moments : List Setup) (l : List ℕ) → Showing target last moments l → Ordered (last ∷ l)
 
 -- And every walk ends: as long as the initial vertices stay the same, no more sets are shown than they have subsets.
 abbrev pub ShownEnd : Type 0
-ShownEnd = (target last initial : ℕ) (moments : List Setup) (l : List ℕ) → KeepInitial initial moments → Shown target last moments l → length l ≤ 2 ^ ones initial
+ShownEnd = (target last initial : ℕ) (moments : List Setup) (l : List ℕ) → KeepInitial initial moments → Showing target last moments l → length l ≤ 2 ^ ones initial
 
 -- The answer depends on count, vertices and graph alone, not on recovery marks, nor on what is held and opened.
 abbrev pub DrawingAlone : Type 0
-DrawingAlone = (s t : Setup) (target last n : ℕ) (v : List ℕ) → WellFormed s → WellFormed t
-    → s .count ≡ t .count → s .vertices ≡ t .vertices → s .graph ≡ t .graph → NextCall s target last n v → NextCall t target last n v
+DrawingAlone = (s t : Setup) (target last : ℕ) (o : Outcome) → WellFormed s → WellFormed t
+    → s .count ≡ t .count → s .vertices ≡ t .vertices → s .graph ≡ t .graph → Fulfils (nextCall s target last) o → Fulfils (nextCall t target last) o

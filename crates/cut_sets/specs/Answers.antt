@@ -1,28 +1,32 @@
 -- What the call for cut sets answers, for every setup, target and lent list.
-use mathlib.Core.Path.{_≡_}
 use mathlib.Core.List.{List, [], _∷_}
-use Prim.Native.Nat.{ℕ, _≤_, _<_}
+use Prim.Native.Nat.{ℕ}
 use lib.ListN.{length}
 use Rattle.setup.specs.declared.Setup.{Setup}
-use Rattle.setup.specs.Calls.{Refuses, ListWritten}
-use Rattle.formed.specs.WellFormed.{WellFormed}
+use Rattle.questions.specs.Contract.{Reply, gives, refuses, Contract}
+use Rattle.questions.specs.Questions.{asks12, asks13}
 use Rattle.cut_sets.specs.declared.CutsAnswer.{CutsAnswer}
 use Rattle.cut_sets.specs.declared.CutsAnswer.the-variants.{Sets, Refused}
 use Rattle.cut_sets.specs.Cuts.{CutList, Duality}
 
--- Document 01's number for an answer: 0, or that of the refusal.
-abbrev pub cutsNumber : CutsAnswer → ℕ
-cutsNumber (Sets n) = 0
-cutsNumber (Refused q) = q
+-- The papers' number and values for each case of an answer: the number of sets.
+abbrev pub cutsReply : CutsAnswer → Reply
+cutsReply (Sets n) = gives (n ∷ [])
+cutsReply (Refused q) = refuses q
 
--- The values of an answer: the number of sets, and none for a refusal.
-abbrev pub cutsValues : CutsAnswer → List ℕ
-cutsValues (Sets n) = n ∷ []
-cutsValues (Refused q) = []
+-- The smallest cut sets, and what they are to the access base.
+pub record AreCuts (s : Setup) (target : ℕ) (cuts : List ℕ) : Type 0 where
+  pub list : CutList s target cuts
+  pub duality : Duality s target cuts
 
--- 12, 13, 15, else the number of the smallest cut sets.
-pub record CutsCall (s : Setup) (target number : ℕ) (values entry exit : List ℕ) : Type 0 where
-  pub malformed : (WellFormed s → ⊥) → Refuses 12 number values × (exit ≡ entry)
-  pub noTarget : WellFormed s → s .count ≤ target → Refuses 13 number values × (exit ≡ entry)
-  pub answers : WellFormed s → target < s .count
-      → (cuts : List ℕ) × CutList s target cuts × ListWritten cuts (length cuts ∷ []) number values entry exit × Duality s target cuts
+-- 12, 13; else the number of the smallest cut sets, which are written; 15.
+abbrev pub cutsCall : Setup → ℕ → List ℕ → Contract
+cutsCall s target list =
+    record {
+      lent = list ∷ [];
+      questions = asks12 s ∷ asks13 s target ∷ [];
+      Answer = List ℕ;
+      Right = AreCuts s target;
+      values = λ cuts. length cuts ∷ [];
+      writes = λ cuts. cuts ∷ [];
+    }

@@ -2,10 +2,12 @@
 // table of all subsets says which sets of initial vertices open the target; a set is a cut set
 // exactly if all other initial vertices do not.
 ghost use mathlib.Core.Bool.{false};
+ghost use mathlib.Core.List.{[], _∷_};
 ghost use Rattle.bases.specs.Inner.Readers.{CanList};
-ghost use Rattle.cut_sets.specs.Answers.{cutsNumber, cutsValues, CutsCall};
+ghost use Rattle.questions.specs.Contract.{ends, Answers, Fulfils};
+ghost use Rattle.cut_sets.specs.Answers.{cutsReply, cutsCall};
 ghost use Rattle.formed.specs.Inner.Answerable.{Answerable};
-ghost use Rattle.cut_sets.specs.Inner.{CutFamily, CutsTaken};
+ghost use Rattle.cut_sets.specs.Inner.{CutFamily};
 use families::WORDS;
 use setup::Setup;
 use vertex_set::VertexSet;
@@ -32,13 +34,13 @@ fn cut_family(s: Setup, target: usize, initial: VertexSet, out: &mut [u64]) -> u
 // written, so that a lent list which is too short stays as it was.
 fn write_cuts(s: Setup, target: usize, out: &mut [u64]) -> CutsAnswer
     requires { ⌜ Answerable s target ⌝ }
-    ensures { λ r. ⌜ CutsTaken s target (cutsNumber r) (cutsValues r) (now (out .entry)) (now (out .exit)) ⌝ }
+    ensures { λ r. ⌜ Answers (cutsCall s target (now (out .entry))) (ends (cutsReply r) (now (out .exit) ∷ [])) ⌝ }
 {
     let initial = setup::chosen(s, false);
     let mut cuts = [0u64; WORDS];
     let n = cut_family(s, target, initial, &mut cuts);
     if out.len() < n {
-        return CutsAnswer::Refused(15);
+        return CutsAnswer::Refused(questions::SHORT);
     }
     let count = family_lists::write_sets(&cuts, initial, out);
     CutsAnswer::Sets(count)
@@ -46,13 +48,12 @@ fn write_cuts(s: Setup, target: usize, out: &mut [u64]) -> CutsAnswer
 
 // The smallest cut sets of the target, written to the front of a lent list.
 pub fn smallest_cuts(s: Setup, target: usize, out: &mut [u64]) -> CutsAnswer
-    ensures { λ r. ⌜ CutsCall s target (cutsNumber r) (cutsValues r) (now (out .entry)) (now (out .exit)) ⌝ }
+    ensures { λ r. ⌜ Fulfils (cutsCall s target (now (out .entry))) (ends (cutsReply r) (now (out .exit) ∷ [])) ⌝ }
 {
-    if formed::well_formed(s) {
-        if target < s.count {
-            return write_cuts(s, target, out);
-        }
-        return CutsAnswer::Refused(13);
+    let formed = formed::well_formed(s);
+    let asked = questions::ask_target(formed, s.count, target);
+    if asked != 0 {
+        return CutsAnswer::Refused(asked);
     }
-    CutsAnswer::Refused(12)
+    write_cuts(s, target, out)
 }

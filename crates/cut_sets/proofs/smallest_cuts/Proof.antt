@@ -1,43 +1,45 @@
 -- The questions in their order, then the list.
 -- Assumes nothing.
-use Rattle.cut_sets.proofs.Calls.{cuts-answers, cuts-no-target, cuts-malformed}
 use borrow.Author.Needs.{needs}
+use Rattle.questions.proofs.Asks.{AllYes}
+use Rattle.questions.proofs.Questions.{target-asked, target-yes}
+use Rattle.questions.proofs.Contract.{refused, fulfilled}
+use Rattle.cut_sets.specs.Answers.{cutsCall}
 use Rattle.cut_sets.proofs.smallest_cuts.Statement.{statement}
 use Rattle.cut_sets.proofs.smallest_cuts.Tie as tie
 
 well-formed-requires : tie.Need-well-formed-requires
 well-formed-requires c κs = search needs
 
+ask-target-requires : tie.Need-ask-target-requires
+ask-target-requires c κs = search needs
+
+returns : tie.Need-returns
+returns c =
+    let f = c .before .before in
+    let a = f .before .before .args in
+    refused (cutsCall (a .s) (a .target) (a .out .now)) _ (target-asked (a .s) _ (f .well-formed .ensures) (a .target) _ (c .before .ask-target .ensures)) (c .if1 .taken)
+
+-- behind the questions each answer was a yes
+yes-to : (e : tie.Else1) → let a = e .before .before .before .before .args in AllYes (cutsCall (a .s) (a .target) (a .out .now) .questions)
+yes-to e =
+    let f = e .before .before in
+    let a = f .before .before .args in
+    target-yes (a .s) _ (f .well-formed .ensures) (a .target) _ (e .before .ask-target .ensures) (e .if1 .left)
+
 write-cuts-requires : tie.Need-write-cuts-requires
-write-cuts-requires c κs =
-    let k = c .before .before in
-    let f = k .before .before in
-    record { formed = f .well-formed .ensures .yes (k .before .if1 .taken); vertex = c .before .if2 .taken }
+write-cuts-requires c κs = let y = yes-to (c .before) in record { formed = y .0; vertex = y .1 .0 }
 
 same-length : tie.Need-same-length
 same-length c = search needs
 
-returns : tie.Need-returns
-returns c =
-    let b = c .before .before in
-    let k = b .before .before .before in
-    let f = k .before .before in
-    let a = f .before .before .args in
-    cuts-answers (a .s) (a .target) (a .out .now) (f .well-formed .ensures .yes (k .before .if1 .taken)) (b .before .before .if2 .taken) _ _ _ (b .write-cuts .ensures)
-
 returns-2 : tie.Need-returns-2
 returns-2 c =
-    let f = c .before .before .before in
-    let a = f .before .before .args in
-    cuts-no-target (a .s) (a .target) (a .out .now) (f .well-formed .ensures .yes (c .before .before .if1 .taken)) (c .if2 .left)
-
-returns-3 : tie.Need-returns-3
-returns-3 c =
-    let f = c .before in
-    let a = f .before .before .args in
-    cuts-malformed (a .s) (a .target) (a .out .now) (f .well-formed .ensures .no (c .if1 .left))
+    let b = c .before .before in
+    let e = b .before .before in
+    let a = e .before .before .before .before .args in
+    fulfilled (cutsCall (a .s) (a .target) (a .out .now)) _ (yes-to e) (b .write-cuts .ensures)
 
 pub smallest-cuts-spec : {M : Type 1} → statement M
 smallest-cuts-spec =
-    tie.close
-    (tie.spec well-formed-requires write-cuts-requires same-length returns returns-2 returns-3)
+    tie.close (tie.spec well-formed-requires ask-target-requires returns write-cuts-requires same-length returns-2)

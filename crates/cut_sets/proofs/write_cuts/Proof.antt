@@ -1,6 +1,6 @@
 -- `cut_sets::write_cuts` meets its contract: there is no room, or the sets of the family are written.
 -- Assumes nothing.
-use Rattle.cut_sets.proofs.Calls.{taken-short, taken-room}
+use Rattle.cut_sets.proofs.Calls.{cuts-short, cuts-room}
 use borrow.Author.Needs.{needs}
 use Rattle.cut_sets.proofs.write_cuts.Statement.{statement}
 use Rattle.cut_sets.proofs.write_cuts.Tie as tie
@@ -20,7 +20,7 @@ returns c =
     let ch = cf .before .before in
     let st = ch .before .before in
     let a = st .args in
-    taken-short (a .s) (a .target) (ch .chosen .result .0) (cf .cut-family .result) (st .pre .formed) _ _ (cf .cut-family .ensures) (c .if1 .taken)
+    cuts-short (a .s) (a .target) (ch .chosen .result .0) (cf .cut-family .result) (st .pre .formed) _ _ (cf .cut-family .ensures) (c .if1 .taken)
 
 slice-aggregate-write-sets : tie.Need-slice-aggregate-write-sets
 slice-aggregate-write-sets c = search needs
@@ -39,7 +39,7 @@ returns-2 c =
     let ch = cf .before .before in
     let st = ch .before .before in
     let a = st .args in
-    taken-room (a .s) (a .target) (ch .chosen .result .0) (cf .cut-family .result) (st .pre .formed) _ _ (cf .cut-family .ensures) (el .if1 .left) (ws .write-sets .result) _ (ws .write-sets .ensures)
+    cuts-room (a .s) (a .target) (ch .chosen .result .0) (cf .cut-family .result) (st .pre .formed) _ _ (cf .cut-family .ensures) (el .if1 .left) (ws .write-sets .result) _ (ws .write-sets .ensures)
 
 pub write-cuts-spec : {M : Type 1} → statement M
 write-cuts-spec =

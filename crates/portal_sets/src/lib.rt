@@ -1,7 +1,10 @@
 // The portal's calls on a setup and its sets, for C: question 12, what a set opens, what a loss takes
 // away, the way in, a quick yes, both lists, their forecast, the next set, and the cut sets.
 // `results` has the structs.
+ghost use mathlib.Core.Path.{_≡_};
 ghost use mathlib.Core.List.{[], _∷_};
+ghost use Rattle.questions.specs.Asks.{Asks};
+ghost use Rattle.questions.specs.Questions.{asks12};
 ghost use Rattle.questions.specs.Told.{Told};
 ghost use Rattle.access.specs.Answers.{closureCall, lostCall, wayCall};
 ghost use Rattle.quick_yes.specs.Answers.{quickCall};
@@ -10,7 +13,6 @@ ghost use Rattle.forecasts.specs.Answers.{forecastCall};
 ghost use Rattle.next_sets.specs.Answers.{nextCall};
 ghost use Rattle.cut_sets.specs.Answers.{cutsCall};
 ghost use Rattle.portal_words.specs.Words.{setupIn};
-ghost use Rattle.portal_sets.specs.Check.{CheckCall};
 use results::PortalClosure;
 use results::PortalCutSets;
 use results::PortalForecast;
@@ -26,7 +28,7 @@ pub mod results;
 // Question 12: 0 for yes, and 12 for no.
 #[no_mangle]
 pub extern "C" fn portal_check(setup: &[u64]) -> u64
-    ensures { λ r. ⌜ CheckCall (setupIn (now (setup .entry))) r ⌝ }
+    ensures { λ r. ⌜ Asks (λ q. q) (asks12 (setupIn (now (setup .entry))) ∷ []) (λ n. n ≡ 0) r ⌝ }
 {
     let s = portal_words::setup_in(setup);
     if formed::well_formed(s) {

@@ -145,7 +145,7 @@ kind-least : (k : Kind) → kindWord k ≤ 1
 kind-least Credential = omega arith
 kind-least Account = omega arith
 
-words-long : (s : Setup) → Shaped s → length (wordsOf s) ≡ setupWords
+pub words-long : (s : Setup) → Shaped s → length (wordsOf s) ≡ setupWords
 unfolding wordsOf
 words-long s h =
     let vs = verticesWords (s .vertices) in

@@ -9,7 +9,7 @@ use lib.Dec.{leb}
 use lib.ListN.{length, take, drop, length-drop, getD-replicate}
 use lib.Seq.{take-add, drop-drop, getD-drop}
 use Rattle.vertex_set.specs.Set.{Decides}
-use Rattle.vertex_set.proofs.Cases.{less-or, same-or}
+use Rattle.vertex_set.proofs.Cases.{byTest, less-or, same-or}
 use Rattle.vertex_set.proofs.Decisions.{decide-iff, decide-and, decide-leb, decide-yes, yes-of, no-of}
 use Rattle.setup.specs.declared.Value.the-variants.{Blank, Of}
 use Rattle.setup.specs.declared.Value.{Value}
@@ -18,7 +18,7 @@ use Rattle.setup.specs.declared.Setup.{Setup}
 use Rattle.setup.specs.Setup.{unusedVertex, vertexAt, noItems}
 use Rattle.setup.proofs.Graphs.{empty-shaped}
 use Rattle.formed.specs.WellFormed.{InRange, WellFormed}
-use Rattle.portal_words.specs.Words.{tabulate, setupWords, wordAt, SaysSetup, kindsSaid, saysSetup, kindIn, valueIn, vertexIn, rowsIn, spelt, setupIn, kindWord, valueWord, vertexWords, flat, needsOf, wordsOf, Strict}
+use Rattle.portal_words.specs.Words.{tabulate, setupWords, heldPlace, openedPlace, wordAt, SaysSetup, kindsSaid, saysSetup, kindIn, valueIn, vertexIn, rowsIn, spelt, setupIn, kindWord, valueWord, vertexWords, flat, needsOf, wordsOf, Strict}
 use Rattle.portal_words.proofs.Filling.{kind-credential, kind-account, value-blank, value-given}
 use Rattle.portal_words.proofs.Saying.{tabulate-front, Said, Sayable, written-says, spelt-back}
 
@@ -165,6 +165,24 @@ well-formed-back s w = says-back s (well-formed-said s w)
 
 pub empty-back : (rest : List ℕ) → setupIn (wordsOf noItems ++ rest) ≡ noItems
 empty-back = says-back noItems empty-said
+
+-- ---- a setup that passes question 12 is said
+
+pub none-malformed : WellFormed noItems → ⊥
+none-malformed w = let s = w .some in omega arith
+
+pub formed-says : (words : List ℕ) → WellFormed (setupIn words) → SaysSetup words
+formed-says words w =
+    byTest (saysSetup words) (says-decided words .yes) (λ e. absurd (none-malformed (subst WellFormed (setup-none words (says-decided words .no e)) w)))
+
+module _ (words : List ℕ) (s : SaysSetup words) where
+  pub held-word : setupIn words .held .0 ≡ wordAt words heldPlace
+  unfolding spelt
+  held-word = ap (λ (x : Setup). x .held .0) (setup-spelt words s)
+
+  pub opened-word : setupIn words .opened .0 ≡ wordAt words openedPlace
+  unfolding spelt
+  opened-word = ap (λ (x : Setup). x .opened .0) (setup-spelt words s)
 
 pub strict : Strict
 strict = record { says = words-are; none = setup-none; back = well-formed-back }

@@ -26,6 +26,12 @@ tabulate (suc n) f = tabulate n f ++ (f n ∷ [])
 abbrev pub setupWords : ℕ
 setupWords = 1283
 
+-- Where the held set stands, and what it opens.
+abbrev pub heldPlace : ℕ
+heldPlace = 1281
+abbrev pub openedPlace : ℕ
+openedPlace = 1282
+
 -- The number that stands for a blank: 2^64 - 1.
 abbrev pub blank : ℕ
 blank = 18446744073709551615
@@ -86,8 +92,8 @@ spelt words =
       vertices = tabulate 64 (vertexIn words);
       graph = graphIn words 257;
       recovery = graphIn words 769;
-      held = record { 0 = wordAt words 1281 };
-      opened = record { 0 = wordAt words 1282 };
+      held = record { 0 = wordAt words heldPlace };
+      opened = record { 0 = wordAt words openedPlace };
     }
 
 -- The setup that the words say. Words that say none stand for the setup of 0 items, as a refused sheet does: question 12 refuses it.

@@ -12,7 +12,7 @@ use Rattle.sheet_format.proofs.Meaning.{empty-setup, accepted-or-refused}
 use Rattle.sheet_format.proofs.Question12.{yielded-formed}
 use Rattle.portal_words.specs.Words.{setupIn, wordsOf}
 use Rattle.portal_words.proofs.Strict.{well-formed-back, empty-back}
-use Rattle.portal_sheets.specs.Reading.{SaysSetup}
+use Rattle.portal_sheets.specs.Reading.{ReadBack}
 
 reading-back : (text rest : List ℕ) → setupIn (wordsOf (readSheet text .setup) ++ rest) ≡ readSheet text .setup
 reading-back text rest =
@@ -24,7 +24,7 @@ reading-back text rest =
     back-as : (s : Setup) → readSheet text .setup ≡ s → setupIn (wordsOf s ++ rest) ≡ s → setupIn (wordsOf (readSheet text .setup) ++ rest) ≡ readSheet text .setup
     back-as s e h = subst (λ (x : Setup). setupIn (wordsOf x ++ rest) ≡ x) (sym e) h
 
-pub says-setup : SaysSetup
-says-setup text number line entry exit r h =
+pub read-back : ReadBack
+read-back text number line entry exit r h =
     let s = readSheet text .setup in
     ap setupIn (r .room h) ∙ reading-back text (drop (length (wordsOf s)) entry)

@@ -40,6 +40,6 @@ abbrev pub nameCall : List ℕ → ℕ → Contract
 nameCall text item = telling (asksSheet text ∷ asks13 (readSheet text .setup) item ∷ []) (HoldsName text item) (λ p. p .start ∷ p .size ∷ [])
 
 -- What is read is what is asked: the words that reading writes say the sheet's setup.
-abbrev pub SaysSetup : Type 0
-SaysSetup = (text : List ℕ) (number line : ℕ) (entry exit : List ℕ) → ReadingCall text number line entry exit → setupWords ≤ length entry
+abbrev pub ReadBack : Type 0
+ReadBack = (text : List ℕ) (number line : ℕ) (entry exit : List ℕ) → ReadingCall text number line entry exit → setupWords ≤ length entry
     → setupIn exit ≡ readSheet text .setup

@@ -17,7 +17,7 @@ from edit_files import BadEdit, edited
 ROOT = Path(__file__).resolve().parent.parent
 LONGEST = 40
 LITERAL = re.compile(r"""b"(?:[^"\\]|\\.)*"|b'(?:[^'\\]|\\.)*'""")
-HEAD = re.compile(r'^\s*(pub\s+)?(?:extern\s+"C"\s+)?fn\s+(\w+)')
+HEAD = re.compile(r'^\s*(?:pub\(crate\)\s+)?(pub\s+)?(?:extern\s+"C"\s+)?fn\s+(\w+)')
 INNER = re.compile(r"^ghost use Rattle·[\w·]+\.specs\.Inner[\w.]*\.\{([^}]*)\};", re.M)
 INVARIANT = re.compile(r"^(?:abbrev\s+|unfoldable\s+)?Inv-loop\S*\s+:")
 WORDS = re.compile(r"^--\s+[\w`]")

@@ -25,10 +25,9 @@ use Rattle.family_lists.specs.Inner.Lists.{ListOf}
 use Rattle.family_lists.proofs.Order.{Words}
 use Rattle.family_lists.proofs.SetLists.{setsOf, list-of, length-sets-of}
 use Rattle.family_lists.proofs.SetsOfFamily.{Has, list-smallest}
-use Rattle.duals.specs.Inner.{Dual}
 use Rattle.bases.proofs.Formed.{few}
 use Rattle.cut_sets.specs.Cuts.{CutSet, CutList}
-use Rattle.cut_sets.specs.Inner.{CutFamily}
+use Rattle.cut_sets.specs.Inner.{CutFamily, Dual}
 use Rattle.cut_sets.proofs.Sets.{smallest-same, initial-fits}
 
 module _ (s : Setup) (target initial : ℕ) (w : WellFormed s) (ch : ChosenSet false s initial) where

@@ -1,3 +1,4 @@
+pub mod Turning
 pub mod Sets
 pub mod Duality
 pub mod Bounds

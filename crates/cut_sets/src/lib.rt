@@ -1,6 +1,8 @@
 // Which starting items to harden so that no way to a target is left: its smallest cut sets. The
 // table of all subsets says which sets of initial vertices open the target; a set is a cut set
 // exactly if all other initial vertices do not.
+mod duals;
+
 ghost use mathlib.Core.Bool.{false};
 ghost use mathlib.Core.List.{[], _∷_};
 ghost use Rattle.bases.specs.Inner.Readers.{CanList};

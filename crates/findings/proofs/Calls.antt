@@ -1,52 +1,19 @@
--- The questions 12 and 13 in their order, and a finding as a comparison of scores.
+-- A finding as a comparison of scores.
 -- Assumes nothing.
-use mathlib.Core.Path.{refl, sym, subst}
 use mathlib.Core.Bool.{Bool, true, false}
-use mathlib.Core.List.{List, [], _∷_}
-use mathlib.Core.Logic.{_⊎_, ⊎-elim}
 use Prim.Native.Nat.{ℕ, _≤_, _<_}
 use native.Mathlib.Nat.{not-le-of-lt}
 use Rattle.vertex_set.specs.Set.{Decides}
-use Rattle.vertex_set.specs.Order.{Listed}
 use Rattle.vertex_set.proofs.Decisions.{decide-no, decide-iff}
 use Rattle.setup.specs.declared.Graph.{Graph}
 use Rattle.setup.specs.declared.Setup.{Setup}
 use Rattle.setup.specs.Setup.{vertexAt, WithoutRecovery}
 use Rattle.formed.specs.WellFormed.{WellFormed}
 use Rattle.bases.specs.Score.{Score}
-use Rattle.setup.proofs.Calls.{refuses}
 use Rattle.reference.proofs.Graphs.{own-graph}
 use Rattle.reference.proofs.Meaning.{meaning}
 use Rattle.reference.specs.Bases.{scoreOf}
 use Rattle.findings.specs.Findings.{Compared, FindsBackdoor, FindsIneffective, FindsInconsistent}
-use Rattle.findings.specs.Answers.{yesNo, FindingCall}
-
--- ---- the questions
-
-module _ (Finds : Bool → Type 0) (s : Setup) (vertices : List ℕ) where
-  pub finding-malformed : (WellFormed s → ⊥) → FindingCall Finds s vertices 12 []
-  finding-malformed n = record { malformed = λ d. refuses 12; noVertex = λ w. absurd (n w); answers = λ w. absurd (n w) }
-
-  pub finding-no-vertex : WellFormed s → (v : ℕ) → Listed vertices v → s .count ≤ v → FindingCall Finds s vertices 13 []
-  finding-no-vertex w v i l =
-      record { malformed = λ d. absurd (d w); noVertex = λ k x j m. refuses 13; answers = λ k below. absurd (not-le-of-lt (below v i) l) }
-
-  pub finding-answers : WellFormed s → ((v : ℕ) → Listed vertices v → v < s .count) → (b : Bool) → Finds b → FindingCall Finds s vertices 0 (yesNo b ∷ [])
-  finding-answers w below b h =
-      record {
-        malformed = λ d. absurd (d w);
-        noVertex = λ k v i l. absurd (not-le-of-lt (below v i) l);
-        answers = λ k m. (b, refl, refl, h);
-      }
-
--- the vertices of a call with one, and with two
-pub below-one : (n v : ℕ) → v < n → (x : ℕ) → Listed (v ∷ []) x → x < n
-below-one n v l x i = ⊎-elim (λ e. subst (λ (y : ℕ). y < n) (sym e) l) absurd i
-
-pub below-two : (n v w : ℕ) → v < n → w < n → (x : ℕ) → Listed (v ∷ w ∷ []) x → x < n
-below-two n v w l m x i = ⊎-elim (λ e. subst (λ (y : ℕ). y < n) (sym e) l) (below-one n w m x) i
-
--- ---- the findings
 
 module _ (s : Setup) (v : ℕ) where
   pub backdoor-found : (less : Graph) → WithoutRecovery s less → (r r′ : ℕ) → Score false s (s .graph) v r → Score false s less v r′

@@ -6,7 +6,6 @@ use mathlib.Core.Bool.{Bool, true, false}
 use mathlib.Core.List.{List, [], _∷_}
 use Prim.Native.Nat.{ℕ, _<_}
 use native.Mathlib.Omega.{arith}
-use Rattle.vertex_set.specs.Order.{Listed}
 use Rattle.vertex_set.proofs.Decisions.{decide-yes, decide-no}
 use Rattle.setup.specs.declared.Graph.{Graph}
 use Rattle.setup.specs.declared.Setup.{Setup}
@@ -17,15 +16,18 @@ use Rattle.bases.specs.Base.{TargetSet}
 use Rattle.scores.specs.Never.{never}
 use Rattle.bases.specs.Score.{Score}
 use Rattle.findings.specs.Findings.{Compared, FindsBackdoor, FindsIneffective, FindsInconsistent}
-use Rattle.findings.specs.Answers.{yesNo, FindingCall, BackdoorCall, IneffectiveCall, InconsistentCall}
+use Rattle.questions.specs.Asks.{Question}
+use Rattle.questions.specs.Contract.{Outcome, gives, ends, telling, Fulfils}
+use Rattle.questions.specs.Questions.{asks12, asks13}
+use Rattle.questions.proofs.Asks.{AllYes}
+use Rattle.questions.proofs.Contract.{given-of}
+use Rattle.findings.specs.Answers.{yesNo, backdoorCall, ineffectiveCall, inconsistentCall}
 use Rattle.findings.proofs.Alike.{score-alike, recovery-alike}
-use Rattle.findings.proofs.Calls.{below-one, below-two}
 use Rattle.findings.proofs.Unique.{decided-once, backdoor-decides, ineffective-decides, inconsistent-decides}
 
 -- The answer is yes, or no, and no refusal.
-pub record Says (b : Bool) (number : ℕ) (values : List ℕ) : Type 0 where
-  pub numbered : number ≡ 0
-  pub value : values ≡ yesNo b ∷ []
+abbrev pub Says : Bool → Outcome → Type 0
+Says b o = o ≡ ends (gives (yesNo b ∷ [])) []
 
 -- No recovery edge leads to v, at once or by way of other vertices: v is among vertices that need only one another, and have none.
 pub record NoRecovery (s : Setup) (v : ℕ) : Type 1 where
@@ -74,49 +76,48 @@ module _ (s : Setup) (v : ℕ) (b : Bool) where
 
 -- ---- answers
 
-says : (Finds : Bool → Type 0) (s : Setup) (vertices : List ℕ) (b : Bool) → ((b′ : Bool) → Finds b′ → b′ ≡ b) → WellFormed s
-    → ((v : ℕ) → Listed vertices v → v < s .count) → (number : ℕ) (values : List ℕ) → FindingCall Finds s vertices number values → Says b number values
-says Finds s vertices b only w below number values c =
-    let a = c .answers w below in
-    record { numbered = a .1; value = a .2 ∙ ap (λ (x : Bool). yesNo x ∷ []) (only (a .0) (a .3)) }
+says : (questions : List Question) (Finds : Bool → Type 0) (b : Bool) → ((b′ : Bool) → Finds b′ → b′ ≡ b) → AllYes questions → (o : Outcome)
+    → Fulfils (telling questions Finds (λ b. yesNo b ∷ [])) o → Says b o
+says questions Finds b only all o c =
+    let a = given-of (telling questions Finds (λ b. yesNo b ∷ [])) o c all (λ b h. tt) in
+    a .2 ∙ ap (λ (x : Bool). ends (gives (yesNo x ∷ [])) []) (only (a .0) (a .1))
 
-module _ (s : Setup) (v : ℕ) (w : WellFormed s) (below : v < s .count) (number : ℕ) (values : List ℕ) where
-  backdoor-says : (b : Bool) → ((b′ : Bool) → FindsBackdoor s v b′ → b′ ≡ b) → BackdoorCall s v number values → Says b number values
-  backdoor-says b only = says (FindsBackdoor s v) s (v ∷ []) b only w (below-one (s .count) v below) number values
+module _ (s : Setup) (v : ℕ) (w : WellFormed s) (below : v < s .count) (o : Outcome) where
+  backdoor-says : (b : Bool) → ((b′ : Bool) → FindsBackdoor s v b′ → b′ ≡ b) → Fulfils (backdoorCall s v) o → Says b o
+  backdoor-says b only = says (asks12 s ∷ asks13 s v ∷ []) (FindsBackdoor s v) b only (w, (below, tt)) o
 
-  idle-says : (b : Bool) → ((b′ : Bool) → FindsIneffective s v b′ → b′ ≡ b) → IneffectiveCall s v number values → Says b number values
-  idle-says b only = says (FindsIneffective s v) s (v ∷ []) b only w (below-one (s .count) v below) number values
+  idle-says : (b : Bool) → ((b′ : Bool) → FindsIneffective s v b′ → b′ ≡ b) → Fulfils (ineffectiveCall s v) o → Says b o
+  idle-says b only = says (asks12 s ∷ asks13 s v ∷ []) (FindsIneffective s v) b only (w, (below, tt)) o
 
   -- never against never
-  pub never-no-backdoor : Compared false s v never never → BackdoorCall s v number values → Says false number values
+  pub never-no-backdoor : Compared false s v never never → Fulfils (backdoorCall s v) o → Says false o
   never-no-backdoor a = backdoor-says false (λ b. equal-no-backdoor s v b never a)
 
-  pub never-idle : Compared true s v never never → IneffectiveCall s v number values → Says true number values
+  pub never-idle : Compared true s v never never → Fulfils (ineffectiveCall s v) o → Says true o
   never-idle a = idle-says true (λ b. equal-idle s v b never a)
 
   -- no recovery edge leads to the account
-  pub no-recovery-no-backdoor : NoRecovery s v → BackdoorCall s v number values → Says false number values
+  pub no-recovery-no-backdoor : NoRecovery s v → Fulfils (backdoorCall s v) o → Says false o
   no-recovery-no-backdoor n =
       backdoor-says false (λ b h. equal-no-backdoor s v b (h .score) (same-without false s v (h .score) (h .without) n (h .are)) h)
 
-  pub no-recovery-idle : NoRecovery s v → IneffectiveCall s v number values → Says true number values
+  pub no-recovery-idle : NoRecovery s v → Fulfils (ineffectiveCall s v) o → Says true o
   no-recovery-idle n =
       idle-says true (λ b h. equal-idle s v b (h .score) (same-without true s v (h .score) (h .without) n (h .are)) h)
 
   -- some set opens the account, and none does without recovery
   pub opened-by-recovery : (x : ℕ) → TargetSet false s (s .graph) v x → ((g : Graph) → WithoutRecovery s g → (y : ℕ) → TargetSet false s g v y → ⊥)
-      → BackdoorCall s v number values → Says true number values
+      → Fulfils (backdoorCall s v) o → Says true o
   opened-by-recovery x t none = backdoor-says true (λ b. opened s v b x t none)
 
   -- no loss locks out of the account, and without recovery some does
   pub saved-by-recovery : ((x : ℕ) → TargetSet true s (s .graph) v x → ⊥) → ((g : Graph) → WithoutRecovery s g → (y : ℕ) × TargetSet true s g v y)
-      → IneffectiveCall s v number values → Says false number values
+      → Fulfils (ineffectiveCall s v) o → Says false o
   saved-by-recovery none some = idle-says false (λ b. saved s v b none some)
 
   -- two accounts of different rank that nothing opens
   pub never-inconsistent : (u : ℕ) → u < s .count → Score false s (s .graph) v never → Score false s (s .graph) u never
-      → vertexAt s u .rank < vertexAt s v .rank → InconsistentCall s v u number values → Says true number values
+      → vertexAt s u .rank < vertexAt s v .rank → Fulfils (inconsistentCall s v u) o → Says true o
   never-inconsistent u below′ p q k =
-      says (FindsInconsistent s v u) s (v ∷ u ∷ []) true
-      (λ b h. decided-once b true (inconsistent-decides s v b u never never p q h) (decide-yes (k, omega arith)))
-      w (below-two (s .count) v u below below′) number values
+      says (asks12 s ∷ asks13 s v ∷ asks13 s u ∷ []) (FindsInconsistent s v u) true
+      (λ b h. decided-once b true (inconsistent-decides s v b u never never p q h) (decide-yes (k, omega arith))) (w, (below, (below′, tt))) o

@@ -1,24 +1,17 @@
--- The contracts settle the answers: which scores a finding compares, the finding itself, and what the call answers.
+-- The contracts leave one answer: which scores a finding compares, and the finding itself.
 -- Assumes nothing.
-use mathlib.Core.Path.{_≡_, refl, sym, ap, subst, _∙_}
+use mathlib.Core.Path.{_≡_, refl}
 use mathlib.Core.Bool.{Bool, true, false}
-use mathlib.Core.List.{List, [], _∷_}
-use mathlib.Core.Logic.{_⊎_, inl, inr, ⊎-elim}
 use Prim.Native.Nat.{ℕ, _≤_, _<_}
 use Rattle.vertex_set.specs.Set.{Decides}
-use Rattle.vertex_set.specs.Order.{Listed}
-use Rattle.vertex_set.proofs.Cases.{less-or}
 use Rattle.vertex_set.proofs.Decisions.{decide-iff}
-use Rattle.vertex_set.proofs.Stable.{by-cases}
 use Rattle.setup.specs.declared.Setup.{Setup}
 use Rattle.setup.specs.Setup.{vertexAt}
-use Rattle.formed.specs.WellFormed.{WellFormed}
-use Rattle.setup.specs.Calls.{Same}
-use Rattle.setup.proofs.Calls.{same-stable, alike, refused}
+use Rattle.questions.specs.Contract.{OneAnswer}
 use Rattle.bases.specs.Score.{Score}
 use Rattle.reference.proofs.Unique.{score-unique}
 use Rattle.findings.specs.Findings.{Compared, FindsBackdoor, FindsIneffective, FindsInconsistent}
-use Rattle.findings.specs.Answers.{yesNo, FindingCall, BackdoorCall, IneffectiveCall, InconsistentCall}
+use Rattle.findings.specs.Answers.{backdoorCall, ineffectiveCall, inconsistentCall}
 use Rattle.findings.proofs.Alike.{score-alike, without-alike}
 
 -- ---- findings
@@ -67,37 +60,11 @@ module _ (s : Setup) (v : ℕ) (b b′ : Bool) where
 
 -- ---- calls
 
--- all vertices of the call are below the count, or one is not
-pub all-below : (n : ℕ) (vertices : List ℕ) → ((v : ℕ) → Listed vertices v → v < n) ⊎ ((v : ℕ) × Listed vertices v × (n ≤ v))
-all-below n [] = inl (λ v. absurd)
-all-below n (x ∷ vertices) = first (less-or x n) (all-below n vertices)
-  where
-    first : (x < n) ⊎ (n ≤ x) → ((v : ℕ) → Listed vertices v → v < n) ⊎ ((v : ℕ) × Listed vertices v × (n ≤ v))
-        → ((v : ℕ) → Listed (x ∷ vertices) v → v < n) ⊎ ((v : ℕ) × Listed (x ∷ vertices) v × (n ≤ v))
-    first (inr l) rest = inr (x, inl refl, l)
-    first (inl l) (inr h) = inr (h .0, inr (h .1), h .2)
-    first (inl l) (inl h) = inl (λ v. ⊎-elim (λ e. subst (λ (y : ℕ). y < n) (sym e) l) (h v))
+pub one-backdoor : (s : Setup) (v : ℕ) → OneAnswer (backdoorCall s v)
+one-backdoor s v = backdoor-unique s v
 
-module _ (Finds : Bool → Type 0) (unique : (b b′ : Bool) → Finds b → Finds b′ → b ≡ b′) (s : Setup) (vertices : List ℕ) where
-  module _ (n n′ : ℕ) (v v′ : List ℕ) (a : FindingCall Finds s vertices n v) (b : FindingCall Finds s vertices n′ v′) where
-    formed : WellFormed s → Same n n′ v v′
-    formed w = ⊎-elim answered (λ h. refused (a .noVertex w (h .0) (h .1) (h .2)) (b .noVertex w (h .0) (h .1) (h .2))) (all-below (s .count) vertices)
-      where
-        answered : ((x : ℕ) → Listed vertices x → x < s .count) → Same n n′ v v′
-        answered l =
-            let p = a .answers w l in
-            let q = b .answers w l in
-            let e = unique (p .0) (q .0) (p .3) (q .3) in
-            alike (p .1) (p .2) (q .1) (q .2 ∙ ap (λ (x : Bool). yesNo x ∷ []) (sym e))
+pub one-ineffective : (s : Setup) (v : ℕ) → OneAnswer (ineffectiveCall s v)
+one-ineffective s v = ineffective-unique s v
 
-    pub one-finding-answer : Same n n′ v v′
-    one-finding-answer = by-cases (WellFormed s) same-stable formed (λ m. refused (a .malformed m) (b .malformed m))
-
-pub one-backdoor-answer : (s : Setup) (x n n′ : ℕ) (v v′ : List ℕ) → BackdoorCall s x n v → BackdoorCall s x n′ v′ → Same n n′ v v′
-one-backdoor-answer s x = one-finding-answer (FindsBackdoor s x) (backdoor-unique s x) s (x ∷ [])
-
-pub one-ineffective-answer : (s : Setup) (x n n′ : ℕ) (v v′ : List ℕ) → IneffectiveCall s x n v → IneffectiveCall s x n′ v′ → Same n n′ v v′
-one-ineffective-answer s x = one-finding-answer (FindsIneffective s x) (ineffective-unique s x) s (x ∷ [])
-
-pub one-inconsistent-answer : (s : Setup) (x y n n′ : ℕ) (v v′ : List ℕ) → InconsistentCall s x y n v → InconsistentCall s x y n′ v′ → Same n n′ v v′
-one-inconsistent-answer s x y = one-finding-answer (FindsInconsistent s x y) (λ b b′. inconsistent-unique s x b b′ y) s (x ∷ y ∷ [])
+pub one-inconsistent : (s : Setup) (v w : ℕ) → OneAnswer (inconsistentCall s v w)
+one-inconsistent s v w b b′ = inconsistent-unique s v b b′ w

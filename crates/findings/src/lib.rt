@@ -1,10 +1,12 @@
 // Findings on an account's recovery edges, and on ranks (document 003, definitions 26 to 28).
 ghost use mathlib.Core.Bool.{true, false};
+ghost use mathlib.Core.List.{[]};
 ghost use Prim.Native.Nat.{_<_};
 ghost use Rattle.bases.specs.Score.{Score};
 ghost use Rattle.formed.specs.Inner.Answerable.{Answerable};
+ghost use Rattle.questions.specs.Contract.{ends, Fulfils};
 ghost use Rattle.findings.specs.Findings.{FindsBackdoor, FindsIneffective, FindsInconsistent};
-ghost use Rattle.findings.specs.Answers.{findingNumber, findingValues, BackdoorCall, IneffectiveCall, InconsistentCall};
+ghost use Rattle.findings.specs.Answers.{findingReply, backdoorCall, ineffectiveCall, inconsistentCall};
 use scores::RecoverabilityScore;
 use scores::SecurityScore;
 use setup::Graph;
@@ -73,46 +75,44 @@ fn find_inconsistent(s: Setup, v: usize, w: usize) -> bool
 
 // Has v a backdoor: is its security score below its score without recovery?
 pub fn has_backdoor(s: Setup, v: usize) -> FindingAnswer
-    ensures { λ r. ⌜ BackdoorCall s v (findingNumber r) (findingValues r) ⌝ }
+    ensures { λ r. ⌜ Fulfils (backdoorCall s v) (ends (findingReply r) []) ⌝ }
 {
-    if formed::well_formed(s) {
-        if v < s.count {
-            let found = find_backdoor(s, v);
-            return FindingAnswer::Is(found);
-        }
-        return FindingAnswer::Refused(13);
+    let formed = formed::well_formed(s);
+    let asked = questions::ask_target(formed, s.count, v);
+    if asked != 0 {
+        return FindingAnswer::Refused(asked);
     }
-    FindingAnswer::Refused(12)
+    let found = find_backdoor(s, v);
+    FindingAnswer::Is(found)
 }
 
 // Is v's recovery ineffective (document 01: idle): is its recoverability score at most that
 // without recovery?
 pub fn ineffective_recovery(s: Setup, v: usize) -> FindingAnswer
-    ensures { λ r. ⌜ IneffectiveCall s v (findingNumber r) (findingValues r) ⌝ }
+    ensures { λ r. ⌜ Fulfils (ineffectiveCall s v) (ends (findingReply r) []) ⌝ }
 {
-    if formed::well_formed(s) {
-        if v < s.count {
-            let found = find_ineffective(s, v);
-            return FindingAnswer::Is(found);
-        }
-        return FindingAnswer::Refused(13);
+    let formed = formed::well_formed(s);
+    let asked = questions::ask_target(formed, s.count, v);
+    if asked != 0 {
+        return FindingAnswer::Refused(asked);
     }
-    FindingAnswer::Refused(12)
+    let found = find_ineffective(s, v);
+    FindingAnswer::Is(found)
 }
 
 // Are v and w inconsistent (document 01: out of rank): has v the higher rank, and a security score
 // that is at most that of w?
 pub fn inconsistent(s: Setup, v: usize, w: usize) -> FindingAnswer
-    ensures { λ r. ⌜ InconsistentCall s v w (findingNumber r) (findingValues r) ⌝ }
+    ensures { λ r. ⌜ Fulfils (inconsistentCall s v w) (ends (findingReply r) []) ⌝ }
 {
-    if formed::well_formed(s) {
-        if v < s.count {
-            if w < s.count {
-                let found = find_inconsistent(s, v, w);
-                return FindingAnswer::Is(found);
-            }
-        }
-        return FindingAnswer::Refused(13);
+    let formed = formed::well_formed(s);
+    let asked = questions::ask_target(formed, s.count, v);
+    if asked != 0 {
+        return FindingAnswer::Refused(asked);
     }
-    FindingAnswer::Refused(12)
+    if s.count <= w {
+        return FindingAnswer::Refused(questions::NO_ITEM);
+    }
+    let found = find_inconsistent(s, v, w);
+    FindingAnswer::Is(found)
 }

@@ -1,6 +1,6 @@
--- The questions 12, 13 and 15 in their order, then the multisets.
+-- The multisets, with room for them and without.
 -- Assumes nothing.
-use mathlib.Core.Path.{_≡_, refl, ap, subst, _∙_}
+use mathlib.Core.Path.{_≡_, ap, subst, _∙_}
 use mathlib.Core.Bool.{false}
 use mathlib.Core.List.{List, [], _∷_, map}
 use mathlib.Core.Logic.{_⊎_, ⊎-elim}
@@ -12,33 +12,22 @@ use lib.Seq.{length-take-le}
 use Rattle.vertex_set.proofs.Lists.{listed-at}
 use Rattle.setup.specs.declared.Setup.{Setup}
 use Rattle.setup.specs.Calls.{written}
-use Rattle.setup.proofs.Calls.{refuses, untouched}
-use Rattle.formed.specs.WellFormed.{WellFormed}
 use Rattle.bases.specs.Inner.Readers.{Values}
+use Rattle.bases.specs.Score.{pointsAt}
+use Rattle.multisets.proofs.Sets.{length-over}
 use Rattle.written.specs.Inner.{Wrote}
 use Rattle.multiset_fronts.proofs.Lists.{listed-take}
 use Rattle.multiset_rows.specs.Inner.{rowsOf, RowsHaveRoom}
 use Rattle.written.proofs.Writing.{wrote-front}
 use Rattle.multiset_rows.proofs.Writing.{rows-long}
-use Rattle.multiset_scores.specs.Scores.{allPlaces, allLengths}
-use Rattle.multiset_scores.specs.Answers.{MultisetsCall}
-use Rattle.multiset_scores.specs.Inner.{ScoreFound, ScoreTaken}
-use Rattle.multiset_scores.proofs.Scores.{rows-places, ones-lengths}
+use Rattle.questions.specs.Contract.{gives, ends, turnsAway, Answers}
+use Rattle.questions.proofs.Contract.{given, no-room}
+use Rattle.multiset_scores.specs.Scores.{multisetOf, allPlaces, allLengths}
+use Rattle.multiset_scores.specs.Answers.{bagsCall}
+use Rattle.multiset_scores.specs.Inner.{ScoreFound}
+use Rattle.multiset_scores.proofs.Scores.{rows-places, places-long, ones-lengths}
 
 module _ (s : Setup) (target : ℕ) (places lengths : List ℕ) where
-  pub multisets-malformed : (WellFormed s → ⊥) → MultisetsCall s target 12 [] places places lengths lengths
-  multisets-malformed n =
-      record { malformed = λ d. (refuses 12, untouched places lengths); noTarget = λ w. absurd (n w); answers = λ w. absurd (n w) }
-
-  pub multisets-no-target : WellFormed s → s .count ≤ target → MultisetsCall s target 13 [] places places lengths lengths
-  multisets-no-target w l =
-      record { malformed = λ d. absurd (d w); noTarget = λ v k. (refuses 13, untouched places lengths); answers = λ v k. absurd (omega arith) }
-
-  pub multisets-answers : WellFormed s → target < s .count → (number : ℕ) (values places′ lengths′ : List ℕ)
-      → ScoreTaken s target number values places places′ lengths lengths′ → MultisetsCall s target number values places places′ lengths lengths′
-  multisets-answers w l number values places′ lengths′ h =
-      record { malformed = λ d. absurd (d w); noTarget = λ v k. absurd (omega arith); answers = λ v k. (h .sets, h .isScore, h .isWritten) }
-
   module _ (kept : List ℕ) (n : ℕ) (f : ScoreFound s target kept n) where
     inside-kept : n ≤ length kept
     inside-kept = let e = f .long in let m = f .most in omega arith
@@ -46,21 +35,24 @@ module _ (s : Setup) (target : ℕ) (places lengths : List ℕ) where
     count : length (take n kept) ≡ n
     count = length-take-le n kept inside-kept
 
-    -- one of the lists is too short
-    pub taken-short : (length places < 14 * n) ⊎ (length lengths < n) → ScoreTaken s target 15 [] places places lengths lengths
-    taken-short h =
-        let e = count in
-        record {
-          sets = take n kept;
-          isScore = f .score;
-          isWritten = record {
-            room = λ a b. absurd (⊎-elim (λ l. omega arith) (λ l. omega arith) h);
-            short = λ q. (refuses 15, untouched places lengths);
-          };
-        }
-
     each : (i : ℕ) → i < n → (getD kept i 0 < 2 ^ 64) × (ones (getD kept i 0) ≤ 14)
     each i l = f .few (getD kept i 0) (listed-take kept n i l (let k = inside-kept in omega arith))
+
+    -- the lengths of what is written
+    all-long : length (allPlaces s (take n kept)) ≡ 14 * n
+    all-long =
+        let e = places-long s (take n kept) (λ x i. let o = length-over (pointsAt false s) x (f .few x i .0) in let k = f .few x i .1 in omega arith) in
+        let c = count in
+        omega arith
+
+    lengths-long : length (allLengths s (take n kept)) ≡ n
+    lengths-long = length-map (take n kept) (λ (x : ℕ). length (multisetOf s x)) ∙ count
+
+    -- one of the lists is too short
+    pub bags-short : (length places < 14 * n) ⊎ (length lengths < n) → Answers (bagsCall s target places lengths) (turnsAway (places ∷ lengths ∷ []) 15)
+    bags-short h =
+        no-room (bagsCall s target places lengths) (take n kept) (f .score)
+        (λ k. let p = all-long in let q = lengths-long in let i = k .0 in let j = k .1 .0 in ⊎-elim (λ l. omega arith) (λ l. omega arith) h)
 
     pub rows-fit : 14 * n ≤ length places → RowsHaveRoom kept n places
     rows-fit h = record { sets = inside-kept; few = λ i l. each i l .1; room = h }
@@ -85,16 +77,10 @@ module _ (s : Setup) (target : ℕ) (places lengths : List ℕ) where
           (wrote-front lengths (map ones (take n kept)) lengths′ q (omega arith) b)
 
       -- there is room in both
-      pub taken-room : ScoreTaken s target 0 (q ∷ []) places places′ lengths lengths′
-      taken-room =
+      pub bags-room : Answers (bagsCall s target places lengths) (ends (gives (q ∷ [])) (places′ ∷ lengths′ ∷ []))
+      bags-room =
           let c = count in
           let m = length-map (take n kept) ones in
           let e : q ≡ length (take n kept) = b .next ∙ omega arith in
-          record {
-            sets = take n kept;
-            isScore = f .score;
-            isWritten = record {
-              room = λ x y. (refl, ap (λ (z : ℕ). z ∷ []) e, rows, numbers);
-              short = λ x. absurd (⊎-elim (λ l. omega arith) (λ l. omega arith) x);
-            };
-          }
+          given (bagsCall s target places lengths) (take n kept) (f .score) (let z = all-long in omega arith, (let z = lengths-long in omega arith, tt))
+          (ends (gives (q ∷ [])) (places′ ∷ lengths′ ∷ [])) (λ i. ends (gives (e i ∷ [])) (rows i ∷ numbers i ∷ []))

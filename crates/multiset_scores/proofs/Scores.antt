@@ -4,11 +4,11 @@ use mathlib.Core.Path.{_≡_, refl, sym, ap, subst, _∙_}
 use mathlib.Core.Bool.{false, cond}
 use mathlib.Core.List.{List, [], _∷_, _++_, map}
 use mathlib.Core.Logic.{inl, inr, ⊎-elim}
-use Prim.Native.Nat.{ℕ, zero, suc, _/_, _%_, _^_, _≤_, _<_}
+use Prim.Native.Nat.{ℕ, zero, suc, _*_, _/_, _%_, _^_, _≤_, _<_}
 use native.Mathlib.Omega.{arith}
 use lib.Count.{ones}
 use lib.Dec.{eqb}
-use lib.ListN.{length, getD}
+use lib.ListN.{length, getD, length-append}
 use Rattle.vertex_set.specs.Set.{Within}
 use Rattle.vertex_set.specs.Order.{Listed}
 use Rattle.vertex_set.proofs.Places.{ones-within}
@@ -20,7 +20,7 @@ use Rattle.bases.specs.Base.{Base}
 use Rattle.bases.specs.Inner.Readers.{Values}
 use Rattle.bases.specs.Score.{pointsAt}
 use Rattle.multisets.specs.Multisets.{Pairing, SameMultiset, valuesBelow, valuesOver, placesOf}
-use Rattle.multisets.proofs.Meaning.{antisymmetric, same-pairing, same-turned}
+use Rattle.multisets.proofs.Meaning.{antisymmetric, same-pairing, same-turned, fourteen-places}
 use Rattle.multisets.proofs.Sets.{length-over}
 use Rattle.multiset_fronts.specs.Inner.{Front}
 use Rattle.multiset_rows.specs.Inner.{rowsOf}
@@ -106,6 +106,15 @@ rows-places s points p [] = refl
 rows-places s points p (x ∷ l) =
     ap (λ (m : List ℕ). placesOf m ++ rowsOf (λ (v : ℕ). getD points v 0) l) (points-agree s points p x)
     ∙ ap (λ (r : List ℕ). placesOf (multisetOf s x) ++ r) (rows-places s points p l)
+
+-- 14 places each
+pub places-long : (s : Setup) (l : List ℕ) → ((x : ℕ) → Listed l x → length (multisetOf s x) ≤ 14) → length (allPlaces s l) ≡ 14 * length l
+places-long s [] h = refl
+places-long s (x ∷ l) h =
+    let a = length-append (placesOf (multisetOf s x)) (allPlaces s l) in
+    let b = fourteen-places (multisetOf s x) (h x (inl refl)) in
+    let r = places-long s l (λ y i. h y (inr i)) in
+    omega arith
 
 pub ones-lengths : (s : Setup) (l : List ℕ) → ((x : ℕ) → Listed l x → x < 2 ^ 64) → map ones l ≡ allLengths s l
 ones-lengths s l h = map-same ones (λ (x : ℕ). length (multisetOf s x)) l (λ x m. sym (length-over (pointsAt false s) x (h x m)))

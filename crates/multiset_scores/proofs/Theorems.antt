@@ -23,7 +23,8 @@ use Rattle.reference.proofs.Bases.{minimal-within, own-base}
 use Rattle.multisets.specs.Multisets.{Pairing}
 use Rattle.multisets.proofs.Meaning.{transitive, same-turned}
 use Rattle.multisets.proofs.Sets.{values-within, length-over}
-use Rattle.multiset_scores.specs.Scores.{multisetOf, MultisetScore, FirstInScore, Covered, EachListed, BagsApart, AreBags, NoLonger, LongestScore, ForecastEnough, BagsSound}
+use Rattle.multiset_scores.specs.Scores.{multisetOf, MultisetScore, FirstInScore, Covered, EachListed, BagsApart, AreBags, PlacesEach, NoLonger, LongestScore, ForecastEnough, BagsSound}
+use Rattle.multiset_scores.proofs.Scores.{places-long}
 use Rattle.multiset_scores.proofs.Computed.{scoreOf, score-of, front-of}
 
 covered-minimal : (s : Setup) (target : ℕ) (l : List ℕ) → WellFormed s → MultisetScore s target l → (y : ℕ) → MinimalSet false s (s .graph) target y
@@ -62,6 +63,9 @@ are-bags s target x w m =
     let word : x < 2 ^ 64 = bounded-by-members 64 x (λ v h. let b = chosen-below false s w v (m .is .chosen v h) in omega (arith, w .most)) in
     let e = length-over (pointsAt false s) x word in
     omega arith
+
+pub places-each : PlacesEach
+places-each s target l w h = places-long s l (λ x i. are-bags s target x w (h .sound x i .score .is))
 
 pub no-longer : NoLonger
 no-longer s target l base h b = once-le l base (ordered-once l (h .ordered)) (λ x i. b .whole x (h .sound x i .score .is))

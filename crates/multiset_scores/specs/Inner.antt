@@ -19,7 +19,6 @@ use Rattle.multiset_keys.specs.Inner.{MaskKeys}
 use Rattle.antichains.specs.Antichains.{mostSets}
 use Rattle.multiset_fronts.specs.Inner.{Front}
 use Rattle.multiset_scores.specs.Scores.{multisetOf, MultisetScore}
-use Rattle.multiset_scores.specs.Answers.{MultisetsWritten}
 
 -- What finding the lowest sets asks for.
 pub record CanFind (s : Setup) (target initial : ℕ) (points kept : List ℕ) : Type 0 where
@@ -71,8 +70,3 @@ pub record ScoreFound (s : Setup) (target : ℕ) (kept : List ℕ) (n : ℕ) : T
   pub most : n ≤ mostSets
   pub few : (x : ℕ) → Listed (take n kept) x → (x < 2 ^ 64) × (ones x ≤ mostChosen)
   pub score : MultisetScore s target (take n kept)
-
-pub record ScoreTaken (s : Setup) (target number : ℕ) (values places places′ lengths lengths′ : List ℕ) : Type 0 where
-  pub sets : List ℕ
-  pub isScore : MultisetScore s target sets
-  pub isWritten : MultisetsWritten s sets number values places places′ lengths lengths′

@@ -3,7 +3,7 @@ use mathlib.Core.Path.{_≡_}
 use mathlib.Core.Bool.{false}
 use mathlib.Core.List.{List, [], _∷_, _++_, map}
 use mathlib.Core.Logic.{_⊎_}
-use Prim.Native.Nat.{ℕ, _≤_}
+use Prim.Native.Nat.{ℕ, _*_, _≤_}
 use lib.ListN.{length}
 use Rattle.vertex_set.specs.Order.{Listed, Before, ListsExactly}
 use Rattle.setup.specs.declared.Setup.{Setup}
@@ -61,6 +61,10 @@ BagsApart = (s : Setup) (target : ℕ) (l : List ℕ) → MultisetScore s target
 -- The multiset of every set of the access base is a bag: it has at most 14 values.
 abbrev pub AreBags : Type 0
 AreBags = (s : Setup) (target x : ℕ) → WellFormed s → MinimalSet false s (s .graph) target x → length (multisetOf s x) ≤ mostValues
+
+-- So each multiset of a score is written to 14 places.
+abbrev pub PlacesEach : Type 0
+PlacesEach = (s : Setup) (target : ℕ) (l : List ℕ) → WellFormed s → MultisetScore s target l → length (allPlaces s l) ≡ mostValues * length l
 
 -- The score has no more multisets than the access base has sets.
 abbrev pub NoLonger : Type 0

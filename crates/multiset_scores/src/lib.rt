@@ -1,13 +1,15 @@
 // Scores that keep their parts: of the multisets of start values that the sets of an access base have,
 // those to which no different one is at most (document 02, point 6: the bag score).
 ghost use mathlib.Core.Path.{_≡_};
+ghost use mathlib.Core.List.{[], _∷_};
 ghost use Prim.Native.Nat.{_≤_};
 ghost use lib.ListN.{length};
 ghost use lib.Count.{ones};
 ghost use Rattle.setup.specs.Bounds.{mostChosen};
 ghost use Rattle.formed.specs.Inner.Answerable.{Answerable};
-ghost use Rattle.multiset_scores.specs.Answers.{multisetNumber, multisetValues, MultisetsCall};
-ghost use Rattle.multiset_scores.specs.Inner.{BothKeys, CanCompare, ComparedLowest, SetsInPlace, CanFind, ScoreFound, ScoreTaken};
+ghost use Rattle.questions.specs.Contract.{ends, Answers, Fulfils};
+ghost use Rattle.multiset_scores.specs.Answers.{bagsReply, bagsCall};
+ghost use Rattle.multiset_scores.specs.Inner.{BothKeys, CanCompare, ComparedLowest, SetsInPlace, CanFind, ScoreFound};
 use antichains::MOST_SETS;
 use families::WORDS;
 use multisets::MOST_VALUES;
@@ -99,17 +101,17 @@ fn find_score(
 // written, so that lent lists of which one is too short stay as they were.
 fn write_score(s: Setup, target: usize, places: &mut [u64], lengths: &mut [u64]) -> MultisetAnswer
     requires { ⌜ Answerable s target ⌝ }
-    ensures { λ r. ⌜ ScoreTaken s target (multisetNumber r) (multisetValues r) (now (places .entry)) (now (places .exit)) (now (lengths .entry)) (now (lengths .exit)) ⌝ }
+    ensures { λ r. ⌜ Answers (bagsCall s target (now (places .entry)) (now (lengths .entry))) (ends (bagsReply r) (now (places .exit) ∷ now (lengths .exit) ∷ [])) ⌝ }
 {
     let initial = setup::chosen(s, false);
     let points = bases::values_of(s, false);
     let mut kept = [0u64; MOST_SETS];
     let n = find_score(s, target, initial, points, &mut kept);
     if lengths.len() < n {
-        return MultisetAnswer::Refused(15);
+        return MultisetAnswer::Refused(questions::SHORT);
     }
     if places.len() < MOST_VALUES * n {
-        return MultisetAnswer::Refused(15);
+        return MultisetAnswer::Refused(questions::SHORT);
     }
     let _ = multiset_rows::write_rows(&kept, n, points, places);
     let count = multiset_rows::write_lengths(&kept, n, lengths);
@@ -123,13 +125,12 @@ pub fn multiset_score(
     places: &mut [u64],
     lengths: &mut [u64],
 ) -> MultisetAnswer
-    ensures { λ r. ⌜ MultisetsCall s target (multisetNumber r) (multisetValues r) (now (places .entry)) (now (places .exit)) (now (lengths .entry)) (now (lengths .exit)) ⌝ }
+    ensures { λ r. ⌜ Fulfils (bagsCall s target (now (places .entry)) (now (lengths .entry))) (ends (bagsReply r) (now (places .exit) ∷ now (lengths .exit) ∷ [])) ⌝ }
 {
-    if formed::well_formed(s) {
-        if target < s.count {
-            return write_score(s, target, places, lengths);
-        }
-        return MultisetAnswer::Refused(13);
+    let formed = formed::well_formed(s);
+    let asked = questions::ask_target(formed, s.count, target);
+    if asked != 0 {
+        return MultisetAnswer::Refused(asked);
     }
-    MultisetAnswer::Refused(12)
+    write_score(s, target, places, lengths)
 }

@@ -2,6 +2,7 @@
 // first no, and 0 where there is none. A function copies what it is given by value, and a setup has
 // 11 KB: so `formed` is the answer to question 12, and `count` is the setup's.
 ghost use mathlib.Core.List.{[], _∷_};
+ghost use Rattle.vertex_set.specs.Set.{Decides};
 ghost use Rattle.questions.specs.Inner.{FirstNo, answered12, below13, inside14};
 use vertex_set::VertexSet;
 
@@ -78,13 +79,20 @@ pub fn ask_target(formed: bool, count: usize, target: usize) -> u64
     NO_SETUP
 }
 
+// Question 14: has the set only vertices below the count?
+fn is_inside(count: usize, set: VertexSet) -> bool
+    ensures { λ r. ⌜ Decides (inside14 count (set .0) .Yes) r ⌝ }
+{
+    let known = VertexSet::below(count);
+    set.within(known)
+}
+
 // Questions 12 and 14.
 pub fn ask_set(formed: bool, count: usize, set: VertexSet) -> u64
     ensures { λ r. ⌜ FirstNo (answered12 formed ∷ inside14 count (set .0) ∷ []) r ⌝ }
 {
     if formed {
-        let known = VertexSet::below(count);
-        if set.within(known) {
+        if is_inside(count, set) {
             return 0;
         }
         return OUTSIDE;
@@ -96,15 +104,12 @@ pub fn ask_set(formed: bool, count: usize, set: VertexSet) -> u64
 pub fn ask_way(formed: bool, count: usize, target: usize, set: VertexSet) -> u64
     ensures { λ r. ⌜ FirstNo (answered12 formed ∷ below13 count target ∷ inside14 count (set .0) ∷ []) r ⌝ }
 {
-    if formed {
-        if target < count {
-            let known = VertexSet::below(count);
-            if set.within(known) {
-                return 0;
-            }
-            return OUTSIDE;
-        }
-        return NO_ITEM;
+    let asked = ask_target(formed, count, target);
+    if asked != 0 {
+        return asked;
     }
-    NO_SETUP
+    if is_inside(count, set) {
+        return 0;
+    }
+    OUTSIDE
 }

@@ -1,40 +1,40 @@
 -- The questions in their order, then the finding.
-use mathlib.Core.List.{[], _∷_}
-use mathlib.Core.Logic.{inl}
 use mathlib.Core.Path.{refl}
-use Rattle.findings.specs.Findings.{FindsBackdoor}
-use Rattle.findings.proofs.Calls.{finding-answers, finding-no-vertex, finding-malformed, below-one}
 use borrow.Author.Needs.{needs}
+use Rattle.questions.proofs.Questions.{target-asked, target-yes}
+use Rattle.questions.proofs.Contract.{refused, fulfilled, given}
+use Rattle.findings.specs.Answers.{backdoorCall}
 use Rattle.findings.proofs.has_backdoor.Statement.{statement}
 use Rattle.findings.proofs.has_backdoor.Tie as tie
 
 well-formed-requires : tie.Need-well-formed-requires
 well-formed-requires c κs = search needs
 
-find-backdoor-requires : tie.Need-find-backdoor-requires
-find-backdoor-requires c κs =
-    let f = c .before .before .before in
-    record { formed = f .well-formed .ensures .yes (c .before .before .if1 .taken); vertex = c .if2 .taken }
+ask-target-requires : tie.Need-ask-target-requires
+ask-target-requires c κs = search needs
 
 returns : tie.Need-returns
 returns c =
-    let k = c .before in
-    let f = k .before .before .before in
+    let f = c .before .before in
     let a = f .before .args in
-    finding-answers (FindsBackdoor (a .s) (a .v)) (a .s) (a .v ∷ []) (f .well-formed .ensures .yes (k .before .before .if1 .taken))
-    (below-one (a .s .count) (a .v) (k .if2 .taken)) (c .find-backdoor .result) (c .find-backdoor .ensures)
+    refused (backdoorCall (a .s) (a .v)) _ (target-asked (a .s) _ (f .well-formed .ensures) (a .v) _ (c .before .ask-target .ensures)) (c .if1 .taken)
+
+find-backdoor-requires : tie.Need-find-backdoor-requires
+find-backdoor-requires c κs =
+    let f = c .before .before in
+    let a = f .before .args in
+    let y = target-yes (a .s) _ (f .well-formed .ensures) (a .v) _ (c .before .ask-target .ensures) (c .if1 .left) in
+    record { formed = y .0; vertex = y .1 .0 }
 
 returns-2 : tie.Need-returns-2
 returns-2 c =
-    let f = c .before .before .before in
+    let e = c .before in
+    let f = e .before .before in
     let a = f .before .args in
-    finding-no-vertex (FindsBackdoor (a .s) (a .v)) (a .s) (a .v ∷ []) (f .well-formed .ensures .yes (c .before .before .if1 .taken)) (a .v) (inl refl) (c .if2 .left)
-
-returns-3 : tie.Need-returns-3
-returns-3 c =
-    let a = c .before .before .args in
-    finding-malformed (FindsBackdoor (a .s) (a .v)) (a .s) (a .v ∷ []) (c .before .well-formed .ensures .no (c .if1 .left))
+    let y = target-yes (a .s) _ (f .well-formed .ensures) (a .v) _ (e .before .ask-target .ensures) (e .if1 .left) in
+    let call = backdoorCall (a .s) (a .v) in
+    fulfilled call _ y (given call (c .find-backdoor .result) (c .find-backdoor .ensures) tt _ refl)
 
 pub has-backdoor-spec : {M : Type 1} → statement M
 has-backdoor-spec =
-    tie.close (tie.spec well-formed-requires find-backdoor-requires returns returns-2 returns-3)
+    tie.close (tie.spec well-formed-requires ask-target-requires returns find-backdoor-requires returns-2)

@@ -3,7 +3,7 @@
 use mathlib.Core.Logic.{inl, inr}
 use native.Mathlib.Omega.{arith}
 use borrow.Author.Needs.{needs}
-use Rattle.multiset_scores.proofs.Calls.{taken-short, rows-fit, taken-room}
+use Rattle.multiset_scores.proofs.Calls.{bags-short, rows-fit, bags-room}
 use Rattle.multiset_scores.proofs.write_score.Statement.{statement}
 use Rattle.multiset_scores.proofs.write_score.Tie as tie
 
@@ -24,7 +24,7 @@ returns c =
     let f = c .before .before in
     let s = f .before .before .before .before .before .before in
     let a = s .args in
-    taken-short (a .s) (a .target) (a .places .now) (a .lengths .now) _ (f .find-score .result) (f .find-score .ensures) (inr (c .if1 .taken))
+    bags-short (a .s) (a .target) (a .places .now) (a .lengths .now) _ (f .find-score .result) (f .find-score .ensures) (inr (c .if1 .taken))
 
 mul-if2 : tie.Need-mul-if2
 mul-if2 c =
@@ -36,7 +36,7 @@ returns-2 c =
     let f = c .before .before .before in
     let s = f .before .before .before .before .before .before in
     let a = s .args in
-    taken-short (a .s) (a .target) (a .places .now) (a .lengths .now) _ (f .find-score .result) (f .find-score .ensures) (inl (c .if2 .taken))
+    bags-short (a .s) (a .target) (a .places .now) (a .lengths .now) _ (f .find-score .result) (f .find-score .ensures) (inl (c .if2 .taken))
 
 slice-aggregate-write-rows : tie.Need-slice-aggregate-write-rows
 slice-aggregate-write-rows c = search needs
@@ -75,7 +75,7 @@ returns-3 c =
     let v = f .before .before in
     let s = v .before .before .before .before in
     let a = s .args in
-    taken-room (a .s) (a .target) (a .places .now) (a .lengths .now) _ (f .find-score .result) (f .find-score .ensures) (v .values-of .result) (v .values-of .ensures)
+    bags-room (a .s) (a .target) (a .places .now) (a .lengths .now) _ (f .find-score .result) (f .find-score .ensures) (v .values-of .result) (v .values-of .ensures)
     _ (wr .write-rows .result) (wr .write-rows .ensures) _ (wl .write-lengths .result) (wl .write-lengths .ensures) (e .if2 .left) (e .before .if1 .left)
 
 pub write-score-spec : {M : Type 1} → statement M

@@ -160,10 +160,12 @@ unchanged c number entry exit y t same =
     let a = answers-of (livingCall c entry) (ends (record { number = number; values = t .values }) (exit ∷ [])) (t .call) y in
     let s = setupIn entry in
     let is : a .answer ≡ s = ap (λ (r : Redrawing). r .setup) (same (record { number = 0; setup = a .answer })
-        (ask-all (back s) (Done c s) (questionsOf c s) (record { number = 0; setup = a .answer }) y (record { numbered = refl; redrawn = a .right }))) in
+    (ask-all (back s) (Done c s) (questionsOf c s) (record { number = 0; setup = a .answer }) y (record { numbered = refl; redrawn = a .right }))) in
     ⊎-elim (λ h. absurd (h .0 (room-of c entry (a .answer) y (a .right))))
-    (λ h. (ap (λ (o : Outcome). o .reply .number) (h .1),
-    ap (λ (o : Outcome). getD (o .lent) 0 []) (h .1) ∙ ap (λ (x : Setup). written (wordsOf x) entry) is ∙ same-words entry (formed-first c s y)))
+    (λ h. (
+      ap (λ (o : Outcome). o .reply .number) (h .1),
+      ap (λ (o : Outcome). getD (o .lent) 0 []) (h .1) ∙ ap (λ (x : Setup). written (wordsOf x) entry) is ∙ same-words entry (formed-first c s y),
+    ))
     (a .told)
 
 pub no-word-changes : NoWordChanges

@@ -8,20 +8,20 @@ ghost use Rattle.answers.specs.Answers.{scoreCall, marksCall};
 ghost use Rattle.findings.specs.Answers.{backdoorCall, ineffectiveCall, inconsistentCall};
 ghost use Rattle.attackers.specs.Answers.{attackerCall};
 ghost use Rattle.multisets.specs.Multisets.{BagAtMost};
-ghost use Rattle.multiset_scores.specs.Answers.{multisetsCall};
+ghost use Rattle.multiset_scores.specs.Answers.{bagsCall};
 ghost use Rattle.portal_words.specs.Words.{setupIn};
-use results::PortalBagScore;
-use results::PortalFinding;
-use results::PortalKinds;
-use results::PortalMarks;
-use results::PortalSetupRisk;
-use results::PortalSetupScore;
+use results::BagScoreResult;
+use results::FindingResult;
+use results::KindsResult;
+use results::MarksResult;
+use results::SetupRiskResult;
+use results::SetupScoreResult;
 
 pub mod results;
 
 // The security score of the target (document 01: its score), 2^62 for "never".
 #[no_mangle]
-pub extern "C" fn portal_setup_score(setup: &[u64], target: u64) -> PortalSetupScore
+pub extern "C" fn portal_setup_score(setup: &[u64], target: u64) -> SetupScoreResult
     ensures { λ r. ⌜ Told (scoreCall false (setupIn (now (setup .entry))) target) (r .number) (r .score ∷ []) [] ⌝ }
 {
     let s = portal_words::setup_in(setup);
@@ -31,7 +31,7 @@ pub extern "C" fn portal_setup_score(setup: &[u64], target: u64) -> PortalSetupS
 
 // The recoverability score of the target (document 01: its risk), 2^62 for "never".
 #[no_mangle]
-pub extern "C" fn portal_setup_risk(setup: &[u64], target: u64) -> PortalSetupRisk
+pub extern "C" fn portal_setup_risk(setup: &[u64], target: u64) -> SetupRiskResult
     ensures { λ r. ⌜ Told (scoreCall true (setupIn (now (setup .entry))) target) (r .number) (r .risk ∷ []) [] ⌝ }
 {
     let s = portal_words::setup_in(setup);
@@ -41,7 +41,7 @@ pub extern "C" fn portal_setup_risk(setup: &[u64], target: u64) -> PortalSetupRi
 
 // Marks for sets handed in as the target's opening list.
 #[no_mangle]
-pub extern "C" fn portal_mark_openings(setup: &[u64], target: u64, sets: &[u64]) -> PortalMarks
+pub extern "C" fn portal_mark_openings(setup: &[u64], target: u64, sets: &[u64]) -> MarksResult
     ensures { λ r. ⌜ Told (marksCall false (setupIn (now (setup .entry))) target (now (sets .entry))) (r .number) (r .right ∷ r .repeated ∷ r .shut ∷ r .loose ∷ r .missing ∷ []) [] ⌝ }
 {
     let s = portal_words::setup_in(setup);
@@ -51,7 +51,7 @@ pub extern "C" fn portal_mark_openings(setup: &[u64], target: u64, sets: &[u64])
 
 // Marks for sets handed in as the target's lockout list.
 #[no_mangle]
-pub extern "C" fn portal_mark_lockouts(setup: &[u64], target: u64, sets: &[u64]) -> PortalMarks
+pub extern "C" fn portal_mark_lockouts(setup: &[u64], target: u64, sets: &[u64]) -> MarksResult
     ensures { λ r. ⌜ Told (marksCall true (setupIn (now (setup .entry))) target (now (sets .entry))) (r .number) (r .right ∷ r .repeated ∷ r .shut ∷ r .loose ∷ r .missing ∷ []) [] ⌝ }
 {
     let s = portal_words::setup_in(setup);
@@ -61,7 +61,7 @@ pub extern "C" fn portal_mark_lockouts(setup: &[u64], target: u64, sets: &[u64])
 
 // Is recovery a backdoor to the item?
 #[no_mangle]
-pub extern "C" fn portal_backdoor(setup: &[u64], item: u64) -> PortalFinding
+pub extern "C" fn portal_backdoor(setup: &[u64], item: u64) -> FindingResult
     ensures { λ r. ⌜ Told (backdoorCall (setupIn (now (setup .entry))) item) (r .number) (r .yes ∷ []) [] ⌝ }
 {
     let s = portal_words::setup_in(setup);
@@ -71,7 +71,7 @@ pub extern "C" fn portal_backdoor(setup: &[u64], item: u64) -> PortalFinding
 
 // Is the item's recovery idle?
 #[no_mangle]
-pub extern "C" fn portal_idle(setup: &[u64], item: u64) -> PortalFinding
+pub extern "C" fn portal_idle(setup: &[u64], item: u64) -> FindingResult
     ensures { λ r. ⌜ Told (ineffectiveCall (setupIn (now (setup .entry))) item) (r .number) (r .yes ∷ []) [] ⌝ }
 {
     let s = portal_words::setup_in(setup);
@@ -81,7 +81,7 @@ pub extern "C" fn portal_idle(setup: &[u64], item: u64) -> PortalFinding
 
 // Are the two items, in this order, out of rank?
 #[no_mangle]
-pub extern "C" fn portal_out_of_rank(setup: &[u64], above: u64, below: u64) -> PortalFinding
+pub extern "C" fn portal_out_of_rank(setup: &[u64], above: u64, below: u64) -> FindingResult
     ensures { λ r. ⌜ Told (inconsistentCall (setupIn (now (setup .entry))) above below) (r .number) (r .yes ∷ []) [] ⌝ }
 {
     let s = portal_words::setup_in(setup);
@@ -91,7 +91,7 @@ pub extern "C" fn portal_out_of_rank(setup: &[u64], above: u64, below: u64) -> P
 
 // The target's score by kinds of intruder, where `kinds` has one for each item.
 #[no_mangle]
-pub extern "C" fn portal_kinds(setup: &[u64], target: u64, kinds: &[u8]) -> PortalKinds
+pub extern "C" fn portal_kinds(setup: &[u64], target: u64, kinds: &[u8]) -> KindsResult
     ensures { λ r. ⌜ Told (attackerCall (setupIn (now (setup .entry))) target (now (kinds .entry))) (r .number) (r .kinds ∷ []) [] ⌝ }
 {
     let s = portal_words::setup_in(setup);
@@ -114,8 +114,8 @@ pub extern "C" fn portal_bag_score(
     target: u64,
     values: &mut [u64],
     lengths: &mut [u64],
-) -> PortalBagScore
-    ensures { λ r. ⌜ Told (multisetsCall (setupIn (now (setup .entry))) target (now (values .entry)) (now (lengths .entry))) (r .number) (r .bags ∷ []) (now (values .exit) ∷ now (lengths .exit) ∷ []) ⌝ }
+) -> BagScoreResult
+    ensures { λ r. ⌜ Told (bagsCall (setupIn (now (setup .entry))) target (now (values .entry)) (now (lengths .entry))) (r .number) (r .bags ∷ []) (now (values .exit) ∷ now (lengths .exit) ∷ []) ⌝ }
 {
     let s = portal_words::setup_in(setup);
     let answer = multiset_scores::multiset_score(s, target as usize, values, lengths);

@@ -6,7 +6,7 @@ ghost use Rattle.questions.specs.Inner.{InStruct};
 ghost use Rattle.answers.specs.Answers.{scoreReply, riskReply, marksReply};
 ghost use Rattle.findings.specs.Answers.{findingReply};
 ghost use Rattle.attackers.specs.Answers.{attackerReply};
-ghost use Rattle.multiset_scores.specs.Answers.{multisetReply};
+ghost use Rattle.multiset_scores.specs.Answers.{bagsReply};
 use answers::MarksAnswer;
 use answers::RiskAnswer;
 use answers::ScoreAnswer;
@@ -16,20 +16,20 @@ use multiset_scores::MultisetAnswer;
 
 // Score and risk have a struct each, as they have a type each: they are never added or compared.
 #[repr(C)]
-pub struct PortalSetupScore {
+pub struct SetupScoreResult {
     pub number: u64,
     pub score: u64,
 }
 
-pub fn tell_score(answer: ScoreAnswer) -> PortalSetupScore
+pub fn tell_score(answer: ScoreAnswer) -> SetupScoreResult
     ensures { λ r. ⌜ InStruct (scoreReply answer) (r .number) (r .score ∷ []) ⌝ }
 {
     match answer {
         ScoreAnswer::Score(value) => {
             let score = value.number();
-            PortalSetupScore { number: 0, score }
+            SetupScoreResult { number: 0, score }
         }
-        ScoreAnswer::Refused(q) => PortalSetupScore {
+        ScoreAnswer::Refused(q) => SetupScoreResult {
             number: q,
             score: 0,
         },
@@ -37,25 +37,25 @@ pub fn tell_score(answer: ScoreAnswer) -> PortalSetupScore
 }
 
 #[repr(C)]
-pub struct PortalSetupRisk {
+pub struct SetupRiskResult {
     pub number: u64,
     pub risk: u64,
 }
 
-pub fn tell_risk(answer: RiskAnswer) -> PortalSetupRisk
+pub fn tell_risk(answer: RiskAnswer) -> SetupRiskResult
     ensures { λ r. ⌜ InStruct (riskReply answer) (r .number) (r .risk ∷ []) ⌝ }
 {
     match answer {
         RiskAnswer::Risk(value) => {
             let risk = value.number();
-            PortalSetupRisk { number: 0, risk }
+            SetupRiskResult { number: 0, risk }
         }
-        RiskAnswer::Refused(q) => PortalSetupRisk { number: q, risk: 0 },
+        RiskAnswer::Refused(q) => SetupRiskResult { number: q, risk: 0 },
     }
 }
 
 #[repr(C)]
-pub struct PortalMarks {
+pub struct MarksResult {
     pub number: u64,
     pub right: u64,
     pub repeated: u64,
@@ -64,11 +64,11 @@ pub struct PortalMarks {
     pub missing: u64,
 }
 
-pub fn tell_marks(answer: MarksAnswer) -> PortalMarks
+pub fn tell_marks(answer: MarksAnswer) -> MarksResult
     ensures { λ r. ⌜ InStruct (marksReply answer) (r .number) (r .right ∷ r .repeated ∷ r .shut ∷ r .loose ∷ r .missing ∷ []) ⌝ }
 {
     match answer {
-        MarksAnswer::Marked(m) => PortalMarks {
+        MarksAnswer::Marked(m) => MarksResult {
             number: 0,
             right: m.right as u64,
             repeated: m.repeated as u64,
@@ -76,7 +76,7 @@ pub fn tell_marks(answer: MarksAnswer) -> PortalMarks
             loose: m.loose as u64,
             missing: m.missing as u64,
         },
-        MarksAnswer::Refused(q) => PortalMarks {
+        MarksAnswer::Refused(q) => MarksResult {
             number: q,
             right: 0,
             repeated: 0,
@@ -88,35 +88,35 @@ pub fn tell_marks(answer: MarksAnswer) -> PortalMarks
 }
 
 #[repr(C)]
-pub struct PortalFinding {
+pub struct FindingResult {
     pub number: u64,
     pub yes: u64,
 }
 
-pub fn tell_finding(answer: FindingAnswer) -> PortalFinding
+pub fn tell_finding(answer: FindingAnswer) -> FindingResult
     ensures { λ r. ⌜ InStruct (findingReply answer) (r .number) (r .yes ∷ []) ⌝ }
 {
     match answer {
-        FindingAnswer::Is(yes) => PortalFinding {
+        FindingAnswer::Is(yes) => FindingResult {
             number: 0,
             yes: yes as u64,
         },
-        FindingAnswer::Refused(q) => PortalFinding { number: q, yes: 0 },
+        FindingAnswer::Refused(q) => FindingResult { number: q, yes: 0 },
     }
 }
 
 #[repr(C)]
-pub struct PortalKinds {
+pub struct KindsResult {
     pub number: u64,
     pub kinds: u64,
 }
 
-pub fn tell_kinds(answer: AttackerAnswer) -> PortalKinds
+pub fn tell_kinds(answer: AttackerAnswer) -> KindsResult
     ensures { λ r. ⌜ InStruct (attackerReply answer) (r .number) (r .kinds ∷ []) ⌝ }
 {
     match answer {
-        AttackerAnswer::Attackers(kinds) => PortalKinds { number: 0, kinds },
-        AttackerAnswer::Refused(q) => PortalKinds {
+        AttackerAnswer::Attackers(kinds) => KindsResult { number: 0, kinds },
+        AttackerAnswer::Refused(q) => KindsResult {
             number: q,
             kinds: 0,
         },
@@ -124,19 +124,19 @@ pub fn tell_kinds(answer: AttackerAnswer) -> PortalKinds
 }
 
 #[repr(C)]
-pub struct PortalBagScore {
+pub struct BagScoreResult {
     pub number: u64,
     pub bags: u64,
 }
 
-pub fn tell_bags(answer: MultisetAnswer) -> PortalBagScore
-    ensures { λ r. ⌜ InStruct (multisetReply answer) (r .number) (r .bags ∷ []) ⌝ }
+pub fn tell_bags(answer: MultisetAnswer) -> BagScoreResult
+    ensures { λ r. ⌜ InStruct (bagsReply answer) (r .number) (r .bags ∷ []) ⌝ }
 {
     match answer {
-        MultisetAnswer::Multisets(count) => PortalBagScore {
+        MultisetAnswer::Multisets(count) => BagScoreResult {
             number: 0,
             bags: count as u64,
         },
-        MultisetAnswer::Refused(q) => PortalBagScore { number: q, bags: 0 },
+        MultisetAnswer::Refused(q) => BagScoreResult { number: q, bags: 0 },
     }
 }

@@ -13,14 +13,14 @@ ghost use Rattle.forecasts.specs.Answers.{forecastCall};
 ghost use Rattle.next_sets.specs.Answers.{nextCall};
 ghost use Rattle.cut_sets.specs.Answers.{cutsCall};
 ghost use Rattle.portal_words.specs.Words.{setupIn};
-use results::PortalClosure;
-use results::PortalCutSets;
-use results::PortalForecast;
-use results::PortalLists;
-use results::PortalNextOpening;
-use results::PortalQuick;
-use results::PortalSet;
-use results::PortalWay;
+use results::ClosureResult;
+use results::CutSetsResult;
+use results::ForecastResult;
+use results::ListsResult;
+use results::LostResult;
+use results::NextOpeningResult;
+use results::OpensResult;
+use results::WayInResult;
 use vertex_set::VertexSet;
 
 pub mod results;
@@ -39,7 +39,7 @@ pub extern "C" fn portal_check(setup: &[u64]) -> u64
 
 // What the set opens (document 01: its closure), and the number of passes (document 02, point 4).
 #[no_mangle]
-pub extern "C" fn portal_closure(setup: &[u64], set: u64) -> PortalClosure
+pub extern "C" fn portal_closure(setup: &[u64], set: u64) -> ClosureResult
     ensures { λ r. ⌜ Told (closureCall (setupIn (now (setup .entry))) set) (r .number) (r .set ∷ r .passes ∷ []) [] ⌝ }
 {
     let s = portal_words::setup_in(setup);
@@ -49,12 +49,12 @@ pub extern "C" fn portal_closure(setup: &[u64], set: u64) -> PortalClosure
 
 // What the loss of the set takes away (document 01: its lost set).
 #[no_mangle]
-pub extern "C" fn portal_lost(setup: &[u64], set: u64) -> PortalSet
+pub extern "C" fn portal_lost(setup: &[u64], set: u64) -> LostResult
     ensures { λ r. ⌜ Told (lostCall (setupIn (now (setup .entry))) set) (r .number) (r .set ∷ []) [] ⌝ }
 {
     let s = portal_words::setup_in(setup);
     let answer = access::lockout_from(s, VertexSet(set));
-    results::tell_set(answer)
+    results::tell_lost(answer)
 }
 
 // The way in: its items go to one list and its colours to the other.
@@ -65,7 +65,7 @@ pub extern "C" fn portal_way_in(
     set: u64,
     items: &mut [u8],
     colours: &mut [u8],
-) -> PortalWay
+) -> WayInResult
     ensures { λ r. ⌜ Told (wayCall (setupIn (now (setup .entry))) target set (now (items .entry)) (now (colours .entry))) (r .number) (r .opens ∷ r .steps ∷ []) (now (items .exit) ∷ now (colours .exit) ∷ []) ⌝ }
 {
     let s = portal_words::setup_in(setup);
@@ -75,7 +75,7 @@ pub extern "C" fn portal_way_in(
 
 // Whether the set opens the target, and what is held at the stop (document 02, point 2).
 #[no_mangle]
-pub extern "C" fn portal_opens(setup: &[u64], target: u64, set: u64) -> PortalQuick
+pub extern "C" fn portal_opens(setup: &[u64], target: u64, set: u64) -> OpensResult
     ensures { λ r. ⌜ Told (quickCall (setupIn (now (setup .entry))) target set) (r .number) (r .opens ∷ r .set ∷ []) [] ⌝ }
 {
     let s = portal_words::setup_in(setup);
@@ -85,7 +85,7 @@ pub extern "C" fn portal_opens(setup: &[u64], target: u64, set: u64) -> PortalQu
 
 // The opening list and then the lockout list, in one lent list.
 #[no_mangle]
-pub extern "C" fn portal_lists(setup: &[u64], target: u64, sets: &mut [u64]) -> PortalLists
+pub extern "C" fn portal_lists(setup: &[u64], target: u64, sets: &mut [u64]) -> ListsResult
     ensures { λ r. ⌜ Told (basesCall (setupIn (now (setup .entry))) target (now (sets .entry))) (r .number) (r .openings ∷ r .lockouts ∷ []) (now (sets .exit) ∷ []) ⌝ }
 {
     let s = portal_words::setup_in(setup);
@@ -95,7 +95,7 @@ pub extern "C" fn portal_lists(setup: &[u64], target: u64, sets: &mut [u64]) -> 
 
 // The number of sets that the target's opening list has at most.
 #[no_mangle]
-pub extern "C" fn portal_forecast(setup: &[u64], target: u64) -> PortalForecast
+pub extern "C" fn portal_forecast(setup: &[u64], target: u64) -> ForecastResult
     ensures { λ r. ⌜ Told (forecastCall (setupIn (now (setup .entry))) target) (r .number) (r .sets ∷ []) [] ⌝ }
 {
     let s = portal_words::setup_in(setup);
@@ -105,7 +105,7 @@ pub extern "C" fn portal_forecast(setup: &[u64], target: u64) -> PortalForecast
 
 // The first set of the target's opening list after the last one shown, in the setup as it now is.
 #[no_mangle]
-pub extern "C" fn portal_next_opening(setup: &[u64], target: u64, last: u64) -> PortalNextOpening
+pub extern "C" fn portal_next_opening(setup: &[u64], target: u64, last: u64) -> NextOpeningResult
     ensures { λ r. ⌜ Told (nextCall (setupIn (now (setup .entry))) target last) (r .number) (r .more ∷ r .set ∷ []) [] ⌝ }
 {
     let s = portal_words::setup_in(setup);
@@ -115,7 +115,7 @@ pub extern "C" fn portal_next_opening(setup: &[u64], target: u64, last: u64) -> 
 
 // The smallest cut sets of the target, in a lent list.
 #[no_mangle]
-pub extern "C" fn portal_cut_sets(setup: &[u64], target: u64, sets: &mut [u64]) -> PortalCutSets
+pub extern "C" fn portal_cut_sets(setup: &[u64], target: u64, sets: &mut [u64]) -> CutSetsResult
     ensures { λ r. ⌜ Told (cutsCall (setupIn (now (setup .entry))) target (now (sets .entry))) (r .number) (r .count ∷ []) (now (sets .exit) ∷ []) ⌝ }
 {
     let s = portal_words::setup_in(setup);

@@ -19,22 +19,22 @@ use next_sets::NextAnswer;
 use quick_yes::QuickAnswer;
 
 #[repr(C)]
-pub struct PortalClosure {
+pub struct ClosureResult {
     pub number: u64,
     pub set: u64,
     pub passes: u64,
 }
 
-pub fn tell_closure(answer: ClosureAnswer) -> PortalClosure
+pub fn tell_closure(answer: ClosureAnswer) -> ClosureResult
     ensures { λ r. ⌜ InStruct (closureReply answer) (r .number) (r .set ∷ r .passes ∷ []) ⌝ }
 {
     match answer {
-        ClosureAnswer::Opened(set, passes) => PortalClosure {
+        ClosureAnswer::Opened(set, passes) => ClosureResult {
             number: 0,
             set: set.0,
             passes: passes as u64,
         },
-        ClosureAnswer::Refused(q) => PortalClosure {
+        ClosureAnswer::Refused(q) => ClosureResult {
             number: q,
             set: 0,
             passes: 0,
@@ -43,45 +43,45 @@ pub fn tell_closure(answer: ClosureAnswer) -> PortalClosure
 }
 
 #[repr(C)]
-pub struct PortalSet {
+pub struct LostResult {
     pub number: u64,
     pub set: u64,
 }
 
-pub fn tell_set(answer: LostAnswer) -> PortalSet
+pub fn tell_lost(answer: LostAnswer) -> LostResult
     ensures { λ r. ⌜ InStruct (lostReply answer) (r .number) (r .set ∷ []) ⌝ }
 {
     match answer {
-        LostAnswer::Lost(set) => PortalSet {
+        LostAnswer::Lost(set) => LostResult {
             number: 0,
             set: set.0,
         },
-        LostAnswer::Refused(q) => PortalSet { number: q, set: 0 },
+        LostAnswer::Refused(q) => LostResult { number: q, set: 0 },
     }
 }
 
 #[repr(C)]
-pub struct PortalWay {
+pub struct WayInResult {
     pub number: u64,
     pub opens: u64,
     pub steps: u64,
 }
 
-pub fn tell_way(answer: WayAnswer) -> PortalWay
+pub fn tell_way(answer: WayAnswer) -> WayInResult
     ensures { λ r. ⌜ InStruct (wayReply answer) (r .number) (r .opens ∷ r .steps ∷ []) ⌝ }
 {
     match answer {
-        WayAnswer::Steps(count) => PortalWay {
+        WayAnswer::Steps(count) => WayInResult {
             number: 0,
             opens: 1,
             steps: count as u64,
         },
-        WayAnswer::Shut => PortalWay {
+        WayAnswer::Shut => WayInResult {
             number: 0,
             opens: 0,
             steps: 0,
         },
-        WayAnswer::Refused(q) => PortalWay {
+        WayAnswer::Refused(q) => WayInResult {
             number: q,
             opens: 0,
             steps: 0,
@@ -90,27 +90,27 @@ pub fn tell_way(answer: WayAnswer) -> PortalWay
 }
 
 #[repr(C)]
-pub struct PortalQuick {
+pub struct OpensResult {
     pub number: u64,
     pub opens: u64,
     pub set: u64,
 }
 
-pub fn tell_quick(answer: QuickAnswer) -> PortalQuick
+pub fn tell_quick(answer: QuickAnswer) -> OpensResult
     ensures { λ r. ⌜ InStruct (quickReply answer) (r .number) (r .opens ∷ r .set ∷ []) ⌝ }
 {
     match answer {
-        QuickAnswer::Yes(held) => PortalQuick {
+        QuickAnswer::Yes(held) => OpensResult {
             number: 0,
             opens: 1,
             set: held.0,
         },
-        QuickAnswer::No(held) => PortalQuick {
+        QuickAnswer::No(held) => OpensResult {
             number: 0,
             opens: 0,
             set: held.0,
         },
-        QuickAnswer::Refused(q) => PortalQuick {
+        QuickAnswer::Refused(q) => OpensResult {
             number: q,
             opens: 0,
             set: 0,
@@ -119,22 +119,22 @@ pub fn tell_quick(answer: QuickAnswer) -> PortalQuick
 }
 
 #[repr(C)]
-pub struct PortalLists {
+pub struct ListsResult {
     pub number: u64,
     pub openings: u64,
     pub lockouts: u64,
 }
 
-pub fn tell_lists(answer: BasesAnswer) -> PortalLists
+pub fn tell_lists(answer: BasesAnswer) -> ListsResult
     ensures { λ r. ⌜ InStruct (basesReply answer) (r .number) (r .openings ∷ r .lockouts ∷ []) ⌝ }
 {
     match answer {
-        BasesAnswer::Counts(opening, lockout) => PortalLists {
+        BasesAnswer::Counts(opening, lockout) => ListsResult {
             number: 0,
             openings: opening as u64,
             lockouts: lockout as u64,
         },
-        BasesAnswer::Refused(q) => PortalLists {
+        BasesAnswer::Refused(q) => ListsResult {
             number: q,
             openings: 0,
             lockouts: 0,
@@ -143,42 +143,42 @@ pub fn tell_lists(answer: BasesAnswer) -> PortalLists
 }
 
 #[repr(C)]
-pub struct PortalForecast {
+pub struct ForecastResult {
     pub number: u64,
     pub sets: u64,
 }
 
-pub fn tell_forecast(answer: ForecastAnswer) -> PortalForecast
+pub fn tell_forecast(answer: ForecastAnswer) -> ForecastResult
     ensures { λ r. ⌜ InStruct (forecastReply answer) (r .number) (r .sets ∷ []) ⌝ }
 {
     match answer {
-        ForecastAnswer::Sets(sets) => PortalForecast { number: 0, sets },
-        ForecastAnswer::Refused(q) => PortalForecast { number: q, sets: 0 },
+        ForecastAnswer::Sets(sets) => ForecastResult { number: 0, sets },
+        ForecastAnswer::Refused(q) => ForecastResult { number: q, sets: 0 },
     }
 }
 
 #[repr(C)]
-pub struct PortalNextOpening {
+pub struct NextOpeningResult {
     pub number: u64,
     pub more: u64,
     pub set: u64,
 }
 
-pub fn tell_next(answer: NextAnswer) -> PortalNextOpening
+pub fn tell_next(answer: NextAnswer) -> NextOpeningResult
     ensures { λ r. ⌜ InStruct (nextReply answer) (r .number) (r .more ∷ r .set ∷ []) ⌝ }
 {
     match answer {
-        NextAnswer::Set(x) => PortalNextOpening {
+        NextAnswer::Set(x) => NextOpeningResult {
             number: 0,
             more: 1,
             set: x.0,
         },
-        NextAnswer::NoMoreSets => PortalNextOpening {
+        NextAnswer::NoMoreSets => NextOpeningResult {
             number: 0,
             more: 0,
             set: 0,
         },
-        NextAnswer::Refused(q) => PortalNextOpening {
+        NextAnswer::Refused(q) => NextOpeningResult {
             number: q,
             more: 0,
             set: 0,
@@ -187,20 +187,20 @@ pub fn tell_next(answer: NextAnswer) -> PortalNextOpening
 }
 
 #[repr(C)]
-pub struct PortalCutSets {
+pub struct CutSetsResult {
     pub number: u64,
     pub count: u64,
 }
 
-pub fn tell_cuts(answer: CutsAnswer) -> PortalCutSets
+pub fn tell_cuts(answer: CutsAnswer) -> CutSetsResult
     ensures { λ r. ⌜ InStruct (cutsReply answer) (r .number) (r .count ∷ []) ⌝ }
 {
     match answer {
-        CutsAnswer::Sets(count) => PortalCutSets {
+        CutsAnswer::Sets(count) => CutSetsResult {
             number: 0,
             count: count as u64,
         },
-        CutsAnswer::Refused(q) => PortalCutSets {
+        CutsAnswer::Refused(q) => CutSetsResult {
             number: q,
             count: 0,
         },

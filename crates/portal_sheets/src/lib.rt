@@ -8,13 +8,13 @@ ghost use Rattle.portal_sheets.specs.Reading.{version, ReadingCall, name
 use portal_words::SETUP_WORDS;
 
 #[repr(C)]
-pub struct PortalReading {
+pub struct ReadResult {
     pub number: u64,
     pub line: u64,
 }
 
 #[repr(C)]
-pub struct PortalPart {
+pub struct NameResult {
     pub number: u64,
     pub start: u64,
     pub length: u64,
@@ -23,7 +23,7 @@ pub struct PortalPart {
 // What pooling answers. Number 0: the pooled sheet has `length` bytes. Else a refusal: the sheet that
 // was refused, 1 or 2, with its line, or 0 and 0 where neither was; and length 0.
 #[repr(C)]
-pub struct PortalPooled {
+pub struct PoolResult {
     pub number: u64,
     pub sheet: u64,
     pub line: u64,
@@ -44,7 +44,7 @@ pub extern "C" fn portal_version() -> u64
 // Reads a sheet: its number and line; the setup's words go to the front of the lent buffer. The
 // sheet's own questions come before question 15, which asks for the buffer's room.
 #[no_mangle]
-pub extern "C" fn portal_read(sheet: &[u8], setup: &mut [u64]) -> PortalReading
+pub extern "C" fn portal_read(sheet: &[u8], setup: &mut [u64]) -> ReadResult
     ensures { λ r. ⌜ ReadingCall (now (sheet .entry)) (r .number) (r .line) (now (setup .entry)) (now (setup .exit)) ⌝ }
 {
     let reading = sheet::read_sheet(sheet);
@@ -52,26 +52,27 @@ pub extern "C" fn portal_read(sheet: &[u8], setup: &mut [u64]) -> PortalReading
     let line = reading.line;
     if setup.len() < SETUP_WORDS {
         if number == 0 {
-            return PortalReading { number: questions::SHORT,
+            return ReadResult {
+                number: questions::SHORT,
                 line,
             };
         }
-        return PortalReading { number, line };
+        return ReadResult { number, line };
     }
     let s = reading.setup;
     portal_words::put_setup(s, setup, 0);
-    PortalReading { number, line }
+    ReadResult { number, line }
 }
 
 // An item's name, as the part of the sheet's own bytes that holds it.
 #[no_mangle]
-pub extern "C" fn portal_name(sheet: &[u8], item: u64) -> PortalPart
+pub extern "C" fn portal_name(sheet: &[u8], item: u64) -> NameResult
     ensures { λ r. ⌜ Told (nameCall (now (sheet .entry)) item) (r .number) (r .start ∷ r .length ∷ []) [] ⌝ }
 {
     let reading = sheet::read_sheet(sheet);
     let number = reading.number;
     if number != 0 {
-        return PortalPart {
+        return NameResult {
             number,
             start: 0,
             length: 0,
@@ -79,7 +80,7 @@ pub extern "C" fn portal_name(sheet: &[u8], item: u64) -> PortalPart
     }
     let s = reading.setup;
     if s.count <= item as usize {
-        return PortalPart {
+        return NameResult {
             number: questions::NO_ITEM,
             start: 0,
             length: 0,
@@ -88,7 +89,7 @@ pub extern "C" fn portal_name(sheet: &[u8], item: u64) -> PortalPart
     let span = sheet_names::name_span(sheet, item as usize);
     let start = span.from as u64;
     let end = span.to as u64;
-    PortalPart {
+    NameResult {
         number: 0,
         start,
         length: end - start,
@@ -97,11 +98,11 @@ pub extern "C" fn portal_name(sheet: &[u8], item: u64) -> PortalPart
 
 // Writes the pooled sheet of two sheets to the start of the lent buffer.
 #[no_mangle]
-pub extern "C" fn portal_pool(first: &[u8], second: &[u8], out: &mut [u8]) -> PortalPooled
+pub extern "C" fn portal_pool(first: &[u8], second: &[u8], out: &mut [u8]) -> PoolResult
     ensures { λ r. ⌜ PoolCall (now (first .entry)) (now (second .entry)) (record { number = r .number; sheet = r .sheet; line = r .line; size = r .length }) (now (out .entry)) (now (out .exit)) ⌝ }
 {
     let pooled = pooling::pool_sheets(first, second, out);
-    PortalPooled {
+    PoolResult {
         number: pooled.number,
         sheet: pooled.sheet,
         line: pooled.line,

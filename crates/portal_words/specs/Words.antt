@@ -29,6 +29,7 @@ setupWords = 1283
 -- Where the held set stands, and what it opens.
 abbrev pub heldPlace : ℕ
 heldPlace = 1281
+
 abbrev pub openedPlace : ℕ
 openedPlace = 1282
 

@@ -1,5 +1,5 @@
 use Rattle.setup.specs.declared.Setup.{Setup}
-use Rattle.multiset_scores.specs.Answers.{multisetsCall}
+use Rattle.multiset_scores.specs.Answers.{bagsCall}
 use Rattle.questions.proofs.Told.{told}
 use borrow.Author.Needs.{needs}
 use Rattle.portal_scores.proofs.portal_bag_score.Statement.{statement}
@@ -25,7 +25,7 @@ returns c =
     let k = c .before .before .before .before .before in
     let s = k .before .before .before in
     let a = s .before .before .before .before .args in
-    told (λ (x : Setup). multisetsCall x (a .target) (a .values .now) (a .lengths .now)) _ _ (s .setup-in .ensures) _ _ _ _ (k .multiset-score .ensures) (c .tell-bags .ensures)
+    told (λ (x : Setup). bagsCall x (a .target) (a .values .now) (a .lengths .now)) _ _ (s .setup-in .ensures) _ _ _ _ (k .multiset-score .ensures) (c .tell-bags .ensures)
 
 pub portal-bag-score-spec : {M : Type 1} → statement M
 portal-bag-score-spec =

@@ -1,7 +1,7 @@
 use mathlib.Core.Path.{refl}
 use Rattle.findings.specs.Answers.{findingReply}
 use Rattle.questions.proofs.Told.{tells-as}
-use Rattle.portal_scores.proofs.Results.{yes-no}
+use Rattle.portal_scores.proofs.Answers.{yes-no}
 use borrow.Author.Needs.{needs}
 use Rattle.portal_scores.proofs.results.tell_finding.Statement.{statement}
 use Rattle.portal_scores.proofs.results.tell_finding.Tie as tie

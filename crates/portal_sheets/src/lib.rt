@@ -1,9 +1,11 @@
-// The portal's calls on sheets, for C: reading a sheet into a buffer, an item's name, and pooling.
-// Beside them the version of the portal's calls.
+// The portal's calls on sheets, for C: reading a sheet into a buffer, an item's name, pooling, and
+// the sheet of a setup. Beside them the version of the portal's calls.
 ghost use mathlib.Core.Path.{_≡_};
 ghost use mathlib.Core.List.{[], _∷_};
 ghost use Rattle.questions.specs.Told.{Told};
 ghost use Rattle.pool_format.specs.Call.{PoolCall};
+ghost use Rattle.save_format.specs.Call.{saveCall};
+ghost use Rattle.portal_words.specs.Words.{setupIn};
 ghost use Rattle.portal_sheets.specs.Reading.{version, ReadingCall, nameCall};
 use portal_words::SETUP_WORDS;
 
@@ -27,6 +29,14 @@ pub struct PoolResult {
     pub number: u64,
     pub sheet: u64,
     pub line: u64,
+    pub length: u64,
+}
+
+// What saving answers. Number 0: the sheet of the setup has `length` bytes. Else a refusal, and
+// length 0.
+#[repr(C)]
+pub struct SaveResult {
+    pub number: u64,
     pub length: u64,
 }
 
@@ -107,5 +117,18 @@ pub extern "C" fn portal_pool(first: &[u8], second: &[u8], out: &mut [u8]) -> Po
         sheet: pooled.sheet,
         line: pooled.line,
         length: pooled.size as u64,
+    }
+}
+
+// Writes the sheet of a setup, under the names of a sheet, to the start of the lent buffer.
+#[no_mangle]
+pub extern "C" fn portal_write_sheet(sheet: &[u8], setup: &[u64], out: &mut [u8]) -> SaveResult
+    ensures { λ r. ⌜ Told (saveCall (now (sheet .entry)) (setupIn (now (setup .entry))) (now (out .entry))) (r .number) (r .length ∷ []) (now (out .exit) ∷ []) ⌝ }
+{
+    let s = portal_words::setup_in(setup);
+    let saved = saving::write_sheet(sheet, s, out);
+    SaveResult {
+        number: saved.number,
+        length: saved.length as u64,
     }
 }

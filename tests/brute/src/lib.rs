@@ -15,7 +15,7 @@
 //! * [`register`] works the class register out from the log of its calls (02, point 12).
 //! * [`bags`] compares bags of values, and has the scores that keep their parts (02, point 6).
 //! * [`living`] has the calls that change a setup (02, point 8).
-//! * [`pool`] pools two sheets (02, point 11).
+//! * [`pool`] pools two sheets (02, point 11); [`save`] writes the sheet of a setup.
 //! * [`calls`] answers as the product's calls do: questions 12 to 17, and 21, in order, lent lists.
 //! * [`report`] prints the report's bytes and the portal's numbers.
 //! * [`cases`] makes the inputs on which the two programs are compared.
@@ -32,6 +32,7 @@ pub mod next;
 pub mod pool;
 pub mod register;
 pub mod report;
+pub mod save;
 pub mod setup;
 pub mod sheet;
 

@@ -14,6 +14,7 @@ mod pools;
 mod program;
 mod register;
 mod runs;
+mod saves;
 mod setups;
 mod sheets;
 mod walks;

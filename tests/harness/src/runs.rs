@@ -9,6 +9,7 @@ use crate::living::{
 use crate::long_lists::compare_long_lists;
 use crate::passes::compare_known_passes;
 use crate::pools::{compare_pool_cases, compare_pools};
+use crate::saves::{compare_longest, compare_saved_lives};
 use crate::program::Program;
 use crate::setups::{compare_setup, Depth, FEW, FULL, MANY, MOST};
 use crate::sheets::{compare_report, compare_sheet};
@@ -161,6 +162,9 @@ impl Run {
         let pools = compare_pools(&mut self.rng, 1_000)?;
         let others = pools.disagree.min(pools.beyond);
         assert!(pools.pooled >= POOLED && others >= NOT_POOLED, "too little was pooled: {pools:?}");
+        compare_longest(&mut self.rng)?;
+        let saves = compare_saved_lives(&mut self.rng, 600)?;
+        assert!(saves.enough(), "too little was saved: {saves:?}");
         for case in bounds::bounds() {
             self.counts.bounds += 1;
             self.sheet(&case, FEW, true)?;
@@ -279,6 +283,7 @@ impl Run {
             self.counts.lives += compare_short_lists(self.rng.number() % DRAWINGS)? as u64;
         }
         compare_pools(&mut self.rng, 40)?;
+        compare_saved_lives(&mut self.rng, 20)?;
         for case in damaged::damaged_sheets(self.rng.number(), 11) {
             self.counts.damaged += 1;
             self.sheet(&case, MANY, false)?;

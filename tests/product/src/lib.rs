@@ -13,7 +13,7 @@
 mod results;
 
 pub use results::{
-    BagScoreResult, ClosureResult, CutSetsResult, FindingResult, ForecastResult, KindsResult, ListsResult, MarksResult, NextOpeningResult, NameResult, PoolResult,
+    BagScoreResult, ClosureResult, CutSetsResult, FindingResult, ForecastResult, KindsResult, ListsResult, MarksResult, NextOpeningResult, NameResult, PoolResult, SaveResult,
     OpensResult, ReadResult, Record, Refusal, RegisterResult, LostResult, SetupRiskResult, SetupScoreResult, WayInResult,
 };
 
@@ -29,6 +29,8 @@ pub const BLANK: u64 = u64::MAX;
 pub const NEVER: u64 = 1 << 62;
 /// Bytes that are always enough for a pooled sheet.
 pub const POOL_BYTES: usize = 12_526;
+/// Bytes that are always enough for a saved sheet: no sheet has more.
+pub const SAVE_BYTES: usize = 11_626;
 /// The version of the header that this crate was written for.
 pub const VERSION: u64 = 40000;
 
@@ -49,6 +51,14 @@ mod linked {
             out: *mut u8,
             places: usize,
         ) -> PoolResult;
+        pub fn portal_write_sheet(
+            sheet: *const u8,
+            length: usize,
+            setup: *const u64,
+            words: usize,
+            out: *mut u8,
+            places: usize,
+        ) -> SaveResult;
         pub fn portal_check(setup: *const u64, words: usize) -> u64;
         pub fn portal_closure(setup: *const u64, words: usize, set: u64) -> ClosureResult;
         pub fn portal_lost(setup: *const u64, words: usize, set: u64) -> LostResult;
@@ -201,6 +211,13 @@ pub fn pool(first: &[u8], second: &[u8], out: &mut [u8]) -> PoolResult {
     let (other, other_length) = (second.as_ptr(), second.len());
     let (places, count) = (out.as_mut_ptr(), out.len());
     unsafe { linked::portal_pool(text, length, other, other_length, places, count) }
+}
+
+/// The sheet of a setup, under the names of a sheet, to a buffer. 1 to 11 of the sheet; 12, 13, 15.
+pub fn write_sheet(sheet: &[u8], setup: &[u64], out: &mut [u8]) -> SaveResult {
+    let (text, length) = (sheet.as_ptr(), sheet.len());
+    let (words, count) = (setup.as_ptr(), setup.len());
+    unsafe { linked::portal_write_sheet(text, length, words, count, out.as_mut_ptr(), out.len()) }
 }
 
 /// Question 12: 0 for a setup from an accepted sheet and calls that change it, else 12.

@@ -61,6 +61,11 @@ results! {
         /// How many bytes the pooled sheet has.
         length,
     }
+    /// The sheet of a setup.
+    SaveResult {
+        /// How many bytes it has.
+        length,
+    }
     /// What a set opens.
     ClosureResult {
         /// The set of all items that it opens.

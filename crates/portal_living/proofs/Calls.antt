@@ -117,7 +117,7 @@ module _ (c : Call) (entry : List ℕ) where
       (step c (setupIn entry) (record { number = 0; setup = t })
       (ask-all (back (setupIn entry)) (Done c (setupIn entry)) (questionsOf c (setupIn entry)) (record { number = 0; setup = t }) y (record { numbered = refl; redrawn = r })))
 
-  done-of : (number : ℕ) (values : List ℕ) (exit : List ℕ) → AllYes (questionsOf c (setupIn entry))
+  pub done-of : (number : ℕ) (values : List ℕ) (exit : List ℕ) → AllYes (questionsOf c (setupIn entry))
       → Answers (livingCall c entry) (ends (record { number = number; values = values }) (exit ∷ [])) → Done c (setupIn entry) (record { number = number; setup = setupIn exit })
   unfolding Asks
   done-of number values exit y a =

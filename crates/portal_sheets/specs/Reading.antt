@@ -3,10 +3,9 @@ use mathlib.Core.Path.{_≡_}
 use mathlib.Core.List.{List, [], _∷_}
 use Prim.Native.Nat.{ℕ, _≤_, _<_}
 use lib.ListN.{length, take, drop}
-use Rattle.sheet_format.specs.Read.{readSheet}
+use Rattle.sheet_format.specs.Read.{readSheet, asksSheet}
 use Rattle.sheet_format.specs.Names.{nameOf, nameStart}
 use Rattle.setup.specs.Calls.{written}
-use Rattle.questions.specs.Asks.{Question}
 use Rattle.questions.specs.Contract.{Contract, telling}
 use Rattle.questions.specs.Questions.{asks13}
 use Rattle.portal_words.specs.Words.{setupWords, setupIn, wordsOf}
@@ -24,10 +23,6 @@ pub record ReadingCall (text : List ℕ) (number line : ℕ) (entry exit : List 
   pub lined : line ≡ readSheet text .line
   pub room : setupWords ≤ length entry → exit ≡ written (wordsOf (readSheet text .setup)) entry
   pub untouched : length entry < setupWords → exit ≡ entry
-
--- The sheet's own questions, 1 to 11, as one: its number is the reading's.
-abbrev pub asksSheet : List ℕ → Question
-asksSheet text = record { number = readSheet text .number; Yes = readSheet text .number ≡ 0 }
 
 -- A part of the sheet's bytes: where it begins, and how many bytes it has.
 pub record Part : Type 0 where

@@ -27,13 +27,13 @@ use Rattle.portal_words.specs.Words.{setupWords, heldPlace, openedPlace, wordAt
 use Rattle.portal_words.proofs.Strict.{formed-says, none-malformed, setup-none, held-word, opened-word}
 use Rattle.portal_sheets.specs.Reading.{ReadingCall}
 use Rattle.portal_sheets.proofs.Saying.{reading-says, read-back}
-use Rattle.portal_living.specs.Living.{livingCall, Answered, MadeOn, Shows, LivesInWords}
+use Rattle.portal_living.specs.Living.{livingCall, Redrew, MadeOn, Shows, LivesInWords}
 use Rattle.portal_living.proofs.Calls.{done-of, call-of}
 
 -- ---- one call
 
 -- accepted, it leaves a setup that passes question 12; refused, it leaves every word
-either : (c : Call) (number : ℕ) (entry exit : List ℕ) → Answered c number entry exit → WellFormed (setupIn exit) ⊎ (exit ≡ entry)
+either : (c : Call) (number : ℕ) (entry exit : List ℕ) → Redrew c number entry exit → WellFormed (setupIn exit) ⊎ (exit ≡ entry)
 unfolding Fulfils
 either c number entry exit t =
     ⊎-elim

@@ -30,24 +30,24 @@ livingCall c words =
     }
 
 -- The call was made on the words `entry`, answered this number, and left the words `exit`.
-abbrev pub Answered : Call → ℕ → List ℕ → List ℕ → Type 0
-Answered c number entry exit = Told (livingCall c entry) number [] (exit ∷ [])
+abbrev pub Redrew : Call → ℕ → List ℕ → List ℕ → Type 0
+Redrew c number entry exit = Told (livingCall c entry) number [] (exit ∷ [])
 
 -- ---- theorems
 
 -- Taking in a held item, or taking out one that is not held, is accepted and leaves every word as it was.
 pub record NoWordChanges : Type 0 where
   pub takeIn : (v number : ℕ) (entry exit : List ℕ) → WellFormed (setupIn entry) → Member (setupIn entry .held .0) v
-      → Answered (TakeIn v) number entry exit → (number ≡ 0) × (exit ≡ entry)
+      → Redrew (TakeIn v) number entry exit → (number ≡ 0) × (exit ≡ entry)
   pub takeOut : (v number : ℕ) (entry exit : List ℕ) → WellFormed (setupIn entry) → v < setupIn entry .count → (Member (setupIn entry .held .0) v → ⊥)
-      → Answered (TakeOut v) number entry exit → (number ≡ 0) × (exit ≡ entry)
+      → Redrew (TakeOut v) number entry exit → (number ≡ 0) × (exit ≡ entry)
 
 -- The calls are made one after the other on one buffer, with these numbers; they lead from these words to those.
 abbrev pub MadeOn : List ℕ → List Call → List ℕ → List ℕ → Type 0
 MadeOn entry [] [] exit = entry ≡ exit
 MadeOn entry [] (n ∷ numbers) exit = ⊥
 MadeOn entry (c ∷ calls) [] exit = ⊥
-MadeOn entry (c ∷ calls) (n ∷ numbers) exit = (words : List ℕ) × Answered c n entry words × MadeOn words calls numbers exit
+MadeOn entry (c ∷ calls) (n ∷ numbers) exit = (words : List ℕ) × Redrew c n entry words × MadeOn words calls numbers exit
 
 -- The words show the drawing d: what is drawn and held there is d, and the word of the opened set is what the word of the held set opens in it.
 pub record Shows (s : Setup) (d : Drawing) (words : List ℕ) : Type 0 where

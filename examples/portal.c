@@ -27,7 +27,7 @@ static void stop(const char *what, uint64_t number)
 /* A name is a part of the sheet: nothing is copied. */
 static void print_name(uint64_t item)
 {
-    struct portal_part name = portal_name(sheet, length, item);
+    struct portal_name_result name = portal_name(sheet, length, item);
     printf("%.*s", (int)name.length, (const char *)sheet + name.start);
 }
 
@@ -49,7 +49,7 @@ static uint64_t item_named(const char *text, size_t size)
 {
     uint64_t item = 0;
     for (; item < setup[PORTAL_COUNT]; item++) {
-        struct portal_part name = portal_name(sheet, length, item);
+        struct portal_name_result name = portal_name(sheet, length, item);
         if (name.length == size && memcmp(sheet + name.start, text, size) == 0)
             break;
     }
@@ -80,7 +80,7 @@ static uint64_t set_named(const char *text)
 static void print_way(uint64_t account, uint64_t set)
 {
     uint8_t items[PORTAL_MAX_ITEMS], colours[PORTAL_MAX_ITEMS];
-    struct portal_way way = portal_way_in(setup, PORTAL_SETUP_WORDS, account, set, items, sizeof items, colours, sizeof colours);
+    struct portal_way_in_result way = portal_way_in(setup, PORTAL_SETUP_WORDS, account, set, items, sizeof items, colours, sizeof colours);
     if (way.number != 0)
         stop("way in", way.number);
     for (uint64_t step = 0; step < way.steps; step++) {
@@ -100,7 +100,7 @@ static void read_sheet(const char *path)
     }
     length = fread(sheet, 1, sizeof sheet, file);
     fclose(file);
-    struct portal_reading reading = portal_read(sheet, length, setup, PORTAL_SETUP_WORDS);
+    struct portal_read_result reading = portal_read(sheet, length, setup, PORTAL_SETUP_WORDS);
     if (reading.number != 0) {
         fprintf(stderr, "portal: %s, line %" PRIu64 "\n", path, reading.line);
         stop(path, reading.number);
@@ -110,7 +110,7 @@ static void read_sheet(const char *path)
 /* What to harden: all items of one of the smallest cut sets. They are not the lockout sets, though document.sheet has the same. */
 static void print_cuts(uint64_t account)
 {
-    struct portal_cut_sets cuts = portal_cut_sets(setup, PORTAL_SETUP_WORDS, account, sets, PORTAL_MAX_SETS);
+    struct portal_cut_sets_result cuts = portal_cut_sets(setup, PORTAL_SETUP_WORDS, account, sets, PORTAL_MAX_SETS);
     if (cuts.number != 0)
         stop("cut sets", cuts.number);
     if (sets[0] == 0) {
@@ -126,7 +126,7 @@ static void print_cuts(uint64_t account)
 
 static void print_marks(uint64_t account, const uint64_t *handed, size_t count)
 {
-    struct portal_marks m = portal_mark_openings(setup, PORTAL_SETUP_WORDS, account, handed, count);
+    struct portal_marks_result m = portal_mark_openings(setup, PORTAL_SETUP_WORDS, account, handed, count);
     if (m.number != 0)
         stop("marks", m.number);
     printf("right %" PRIu64 ", repeated %" PRIu64 ", shut %" PRIu64 ", loose %" PRIu64 ", missing %" PRIu64 ": %s\n", m.right,
@@ -153,7 +153,7 @@ static void draw_edge(uint64_t account)
         colour++;
     if (from == setup[PORTAL_COUNT] || colour == PORTAL_COLOURS)
         return;
-    uint64_t number = portal_add_edge(setup, PORTAL_SETUP_WORDS, from, account, colour, 0);
+    uint64_t number = portal_add_edge(setup, PORTAL_SETUP_WORDS, from, account, colour, false);
     if (number != 0) {
         printf("no edge is added: %s\n", portal_refusal_text(number));
         return;
@@ -201,7 +201,7 @@ int main(int argc, char **argv)
     }
     read_sheet(argv[1]);
     uint64_t account = item_named(argv[2], strlen(argv[2]));
-    struct portal_lists lists = portal_lists(setup, PORTAL_SETUP_WORDS, account, sets, PORTAL_MAX_SETS);
+    struct portal_lists_result lists = portal_lists(setup, PORTAL_SETUP_WORDS, account, sets, PORTAL_MAX_SETS);
     if (lists.number != 0)
         stop(argv[2], lists.number);
     for (uint64_t i = 0; i < lists.openings; i++) {

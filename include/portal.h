@@ -28,16 +28,19 @@
  * Every call takes any input. It answers, or it refuses with exactly one number (enum portal_number), and its contract, which
  * is proved, says for every input what is returned and how every lent place ends (docs/INDEX.md leads from each call to it).
  *
- * Results. A result is a struct of plain numbers. Its first field is `number`: 0 for an answer, else that of the refusal. The
+ * Results. A result is a struct of plain numbers, called after its call: portal_closure hands back a struct portal_closure_result. (Both
+ * calls that mark share portal_marks_result, the three findings portal_finding_result, and the two calls on the register
+ * portal_register_result.) No function has a struct's name. Its first field is `number`: 0 for an answer, else that of the refusal. The
  * other fields have the answer's values; a field that the answer has no value for is 0, so all of them are after a refusal.
- * (portal_reading's line, and portal_pooled's with its sheet, are the exceptions that the documents ask for: a refused sheet
- * has a line. portal_registered's count is that of document 02: it comes back from a refusal as it was given.)
+ * (The line that portal_read hands back, and that of portal_pool with its sheet, are the exceptions that the documents ask for: a refused
+ * sheet has a line. The count of a portal_register_result is that of document 02: it comes back from a refusal as it was given.)
  * portal_bag_at_most alone hands back a bool: it refuses nothing, and true is yes.
  *
  * Lent places. A slice is a pointer and the count of its places. A pointer may be null where the count is 0, and nowhere else.
  * It is aligned as its type is. Memory that a call may write to overlaps nothing else that the same call is given. A refused
  * call changes no place that it was lent; an answered one leaves the places behind the written ones as they were.
- * (portal_read is the exception that document 01 asks for: a refused sheet gives a setup of 0 items.) A bool is 0 or 1, as C makes it.
+ * (portal_read is the exception that document 01 asks for: a refused sheet gives a setup of 0 items.)
+ * A yes or no that is handed in is a bool: true for yes. One that is handed back in a struct is a number: 1 for yes, 0 for no.
  * portal_read and the four calls that redraw a setup write to its buffer; all others leave it.
  *
  * Threads. No call keeps anything: there is no state, no heap and no lock, so threads may call at the same time, as long as
@@ -62,9 +65,9 @@ extern "C" {
 
 /* ---- version ---- */
 
-/* 3.1.0 is 30100: the last two parts have two digits each. The first part changes where a call or a struct does, the second
+/* 4.0.0 is 40000: the last two parts have two digits each. The first part changes where a call or a struct does, the second
  * where one is new. */
-#define PORTAL_VERSION 30100
+#define PORTAL_VERSION 40000
 
 /* The version of the library. A program that was compiled with another one's header sees PORTAL_VERSION differ from it. */
 uint64_t portal_version(void);
@@ -123,33 +126,33 @@ static inline const char *portal_refusal_text(uint64_t number)
 {
     switch (number) {
     case PORTAL_ANSWERED: return "answered";
-    case PORTAL_TOO_LONG: return "the sheet has more than 16384 bytes";
-    case PORTAL_NO_TEXT: return "the sheet is empty, has a byte other than LF and 32 to 126, or does not end in LF";
-    case PORTAL_HEADER: return "this is not the header that belongs on this line";
-    case PORTAL_FIELDS: return "the row has not five fields (an item) or four (an edge), or one of them is empty";
-    case PORTAL_FORM: return "a field of the row is not in its form or range";
-    case PORTAL_NAME_USED: return "the item's name is used by a row above";
-    case PORTAL_BOUND: return "with this row, or this edge, there are more than 64 items, 256 edges, 14 starting items or 14 losable items";
-    case PORTAL_NAME_UNKNOWN: return "the edge names an item that has no row";
-    case PORTAL_EDGE_TWICE: return "an earlier row has the same from, to and colour";
-    case PORTAL_NO_ROWS: return "no item row has come before the empty line";
-    case PORTAL_NO_EDGE_PART: return "the text is over, and the second header has not come";
-    case PORTAL_NO_SETUP: return "the setup is none that an accepted sheet and a list of calls reach";
-    case PORTAL_NO_ITEM: return "an item number is not below the item count";
-    case PORTAL_OUTSIDE: return "the set has items that are not in the setup";
-    case PORTAL_SHORT: return "a lent list is too short for what must be written";
-    case PORTAL_KINDS_LENGTH: return "the list of kinds has not one entry for each item";
-    case PORTAL_NO_KIND: return "the entry of a starting item is none of the six kinds";
-    case PORTAL_NO_COLOUR: return "the colour is above 7";
-    case PORTAL_EDGE_THERE: return "the edge to add is there, with one mark or the other";
-    case PORTAL_NO_EDGE: return "the edge to remove is not there";
-    case PORTAL_STRANGER: return "the last set shown has an item that is not a starting one";
-    case PORTAL_DISAGREE: return "the two sheets have an item of one name that differs in kind, start, loss or rank";
-    case PORTAL_POOL_BOUND: return "the pooled sheet has more than 64 items, 256 edges, 14 starting items or 14 losable items, or needs a ninth colour";
-    case PORTAL_POOL_SHORT: return "the buffer is shorter than the pooled sheet";
-    case PORTAL_OVERFULL: return "the used count is above the slice's length";
-    case PORTAL_ALL_USED: return "a new record is needed, and all are used";
-    case PORTAL_NO_RECORD: return "the student to withdraw has no record";
+    case PORTAL_TOO_LONG: return "the sheet is too long: at most 16384 bytes";
+    case PORTAL_NO_TEXT: return "the text has something else than plain letters, digits and signs (a tab, an accent, a Windows line end), or its last line has no line end";
+    case PORTAL_HEADER: return "a header is missing or misspelt: 'name kind start loss rank' at the top, 'from to colour rec' below the empty line";
+    case PORTAL_FIELDS: return "a row has too many fields or too few: five for an item, four for an arrow";
+    case PORTAL_FORM: return "a field is not in its form, or out of its range";
+    case PORTAL_NAME_USED: return "a name is used twice";
+    case PORTAL_BOUND: return "too many: a sheet has at most 64 items, 14 with a start, 14 with a loss, and 256 arrows";
+    case PORTAL_NAME_UNKNOWN: return "no item has this name";
+    case PORTAL_EDGE_TWICE: return "the arrow is there already: the same from, to and colour";
+    case PORTAL_NO_ROWS: return "no item stands above the empty line";
+    case PORTAL_NO_EDGE_PART: return "the sheet ends before 'from to colour rec'";
+    case PORTAL_NO_SETUP: return "the numbers are no setup that a sheet can give";
+    case PORTAL_NO_ITEM: return "there is no such item";
+    case PORTAL_OUTSIDE: return "the set has an item that is not on the sheet";
+    case PORTAL_SHORT: return "there is too little room for the answer";
+    case PORTAL_KINDS_LENGTH: return "there must be one kind for each item";
+    case PORTAL_NO_KIND: return "a starting item has no kind: a location (remote, local) and a skill (none, some, expert)";
+    case PORTAL_NO_COLOUR: return "a colour is a number from 0 to 7";
+    case PORTAL_EDGE_THERE: return "the arrow to add is there already";
+    case PORTAL_NO_EDGE: return "the arrow to remove is not there";
+    case PORTAL_STRANGER: return "the last set shown has an item that is no starting item";
+    case PORTAL_DISAGREE: return "the two sheets do not say the same of an item that is in both";
+    case PORTAL_POOL_BOUND: return "together the two sheets are too large: at most 64 items, 14 with a start, 14 with a loss, 256 arrows, and 8 colours into one item";
+    case PORTAL_POOL_SHORT: return "there is too little room for the pooled sheet";
+    case PORTAL_OVERFULL: return "the register says that it holds more records than it has";
+    case PORTAL_ALL_USED: return "the register is full";
+    case PORTAL_NO_RECORD: return "the student has handed nothing in";
     default: return "a number that this version does not have";
     }
 }
@@ -158,9 +161,9 @@ static inline const char *portal_refusal_text(uint64_t number)
 
 /*
  * A setup is a buffer of PORTAL_SETUP_WORDS numbers, which portal_read writes and which may be made by hand too. Items count
- * from 0. A set is a number: the sum of 2^i over its items. A word that a shorter buffer does not have counts as 0, and words
- * behind the last one are not looked at, so that every buffer says something; portal_check tells whether that is a setup. A buffer of
- * the 1281 words that setups had before version 3 says a setup that holds nothing.
+ * from 0. A set is a number: the sum of 2^i over its items. A buffer that is shorter, or in which the kind of any of the 64 places is
+ * above 1, is no setup, and neither is one whose numbers no sheet and no call writes: every call on it answers 12, portal_hand_in after it
+ * has asked 25. portal_check tells it by itself. Words behind the first PORTAL_SETUP_WORDS are not looked at, and stay as they are.
  */
 #define PORTAL_SETUP_WORDS 1283
 #define PORTAL_MAX_ITEMS 64
@@ -185,7 +188,7 @@ static inline const char *portal_refusal_text(uint64_t number)
 
 /* Where the words stand. First, how many items there are: 1 to 64. */
 #define PORTAL_COUNT 0
-/* Of each place v from 0 to 63: 0 for a credential, and any other number for an account; portal_read writes 1 for it. */
+/* Of each place v from 0 to 63: 0 for a credential, and 1 for an account. */
 #define PORTAL_KIND(v) (1 + 4 * (v))
 /* How hard the item is to get, and to lose: 0 to PORTAL_MAX_VALUE, or PORTAL_BLANK where it is not a starting, or losable, item. */
 #define PORTAL_START(v) (2 + 4 * (v))
@@ -208,64 +211,64 @@ static inline const char *portal_refusal_text(uint64_t number)
 /* ---- results ---- */
 
 /* A sheet's reading; line is that of the no, counted from 1, and 0 where the no is about the whole text or there is none. */
-struct portal_reading {
+struct portal_read_result {
     uint64_t number;
     uint64_t line;
 };
 
 /* A part of a sheet's bytes: `length` of them, from the byte `start` on. */
-struct portal_part {
+struct portal_name_result {
     uint64_t number;
     uint64_t start;
     uint64_t length;
 };
 
 /* passes is how many passes lead from the given set to `set`; see portal_closure. */
-struct portal_closure {
+struct portal_closure_result {
     uint64_t number;
     uint64_t set;
     uint64_t passes;
 };
 
-struct portal_set {
+struct portal_lost_result {
     uint64_t number;
     uint64_t set;
 };
 
 /* opens is 1 where the set opens the target, and 0 for "shut"; steps is how many steps were written. */
-struct portal_way {
+struct portal_way_in_result {
     uint64_t number;
     uint64_t opens;
     uint64_t steps;
 };
 
 /* opens is 1 for yes and 0 for no; set is what is held at the stop. */
-struct portal_quick {
+struct portal_opens_result {
     uint64_t number;
     uint64_t opens;
     uint64_t set;
 };
 
 /* How many sets the opening list has at most. */
-struct portal_forecast {
+struct portal_forecast_result {
     uint64_t number;
     uint64_t sets;
 };
 
 /* How many smallest cut sets there are. */
-struct portal_cut_sets {
+struct portal_cut_sets_result {
     uint64_t number;
     uint64_t count;
 };
 
 /* The lowest kinds of intruder that get in: the sum of 2^k over them. */
-struct portal_kinds {
+struct portal_kinds_result {
     uint64_t number;
     uint64_t kinds;
 };
 
 /* How many sets each list has. */
-struct portal_lists {
+struct portal_lists_result {
     uint64_t number;
     uint64_t openings;
     uint64_t lockouts;
@@ -273,7 +276,7 @@ struct portal_lists {
 
 /* A pooled sheet's bytes are the first `length` of the buffer. A refusal has the sheet that was refused, 1 or 2, with its line;
  * where neither was, both are 0. */
-struct portal_pooled {
+struct portal_pool_result {
     uint64_t number;
     uint64_t sheet;
     uint64_t line;
@@ -281,31 +284,31 @@ struct portal_pooled {
 };
 
 /* more is 1 where a set is shown, and 0 for "no more"; then set is 0 too. */
-struct portal_next_opening {
+struct portal_next_opening_result {
     uint64_t number;
     uint64_t more;
     uint64_t set;
 };
 
 /* How many bags the score has. */
-struct portal_bag_score {
+struct portal_bag_score_result {
     uint64_t number;
     uint64_t bags;
 };
 
 /* Score and risk have a struct each: the papers never add or compare one with the other. PORTAL_NEVER is "never". */
-struct portal_setup_score {
+struct portal_setup_score_result {
     uint64_t number;
     uint64_t score;
 };
 
-struct portal_setup_risk {
+struct portal_setup_risk_result {
     uint64_t number;
     uint64_t risk;
 };
 
 /* How many handed-in sets are right, repeated, shut and loose, and how many sets of the list are missing. */
-struct portal_marks {
+struct portal_marks_result {
     uint64_t number;
     uint64_t right;
     uint64_t repeated;
@@ -315,7 +318,7 @@ struct portal_marks {
 };
 
 /* yes is 1 for yes, and 0 for no. */
-struct portal_finding {
+struct portal_finding_result {
     uint64_t number;
     uint64_t yes;
 };
@@ -337,15 +340,21 @@ struct portal_record {
 };
 
 /* How many records are used now; after a refusal as many as before. */
-struct portal_registered {
+struct portal_register_result {
     uint64_t number;
     size_t used;
 };
 
 /* Is this a full mark: no set is repeated, shut, loose or missing? */
-static inline int portal_is_full(struct portal_marks marks)
+static inline bool portal_is_full(struct portal_marks_result marks)
 {
     return marks.number == 0 && marks.repeated == 0 && marks.shut == 0 && marks.loose == 0 && marks.missing == 0;
+}
+
+/* Is this a full mark, of a record? */
+static inline bool portal_is_full_record(struct portal_record record)
+{
+    return record.repeated == 0 && record.shut == 0 && record.loose == 0 && record.missing == 0;
 }
 
 /* ---- calls on a sheet ---- */
@@ -362,10 +371,10 @@ uint64_t portal_score(const uint8_t *sheet, size_t length, uint64_t item);
 uint64_t portal_risk(const uint8_t *sheet, size_t length, uint64_t item);
 
 /* Is what portal_score or portal_risk returned a score or a risk? */
-static inline int portal_is_value(uint64_t answer) { return answer < PORTAL_NEVER; }
+static inline bool portal_is_value(uint64_t answer) { return answer < PORTAL_NEVER; }
 
 /* Is it "never"? */
-static inline int portal_is_never(uint64_t answer) { return answer == PORTAL_NEVER; }
+static inline bool portal_is_never(uint64_t answer) { return answer == PORTAL_NEVER; }
 
 /* The number of a refusal, and 0 for any other answer. */
 static inline unsigned portal_refusal(uint64_t answer)
@@ -378,13 +387,13 @@ static inline unsigned portal_refusal(uint64_t answer)
  * 11, and its line, and gives the setup of 0 items with no place in use. A shorter buffer is left as it was; then an accepted
  * sheet has number 15, and a refused one its own.
  */
-struct portal_reading portal_read(const uint8_t *sheet, size_t length, uint64_t *setup, size_t words);
+struct portal_read_result portal_read(const uint8_t *sheet, size_t length, uint64_t *setup, size_t words);
 
 /*
  * An item's name: the part of the sheet's own bytes that holds it, 1 to PORTAL_MAX_NAME bytes. Refused with the sheet's
  * number, 1 to 11, then 13; the part is then the empty one at the sheet's start.
  */
-struct portal_part portal_name(const uint8_t *sheet, size_t length, uint64_t item);
+struct portal_name_result portal_name(const uint8_t *sheet, size_t length, uint64_t item);
 
 /*
  * The pooled sheet of two labs' sheets, written to the start of the buffer. Items of one name are one item, and must agree in kind, start, loss
@@ -394,7 +403,7 @@ struct portal_part portal_name(const uint8_t *sheet, size_t length, uint64_t ite
  * PORTAL_POOL_BYTES places are always enough. Refused with 1 to 11 and the sheet's line, the first sheet's refusal before the second's; then with
  * 22, 23, 24. A refusal leaves the buffer as it was, and the bytes behind the pooled sheet stay as they were.
  */
-struct portal_pooled portal_pool(const uint8_t *first, size_t first_length, const uint8_t *second, size_t second_length, uint8_t *out, size_t places);
+struct portal_pool_result portal_pool(const uint8_t *first, size_t first_length, const uint8_t *second, size_t second_length, uint8_t *out, size_t places);
 
 /* ---- calls on a setup ---- */
 
@@ -405,25 +414,24 @@ uint64_t portal_check(const uint64_t *setup, size_t words);
 /*
  * The four calls that redraw a setup, in its buffer. After each the opened set is what the held set opens in the edges that are left.
  * They return 0, or the number of the refusal; a refused call leaves every word. An accepted one writes the setup to the first
- * PORTAL_SETUP_WORDS words, 1 for the kind of an account, whatever number said so; with fewer words it is refused with 15, which is
- * asked last.
+ * PORTAL_SETUP_WORDS words; one that changes nothing leaves every word too.
  *
- * Takes an item into the held set; any item may be held. Refused with 12, 13, 15. One that is held already stays so, and the answer is 0.
+ * Takes an item into the held set; any item may be held. Refused with 12, 13. One that is held already stays so, and the answer is 0.
  */
 uint64_t portal_take_in(uint64_t *setup, size_t words, uint64_t item);
 
-/* Takes an item out of the held set. Refused with 12, 13, 15. One that is not held is no fault: the answer is 0. The item stays open where
+/* Takes an item out of the held set. Refused with 12, 13. One that is not held is no fault: the answer is 0. The item stays open where
  * what else is held opens it. */
 uint64_t portal_take_out(uint64_t *setup, size_t words, uint64_t item);
 
 /*
- * Adds an edge: `recovery` is 0 for no recovery edge, and any other number for one. An edge more in a colour that has others makes that colour
- * harder, so that items can shut. Refused with 12, 13 (either end), 18, 19 (it is there, with one mark or the other), 7 (there are 256), 15.
+ * Adds an edge, as a recovery edge where `recovery` is true. An edge more in a colour that has others makes that colour
+ * harder, so that items can shut. Refused with 12, 13 (either end), 18, 19 (it is there, with one mark or the other), 7 (there are 256).
  */
-uint64_t portal_add_edge(uint64_t *setup, size_t words, uint64_t from, uint64_t to, uint64_t colour, uint64_t recovery);
+uint64_t portal_add_edge(uint64_t *setup, size_t words, uint64_t from, uint64_t to, uint64_t colour, bool recovery);
 
 /* Removes an edge, whether it is a recovery edge or not; items can shut by it, and open. Refused with 12, 13 (either end), 18, 20 (it is not
- * there), 15. */
+ * there). */
 uint64_t portal_remove_edge(uint64_t *setup, size_t words, uint64_t from, uint64_t to, uint64_t colour);
 
 /*
@@ -431,10 +439,10 @@ uint64_t portal_remove_edge(uint64_t *setup, size_t words, uint64_t from, uint64
  * allows; `passes` is the number of passes, the one that adds nothing counted as well: 1 for a set that opens nothing new, and at
  * most the items outside the set, plus 1. Refused with 12, 14.
  */
-struct portal_closure portal_closure(const uint64_t *setup, size_t words, uint64_t set);
+struct portal_closure_result portal_closure(const uint64_t *setup, size_t words, uint64_t set);
 
 /* The lost set: all items that the loss of the set takes away, those in it too. Refused with 12, 14. */
-struct portal_set portal_lost(const uint64_t *setup, size_t words, uint64_t set);
+struct portal_lost_result portal_lost(const uint64_t *setup, size_t words, uint64_t set);
 
 /*
  * The way in from the set to the target: at each step the lowest item that can be opened, by its lowest complete colour, until
@@ -442,7 +450,7 @@ struct portal_set portal_lost(const uint64_t *setup, size_t words, uint64_t set)
  * (opens is 0) where the set does not open it, whatever the lists' lengths. Refused with 12, 13, 14, 15. Lists of
  * PORTAL_MAX_ITEMS bytes are always long enough.
  */
-struct portal_way portal_way_in(const uint64_t *setup, size_t words, uint64_t target, uint64_t set,
+struct portal_way_in_result portal_way_in(const uint64_t *setup, size_t words, uint64_t target, uint64_t set,
                                 uint8_t *items, size_t item_places, uint8_t *colours, size_t colour_places);
 
 /*
@@ -450,7 +458,7 @@ struct portal_way portal_way_in(const uint64_t *setup, size_t words, uint64_t ta
  * given set and the items of the way in (see portal_way_in), and no other, so the given set where it has the target; on a no the full
  * closure, as portal_closure has it. opens is 1 exactly where the target is in that closure. Refused with 12, 13, 14.
  */
-struct portal_quick portal_opens(const uint64_t *setup, size_t words, uint64_t target, uint64_t set);
+struct portal_opens_result portal_opens(const uint64_t *setup, size_t words, uint64_t target, uint64_t set);
 
 /*
  * The forecast for the target's opening list, told without listing anything: the number of ways to choose s / 2, rounded down, of s items,
@@ -460,7 +468,7 @@ struct portal_quick portal_opens(const uint64_t *setup, size_t words, uint64_t t
  * PORTAL_MAX_LIST places.
  * Refused with 12, 13.
  */
-struct portal_forecast portal_forecast(const uint64_t *setup, size_t words, uint64_t target);
+struct portal_forecast_result portal_forecast(const uint64_t *setup, size_t words, uint64_t target);
 
 /*
  * Who could get in. There are six kinds of intruder, PORTAL_INTRUDER(location, skill): one is at most another if both parts are. `kinds` has
@@ -470,14 +478,14 @@ struct portal_forecast portal_forecast(const uint64_t *setup, size_t words, uint
  * kind of the answer is at most the intruder's. Refused with 12, 13, 16 where the list has not one entry for each item, 17 where a starting
  * item's entry is above 5; nothing that was lent is changed.
  */
-struct portal_kinds portal_kinds(const uint64_t *setup, size_t words, uint64_t target, const uint8_t *kinds, size_t places);
+struct portal_kinds_result portal_kinds(const uint64_t *setup, size_t words, uint64_t target, const uint8_t *kinds, size_t places);
 
 /*
  * Both lists of the target: the opening list (sets of starting items that open it, no proper subset doing so), then from the
  * next place on the lockout list (sets of losable items whose loss takes it away, likewise). Each is ordered by fewer items,
  * then by the smaller number. Refused with 12, 13, and 15 exactly where both together have more sets than there are places.
  */
-struct portal_lists portal_lists(const uint64_t *setup, size_t words, uint64_t target, uint64_t *sets, size_t places);
+struct portal_lists_result portal_lists(const uint64_t *setup, size_t words, uint64_t target, uint64_t *sets, size_t places);
 
 /*
  * The smallest cut sets of the target. A cut set is a set of starting items without which the other starting items do not open the
@@ -487,7 +495,7 @@ struct portal_lists portal_lists(const uint64_t *setup, size_t words, uint64_t t
  * Ordered as the other lists are. Refused with 12, 13, and 15 exactly where there are more sets than places; portal_forecast tells of room
  * that is always enough.
  */
-struct portal_cut_sets portal_cut_sets(const uint64_t *setup, size_t words, uint64_t target, uint64_t *sets, size_t places);
+struct portal_cut_sets_result portal_cut_sets(const uint64_t *setup, size_t words, uint64_t target, uint64_t *sets, size_t places);
 
 /*
  * The opening list shown one set at a time: the first set, in the list's order, after the set `last` that is in the target's opening list as
@@ -496,7 +504,7 @@ struct portal_cut_sets portal_cut_sets(const uint64_t *setup, size_t words, uint
  * a set that has come into the list before `last` is not shown, and nothing is shown twice. With no change in between, the sets shown up to
  * "no more" are the whole list. Refused with 12, 13, and 21 where `last` has an item that is not a starting one.
  */
-struct portal_next_opening portal_next_opening(const uint64_t *setup, size_t words, uint64_t target, uint64_t last);
+struct portal_next_opening_result portal_next_opening(const uint64_t *setup, size_t words, uint64_t target, uint64_t last);
 
 /*
  * Is the first bag at most the other: can its values be paired, one to one, with values of the other that are at least as high? The other may
@@ -515,33 +523,33 @@ bool portal_bag_at_most(const uint64_t *bag, size_t values, const uint64_t *othe
  * bags or more than length_places: PORTAL_BAG_PLACES * PORTAL_MAX_LIST and PORTAL_MAX_LIST places are always enough, and so are as many bags'
  * places as portal_forecast tells.
  */
-struct portal_bag_score portal_bag_score(const uint64_t *setup, size_t words, uint64_t target, uint64_t *values, size_t value_places,
+struct portal_bag_score_result portal_bag_score(const uint64_t *setup, size_t words, uint64_t target, uint64_t *values, size_t value_places,
                                          uint64_t *lengths, size_t length_places);
 
 /* The score of the target. Refused with 12, 13. */
-struct portal_setup_score portal_setup_score(const uint64_t *setup, size_t words, uint64_t target);
+struct portal_setup_score_result portal_setup_score(const uint64_t *setup, size_t words, uint64_t target);
 
 /* The risk of the target. Refused with 12, 13. */
-struct portal_setup_risk portal_setup_risk(const uint64_t *setup, size_t words, uint64_t target);
+struct portal_setup_risk_result portal_setup_risk(const uint64_t *setup, size_t words, uint64_t target);
 
 /*
  * Marks for handed-in opening sets of the target. Each counts as the first that fits: repeated (equal to an earlier one), shut
  * (an item outside the starting items, or not opening), loose (a proper subset opens), right. Missing is the list's length
  * less right. Any number may be handed in as a set. Refused with 12, 13.
  */
-struct portal_marks portal_mark_openings(const uint64_t *setup, size_t words, uint64_t target, const uint64_t *sets, size_t count);
+struct portal_marks_result portal_mark_openings(const uint64_t *setup, size_t words, uint64_t target, const uint64_t *sets, size_t count);
 
 /* Marks for handed-in lockout sets, likewise. Refused with 12, 13. */
-struct portal_marks portal_mark_lockouts(const uint64_t *setup, size_t words, uint64_t target, const uint64_t *sets, size_t count);
+struct portal_marks_result portal_mark_lockouts(const uint64_t *setup, size_t words, uint64_t target, const uint64_t *sets, size_t count);
 
 /* Is recovery a backdoor to the item: is its score below that without recovery (PORTAL_RECOVERY)? Refused with 12, 13. */
-struct portal_finding portal_backdoor(const uint64_t *setup, size_t words, uint64_t item);
+struct portal_finding_result portal_backdoor(const uint64_t *setup, size_t words, uint64_t item);
 
 /* Is the item's recovery idle: is its risk at most that without recovery, likewise? Refused with 12, 13. */
-struct portal_finding portal_idle(const uint64_t *setup, size_t words, uint64_t item);
+struct portal_finding_result portal_idle(const uint64_t *setup, size_t words, uint64_t item);
 
 /* Out of rank: is `above` of higher rank than `below`, and its score at most that of `below`? Refused with 12, 13. */
-struct portal_finding portal_out_of_rank(const uint64_t *setup, size_t words, uint64_t above, uint64_t below);
+struct portal_finding_result portal_out_of_rank(const uint64_t *setup, size_t words, uint64_t above, uint64_t below);
 
 /* ---- calls on the class register ---- */
 
@@ -550,7 +558,7 @@ struct portal_finding portal_out_of_rank(const uint64_t *setup, size_t words, ui
  * attempt's record takes the place of the first used one with the same student, target and way; where there is none, it goes behind the
  * used ones. No other record changes. Refused with 25, 12, 13, and 26 where a new record is needed and all are used.
  */
-struct portal_registered portal_hand_in(const uint64_t *setup, size_t words, struct portal_record *records, size_t places,
+struct portal_register_result portal_hand_in(const uint64_t *setup, size_t words, struct portal_record *records, size_t places,
                                         size_t used, uint64_t student, uint64_t target, bool lock,
                                         const uint64_t *sets, size_t count);
 
@@ -558,7 +566,7 @@ struct portal_registered portal_hand_in(const uint64_t *setup, size_t words, str
  * Withdraws a student: all of the student's used records are removed and the gaps closed, the order kept. Places that this frees at
  * the end keep what stood in them before the call. Refused with 25, 27.
  */
-struct portal_registered portal_withdraw(struct portal_record *records, size_t places, size_t used, uint64_t student);
+struct portal_register_result portal_withdraw(struct portal_record *records, size_t places, size_t used, uint64_t student);
 
 #ifdef __cplusplus
 }

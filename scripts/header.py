@@ -27,8 +27,8 @@ def snake(name):
 
 
 def struct(name):
-    """PortalSetupScore is struct portal_setup_score in C; Record, of a crate below the portal's, is struct portal_record."""
-    return "portal_" + snake(name).removeprefix("portal_")
+    """ClosureResult is struct portal_closure_result in C. Registered, of a crate below the portal's, is a result of two calls."""
+    return "portal_" + snake({"Registered": "RegisterResult"}.get(name, name))
 
 
 def parts(text):
@@ -81,7 +81,8 @@ def macro(header, name):
 
 text = read("include/portal.h")
 header = re.sub(r"/\*.*?\*/", "", text, flags=re.S)
-sources = {path.parts[-3]: path.read_text(encoding="utf-8") for path in sorted(ROOT.glob("crates/portal*/src/lib.rt"))}
+sources = {path.parts[-3]: "".join(part.read_text(encoding="utf-8") for part in sorted(path.parent.glob("*.rt")))
+           for path in sorted(ROOT.glob("crates/portal*/src/lib.rt"))}
 faults = []
 
 # calls
@@ -97,7 +98,7 @@ for name in sorted(offered.keys() | shown.keys()):
         faults.append(f"{name}: no comment above it")
     faults += [f"{name} is not in {where}" for where, page in (("README.md", readme), ("man/portal.3", manual)) if not re.search(rf"\b{name}\b", page)]
 
-# structs
+# structs; none has the name of a call, so that C++ needs no `struct` in front
 made = {name: fields for source in [*sources.values(), read("crates/records/src/lib.rt")] for name, fields in structs_of(source)}
 laid = {
     name: [declared(" ".join(field.split())) for field in fields.split(";") if field.strip()]
@@ -107,6 +108,8 @@ for name in sorted(made.keys() | laid.keys()):
     fields = [(kind.strip(), word) for kind, word in laid.get(name, [])]
     if made.get(name) != fields:
         faults.append(f"struct {name}: the source has {made.get(name)}, the header {fields}")
+
+faults += [f"struct {name} has the name of a call" for name in sorted(laid.keys() & shown.keys())]
 
 # the same structs in Rust
 wrapped = {
@@ -120,12 +123,12 @@ for name, fields in made.items():
         faults.append(f"struct {name}: the source has {fields}, tests/product {wrapped.get(name)}")
 
 # constants
-words, reading = sources["portal_setup"], sources["portal_reading"]
+words, reading = sources["portal_words"], sources["portal_sheets"]
 places = {"PORTAL_ROW": constant(words, "GRAPH"), "PORTAL_RECOVERY": constant(words, "RECOVERY")}
 faults += [f"{name} does not begin at {at}" for name, at in places.items() if macro(header, name) != f"({at} + 8 * (v) + (c))"]
 held, opened = (constant(words, name) for name in ("HELD", "OPENED"))
 faults += [f"PORTAL_{name} is not {at}" for name, at in (("HELD", held), ("OPENED", opened)) if macro(header, f"PORTAL_{name}") != str(at)]
-told = dict(re.findall(r"^      (\w+) = .*wordAt words \(1 \+ 4 \* v((?: \+ \d)?)\)", read("crates/portal_setup/specs/Words.antt"), re.M))
+told = dict(re.findall(r"^      (\w+) = .*wordAt words \(1 \+ 4 \* v((?: \+ \d)?)\)", read("crates/portal_words/specs/Words.antt"), re.M))
 for field in ("kind", "start", "loss", "rank"):
     at = 1 + int(told[field].removeprefix(" + ") or 0)
     faults += [f"PORTAL_{field.upper()} does not begin at {at}"] * (macro(header, f"PORTAL_{field.upper()}") != f"({at} + 4 * (v))")
@@ -149,7 +152,7 @@ enough = re.search(r"^poolBytes = (\d+)$", read("crates/pool_format/specs/Meanin
 faults += ["PORTAL_POOL_BYTES is another number"] * (macro(header, "PORTAL_POOL_BYTES") != enough)
 faults += ["tests/product has another number of bytes for a pooled sheet"] * (str(constant(read("tests/product/src/lib.rs"), "POOL_BYTES")) != enough)
 # The opened set is the last word.
-stated = re.search(r"^setupWords = (\d+)$", read("crates/portal_setup/specs/Words.antt"), re.M).group(1)
+stated = re.search(r"^setupWords = (\d+)$", read("crates/portal_words/specs/Words.antt"), re.M).group(1)
 lengths = {macro(header, "PORTAL_SETUP_WORDS"), str(opened + 1), stated}
 faults += [f"a setup has {' and '.join(sorted(lengths))} words"] * (len(lengths) != 1)
 faults += ["PORTAL_VERSION is another number"] * (macro(header, "PORTAL_VERSION") != str(constant(reading, "VERSION")))

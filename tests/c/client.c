@@ -107,7 +107,7 @@ static void try_read(void)
 {
     uint64_t words[WORDS + 1];
     words[WORDS] = LENT;
-    struct portal_reading r = portal_read(bytes(SHEET), strlen(SHEET), words, WORDS + 1);
+    struct portal_read_result r = portal_read(bytes(SHEET), strlen(SHEET), words, WORDS + 1);
     expect("reading", r.number, 0);
     expect("no line", r.line, 0);
     expect("item count", words[PORTAL_COUNT], 5);
@@ -144,7 +144,7 @@ static void try_read(void)
 
 static void try_name(void)
 {
-    struct portal_part p = portal_name(bytes(SHEET), strlen(SHEET), 2);
+    struct portal_name_result p = portal_name(bytes(SHEET), strlen(SHEET), 2);
     expect("name", p.number, 0);
     expect("its length", p.length, 5);
     expect("its bytes", (uint64_t)memcmp(SHEET + p.start, "token ", 6), 0);
@@ -164,11 +164,18 @@ static void try_check(void)
     expect("a start too large", portal_check(beyond, WORDS), PORTAL_NO_SETUP);
     expect("a loss too large", portal_check(loss_beyond, WORDS), PORTAL_NO_SETUP);
     expect("no words", portal_check(NULL, 0), PORTAL_NO_SETUP);
+    expect("a word too few", portal_check(setup, WORDS - 1), PORTAL_NO_SETUP);
+    uint64_t words[WORDS];
+    for (int place = 0; place < PORTAL_MAX_ITEMS; place++) {
+        memcpy(words, setup, sizeof words);
+        words[PORTAL_KIND(place)] = 2;
+        expect("another kind, in use or not", portal_check(words, WORDS), PORTAL_NO_SETUP);
+    }
 }
 
 static void try_closure(void)
 {
-    struct portal_closure r = portal_closure(setup, WORDS, MAILPW);
+    struct portal_closure_result r = portal_closure(setup, WORDS, MAILPW);
     expect("closure", r.number, 0);
     expect("what mailpw opens", r.set, MAILPW + MAIL + ORDER);
     expect("passes", r.passes, 3);
@@ -184,7 +191,7 @@ static void try_closure(void)
 
 static void try_lost(void)
 {
-    struct portal_set r = portal_lost(setup, WORDS, MAILPW + TOKEN);
+    struct portal_lost_result r = portal_lost(setup, WORDS, MAILPW + TOKEN);
     expect("lost", r.number, 0);
     expect("what is lost", r.set, MAILPW + TOKEN + MAIL + ORDER);
     expect("lost, outside", portal_lost(setup, WORDS, UINT64_MAX).number, PORTAL_OUTSIDE);
@@ -193,7 +200,7 @@ static void try_lost(void)
 static void try_way_in(void)
 {
     uint8_t items[4] = { 9, 9, 9, 9 }, colours[4] = { 8, 8, 8, 8 };
-    struct portal_way r = portal_way_in(setup, WORDS, ORDER_ITEM, MAILPW, items, 4, colours, 4);
+    struct portal_way_in_result r = portal_way_in(setup, WORDS, ORDER_ITEM, MAILPW, items, 4, colours, 4);
     expect("way in", r.number, 0);
     expect("it opens", r.opens, 1);
     expect("its steps", r.steps, 2);
@@ -211,7 +218,7 @@ static void try_way_in(void)
 static void try_opens(void)
 {
     uint64_t all = ORDPW + MAILPW + TOKEN;
-    struct portal_quick r = portal_opens(setup, WORDS, MAIL_ITEM, all);
+    struct portal_opens_result r = portal_opens(setup, WORDS, MAIL_ITEM, all);
     expect("quick yes", r.number, 0);
     expect("it is a yes", r.opens, 1);
     expect("held once mail is, which order is not yet", r.set, all + MAIL);
@@ -229,7 +236,7 @@ static void try_opens(void)
 
 static void try_forecast(void)
 {
-    struct portal_forecast r = portal_forecast(setup, WORDS, ORDER_ITEM);
+    struct portal_forecast_result r = portal_forecast(setup, WORDS, ORDER_ITEM);
     expect("forecast", r.number, 0);
     expect("of three that reach order, through mail too", r.sets, 3);
     expect("of one that reaches mail", portal_forecast(setup, WORDS, MAIL_ITEM).sets, 1);
@@ -245,7 +252,7 @@ static void try_kinds(void)
 {
     uint8_t list[5] = { PORTAL_INTRUDER(0, 1), PORTAL_INTRUDER(0, 2), PORTAL_INTRUDER(1, 0), 255, 255 }, lent[5];
     const uint8_t strange[6] = { 0, 6, 0, 0, 0, 0 };
-    struct portal_kinds r;
+    struct portal_kinds_result r;
     memcpy(lent, list, sizeof list);
     r = portal_kinds(setup, WORDS, ORDER_ITEM, list, 5);
     expect("kinds", r.number, 0);
@@ -264,7 +271,7 @@ static void try_kinds(void)
 static void try_lists(void)
 {
     uint64_t sets[5] = { LENT, LENT, LENT, LENT, LENT };
-    struct portal_lists r = portal_lists(setup, WORDS, ORDER_ITEM, sets, 3);
+    struct portal_lists_result r = portal_lists(setup, WORDS, ORDER_ITEM, sets, 3);
     expect("lists too short", r.number, PORTAL_SHORT);
     expect("lists untouched", sets[0], LENT);
     r = portal_lists(setup, WORDS, ORDER_ITEM, sets, 5);
@@ -282,7 +289,7 @@ static void try_lists(void)
 static void try_cut_sets(void)
 {
     uint64_t sets[3] = { LENT, LENT, LENT };
-    struct portal_cut_sets r = portal_cut_sets(setup, WORDS, ORDER_ITEM, sets, 1);
+    struct portal_cut_sets_result r = portal_cut_sets(setup, WORDS, ORDER_ITEM, sets, 1);
     expect("cut sets, too short", r.number, PORTAL_SHORT);
     expect("cut sets, too short, no value", r.count, 0);
     expect("cut sets, too short, untouched", sets[0], LENT);
@@ -324,7 +331,7 @@ static void try_bag_score(void)
     for (size_t i = 0; i < 2 * PORTAL_BAG_PLACES; i++)
         values[i] = LENT;
     lengths[0] = lengths[1] = LENT;
-    struct portal_bag_score r = portal_bag_score(setup, WORDS, ORDER_ITEM, values, PORTAL_BAG_PLACES - 1, lengths, 2);
+    struct portal_bag_score_result r = portal_bag_score(setup, WORDS, ORDER_ITEM, values, PORTAL_BAG_PLACES - 1, lengths, 2);
     expect("bag score, too few places", r.number, PORTAL_SHORT);
     expect("bag score, too few places, no value", r.bags, 0);
     expect("bag score, too few places, untouched", values[0], LENT);
@@ -353,7 +360,7 @@ static void try_next_opening(void)
 {
     uint64_t drawn[WORDS];
     memcpy(drawn, setup, sizeof setup);
-    struct portal_next_opening r = portal_next_opening(drawn, WORDS, ORDER_ITEM, 0);
+    struct portal_next_opening_result r = portal_next_opening(drawn, WORDS, ORDER_ITEM, 0);
     expect("next opening", r.number, 0);
     expect("there is more", r.more, 1);
     expect("the first opening", r.set, MAILPW);
@@ -399,7 +406,7 @@ static void make_stale(uint64_t words[WORDS])
     words[PORTAL_OPENED] = MAILPW + MAIL;
 }
 
-/* A freshly read setup holds nothing; and an older, shorter buffer is one in which nothing is held. */
+/* A freshly read setup holds nothing; and a shorter buffer is no setup, whatever it holds. */
 static void try_take_in(void)
 {
     uint64_t drawn[WORDS + 1], before[WORDS];
@@ -419,10 +426,11 @@ static void try_take_in(void)
 
     memcpy(drawn, setup, sizeof setup);
     memcpy(before, setup, sizeof setup);
-    expect("an older buffer", portal_check(drawn, PORTAL_HELD), 0);
-    refused("no room to hold", before, drawn, portal_take_in(drawn, PORTAL_HELD, 1), PORTAL_SHORT);
-    refused("no room to open", before, drawn, portal_take_in(drawn, PORTAL_OPENED, 1), PORTAL_SHORT);
-    refused("no room, and no item", before, drawn, portal_take_in(drawn, PORTAL_HELD, 5), PORTAL_NO_ITEM);
+    refused("no word to hold in", before, drawn, portal_take_in(drawn, PORTAL_HELD, 1), PORTAL_NO_SETUP);
+    refused("no word to open in", before, drawn, portal_take_in(drawn, PORTAL_OPENED, 1), PORTAL_NO_SETUP);
+    refused("too short, and no item", before, drawn, portal_take_in(drawn, PORTAL_HELD, 5), PORTAL_NO_SETUP);
+    drawn[PORTAL_KIND(MAIL_ITEM)] = before[PORTAL_KIND(MAIL_ITEM)] = 7;
+    refused("another kind", before, drawn, portal_take_in(drawn, WORDS, 1), PORTAL_NO_SETUP);
     expect("no words to hold in", portal_take_in(NULL, 0, 0), PORTAL_NO_SETUP);
 }
 
@@ -438,7 +446,9 @@ static void try_take_out(void)
     refused("no item out", before, drawn, portal_take_out(drawn, WORDS, 5), PORTAL_NO_ITEM);
     lives("the mail password out", drawn, portal_take_out(drawn, WORDS, 1), 0, 0);
     memcpy(before, drawn, sizeof before);
-    refused("no room to take out", before, drawn, portal_take_out(drawn, PORTAL_OPENED, 1), PORTAL_SHORT);
+    lives("one not held out again", drawn, portal_take_out(drawn, WORDS, 1), 0, 0);
+    expect("one not held out changes nothing", (uint64_t)memcmp(before, drawn, sizeof before), 0);
+    refused("too short to take out", before, drawn, portal_take_out(drawn, PORTAL_OPENED, 1), PORTAL_NO_SETUP);
     lives("a ring as read", ring, 0, 0, 0);
     memcpy(drawn, ring, sizeof ring);
     lives("it opens the other", drawn, portal_take_in(drawn, WORDS, 0), 1, 3);
@@ -451,24 +461,24 @@ static void try_add_edge(void)
     uint64_t drawn[WORDS], before[WORDS];
     memcpy(drawn, setup, sizeof setup);
     lives("the mail password in", drawn, portal_take_in(drawn, WORDS, 1), MAILPW, MAILPW + MAIL + ORDER);
-    lives("mail needs the token too", drawn, portal_add_edge(drawn, WORDS, 2, MAIL_ITEM, 0, 0), MAILPW, MAILPW);
+    lives("mail needs the token too", drawn, portal_add_edge(drawn, WORDS, 2, MAIL_ITEM, 0, false), MAILPW, MAILPW);
     expect("the row has both", drawn[PORTAL_ROW(MAIL_ITEM, 0)], MAILPW + TOKEN);
     expect("neither is marked", drawn[PORTAL_RECOVERY(MAIL_ITEM, 0)], 0);
-    lives("another way, by recovery", drawn, portal_add_edge(drawn, WORDS, 1, MAIL_ITEM, 7, 1), MAILPW, MAILPW + MAIL + ORDER);
+    lives("another way, by recovery", drawn, portal_add_edge(drawn, WORDS, 1, MAIL_ITEM, 7, true), MAILPW, MAILPW + MAIL + ORDER);
     expect("its mark", drawn[PORTAL_RECOVERY(MAIL_ITEM, 7)], MAILPW);
-    lives("any number is a yes", drawn, portal_add_edge(drawn, WORDS, 0, MAIL_ITEM, 6, UINT64_C(1) << 63), MAILPW, MAILPW + MAIL + ORDER);
-    expect("the mark of any number", drawn[PORTAL_RECOVERY(MAIL_ITEM, 6)], ORDPW);
+    lives("a third way, by recovery", drawn, portal_add_edge(drawn, WORDS, 0, MAIL_ITEM, 6, true), MAILPW, MAILPW + MAIL + ORDER);
+    expect("its mark too", drawn[PORTAL_RECOVERY(MAIL_ITEM, 6)], ORDPW);
     memcpy(before, drawn, sizeof before);
-    refused("from no item", before, drawn, portal_add_edge(drawn, WORDS, 5, 0, 8, 0), PORTAL_NO_ITEM);
-    refused("to no item", before, drawn, portal_add_edge(drawn, WORDS, 0, 5, 8, 0), PORTAL_NO_ITEM);
-    refused("colour 8", before, drawn, portal_add_edge(drawn, WORDS, 2, MAIL_ITEM, 8, 0), PORTAL_NO_COLOUR);
-    refused("a colour far off", before, drawn, portal_add_edge(drawn, WORDS, 2, MAIL_ITEM, UINT64_MAX, 0), PORTAL_NO_COLOUR);
-    refused("there already", before, drawn, portal_add_edge(drawn, WORDS, 2, MAIL_ITEM, 0, 0), PORTAL_EDGE_THERE);
-    refused("there without a mark", before, drawn, portal_add_edge(drawn, WORDS, 2, MAIL_ITEM, 0, 1), PORTAL_EDGE_THERE);
-    refused("there with a mark", before, drawn, portal_add_edge(drawn, WORDS, 1, MAIL_ITEM, 7, 0), PORTAL_EDGE_THERE);
+    refused("from no item", before, drawn, portal_add_edge(drawn, WORDS, 5, 0, 8, false), PORTAL_NO_ITEM);
+    refused("to no item", before, drawn, portal_add_edge(drawn, WORDS, 0, 5, 8, false), PORTAL_NO_ITEM);
+    refused("colour 8", before, drawn, portal_add_edge(drawn, WORDS, 2, MAIL_ITEM, 8, false), PORTAL_NO_COLOUR);
+    refused("a colour far off", before, drawn, portal_add_edge(drawn, WORDS, 2, MAIL_ITEM, UINT64_MAX, false), PORTAL_NO_COLOUR);
+    refused("there already", before, drawn, portal_add_edge(drawn, WORDS, 2, MAIL_ITEM, 0, false), PORTAL_EDGE_THERE);
+    refused("there without a mark", before, drawn, portal_add_edge(drawn, WORDS, 2, MAIL_ITEM, 0, true), PORTAL_EDGE_THERE);
+    refused("there with a mark", before, drawn, portal_add_edge(drawn, WORDS, 1, MAIL_ITEM, 7, false), PORTAL_EDGE_THERE);
     make_stale(drawn);
     memcpy(before, drawn, sizeof before);
-    refused("no setup to draw in, left stale", before, drawn, portal_add_edge(drawn, WORDS, 5, 5, 8, 0), PORTAL_NO_SETUP);
+    refused("no setup to draw in, left stale", before, drawn, portal_add_edge(drawn, WORDS, 5, 5, 8, false), PORTAL_NO_SETUP);
 }
 
 /* Until the drawing is full: 21 items have room for 441 edges of one colour. */
@@ -481,13 +491,13 @@ static void try_full_drawing(void)
     uint64_t drawn[WORDS], before[WORDS];
     expect("21 items", portal_read(bytes(TWENTY_ONE), strlen(TWENTY_ONE), drawn, WORDS).number, 0);
     for (uint64_t i = 0; i < 256; i++)
-        expect("one of 256 edges", portal_add_edge(drawn, WORDS, i % 21, i / 21, 5, i % 2), 0);
+        expect("one of 256 edges", portal_add_edge(drawn, WORDS, i % 21, i / 21, 5, i % 2 == 1), 0);
     memcpy(before, drawn, sizeof before);
-    refused("the 257th edge", before, drawn, portal_add_edge(drawn, WORDS, 20, 20, 5, 0), PORTAL_BOUND);
-    refused("one that is there, in a full drawing", before, drawn, portal_add_edge(drawn, WORDS, 0, 0, 5, 1), PORTAL_EDGE_THERE);
-    refused("no colour, in a full drawing", before, drawn, portal_add_edge(drawn, WORDS, 20, 20, 8, 0), PORTAL_NO_COLOUR);
+    refused("the 257th edge", before, drawn, portal_add_edge(drawn, WORDS, 20, 20, 5, false), PORTAL_BOUND);
+    refused("one that is there, in a full drawing", before, drawn, portal_add_edge(drawn, WORDS, 0, 0, 5, true), PORTAL_EDGE_THERE);
+    refused("no colour, in a full drawing", before, drawn, portal_add_edge(drawn, WORDS, 20, 20, 8, false), PORTAL_NO_COLOUR);
     expect("room again", portal_remove_edge(drawn, WORDS, 0, 0, 5), 0);
-    expect("the 256th edge", portal_add_edge(drawn, WORDS, 20, 20, 5, 0), 0);
+    expect("the 256th edge", portal_add_edge(drawn, WORDS, 20, 20, 5, false), 0);
 }
 
 static void try_remove_edge(void)
@@ -505,7 +515,7 @@ static void try_remove_edge(void)
     lives("and nothing is a way", drawn, portal_remove_edge(drawn, WORDS, 0, ORDER_ITEM, 0), ORDPW, ORDPW);
     lives("the marked edge goes", drawn, portal_remove_edge(drawn, WORDS, MAIL_ITEM, ORDER_ITEM, 1), ORDPW, ORDPW);
     expect("with its mark", drawn[PORTAL_ROW(ORDER_ITEM, 1)] + drawn[PORTAL_RECOVERY(ORDER_ITEM, 1)], 0);
-    lives("and comes back without it", drawn, portal_add_edge(drawn, WORDS, MAIL_ITEM, ORDER_ITEM, 1, 0), ORDPW, ORDPW);
+    lives("and comes back without it", drawn, portal_add_edge(drawn, WORDS, MAIL_ITEM, ORDER_ITEM, 1, false), ORDPW, ORDPW);
     memcpy(drawn, setup, sizeof setup);
     refused("no room to remove", setup, drawn, portal_remove_edge(drawn, PORTAL_OPENED, 2, ORDER_ITEM, 0), PORTAL_SHORT);
     refused("no room, and no edge", setup, drawn, portal_remove_edge(drawn, PORTAL_OPENED, 2, ORDER_ITEM, 1), PORTAL_NO_EDGE);
@@ -549,7 +559,7 @@ static void try_held(void)
     expect("out of rank", portal_out_of_rank(stale, WORDS, 0, 0).number, PORTAL_NO_SETUP);
     expect("take in", portal_take_in(stale, WORDS, 0), PORTAL_NO_SETUP);
     expect("take out", portal_take_out(stale, WORDS, 0), PORTAL_NO_SETUP);
-    expect("add", portal_add_edge(stale, WORDS, 0, 0, 0, 0), PORTAL_NO_SETUP);
+    expect("add", portal_add_edge(stale, WORDS, 0, 0, 0, false), PORTAL_NO_SETUP);
     expect("remove", portal_remove_edge(stale, WORDS, 1, 3, 0), PORTAL_NO_SETUP);
 
     memcpy(held, setup, sizeof setup);
@@ -564,12 +574,12 @@ static void try_held(void)
     expect("a way by recovery alone", portal_remove_edge(held, WORDS, 2, ORDER_ITEM, 0) + portal_remove_edge(held, WORDS, 0, ORDER_ITEM, 0), 0);
     expect("recovery is a backdoor still", portal_backdoor(held, WORDS, ORDER_ITEM).yes, 1);
     expect("the marked edge goes", portal_remove_edge(held, WORDS, MAIL_ITEM, ORDER_ITEM, 1), 0);
-    expect("and comes back without its mark", portal_add_edge(held, WORDS, MAIL_ITEM, ORDER_ITEM, 1, 0), 0);
+    expect("and comes back without its mark", portal_add_edge(held, WORDS, MAIL_ITEM, ORDER_ITEM, 1, false), 0);
     expect("recovery is no backdoor", portal_backdoor(held, WORDS, ORDER_ITEM).yes, 0);
 }
 
 /* A refusal has its number, sheet and line, the length 0, and a buffer as it was. */
-static void expect_refused(const char *what, struct portal_pooled r, uint64_t number, uint64_t sheet, uint64_t line, const uint8_t *out)
+static void expect_refused(const char *what, struct portal_pool_result r, uint64_t number, uint64_t sheet, uint64_t line, const uint8_t *out)
 {
     size_t changed = 0;
     for (size_t at = 0; at < PORTAL_POOL_BYTES; at++)
@@ -594,7 +604,7 @@ static void try_pool(void)
     const size_t n = sizeof first - 1, m = sizeof second - 1, k = sizeof five - 1, all = sizeof both - 1;
     uint8_t out[PORTAL_POOL_BYTES];
     memset(out, '#', sizeof out);
-    struct portal_pooled r = portal_pool(one, n, two, m, out, sizeof out);
+    struct portal_pool_result r = portal_pool(one, n, two, m, out, sizeof out);
     expect("pooled", r.number + r.sheet + r.line, 0);
     expect("pooled, its length", r.length, all);
     expect("pooled, its bytes", (uint64_t)memcmp(out, both, all), 0);
@@ -631,7 +641,7 @@ static void try_setup_risk(void)
 static void try_mark_openings(void)
 {
     const uint64_t handed[4] = { MAILPW, MAILPW, MAILPW + TOKEN, TOKEN };
-    struct portal_marks m = portal_mark_openings(setup, WORDS, ORDER_ITEM, handed, 4);
+    struct portal_marks_result m = portal_mark_openings(setup, WORDS, ORDER_ITEM, handed, 4);
     expect("marks", m.number, 0);
     expect("one of each", m.right == 1 && m.repeated == 1 && m.shut == 1 && m.loose == 1 && m.missing == 1, 1);
     expect("not full", (uint64_t)portal_is_full(m), 0);
@@ -656,13 +666,13 @@ static void try_hand_in(void)
     memset(r, 0x5a, sizeof r);
     const struct portal_record before = r[0];
     expect("eight numbers", sizeof before, 64);
-    struct portal_registered a = portal_hand_in(setup, WORDS, r, 3, 0, 7, ORDER_ITEM, false, openings, 2);
+    struct portal_register_result a = portal_hand_in(setup, WORDS, r, 3, 0, 7, ORDER_ITEM, false, openings, 2);
     expect("handed in", a.number, 0);
     expect("one record", a.used, 1);
     expect("whose", r[0].student, 7);
     expect("at which target", r[0].target, ORDER_ITEM);
     expect("open", r[0].way, 0);
-    expect("full marks", r[0].right == 2 && r[0].repeated + r[0].shut + r[0].loose + r[0].missing == 0, 1);
+    expect("full marks", r[0].right == 2 && portal_is_full_record(r[0]), 1);
     expect("the record behind", (uint64_t)memcmp(&r[1], &before, sizeof before), 0);
     a = portal_hand_in(setup, WORDS, r, 3, a.used, 8, ORDER_ITEM, false, one, 1);
     expect("another student", a.used, 2);
@@ -700,7 +710,7 @@ static void try_withdraw(void)
     expect("no record, as many", portal_withdraw(r, 4, 3, 9).used, 3);
     expect("too many used", portal_withdraw(r, 4, 5, 7).number, PORTAL_OVERFULL);
     expect("nobody to withdraw", portal_withdraw(NULL, 0, 0, 7).number, PORTAL_NO_RECORD);
-    struct portal_registered a = portal_withdraw(r, 4, 3, 7);
+    struct portal_register_result a = portal_withdraw(r, 4, 3, 7);
     expect("withdrawn", a.number, 0);
     expect("one is left", a.used, 1);
     expect("it moved up", r[0].target, 1);

@@ -6,7 +6,7 @@ set -euo pipefail
 cd "$(dirname "$0")/../.."
 lib=build/lib
 out=build/c
-flags=(-Wall -Wextra -Wpedantic -Wconversion -Werror -O2 -Iinclude)
+flags=(-Wall -Wextra -Wpedantic -Wconversion -Wshadow -Werror -O2 -Iinclude)
 mkdir -p "$out"
 
 gcc -std=c11 -D_GNU_SOURCE "${flags[@]}" -pthread -o "$out/client" tests/c/client.c "$lib/libportal.a"
@@ -23,6 +23,9 @@ examples=("$out/example")
 if command -v g++ > /dev/null; then
     g++ -std=c++17 "${flags[@]}" -o "$out/example-c++" -x c++ examples/portal.c -x none "$lib/libportal.a"
     examples+=("$out/example-c++")
+    # No function has a struct's name: C++ needs no `struct` in front.
+    g++ -std=c++17 "${flags[@]}" -fsyntax-only -x c++ - <<< '#include "portal.h"
+        portal_closure_result opened(const uint64_t *words) { return portal_closure(words, PORTAL_SETUP_WORDS, 0); }'
 fi
 
 diff <(nm "$lib/libportal.a" | sed -n 's/.* T //p' | sort) <(sed -n 's/^\(uint64_t\|bool\|struct [a-z_]*\) \(portal_[a-z_]*\)(.*/\2/p' include/portal.h | sort) ||

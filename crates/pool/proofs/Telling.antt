@@ -9,6 +9,7 @@ use lib.ListN.{length, take, drop, length-append, length-take, length-drop}
 use lib.Seq.{length-take-le}
 use Rattle.io.specs.Counts.{Counts}
 use Rattle.written.specs.Inner.{Wrote}
+use Rattle.vertex_set.specs.Order.{Listed}
 use Rattle.written.specs.Rows.{RowWritten}
 use Rattle.written.proofs.Rows.{row-written}
 use Rattle.sheet_format.specs.Fields.{decimal}
@@ -19,11 +20,10 @@ use Rattle.sheet_format.proofs.Numbers.{decimal-length}
 use Rattle.writing.specs.Inner.{ended}
 use Rattle.pool_format.specs.declared.Pooled.{Pooled}
 use Rattle.pool_format.specs.Rows.{pooled}
-use Rattle.pool_format.specs.Call.{PoolRefused, PoolWritten, PoolsRows, PoolCall}
-use Rattle.pool_format.specs.Meaning.{poolBytes}
-use Rattle.pool_format.proofs.Deciding.{agree-or, fits-or}
+use Rattle.pool_format.specs.Call.{PoolOutcome, withBuffer, PoolCall}
+use Rattle.pool_format.specs.Meaning.{poolBytes, IsPooled}
 use Rattle.pool_format.proofs.PooledRows.{pooled-valid}
-use Rattle.pool_format.proofs.Meaning.{always-enough, HasRows, rows-or, pooled-text}
+use Rattle.pool_format.proofs.Meaning.{always-enough, PoolComes, of-first, of-second, of-both, of-short, of-text, pool-comes, pooled-text}
 use Rattle.pool.specs.Printed.{refusalLine, Printed}
 
 -- ---- the line of a refusal
@@ -61,56 +61,49 @@ row-taken entry row exit r w = let e : r ≡ length row = omega (arith, w .many)
 
 -- ---- what the call answers
 
--- A refusal, of another number than 24; or a text that is written.
-record Refuses (r : Pooled) (entry exit : List ℕ) : Type 0 where
-  number : ℕ
-  sheet : ℕ
-  line : ℕ
-  refused : PoolRefused number sheet line r entry exit
-  other : number ≡ 24 → ⊥
-
-record Writes (r : Pooled) (entry exit : List ℕ) : Type 0 where
-  text : List ℕ
-  written : PoolWritten text r entry exit
-
 module _ (a b : List ℕ) (r : Pooled) (entry exit : List ℕ) (c : PoolCall a b r entry exit) (h : poolBytes ≤ length entry) where
-  from-rows : (p : HasRows a) (q : HasRows b) → PoolsRows (p .doc) (q .doc) r entry exit → Refuses r entry exit ⊎ Writes r entry exit
-  from-rows p q s =
-      ⊎-elim
-      (λ g. ⊎-elim
-      (λ f. let e = always-enough (pooled (p .doc) (q .doc)) (pooled-valid (p .doc) (q .doc) (p .valid) (q .valid) g f) in
-      inr (record { text = render (pooled (p .doc) (q .doc)); written = s .room g f (omega arith) }))
-      (λ f. inl (record { number = 23; sheet = 0; line = 0; refused = s .beyond g f; other = λ e. omega arith }))
-      (fits-or (pooled (p .doc) (q .doc))))
-      (λ g. inl (record { number = 22; sheet = 0; line = 0; refused = s .disagree g; other = λ e. omega arith }))
-      (agree-or (p .doc .items) (q .doc .items))
+  -- every pooled sheet has room
+  enough : (t : List ℕ) → IsPooled a b t → length t ≤ length entry
+  enough t p =
+      let v = pooled-valid (p .first) (p .second) (p .validFirst) (p .validSecond) (p .agree) (p .fits) in
+      let m = always-enough (pooled (p .first) (p .second)) v in
+      let e = ap length (p .text) in
+      omega arith
 
-  refuses-or : Refuses r entry exit ⊎ Writes r entry exit
-  refuses-or =
-      ⊎-elim
-      (λ p. ⊎-elim
-      (λ q. from-rows (p .0) (q .0) (c .pools (p .0 .doc) (q .0 .doc) (p .0 .valid) (q .0 .valid) (p .0 .text) (q .0 .text)))
-      (λ q. inl (record { number = readSheet b .number; sheet = 2; line = readSheet b .line; refused = c .refusedSecond (p .1) q; other = λ e. let m = number-most b in omega arith }))
-      (rows-or b))
-      (λ p. inl (record { number = readSheet a .number; sheet = 1; line = readSheet a .line; refused = c .refused p; other = λ e. let m = number-most a in omega arith }))
-      (rows-or a)
+  few : (q : ℕ) → Listed (22 ∷ 23 ∷ []) q → q ≡ 24 → ⊥
+  few q (inl e) z = omega (arith, e, z)
+  few q (inr (inl e)) z = omega (arith, e, z)
+  few q (inr (inr l)) z = absurd l
+
+  number : {p : PoolOutcome} → withBuffer r exit ≡ p → r .number ≡ p .answer .number
+  number e = ap (λ (o : PoolOutcome). o .answer .number) e
 
   never-short : r .number ≡ 24 → ⊥
-  never-short z =
-      ⊎-elim
-      (λ x. x .other (sym (ap (λ (y : Pooled). y .number) (x .refused .answer)) ∙ z))
-      (λ x. let n = ap (λ (y : Pooled). y .number) (x .written .answer) in omega arith)
-      refuses-or
+  never-short z = by (pool-comes a b r entry exit c)
+    where
+      by : PoolComes a b entry (withBuffer r exit) → ⊥
+      by (of-first n e) = let m = number-most a in let k = number e in omega arith
+      by (of-second n e) = let m = number-most b in let k = number e in omega arith
+      by (of-both q l e) = few q l (sym (number e) ∙ z)
+      by (of-short t p n e) = n (enough t p)
+      by (of-text t p e) = let k = number e in omega arith
 
   size-inside : r .size ≤ length exit
-  size-inside =
-      ⊎-elim
-      (λ x. let n = ap (λ (y : Pooled). y .size) (x .refused .answer) in omega arith)
-      (λ x. let n = ap (λ (y : Pooled). y .size) (x .written .answer) in
-      let e = ap length (x .written .written) in
-      let l = length-append (x .text) (drop (length (x .text)) entry) in
-      omega arith)
-      refuses-or
+  size-inside = by (pool-comes a b r entry exit c)
+    where
+      size : {p : PoolOutcome} → withBuffer r exit ≡ p → r .size ≡ p .answer .size
+      size e = ap (λ (o : PoolOutcome). o .answer .size) e
+
+      by : PoolComes a b entry (withBuffer r exit) → r .size ≤ length exit
+      by (of-first n e) = let k = size e in omega arith
+      by (of-second n e) = let k = size e in omega arith
+      by (of-both q l e) = let k = size e in omega arith
+      by (of-short t p n e) = let k = size e in omega arith
+      by (of-text t p e) =
+          let k = size e in
+          let m = ap (λ (o : PoolOutcome). length (o .buffer)) e in
+          let l = length-append t (drop (length t) entry) in
+          omega arith
 
   pub sheet-counts : Counts (r .size) exit
   sheet-counts = counted (r .size) exit size-inside

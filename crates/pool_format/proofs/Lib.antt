@@ -1,5 +1,4 @@
 pub mod Examples
-pub mod Deciding
 pub mod Colours
 pub mod Recolouring
 pub mod Lengths

@@ -1,26 +1,27 @@
 -- The theorems of specs/Meaning.
 -- Assumes nothing.
 use mathlib.Core.Path.{_≡_, refl, sym, ap, _∙_, subst}
-use mathlib.Core.List.{List, _++_, map, Memᴰ·append-left, Memᴰ·append-right, List·Memᴰ·append-cases}
+use mathlib.Core.List.{List, [], _∷_, _++_, map, Memᴰ·append-left, Memᴰ·append-right, List·Memᴰ·append-cases}
 use mathlib.Core.Logic.{_⊎_, inl, inr, ⊎-elim}
 use Prim.Native.Nat.{ℕ, _≤_}
 use native.Mathlib.Omega.{arith}
 use lib.ListN.{length, take, drop}
 use lib.Seq.{take-append-seam}
-use Rattle.vertex_set.proofs.Cases.{less-or}
+use Rattle.vertex_set.specs.Order.{Listed}
+use Rattle.questions.specs.Asks.{Asks}
+use Rattle.questions.proofs.Asks.{asks-once, asks-either}
 use Rattle.sheet_format.specs.declared.Reading.{Reading}
 use Rattle.sheet_format.specs.Rows.{EdgeRow, Doc, Valid, render, setupOf}
-use Rattle.sheet_format.specs.Read.{readSheet}
-use Rattle.sheet_format.proofs.Meaning.{accepted-of-valid, valid-of-accepted, accepted-or-refused}
+use Rattle.sheet_format.specs.Read.{readSheet, asksSheet}
+use Rattle.sheet_format.proofs.Meaning.{accepted-of-valid, rows-unique}
 use Rattle.sheet_format.proofs.Question12Lists.{In}
 use Rattle.pool_format.specs.declared.Pooled.{Pooled}
 use Rattle.pool_format.specs.Rows.{Agree, remaining, recoloured, pooled, Fits}
-use Rattle.pool_format.specs.Call.{PoolRefused, PoolWritten, PoolsRows, PoolCall}
-use Rattle.pool_format.specs.Meaning.{AlwaysEnough, IsPooled, PooledText, KeepsItems, KeepsOpening, Pooling, SamePool, PoolDetermined}
+use Rattle.pool_format.specs.Call.{asks22, asks23, asks24, PoolOutcome, withBuffer, poolRefusal, poolsText, PoolsRows, PoolCall}
+use Rattle.pool_format.specs.Meaning.{AlwaysEnough, IsPooled, PooledText, KeepsItems, KeepsOpening, Pooling, PoolDetermined}
 use Rattle.pool_format.proofs.Colours.{uses-of}
 use Rattle.pool_format.proofs.Recolouring.{known-first, known-second, pooledColour, re-from, re-to, re-colour, colour-once, colour-new}
 use Rattle.pool_format.proofs.Lengths.{rows-short}
-use Rattle.pool_format.proofs.Deciding.{agree-or, fits-or}
 use Rattle.pool_format.proofs.PooledRows.{in-image, image-of, pooled-valid}
 use Rattle.pool_format.proofs.Opening.{Carries, keeps-items, keeps-opening}
 
@@ -89,93 +90,82 @@ pooling a b t h =
       opensAsSecond = keeps-opening (h .second) p (h .validSecond) v two;
     })
 
--- ---- rows of a text
-
--- A text that is accepted has rows.
-pub record HasRows (s : List ℕ) : Type 0 where
-  pub doc : Doc
-  pub valid : Valid doc
-  pub text : s ≡ render doc
-
-pub rows-or : (s : List ℕ) → (HasRows s × (readSheet s .number ≡ 0)) ⊎ (readSheet s .number ≡ 0 → ⊥)
-rows-or s =
-    ⊎-elim
-    (λ a. let d = valid-of-accepted s (a .setup) (a .reading) in
-    inl (record { doc = d .0; valid = d .1; text = d .2 }, ap (λ (r : Reading). r .number) (a .reading)))
-    (λ r. inr (λ z. let n = ap (λ (x : Reading). x .number) (r .reading) in let l = r .least in omega arith))
-    (accepted-or-refused .either s)
-
 -- ---- one answer to every input
 
-same-refused : (q k l : ℕ) (r r′ : Pooled) (entry exit exit′ : List ℕ) → PoolRefused q k l r entry exit → PoolRefused q k l r′ entry exit′ → SamePool r r′ exit exit′
-same-refused q k l r r′ entry exit exit′ x y = record { answer = x .answer ∙ sym (y .answer); buffer = x .untouched ∙ sym (y .untouched) }
+abbrev after-rows : Doc → Doc → List ℕ → PoolOutcome → Type 0
+after-rows d e entry = Asks (poolRefusal 0 0 entry) (asks22 d e ∷ asks23 d e ∷ asks24 d e entry ∷ []) (λ p. p ≡ poolsText (render (pooled d e)) entry)
 
-same-written : (t : List ℕ) (r r′ : Pooled) (entry exit exit′ : List ℕ) → PoolWritten t r entry exit → PoolWritten t r′ entry exit′ → SamePool r r′ exit exit′
-same-written t r r′ entry exit exit′ x y = record { answer = x .answer ∙ sym (y .answer); buffer = x .written ∙ sym (y .written) }
-
-same-rows : (d e : Doc) (r r′ : Pooled) (entry exit exit′ : List ℕ) → PoolsRows d e r entry exit → PoolsRows d e r′ entry exit′ → SamePool r r′ exit exit′
-same-rows d e r r′ entry exit exit′ x y =
-    ⊎-elim
-    (λ a. ⊎-elim
-    (λ f. ⊎-elim
-    (λ s. same-refused 24 0 0 r r′ entry exit exit′ (x .short a f s) (y .short a f s))
-    (λ s. same-written (render (pooled d e)) r r′ entry exit exit′ (x .room a f s) (y .room a f s))
-    (less-or (length entry) (length (render (pooled d e)))))
-    (λ f. same-refused 23 0 0 r r′ entry exit exit′ (x .beyond a f) (y .beyond a f))
-    (fits-or (pooled d e)))
-    (λ a. same-refused 22 0 0 r r′ entry exit exit′ (x .disagree a) (y .disagree a))
-    (agree-or (d .items) (e .items))
+-- the rows of both texts are unique
+rows-once : (a b entry : List ℕ) (o p : PoolOutcome) → PoolsRows a b entry o → PoolsRows a b entry p → o ≡ p
+rows-once a b entry o p h k =
+    asks-once (poolRefusal 0 0 entry) (λ x. x ≡ poolsText (render (pooled (h .d) (h .e))) entry) (asks22 (h .d) (h .e) ∷ asks23 (h .d) (h .e) ∷ asks24 (h .d) (h .e) entry ∷ []) o p
+    (λ e f. e ∙ sym f) (h .told)
+    (subst (λ (x : Doc). after-rows x (h .e) entry p) (rows-unique (k .d) (h .d) (k .valid) (h .valid) (sym (k .is) ∙ h .is))
+    (subst (λ (x : Doc). after-rows (k .d) x entry p) (rows-unique (k .e) (h .e) (k .validSecond) (h .validSecond) (sym (k .isSecond) ∙ h .isSecond)) (k .told)))
 
 pub pool-determined : PoolDetermined
-pool-determined a b r r′ entry exit exit′ x y =
-    ⊎-elim
-    (λ p. ⊎-elim
-    (λ q. same-rows (p .0 .doc) (q .0 .doc) r r′ entry exit exit′
-    (x .pools (p .0 .doc) (q .0 .doc) (p .0 .valid) (q .0 .valid) (p .0 .text) (q .0 .text))
-    (y .pools (p .0 .doc) (q .0 .doc) (p .0 .valid) (q .0 .valid) (p .0 .text) (q .0 .text)))
-    (λ q. same-refused (readSheet b .number) 2 (readSheet b .line) r r′ entry exit exit′ (x .refusedSecond (p .1) q) (y .refusedSecond (p .1) q))
-    (rows-or b))
-    (λ p. same-refused (readSheet a .number) 1 (readSheet a .line) r r′ entry exit exit′ (x .refused p) (y .refused p))
-    (rows-or a)
+pool-determined a b r r′ entry exit exit′ =
+    asks-once (poolRefusal 1 (readSheet a .line) entry) (Asks (poolRefusal 2 (readSheet b .line) entry) (asksSheet b ∷ []) (PoolsRows a b entry)) (asksSheet a ∷ []) o o′
+    (asks-once (poolRefusal 2 (readSheet b .line) entry) (PoolsRows a b entry) (asksSheet b ∷ []) o o′ (rows-once a b entry o o′))
+  where
+    o : PoolOutcome
+    o = withBuffer r exit
+
+    o′ : PoolOutcome
+    o′ = withBuffer r′ exit′
 
 -- ---- from the call to the pooled sheet
 
--- a refusal's number is the answer's
-refused-number : (q k l : ℕ) (r : Pooled) (entry exit : List ℕ) → PoolRefused q k l r entry exit → r .number ≡ q
-refused-number q k l r entry exit h = ap (λ (x : Pooled). x .number) (h .answer)
+-- what a call comes to: a refusal of a sheet, one of both together, one for want of room, or the pooled sheet
+pub data PoolComes (a b entry : List ℕ) (o : PoolOutcome) : Type 0 where
+  of-first : (readSheet a .number ≡ 0 → ⊥) → o ≡ poolRefusal 1 (readSheet a .line) entry (readSheet a .number) → PoolComes a b entry o
+  of-second : (readSheet b .number ≡ 0 → ⊥) → o ≡ poolRefusal 2 (readSheet b .line) entry (readSheet b .number) → PoolComes a b entry o
+  of-both : (q : ℕ) → Listed (22 ∷ 23 ∷ []) q → o ≡ poolRefusal 0 0 entry q → PoolComes a b entry o
+  of-short : (t : List ℕ) → IsPooled a b t → (length t ≤ length entry → ⊥) → o ≡ poolRefusal 0 0 entry 24 → PoolComes a b entry o
+  of-text : (t : List ℕ) → IsPooled a b t → o ≡ poolsText t entry → PoolComes a b entry o
+
+module _ (a b entry : List ℕ) (o : PoolOutcome) (h : PoolsRows a b entry o) where
+  is-pooled : Agree (h .d .items) (h .e .items) → Fits (pooled (h .d) (h .e)) → IsPooled a b (render (pooled (h .d) (h .e)))
+  is-pooled agree fits =
+      record {
+        first = h .d;
+        second = h .e;
+        validFirst = h .valid;
+        validSecond = h .validSecond;
+        isFirst = h .is;
+        isSecond = h .isSecond;
+        agree = agree;
+        fits = fits;
+        text = refl;
+      }
+
+  rows-come : PoolComes a b entry o
+  unfolding Asks
+  rows-come =
+      ⊎-elim (λ n. of-both 22 (inl refl) (n .1))
+      (λ x. ⊎-elim (λ n. of-both 23 (inr (inl refl)) (n .1))
+      (λ y. ⊎-elim (λ n. of-short (render (pooled (h .d) (h .e))) (is-pooled (x .0) (y .0)) (n .0) (n .1))
+      (λ z. of-text (render (pooled (h .d) (h .e))) (is-pooled (x .0) (y .0)) (z .1)) (y .1)) (x .1)) (h .told)
+
+pub pool-comes : (a b : List ℕ) (r : Pooled) (entry exit : List ℕ) → PoolCall a b r entry exit → PoolComes a b entry (withBuffer r exit)
+unfolding Asks
+pool-comes a b r entry exit x =
+    ⊎-elim (λ n. of-first (n .0) (n .1)) (λ y. ⊎-elim (λ n. of-second (n .0) (n .1)) (λ z. rows-come a b entry (withBuffer r exit) (z .1)) (y .1)) x
 
 pub pooled-text : PooledText
-pooled-text a b r entry exit x z =
-    ⊎-elim
-    (λ p. ⊎-elim
-    (λ q. rows (p .0) (q .0) (x .pools (p .0 .doc) (q .0 .doc) (p .0 .valid) (q .0 .valid) (p .0 .text) (q .0 .text)))
-    (λ q. absurd (q (sym (refused-number _ _ _ r entry exit (x .refusedSecond (p .1) q)) ∙ z)))
-    (rows-or b))
-    (λ p. absurd (p (sym (refused-number _ _ _ r entry exit (x .refused p)) ∙ z)))
-    (rows-or a)
+pooled-text a b r entry exit x z = by (pool-comes a b r entry exit x)
   where
-    written : (t : List ℕ) → PoolWritten t r entry exit → take (r .size) exit ≡ t
-    written t w = rw (w .answer, w .written) (take-append-seam t (drop (length t) entry))
+    number : {p : PoolOutcome} → withBuffer r exit ≡ p → p .answer .number ≡ 0
+    number e = sym (ap (λ (o : PoolOutcome). o .answer .number) e) ∙ z
 
-    rows : (p : HasRows a) (q : HasRows b) → PoolsRows (p .doc) (q .doc) r entry exit → IsPooled a b (take (r .size) exit)
-    rows p q h =
-        ⊎-elim
-        (λ g. ⊎-elim
-        (λ f. ⊎-elim
-        (λ s. absurd (let n = refused-number 24 0 0 r entry exit (h .short g f s) in omega arith))
-        (λ s. record {
-          first = p .doc;
-          second = q .doc;
-          validFirst = p .valid;
-          validSecond = q .valid;
-          isFirst = p .text;
-          isSecond = q .text;
-          agree = g;
-          fits = f;
-          text = written (render (pooled (p .doc) (q .doc))) (h .room g f s);
-        })
-        (less-or (length entry) (length (render (pooled (p .doc) (q .doc))))))
-        (λ f. absurd (let n = refused-number 23 0 0 r entry exit (h .beyond g f) in omega arith))
-        (fits-or (pooled (p .doc) (q .doc))))
-        (λ g. absurd (let n = refused-number 22 0 0 r entry exit (h .disagree g) in omega arith))
-        (agree-or (p .doc .items) (q .doc .items))
+    not-zero : (q : ℕ) → Listed (22 ∷ 23 ∷ []) q → q ≡ 0 → ⊥
+    not-zero q (inl e) z = omega (arith, e, z)
+    not-zero q (inr (inl e)) z = omega (arith, e, z)
+    not-zero q (inr (inr h)) z = absurd h
+
+    by : PoolComes a b entry (withBuffer r exit) → IsPooled a b (take (r .size) exit)
+    by (of-first n e) = absurd (n (number e))
+    by (of-second n e) = absurd (n (number e))
+    by (of-both q l e) = absurd (not-zero q l (number e))
+    by (of-short t h n e) = absurd (let k = number e in omega (arith, k))
+    by (of-text t h e) = subst (IsPooled a b) (sym (ap (λ (o : PoolOutcome). take (o .answer .size) (o .buffer)) e ∙ take-append-seam t (drop (length t) entry))) h

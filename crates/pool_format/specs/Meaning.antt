@@ -14,7 +14,7 @@ use Rattle.sheet_format.specs.Read.{readSheet}
 use Rattle.sheet_format.specs.Names.{hasItem, nameOf}
 use Rattle.pool_format.specs.declared.Pooled.{Pooled}
 use Rattle.pool_format.specs.Rows.{Agree, usesColour, newColour, pooled, Fits}
-use Rattle.pool_format.specs.Call.{PoolCall}
+use Rattle.pool_format.specs.Call.{withBuffer, PoolCall}
 
 -- ---- renaming, in document 02's words
 
@@ -95,11 +95,7 @@ Pooling = (a b t : List ℕ) → IsPooled a b t → PoolingLaw a b t
 
 -- ---- one answer to every input
 
--- Two answers to pooling are the same, and the lent buffer ends the same.
-pub record SamePool (r r′ : Pooled) (exit exit′ : List ℕ) : Type 0 where
-  pub answer : r ≡ r′
-  pub buffer : exit ≡ exit′
-
 -- Two answers that meet the contract of pooling, on the same texts and the same buffer, are the same, with the lent buffer.
 abbrev pub PoolDetermined : Type 0
-PoolDetermined = (a b : List ℕ) (r r′ : Pooled) (entry exit exit′ : List ℕ) → PoolCall a b r entry exit → PoolCall a b r′ entry exit′ → SamePool r r′ exit exit′
+PoolDetermined = (a b : List ℕ) (r r′ : Pooled) (entry exit exit′ : List ℕ) → PoolCall a b r entry exit → PoolCall a b r′ entry exit′
+    → withBuffer r exit ≡ withBuffer r′ exit′

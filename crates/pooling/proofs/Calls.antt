@@ -3,7 +3,7 @@
 use mathlib.Core.Path.{_≡_, refl, sym, ap, _∙_}
 use mathlib.Core.Bool.{false}
 use mathlib.Core.List.{List, [], _∷_, _++_}
-use mathlib.Core.Logic.{⊎-elim}
+use mathlib.Core.Logic.{inl, inr, ⊎-elim}
 use Prim.Native.Nat.{ℕ, _+_, _-_, _≤_, _<_}
 use native.Mathlib.Omega.{arith}
 use lib.ListN.{length, getD, take, drop, length-append}
@@ -15,18 +15,19 @@ use Rattle.vertex_set.proofs.Cases.{byTest}
 use Rattle.vertex_set.proofs.Decisions.{decide-no, decide-leb}
 use Rattle.setup.specs.declared.Setup.{Setup}
 use Rattle.setup.specs.Setup.{given, total}
+use Rattle.questions.specs.Asks.{Asks}
 use Rattle.sheet_format.specs.declared.Reading.{Reading}
 use Rattle.sheet_format.specs.Text.{linesOf}
 use Rattle.sheet_format.specs.Rows.{ItemRow, Doc, Valid, startCount, lossCount, lineText, firstHeader, secondHeader, itemFields, itemLines, edgeLines, render}
 use Rattle.sheet_format.specs.Questions.{isKnown}
 use Rattle.sheet_format.specs.Read.{readSheet}
-use Rattle.sheet_format.proofs.Meaning.{accepted-of-valid, valid-of-accepted, accepted-or-refused}
+use Rattle.sheet_format.proofs.Meaning.{valid-of-accepted, accepted-or-refused}
 use Rattle.sheet_fields.specs.Inner.Parts.{until}
 use Rattle.sheet_fields.proofs.Lines.{line-at, lines-over}
 use Rattle.sheet_fields.proofs.Slices.{rest-part}
 use Rattle.pool_format.specs.declared.Pooled.{Pooled}
 use Rattle.pool_format.specs.Rows.{remaining, pooled}
-use Rattle.pool_format.specs.Call.{PoolRefused, PoolsRows, PoolCall}
+use Rattle.pool_format.specs.Call.{asks22, asks23, asks24, withBuffer, poolRefusal, poolsText, PoolsRows, PoolCall}
 use Rattle.pool_items.specs.declared.Keys.{Keys}
 use Rattle.pool_items.specs.declared.Remaining.{Remaining}
 use Rattle.pool_items.specs.Inner.Keys.{HasLines, SheetKeys, KeyPlaces}
@@ -34,7 +35,7 @@ use Rattle.pool_items.specs.Inner.Items.{PlacesRise, CountsRemaining}
 use Rattle.pool_text.specs.Inner.{freshRows, withDigits}
 use Rattle.pooling.specs.declared.Bounds.{Bounds}
 use Rattle.pooling.specs.declared.Plan.{Plan}
-use Rattle.pooling.specs.Inner.{Accepts, Starts, BothRead, CountsInBounds, BoundsOf, pooledText, CanWrite, PlanFor, PlanOf, PoolsRead, disagrees, beyond, ready}
+use Rattle.pooling.specs.Inner.{Accepts, Starts, BothRead, CountsInBounds, BoundsOf, pooledText, CanWrite, PlanFor, PlanOf, disagrees, beyond, ready}
 use Rattle.pooling.proofs.Sheets.{count-of, has-lines, edges-many, rising, start-inside}
 use Rattle.pooling.proofs.Plans.{Sheets, Counted, counted, bounds-for}
 
@@ -294,83 +295,97 @@ can-write first second a b p out h f z room =
 
 -- ---- the answers
 
-module _ (first second : List ℕ) (p : Plan) (f : PlanOf first second p) (r : Pooled) (entry : List ℕ) where
-  -- 22 or 23
-  pub read-refused : (p .number ≡ 0 → ⊥) → r ≡ record { number = p .number; sheet = 0; line = 0; size = 0 } → PoolsRead first second r entry entry
-  read-refused n q = record { each = λ d e v w t u. by d e (f .each d e v w t u) }
-    where
-      refusal : (k : ℕ) → p .number ≡ k → PoolRefused k 0 0 r entry entry
-      refusal k e = record { answer = q ∙ ap (λ (i : ℕ). record { number = i; sheet = 0; line = 0; size = 0 }) e; untouched = refl }
+module _ (first second : List ℕ) (a b : Setup) (h : Accepts first a × Accepts second b) (p : Plan) (f : PlanOf first second p) (r : Pooled) (entry : List ℕ) where
+  abbrev d : Doc
+  d = rows-of-text first a (h .0) .doc
 
-      by : (d e : Doc) → PlanFor d e first second p → PoolsRows d e r entry entry
-      by d e (disagrees m x) =
-          record { disagree = λ y. refusal 22 m; beyond = λ y. absurd (x y); short = λ y. absurd (x y); room = λ y. absurd (x y) }
-      by d e (beyond m x y) =
-          record { disagree = λ z. absurd (z x); beyond = λ z w. refusal 23 m; short = λ z w. absurd (y w); room = λ z w. absurd (y w) }
-      by d e (ready m x y parts t s) = absurd (n m)
+  abbrev e : Doc
+  e = rows-of-text second b (h .1) .doc
+
+  abbrev Asked : List ℕ → Type 0
+  Asked exit =
+      Asks (poolRefusal 0 0 entry) (asks22 d e ∷ asks23 d e ∷ asks24 d e entry ∷ []) (λ o. o ≡ poolsText (render (pooled d e)) entry) (withBuffer r exit)
+
+  -- the rows of both texts, and what is answered of them
+  of-rows : (exit : List ℕ) → (PlanFor d e first second p → Asked exit) → PoolsRows first second entry (withBuffer r exit)
+  of-rows exit by =
+      let x = rows-of-text first a (h .0) in
+      let y = rows-of-text second b (h .1) in
+      record {
+        d = d;
+        e = e;
+        valid = x .valid;
+        validSecond = y .valid;
+        is = x .text;
+        isSecond = y .text;
+        told = by (f .each d e (x .valid) (y .valid) (x .text) (y .text));
+      }
+
+  -- 22 or 23
+  pub read-refused : (p .number ≡ 0 → ⊥) → r ≡ record { number = p .number; sheet = 0; line = 0; size = 0 } → PoolsRows first second entry (withBuffer r entry)
+  unfolding Asks
+  read-refused n q = of-rows entry by
+    where
+      refusal : (k : ℕ) → p .number ≡ k → withBuffer r entry ≡ poolRefusal 0 0 entry k
+      refusal k i = ap (λ (x : Pooled). withBuffer x entry) q ∙ ap (poolRefusal 0 0 entry) i
+
+      by : PlanFor d e first second p → Asked entry
+      by (disagrees m x) = inl (x, refusal 22 m)
+      by (beyond m x y) = inr (x, inl (y, refusal 23 m))
+      by (ready m x y parts t s) = absurd (n m)
 
   -- 24
-  pub read-short : p .number ≡ 0 → length entry < p .size → r ≡ record { number = 24; sheet = 0; line = 0; size = 0 } → PoolsRead first second r entry entry
-  read-short z l q = record { each = λ d e v w t u. by d e (f .each d e v w t u) }
+  pub read-short : p .number ≡ 0 → length entry < p .size → r ≡ record { number = 24; sheet = 0; line = 0; size = 0 } → PoolsRows first second entry (withBuffer r entry)
+  unfolding Asks
+  read-short z l q = of-rows entry by
     where
-      by : (d e : Doc) → PlanFor d e first second p → PoolsRows d e r entry entry
-      by d e (disagrees m x) = absurd (omega arith)
-      by d e (beyond m x y) = absurd (omega arith)
-      by d e (ready m x y parts t s) =
-          record {
-            disagree = λ w. absurd (w x);
-            beyond = λ v w. absurd (w y);
-            short = λ v w k. record { answer = q; untouched = refl };
-            room = λ v w k. absurd (omega arith);
-          }
+      by : PlanFor d e first second p → Asked entry
+      by (disagrees m x) = absurd (omega arith)
+      by (beyond m x y) = absurd (omega arith)
+      by (ready m x y parts t s) = inr (x, inr (y, inl (λ k. omega arith, ap (λ (v : Pooled). withBuffer v entry) q)))
 
   -- the pooled sheet
   pub read-written : p .number ≡ 0 → p .size ≤ length entry → r ≡ record { number = 0; sheet = 0; line = 0; size = p .size } → (exit : List ℕ) (n : ℕ)
-      → Wrote entry 0 (pooledText first second p) exit n → PoolsRead first second r entry exit
-  read-written z l q exit n w = record { each = λ d e v x t u. by d e (f .each d e v x t u) }
+      → Wrote entry 0 (pooledText first second p) exit n → PoolsRows first second entry (withBuffer r exit)
+  unfolding Asks
+  read-written z l q exit n w = of-rows exit by
     where
-      by : (d e : Doc) → PlanFor d e first second p → PoolsRows d e r entry exit
-      by d e (disagrees m x) = absurd (omega arith)
-      by d e (beyond m x y) = absurd (omega arith)
-      by d e (ready m x y parts t s) =
+      by : PlanFor d e first second p → Asked exit
+      by (disagrees m x) = absurd (omega arith)
+      by (beyond m x y) = absurd (omega arith)
+      by (ready m x y parts t s) =
           let v = rw t at w in
-          record {
-            disagree = λ g. absurd (g x);
-            beyond = λ g h. absurd (h y);
-            short = λ g h k. absurd (omega arith);
-            room = λ g h k. record {
-              answer = q ∙ ap (λ (i : ℕ). record { number = 0; sheet = 0; line = 0; size = i }) s;
-              written = wrote-front entry (render (pooled d e)) exit n (omega arith) v;
-            };
-          }
-
--- valid rows are accepted
-number-zero : (s : List ℕ) (d : Doc) → Valid d → s ≡ render d → readSheet s .number ≡ 0
-number-zero s d v t = ap (λ (y : Reading). y .number) (ap readSheet t ∙ accepted-of-valid d v)
+          let room : length (render (pooled d e)) ≤ length entry = omega arith in
+          inr (
+            x,
+            inr (
+              y,
+              inr (
+                room,
+                ap (λ (u : Pooled). withBuffer u exit) q ∙ ap (λ (i : ℕ). withBuffer (record { number = 0; sheet = 0; line = 0; size = i }) exit) s
+                    ∙ ap (withBuffer (record { number = 0; sheet = 0; line = 0; size = length (render (pooled d e)) })) (wrote-front entry (render (pooled d e)) exit n (omega arith) v),
+              ),
+            ),
+          )
 
 module _ (first second : List ℕ) (r : Pooled) (entry exit : List ℕ) where
   pub call-refused : (x : Reading) → x ≡ readSheet first → (x .number ≡ 0 → ⊥) → exit ≡ entry → r ≡ record { number = x .number; sheet = 1; line = x .line; size = 0 } → PoolCall first second r entry exit
+  unfolding Asks
   call-refused x q n u a =
-      let b = rw q at n in
-      record {
-        refused = λ k. record { answer = a ∙ ap (λ (y : Reading). record { number = y .number; sheet = 1; line = y .line; size = 0 }) q; untouched = u };
-        refusedSecond = λ k. absurd (b k);
-        pools = λ d e v w t s. absurd (b (number-zero first d v t));
-      }
+      inl (λ z. n (ap (λ (y : Reading). y .number) q ∙ z), ap (withBuffer r) u ∙ ap (λ (v : Pooled). withBuffer v entry) a ∙ ap (λ (y : Reading). poolRefusal 1 (y .line) entry (y .number)) q)
 
   pub call-refused-second : (x y : Reading) → x ≡ readSheet first → x .number ≡ 0 → y ≡ readSheet second → (y .number ≡ 0 → ⊥) → exit ≡ entry
       → r ≡ record { number = y .number; sheet = 2; line = y .line; size = 0 } → PoolCall first second r entry exit
+  unfolding Asks
   call-refused-second x y q z p n u a =
-      let b = rw p at n in
-      let c : readSheet first .number ≡ 0 = sym (ap (λ (w : Reading). w .number) q) ∙ z in
-      record {
-        refused = λ k. absurd (k c);
-        refusedSecond = λ k l. record { answer = a ∙ ap (λ (w : Reading). record { number = w .number; sheet = 2; line = w .line; size = 0 }) p; untouched = u };
-        pools = λ d e v w t s. absurd (b (number-zero second e w s));
-      }
+      inr (
+        sym (ap (λ (w : Reading). w .number) q) ∙ z,
+        inl (
+          λ k. n (ap (λ (w : Reading). w .number) p ∙ k),
+          ap (withBuffer r) u ∙ ap (λ (v : Pooled). withBuffer v entry) a ∙ ap (λ (w : Reading). poolRefusal 2 (w .line) entry (w .number)) p,
+        ),
+      )
 
-  pub call-pools : (x y : Reading) → x ≡ readSheet first → x .number ≡ 0 → y ≡ readSheet second → y .number ≡ 0 → PoolsRead first second r entry exit → PoolCall first second r entry exit
-  call-pools x y q z p w h =
-      let c : readSheet first .number ≡ 0 = sym (ap (λ (v : Reading). v .number) q) ∙ z in
-      let d : readSheet second .number ≡ 0 = sym (ap (λ (v : Reading). v .number) p) ∙ w in
-      record { refused = λ k. absurd (k c); refusedSecond = λ k l. absurd (l d); pools = h .each }
+  pub call-pools : (x y : Reading) → x ≡ readSheet first → x .number ≡ 0 → y ≡ readSheet second → y .number ≡ 0 → PoolsRows first second entry (withBuffer r exit) → PoolCall first second r entry exit
+  unfolding Asks
+  call-pools x y q z p w h = inr (sym (ap (λ (v : Reading). v .number) q) ∙ z, inr (sym (ap (λ (v : Reading). v .number) p) ∙ w, h))

@@ -10,9 +10,7 @@ use Rattle.sheet_format.specs.Text.{linesOf}
 use Rattle.sheet_format.specs.Rows.{Doc, Valid, startCount, lossCount, itemLines, render}
 use Rattle.sheet_format.specs.Read.{readSheet, accepted}
 use Rattle.sheet_format.specs.Names.{lineStart}
-use Rattle.pool_format.specs.declared.Pooled.{Pooled}
 use Rattle.pool_format.specs.Rows.{Agree, remaining, pooled, Fits}
-use Rattle.pool_format.specs.Call.{PoolsRows}
 use Rattle.pool_format.specs.Inner.{PlacesAmong}
 use Rattle.pool_text.specs.Inner.{RowsWithin, freshRows, withDigits, CanPut}
 use Rattle.pooling.specs.declared.Bounds.{Bounds}
@@ -85,7 +83,3 @@ pub data PlanFor (d e : Doc) (first second : List ℕ) (p : Plan) : Type 0 where
 
 pub record PlanOf (first second : List ℕ) (p : Plan) : Type 0 where
   pub each : (d e : Doc) → Valid d → Valid e → first ≡ render d → second ≡ render e → PlanFor d e first second p
-
--- What pooling answers where both sheets are accepted.
-pub record PoolsRead (first second : List ℕ) (r : Pooled) (entry exit : List ℕ) : Type 0 where
-  pub each : (d e : Doc) → Valid d → Valid e → first ≡ render d → second ≡ render e → PoolsRows d e r entry exit

@@ -13,21 +13,15 @@ ghost use lib.ListN.{length};
 ghost use Rattle.vertex_set.specs.Set.{Decides};
 ghost use Rattle.written.specs.Inner.{Wrote};
 ghost use Rattle.sheet_format.specs.Text.{linesOf};
-ghost use Rattle.pool_format.specs.Call.{PoolCall};
+ghost use Rattle.pool_format.specs.Call.{withBuffer, PoolsRows, PoolCall};
 ghost use Rattle.pool_colours.specs.Inner.Colours.{ColoursOf};
-ghost use Rattle.pooling.specs.Inner.{CountsInBounds, Accepts, BothRead, BoundsOf, PlanOf, pooledText, CanWrite, PoolsRead};
+ghost use Rattle.pooling.specs.Inner.{CountsInBounds, Accepts, BothRead, BoundsOf, PlanOf, pooledText, CanWrite};
 
 // The lines of a sheet that are no rows: two headers and the empty line.
 const OTHER_LINES: usize = 3;
 
 // The bytes from the empty line up to the first edge row: its LF, and the second header with its own.
 const SECOND_HEADER: usize = 20;
-
-const DISAGREE: u64 = 22;
-
-const BEYOND: u64 = 23;
-
-const SHORT: u64 = 24;
 
 // Whether the pooled rows are within the bounds, and how many bytes the remaining item rows have.
 struct Bounds {
@@ -174,20 +168,20 @@ fn plan_of(first: &[u8], second: &[u8], a: Setup, b: Setup) -> Plan
     let own_vertices = a.vertices;
     let vertices = b.vertices;
     if !pool_items::all_agree(own_vertices, known, vertices, count, places) {
-        return no_plan(DISAGREE);
+        return no_plan(questions::DISAGREE);
     }
     let begins = own.from;
     let from = keys.from;
     let bounds = bounds_of(first, second, a, b, begins, from, places);
     if !bounds.ok {
-        return no_plan(BEYOND);
+        return no_plan(questions::POOL_BOUND);
     }
     let graph = a.graph;
     let other = b.graph;
     let start = from[count] + SECOND_HEADER;
     let colours = colours_in(second, start, keys, count, places, known, graph, other);
     if !colours.fits {
-        return no_plan(BEYOND);
+        return no_plan(questions::POOL_BOUND);
     }
     let digits = colours.digits;
     let parts = first.len() + bounds.bytes;
@@ -230,7 +224,7 @@ fn write_pooled(first: &[u8], second: &[u8], plan: Plan, out: &mut [u8]) -> usiz
 // answered.
 fn pool_read(first: &[u8], second: &[u8], a: Setup, b: Setup, out: &mut [u8]) -> Pooled
     requires { ⌜ Accepts (now first) a × Accepts (now second) b ⌝ }
-    ensures { λ r. ⌜ PoolsRead (now (first .entry)) (now (second .entry)) r (now (out .entry)) (now (out .exit)) ⌝ }
+    ensures { λ r. ⌜ PoolsRows (now (first .entry)) (now (second .entry)) (now (out .entry)) (withBuffer r (now (out .exit))) ⌝ }
 {
     let plan = plan_of(first, second, a, b);
     let number = plan.number;
@@ -239,7 +233,7 @@ fn pool_read(first: &[u8], second: &[u8], a: Setup, b: Setup, out: &mut [u8]) ->
     }
     let size = plan.size;
     if out.len() < size {
-        return refuse(SHORT, 0, 0);
+        return refuse(questions::POOL_SHORT, 0, 0);
     }
     write_pooled(first, second, plan, out);
     Pooled {

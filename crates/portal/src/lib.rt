@@ -1,6 +1,6 @@
 // The course portal's calls, for C: a sheet's bytes and an item number in, one number out.
 ghost use mathlib.Core.Bool.{true, false};
-ghost use Rattle.answers.specs.Answers.{scoreNumber, scoreValues, riskNumber, riskValues};
+ghost use Rattle.answers.specs.Answers.{scoreReply, riskReply};
 ghost use Rattle.portal.specs.Portal.{PortalCall};
 ghost use Rattle.portal.specs.Inner.{Codable, Coded};
 use answers::RiskAnswer;
@@ -9,8 +9,8 @@ use scores::NEVER;
 
 // A refusal is 2^62, the number for "never", plus its own number.
 fn code_score(answer: ScoreAnswer) -> u64
-    requires { ⌜ Codable (scoreNumber answer) (scoreValues answer) ⌝ }
-    ensures { λ r. ⌜ Coded (scoreNumber answer) (scoreValues answer) r ⌝ }
+    requires { ⌜ Codable (scoreReply answer) ⌝ }
+    ensures { λ r. ⌜ Coded (scoreReply answer) r ⌝ }
 {
     match answer {
         ScoreAnswer::Score(score) => score.number(),
@@ -19,8 +19,8 @@ fn code_score(answer: ScoreAnswer) -> u64
 }
 
 fn code_risk(answer: RiskAnswer) -> u64
-    requires { ⌜ Codable (riskNumber answer) (riskValues answer) ⌝ }
-    ensures { λ r. ⌜ Coded (riskNumber answer) (riskValues answer) r ⌝ }
+    requires { ⌜ Codable (riskReply answer) ⌝ }
+    ensures { λ r. ⌜ Coded (riskReply answer) r ⌝ }
 {
     match answer {
         RiskAnswer::Risk(risk) => risk.number(),

@@ -1,33 +1,37 @@
--- What the portal's calls on a setup that lives answer, for every buffer of words.
+-- What the calls for C on a setup that lives answer, for every buffer of words: the call's own questions, and 15.
 use mathlib.Core.Path.{_≡_}
-use mathlib.Core.List.{List}
-use Prim.Native.Nat.{ℕ, _≤_, _<_}
-use lib.ListN.{length}
+use mathlib.Core.List.{List, [], _∷_}
+use Prim.Native.Nat.{ℕ, _<_}
+use Rattle.vertex_set.specs.Set.{Member}
 use Rattle.setup.specs.declared.Setup.{Setup}
-use Rattle.setup.specs.Calls.{written}
-use Rattle.living.specs.Calls.{Call, CallOf}
-use Rattle.portal_setup.specs.Words.{setupWords, setupIn, wordsOf}
+use Rattle.formed.specs.WellFormed.{WellFormed}
+use Rattle.questions.specs.Contract.{Contract}
+use Rattle.questions.specs.Told.{Told}
+use Rattle.living.specs.Calls.{Call, TakeIn, TakeOut, drawingOf, after, Redrawn, questionsOf}
+use Rattle.portal_words.specs.Words.{setupIn, wordsOf}
 
--- The call answers n and the setup t. A refusal leaves every word; so does 15, which is asked last: the buffer has fewer words than a setup. Else
--- the words that say t stand in the first places, and the words behind them are unchanged.
-pub record PutBack (n : ℕ) (t : Setup) (number : ℕ) (entry exit : List ℕ) : Type 0 where
-  pub refused : (n ≡ 0 → ⊥) → (number ≡ n) × (exit ≡ entry)
-  pub short : n ≡ 0 → length entry < setupWords → (number ≡ 15) × (exit ≡ entry)
-  pub room : n ≡ 0 → setupWords ≤ length entry → (number ≡ 0) × (exit ≡ written (wordsOf t) entry)
+-- The call on the setup that the words say. The words that say the redrawn setup are put back. A buffer that is too short says no setup, so that 12
+-- comes before 15.
+abbrev pub livingCall : Call → List ℕ → Contract
+livingCall c words =
+    record {
+      lent = words ∷ [];
+      questions = questionsOf c (setupIn words);
+      Answer = Setup;
+      Right = Redrawn (setupIn words) (after c (drawingOf (setupIn words)));
+      values = λ t. [];
+      writes = λ t. wordsOf t ∷ [];
+    }
 
--- The call on the setup that the words say.
-pub record LivingCall (c : Call) (number : ℕ) (entry exit : List ℕ) : Type 0 where
-  pub answer : ℕ
-  pub setup : Setup
-  pub call : CallOf c (setupIn entry) answer setup
-  pub back : PutBack answer setup number entry exit
+-- The call was made on the words `entry`, answered this number, and left the words `exit`.
+abbrev pub Answered : Call → ℕ → List ℕ → List ℕ → Type 0
+Answered c number entry exit = Told (livingCall c entry) number [] (exit ∷ [])
 
 -- ---- theorems
 
--- What is put back is what the call answered: after an accepted call the words say the setup.
-abbrev pub SaysRedrawn : Type 0
-SaysRedrawn = (c : Call) (entry exit : List ℕ) → LivingCall c 0 entry exit → CallOf c (setupIn entry) 0 (setupIn exit)
-
--- Two results that meet the contract, on the same words, are the same, with every word.
-abbrev pub OneLivingResult : Type 0
-OneLivingResult = (c : Call) (n n′ : ℕ) (entry exit exit′ : List ℕ) → LivingCall c n entry exit → LivingCall c n′ entry exit′ → (n ≡ n′) × (exit ≡ exit′)
+-- Taking in a held item, or taking out one that is not held, is accepted and leaves every word as it was.
+pub record NoWordChanges : Type 0 where
+  pub takeIn : (v number : ℕ) (entry exit : List ℕ) → WellFormed (setupIn entry) → Member (setupIn entry .held .0) v
+      → Answered (TakeIn v) number entry exit → (number ≡ 0) × (exit ≡ entry)
+  pub takeOut : (v number : ℕ) (entry exit : List ℕ) → WellFormed (setupIn entry) → v < setupIn entry .count → (Member (setupIn entry .held .0) v → ⊥)
+      → Answered (TakeOut v) number entry exit → (number ≡ 0) × (exit ≡ entry)

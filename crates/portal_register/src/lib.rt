@@ -1,6 +1,6 @@
 // The portal's class register, for C: a lent slice of records, and how many of them are used.
 ghost use Rattle.register.specs.Calls.{HandInCall, WithdrawCall};
-ghost use Rattle.portal_setup.specs.Words.{setupIn};
+ghost use Rattle.portal_words.specs.Words.{setupIn};
 use records::Record;
 use records::Registered;
 
@@ -18,7 +18,7 @@ pub extern "C" fn portal_hand_in(
 ) -> Registered
     ensures { λ a. ⌜ HandInCall (setupIn (now (setup .entry))) used student target lock (now (sets .entry)) a (now (records .entry)) (now (records .exit)) ⌝ }
 {
-    let s = portal_setup::setup_in(setup);
+    let s = portal_words::setup_in(setup);
     register::hand_in(records, used, s, student, target, lock, sets)
 }
 

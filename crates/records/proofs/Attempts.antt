@@ -6,62 +6,62 @@ use mathlib.Core.List.{List, [], _∷_}
 use Prim.Native.Nat.{ℕ}
 use native.Mathlib.Omega.{arith}
 use lib.ListN.{length, getD}
-use Rattle.vertex_set.specs.Set.{Iff}
 use Rattle.setup.specs.declared.Setup.{Setup}
-use Rattle.bases.specs.Marks.{Counts, IsBaseOnce, Full}
+use Rattle.questions.specs.Questions.{asks12, asks13}
+use Rattle.questions.specs.Contract.{Outcome, gives, ends, turnsAway, Answers, Fulfils}
+use Rattle.questions.proofs.Asks.{asks-retold}
+use Rattle.questions.proofs.Contract.{answer-told}
 use Rattle.answers.specs.declared.Marks.{Marks}
 use Rattle.answers.specs.declared.MarksAnswer.{MarksAnswer}
 use Rattle.answers.specs.declared.MarksAnswer.the-variants as marks
-use Rattle.answers.specs.Answers.{marksNumber, marksValues, MarksCall}
+use Rattle.answers.specs.Answers.{marksReply, AreMarks, marksCall}
 use Rattle.records.specs.declared.Record.{Record}
 use Rattle.records.specs.declared.Task.{Task}
-use Rattle.records.specs.Records.{wayCode}
+use Rattle.records.specs.Records.{wayCode, RecordOf}
 use Rattle.records.specs.Inner.{studentAlone, taskOf, Attempts}
 
-pub by-way : (s : Setup) (target : ℕ) (loss b : Bool) (handed : List ℕ) (n : ℕ) (v : List ℕ) → loss ≡ b → MarksCall b s target handed n v → MarksCall loss s target handed n v
-by-way s target loss b handed n v e c = subst (λ (x : Bool). MarksCall x s target handed n v) (sym e) c
+pub by-way : (s : Setup) (target : ℕ) (loss b : Bool) (handed : List ℕ) (o : Outcome) → loss ≡ b → Fulfils (marksCall b s target handed) o
+    → Fulfils (marksCall loss s target handed) o
+by-way s target loss b handed o e c = subst (λ (x : Bool). Fulfils (marksCall x s target handed) o) (sym e) c
 
 module _ (s : Setup) (student target : ℕ) (loss : Bool) (handed : List ℕ) where
+  abbrev values : Marks → List ℕ
+  values m = m .right ∷ m .repeated ∷ m .shut ∷ m .loose ∷ m .missing ∷ []
+
   -- what was promised of the values stands in the five fields
-  module _ (m : Marks) (right repeated shut loose missing : ℕ)
-      (e : m .right ∷ m .repeated ∷ m .shut ∷ m .loose ∷ m .missing ∷ [] ≡ right ∷ repeated ∷ shut ∷ loose ∷ missing ∷ []) where
-    counted : Counts loss s (s .graph) target handed right repeated shut loose missing
-        → Counts loss s (s .graph) target handed (m .right) (m .repeated) (m .shut) (m .loose) (m .missing)
-    counted h =
-        subst (λ (v : List ℕ). Counts loss s (s .graph) target handed (getD v 0 0) (getD v 1 0) (getD v 2 0) (getD v 3 0) (getD v 4 0)) (sym e) h
+  marked : (m n : Marks) → values m ≡ values n → AreMarks loss s target handed n → AreMarks loss s target handed m
+  marked m n e h =
+      subst (AreMarks loss s target handed)
+      (sym (ap (λ (v : List ℕ). record { right = getD v 0 0; repeated = getD v 1 0; shut = getD v 2 0; loose = getD v 3 0; missing = getD v 4 0 }) e)) h
 
-    full : Iff (Full repeated shut loose missing) (IsBaseOnce loss s (s .graph) target handed)
-        → Iff (Full (m .repeated) (m .shut) (m .loose) (m .missing)) (IsBaseOnce loss s (s .graph) target handed)
-    full h =
-        subst (λ (v : List ℕ). Iff (Full (getD v 1 0) (getD v 2 0) (getD v 3 0) (getD v 4 0)) (IsBaseOnce loss s (s .graph) target handed)) (sym e) h
+  laid : (answer : MarksAnswer) → (m : Marks) → AreMarks loss s target handed m → ends (marksReply answer) [] ≡ ends (gives (values m)) []
+      → (taskOf student target loss answer .refused ≡ 0) × RecordOf s student target loss handed (taskOf student target loss answer .row)
+  laid (marks.Marked k) m h e =
+      let g = marked k m (ap (λ (o : Outcome). o .reply .values) e) h in
+      (refl, record { isStudent = refl; isTarget = refl; isWay = refl; counts = g .counts; full = g .full })
+  laid (marks.Refused q) m h e = absurd (let k = ap (λ (o : Outcome). length (o .reply .values)) e in omega (arith, k))
 
-  tasks : (answer : MarksAnswer) → MarksCall loss s target handed (marksNumber answer) (marksValues answer) → Attempts s student target loss handed (taskOf student target loss answer)
-  tasks (marks.Marked m) c =
+  lays : (answer : MarksAnswer) → taskOf student target loss answer .remove ≡ false
+  lays (marks.Marked m) = refl
+  lays (marks.Refused q) = refl
+
+  refused : (answer : MarksAnswer) (q : ℕ) → ends (marksReply answer) [] ≡ turnsAway [] q → taskOf student target loss answer .refused ≡ q
+  refused (marks.Marked m) q e = ap (λ (o : Outcome). o .reply .number) e
+  refused (marks.Refused p) q e = ap (λ (o : Outcome). o .reply .number) e
+
+  tasks : (answer : MarksAnswer) → Fulfils (marksCall loss s target handed) (ends (marksReply answer) []) → Attempts s student target loss handed (taskOf student target loss answer)
+  unfolding Fulfils
+  tasks answer c =
       record {
-        lays = refl;
-        malformed = λ n. absurd (let e = c .malformed n .numbered in omega (arith, e));
-        noTarget = λ w l. absurd (let e = c .noTarget w l .numbered in omega (arith, e));
-        answers = λ w l.
-            let x = c .answers w l in (
-              refl,
-              record {
-                isStudent = refl;
-                isTarget = refl;
-                isWay = refl;
-                counts = counted m (x .0) (x .1) (x .2) (x .3) (x .4) (x .6) (x .7);
-                full = full m (x .0) (x .1) (x .2) (x .3) (x .4) (x .6) (x .8);
-              },
-            );
-      }
-  tasks (marks.Refused q) c =
-      record {
-        lays = refl;
-        malformed = λ n. c .malformed n .numbered;
-        noTarget = λ w l. c .noTarget w l .numbered;
-        answers = λ w l. absurd (let e = ap length (c .answers w l .6) in omega (arith, e));
+        lays = lays answer;
+        asked = asks-retold (turnsAway []) (λ q. q) (Answers (marksCall loss s target handed))
+            (λ r. (r ≡ 0) × RecordOf s student target loss handed (taskOf student target loss answer .row)) (asks12 s ∷ asks13 s target ∷ [])
+            (ends (marksReply answer) []) (taskOf student target loss answer .refused) (λ q l. refused answer q)
+            (λ a. let t = answer-told (asks12 s ∷ asks13 s target ∷ []) (AreMarks loss s target handed) values (ends (marksReply answer) []) a in
+            laid answer (t .0) (t .1) (t .2)) c;
       }
 
-  pub attempts : (answer : MarksAnswer) (t : Task) → MarksCall loss s target handed (marksNumber answer) (marksValues answer) → t ≡ taskOf student target loss answer
+  pub attempts : (answer : MarksAnswer) (t : Task) → Fulfils (marksCall loss s target handed) (ends (marksReply answer) []) → t ≡ taskOf student target loss answer
       → Attempts s student target loss handed t
   attempts answer t c e = subst (λ (u : Task). Attempts s student target loss handed u) (sym e) (tasks answer c)
 

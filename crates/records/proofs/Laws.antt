@@ -10,8 +10,8 @@ use lib.Seq.{set-getD, set-append-seam, getD-append-seam, drop-cons, drop-append
 use lib.Dec.{T as Holds, eqb, ltb}
 use borrow.Author.Tests.{eq-eqb, ne-eqb, lt-ltb, le-ltb, ltb-true, ltb-false}
 use Rattle.vertex_set.proofs.Cases.{byTest}
-use Rattle.records.specs.Records.{sameThree, hasThree, hasStudent, withRecord, without}
-use Rattle.records.specs.Inner.{blankRecord, passWith, turn, lesser, stepOf, turnsOf, beginOf, finishOf, End, endOf, RegisterOutcome, refusal, accepts, handIn, withdraw, outcomeOf, Answers}
+use Rattle.records.specs.Records.{sameThree, hasThree, hasStudent, withRecord, without, RegisterOutcome, withSlice, handsBack, keepsUsed}
+use Rattle.records.specs.Inner.{blankRecord, passWith, turn, lesser, stepOf, turnsOf, beginOf, finishOf, End, endOf, handIn, withdraw, outcomeOf, Leaves}
 use Rattle.records.specs.declared.Record.{Record}
 use Rattle.records.specs.declared.Task.{Task}
 use Rattle.records.specs.declared.Pass.{Pass}
@@ -243,19 +243,19 @@ module _ (task : Task) where
   -- ---- the whole run
   -- what `apply` answers and leaves, as one value
   abbrev meansOf : End → RegisterOutcome
-  meansOf e = record { number = finishOf task (e .pass) .number; used = finishOf task (e .pass) .used; slice = e .list }
+  meansOf e = record { answer = finishOf task (e .pass); slice = e .list }
 
-  fin-refused : (p : Pass) (l : List Record) → eqb (p .refused) 0 ≡ false → meansOf (ended p l) ≡ refusal (p .refused) (p .used) l
+  fin-refused : (p : Pass) (l : List Record) → eqb (p .refused) 0 ≡ false → meansOf (ended p l) ≡ handsBack (p .used) l (p .refused)
   unfolding finishOf
-  fin-refused p l e = ap (λ (a : Registered). record { number = a .number; used = a .used; slice = l }) (if-false (eqb (p .refused) 0) _ _ e)
+  fin-refused p l e = ap (λ (a : Registered). withSlice a l) (if-false (eqb (p .refused) 0) _ _ e)
 
-  fin-found : (p : Pass) (l : List Record) → eqb (p .refused) 0 ≡ true → p .found ≡ true → meansOf (ended p l) ≡ refusal 0 (p .count) l
+  fin-found : (p : Pass) (l : List Record) → eqb (p .refused) 0 ≡ true → p .found ≡ true → meansOf (ended p l) ≡ handsBack (p .count) l 0
   unfolding finishOf
-  fin-found p l e f = ap (λ (a : Registered). record { number = a .number; used = a .used; slice = l }) (if-true (eqb (p .refused) 0) _ _ e ∙ if-true (p .found) _ _ f)
+  fin-found p l e f = ap (λ (a : Registered). withSlice a l) (if-true (eqb (p .refused) 0) _ _ e ∙ if-true (p .found) _ _ f)
 
-  fin-not : (p : Pass) (l : List Record) → eqb (p .refused) 0 ≡ true → p .found ≡ false → meansOf (ended p l) ≡ refusal (cond (task .remove) 27 26) (p .used) l
+  fin-not : (p : Pass) (l : List Record) → eqb (p .refused) 0 ≡ true → p .found ≡ false → meansOf (ended p l) ≡ handsBack (p .used) l (cond (task .remove) 27 26)
   unfolding finishOf
-  fin-not p l e f = ap (λ (a : Registered). record { number = a .number; used = a .used; slice = l }) (if-true (eqb (p .refused) 0) _ _ e ∙ if-false (p .found) _ _ f)
+  fin-not p l e f = ap (λ (a : Registered). withSlice a l) (if-true (eqb (p .refused) 0) _ _ e ∙ if-false (p .found) _ _ f)
 
   -- a pass that starts in order, and lays or removes
   module _ (ys : List Record) (used : ℕ) (p : Pass) (in-order : eqb (p .refused) 0 ≡ true) (not-yet : p .found ≡ false) (p-used : p .used ≡ used) (fits : used ≤ length ys) where
@@ -277,11 +277,11 @@ module _ (task : Task) where
         ∙ ap (λ (l : List Record). meansOf (closed p w (cond (hasStudent k u) true (p .found)) l)) whole
         ∙ byTest (hasStudent k u)
         (λ s. fin-found (passWith p (cond (hasStudent k u) true (p .found)) (length w)) (over w ys) in-order (if-true (hasStudent k u) true (p .found) s)
-        ∙ sym (if-false (eqb (length w) used) (refusal 27 used ys) (accepts w ys) (ne-eqb (length w) used (λ e. omega (arith, e, u-long, any-less k u s)))))
+        ∙ sym (if-false (eqb (length w) used) (handsBack used ys 27) (keepsUsed w ys) (ne-eqb (length w) used (λ e. omega (arith, e, u-long, any-less k u s)))))
         (λ s. fin-not (passWith p (cond (hasStudent k u) true (p .found)) (length w)) (over w ys) in-order (if-false (hasStudent k u) true (p .found) s ∙ not-yet)
-        ∙ ap (λ (b : Bool). refusal (cond b 27 26) (p .used) (over w ys)) h ∙ ap (λ (n : ℕ). refusal 27 n (over w ys)) p-used
-        ∙ ap (λ (l : List Record). refusal 27 used l) (ap (λ (v : List Record). over v ys) (none-same k u s) ∙ ap (λ (n : ℕ). u ++ drop n ys) u-long ∙ whole)
-        ∙ sym (if-true (eqb (length w) used) (refusal 27 used ys) (accepts w ys) (eq-eqb (length w) used (ap length (none-same k u s) ∙ u-long))))
+        ∙ ap (λ (b : Bool). handsBack (p .used) (over w ys) (cond b 27 26)) h ∙ ap (λ (n : ℕ). handsBack n (over w ys) 27) p-used
+        ∙ ap (λ (l : List Record). handsBack used l 27) (ap (λ (v : List Record). over v ys) (none-same k u s) ∙ ap (λ (n : ℕ). u ++ drop n ys) u-long ∙ whole)
+        ∙ sym (if-true (eqb (length w) used) (handsBack used ys 27) (keepsUsed w ys) (eq-eqb (length w) used (ap length (none-same k u s) ∙ u-long))))
       where
         k : ℕ
         k = task .row .student
@@ -295,8 +295,8 @@ module _ (task : Task) where
         ap (λ (n : ℕ). meansOf (endOf task n 0 p ys)) more ∙ ap (λ (l : List Record). meansOf (endOf task (suc (length u)) 0 p l)) (sym split)
         ∙ ap meansOf (laid-more [] u y z′ p h not-yet (p-used ∙ sym u-long) (c ∙ sym p-used))
         ∙ fin-found (passWith p true (length w)) (w ++ drop (length w) (u ++ y ∷ z′)) in-order refl
-        ∙ ap (λ (l : List Record). accepts w l) split
-        ∙ sym (if-false (ltb (length ys) (length w)) (refusal 26 used ys) (accepts w ys) (le-ltb (length ys) (length w) small))
+        ∙ ap (λ (l : List Record). keepsUsed w l) split
+        ∙ sym (if-false (ltb (length ys) (length w)) (handsBack used ys 26) (keepsUsed w ys) (le-ltb (length ys) (length w) small))
       where
         w : List Record
         w = withRecord (task .row) u
@@ -318,11 +318,11 @@ module _ (task : Task) where
         ∙ ap meansOf (laid-full [] u p h not-yet (p-used ∙ sym u-long) (c ∙ sym p-used))
         ∙ byTest (hasThree (task .row) u)
         (λ s. ap meansOf (if-true (hasThree (task .row) u) (ended (passWith p true (length w)) w) (ended p u) s) ∙ fin-found (passWith p true (length w)) w in-order refl
-        ∙ ap (λ (l : List Record). refusal 0 (length w) l) (sym (append-nil w) ∙ ap (λ (l : List Record). w ++ l) (sym (nothing-left s)))
-        ∙ sym (if-false (ltb (length ys) (length w)) (refusal 26 used ys) (accepts w ys) (le-ltb (length ys) (length w) (omega (arith, as-long s, ap length split)))))
+        ∙ ap (λ (l : List Record). handsBack (length w) l 0) (sym (append-nil w) ∙ ap (λ (l : List Record). w ++ l) (sym (nothing-left s)))
+        ∙ sym (if-false (ltb (length ys) (length w)) (handsBack used ys 26) (keepsUsed w ys) (le-ltb (length ys) (length w) (omega (arith, as-long s, ap length split)))))
         (λ s. ap meansOf (if-false (hasThree (task .row) u) (ended (passWith p true (length w)) w) (ended p u) s) ∙ fin-not p u in-order not-yet
-        ∙ ap (λ (b : Bool). refusal (cond b 27 26) (p .used) u) h ∙ ap (λ (n : ℕ). refusal 26 n u) p-used ∙ ap (λ (l : List Record). refusal 26 used l) split
-        ∙ sym (if-true (ltb (length ys) (length w)) (refusal 26 used ys) (accepts w ys) (lt-ltb (length ys) (length w) (omega (arith, ap length split, withRecord-length (task .row) u ∙ if-false (hasThree (task .row) u) (length u) (suc (length u)) s)))))
+        ∙ ap (λ (b : Bool). handsBack (p .used) u (cond b 27 26)) h ∙ ap (λ (n : ℕ). handsBack n u 26) p-used ∙ ap (λ (l : List Record). handsBack used l 26) split
+        ∙ sym (if-true (ltb (length ys) (length w)) (handsBack used ys 26) (keepsUsed w ys) (lt-ltb (length ys) (length w) (omega (arith, ap length split, withRecord-length (task .row) u ∙ if-false (hasThree (task .row) u) (length u) (suc (length u)) s)))))
       where
         w : List Record
         w = withRecord (task .row) u
@@ -340,22 +340,22 @@ module _ (task : Task) where
   unfolding outcomeOf
   means ys used = byTest (ltb (length ys) used)
       (λ e. turns-are (if-true (ltb (length ys) used) 0 _ e) ∙ fin-refused (beginOf (length ys) used task) ys (ap (λ (n : ℕ). eqb n 0) (begin-over (length ys) used task e .0))
-      ∙ ap (λ (n : ℕ). refusal n (beginOf (length ys) used task .used) ys) (begin-over (length ys) used task e .0) ∙ ap (λ (n : ℕ). refusal 25 n ys) (begin-over (length ys) used task e .1)
-      ∙ sym (if-true (ltb (length ys) used) (refusal 25 used ys) _ e))
+      ∙ ap (λ (n : ℕ). handsBack (beginOf (length ys) used task .used) ys n) (begin-over (length ys) used task e .0) ∙ ap (λ (n : ℕ). handsBack n ys 25) (begin-over (length ys) used task e .1)
+      ∙ sym (if-true (ltb (length ys) used) (handsBack used ys 25) _ e))
       (λ e. ap (λ (p : Pass). meansOf (endOf task (turnsOf (length ys) used task) 0 p ys)) (begin-ok (length ys) used task e) ∙ byTest (eqb (task .refused) 0)
       (λ e₁. byTest (task .remove)
       (λ e₂. from-start (if-false (ltb (length ys) used) 0 _ e ∙ if-true (eqb (task .refused) 0) _ 0 e₁ ∙ if-true (task .remove) used _ e₂)
       ∙ removes ys used start e₁ refl refl (ltb-false (length ys) used e) e₂ (if-true (task .remove) 0 used e₂)
-      ∙ sym (if-false (ltb (length ys) used) (refusal 25 used ys) _ e ∙ if-true (eqb (task .refused) 0) _ (refusal (task .refused) used ys) e₁ ∙ if-true (task .remove) (withdraw ys used (task .row .student)) (handIn ys used (task .row)) e₂))
+      ∙ sym (if-false (ltb (length ys) used) (handsBack used ys 25) _ e ∙ if-true (eqb (task .refused) 0) _ (handsBack used ys (task .refused)) e₁ ∙ if-true (task .remove) (withdraw ys used (task .row .student)) (handIn ys used (task .row)) e₂))
       (λ e₂. byTest (ltb used (length ys))
       (λ e₃. from-start (if-false (ltb (length ys) used) 0 _ e ∙ if-true (eqb (task .refused) 0) _ 0 e₁ ∙ if-false (task .remove) used _ e₂ ∙ if-true (ltb used (length ys)) (used + 1) used e₃)
       ∙ lays-more ys used start e₁ refl refl (ltb-false (length ys) used e) (getD ys used blankRecord) (drop (suc used) ys) (drop-cons ys used blankRecord (ltb-true used (length ys) e₃)) e₂ (if-false (task .remove) 0 used e₂)
-      ∙ sym (if-false (ltb (length ys) used) (refusal 25 used ys) _ e ∙ if-true (eqb (task .refused) 0) _ (refusal (task .refused) used ys) e₁ ∙ if-false (task .remove) (withdraw ys used (task .row .student)) (handIn ys used (task .row)) e₂))
+      ∙ sym (if-false (ltb (length ys) used) (handsBack used ys 25) _ e ∙ if-true (eqb (task .refused) 0) _ (handsBack used ys (task .refused)) e₁ ∙ if-false (task .remove) (withdraw ys used (task .row .student)) (handIn ys used (task .row)) e₂))
       (λ e₃. from-start (if-false (ltb (length ys) used) 0 _ e ∙ if-true (eqb (task .refused) 0) _ 0 e₁ ∙ if-false (task .remove) used _ e₂ ∙ if-false (ltb used (length ys)) (used + 1) used e₃)
       ∙ lays-full ys used start e₁ refl refl (ltb-false (length ys) used e) (drop-of-length-le ys (ltb-false used (length ys) e₃)) e₂ (if-false (task .remove) 0 used e₂)
-      ∙ sym (if-false (ltb (length ys) used) (refusal 25 used ys) _ e ∙ if-true (eqb (task .refused) 0) _ (refusal (task .refused) used ys) e₁ ∙ if-false (task .remove) (withdraw ys used (task .row .student)) (handIn ys used (task .row)) e₂))))
+      ∙ sym (if-false (ltb (length ys) used) (handsBack used ys 25) _ e ∙ if-true (eqb (task .refused) 0) _ (handsBack used ys (task .refused)) e₁ ∙ if-false (task .remove) (withdraw ys used (task .row .student)) (handIn ys used (task .row)) e₂))))
       (λ e₁. from-start (if-false (ltb (length ys) used) 0 _ e ∙ if-false (eqb (task .refused) 0) _ 0 e₁) ∙ fin-refused start ys e₁
-      ∙ sym (if-false (ltb (length ys) used) (refusal 25 used ys) _ e ∙ if-false (eqb (task .refused) 0) _ (refusal (task .refused) used ys) e₁)))
+      ∙ sym (if-false (ltb (length ys) used) (handsBack used ys 25) _ e ∙ if-false (eqb (task .refused) 0) _ (handsBack used ys (task .refused)) e₁)))
     where
       start : Pass
       start = record { found = false; refused = task .refused; used = used; turns = turnsOf (length ys) used task; count = cond (task .remove) 0 used }
@@ -367,12 +367,11 @@ module _ (task : Task) where
       from-start e = ap (λ (m : ℕ). meansOf (endOf task m 0 start ys)) e
 
   pub told : (ys : List Record) (used : ℕ) (c : Registered) (l : List Record) → c ≡ finishOf task (endOf task (turnsOf (length ys) used task) 0 (beginOf (length ys) used task) ys .pass)
-      → l ≡ endOf task (turnsOf (length ys) used task) 0 (beginOf (length ys) used task) ys .list → Answers c l (outcomeOf ys used task)
-  told ys used c l e₁ e₂ = record {
-    number = ap (λ (a : Registered). a .number) e₁ ∙ ap (λ (o : RegisterOutcome). o .number) (means ys used);
-    used = ap (λ (a : Registered). a .used) e₁ ∙ ap (λ (o : RegisterOutcome). o .used) (means ys used);
-    slice = e₂ ∙ ap (λ (o : RegisterOutcome). o .slice) (means ys used);
-  }
+      → l ≡ endOf task (turnsOf (length ys) used task) 0 (beginOf (length ys) used task) ys .list → Leaves c l (outcomeOf ys used task)
+  told ys used c l e₁ e₂ = ap (λ (a : Registered). withSlice a l) e₁ ∙ ap (λ (x : List Record). record { answer = finishOf task (last .pass); slice = x }) e₂ ∙ means ys used
+    where
+      last : End
+      last = endOf task (turnsOf (length ys) used task) 0 (beginOf (length ys) used task) ys
 
   -- a turn stores at its own place or before it
   pub step-at : (p : Pass) (r : Record) (i : ℕ) → stepOf task p r i .at ≤ i

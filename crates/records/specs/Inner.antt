@@ -3,11 +3,12 @@
 use mathlib.Core.Path.{_≡_}
 use mathlib.Core.Bool.{Bool, true, false, cond}
 use mathlib.Core.List.{List, [], _∷_, _++_}
-use Prim.Native.Nat.{ℕ, zero, suc, _+_, _≤_, _<_}
+use Prim.Native.Nat.{ℕ, zero, suc, _+_}
 use lib.ListN.{length, take, drop, getD, set}
 use lib.Dec.{eqb, ltb}
 use Rattle.setup.specs.declared.Setup.{Setup}
-use Rattle.formed.specs.WellFormed.{WellFormed}
+use Rattle.questions.specs.Asks.{Asks}
+use Rattle.questions.specs.Questions.{asks12, asks13}
 use Rattle.answers.specs.declared.MarksAnswer.{MarksAnswer}
 use Rattle.answers.specs.declared.MarksAnswer.the-variants as marks
 use Rattle.records.specs.declared.Record.{Record}
@@ -15,7 +16,7 @@ use Rattle.records.specs.declared.Task.{Task}
 use Rattle.records.specs.declared.Pass.{Pass}
 use Rattle.records.specs.declared.Turn.{Turn}
 use Rattle.records.specs.declared.Registered.{Registered}
-use Rattle.records.specs.Records.{wayCode, RecordOf, sameThree, withRecord, without}
+use Rattle.records.specs.Records.{wayCode, RecordOf, sameThree, withRecord, without, RegisterOutcome, withSlice, handsBack, keepsUsed}
 
 -- the record that is read past a list's end
 abbrev pub blankRecord : Record
@@ -73,34 +74,18 @@ abbrev pub endOf : Task → ℕ → ℕ → Pass → List Record → End
 endOf t zero i p l = record { pass = p; list = l }
 endOf t (suc k) i p l = endOf t k (i + 1) (stepOf t p (getD l i blankRecord) i .pass) (set l (stepOf t p (getD l i blankRecord) i .at) (stepOf t p (getD l i blankRecord) i .row))
 
--- what a call answers, and what it leaves in the slice
-pub record RegisterOutcome : Type 0 where
-  pub number : ℕ
-  pub used : ℕ
-  pub slice : List Record
-
--- nothing changes
-abbrev pub refusal : ℕ → ℕ → List Record → RegisterOutcome
-refusal c used ys = record { number = c; used = used; slice = ys }
-
--- w are the used records: what lies behind them is as it was
-abbrev pub accepts : List Record → List Record → RegisterOutcome
-accepts w ys = record { number = 0; used = length w; slice = w ++ drop (length w) ys }
-
 abbrev pub handIn : List Record → ℕ → Record → RegisterOutcome
-handIn ys used n = cond (ltb (length ys) (length (withRecord n (take used ys)))) (refusal 26 used ys) (accepts (withRecord n (take used ys)) ys)
+handIn ys used n = cond (ltb (length ys) (length (withRecord n (take used ys)))) (handsBack used ys 26) (keepsUsed (withRecord n (take used ys)) ys)
 
 abbrev pub withdraw : List Record → ℕ → ℕ → RegisterOutcome
-withdraw ys used k = cond (eqb (length (without k (take used ys))) used) (refusal 27 used ys) (accepts (without k (take used ys)) ys)
+withdraw ys used k = cond (eqb (length (without k (take used ys))) used) (handsBack used ys 27) (keepsUsed (without k (take used ys)) ys)
 
 unfoldable pub outcomeOf : List Record → ℕ → Task → RegisterOutcome
-outcomeOf ys used t = cond (ltb (length ys) used) (refusal 25 used ys) (cond (eqb (t .refused) 0) (cond (t .remove) (withdraw ys used (t .row .student)) (handIn ys used (t .row))) (refusal (t .refused) used ys))
+outcomeOf ys used t = cond (ltb (length ys) used) (handsBack used ys 25) (cond (eqb (t .refused) 0) (cond (t .remove) (withdraw ys used (t .row .student)) (handIn ys used (t .row))) (handsBack used ys (t .refused)))
 
--- what a call promises: its answer, and what it leaves in the slice
-pub record Answers (a : Registered) (l : List Record) (o : RegisterOutcome) : Type 0 where
-  pub number : a .number ≡ o .number
-  pub used : a .used ≡ o .used
-  pub slice : l ≡ o .slice
+-- what the pass over the slice answers and leaves there
+abbrev pub Leaves : Registered → List Record → RegisterOutcome → Type 0
+Leaves a l o = withSlice a l ≡ o
 
 -- a record that has the student alone
 abbrev pub studentAlone : ℕ → Record
@@ -119,9 +104,7 @@ taskOf student target loss (marks.Marked m) = record {
 }
 taskOf student target loss (marks.Refused q) = record { remove = false; refused = q; row = studentAlone student }
 
--- The task of a hand-in: by what the marking refuses, or else the attempt's record.
+-- The task of a hand-in: to lay the attempt's record down, or refused by the marking's own questions.
 pub record Attempts (s : Setup) (student target : ℕ) (loss : Bool) (handed : List ℕ) (t : Task) : Type 0 where
   pub lays : t .remove ≡ false
-  pub malformed : (WellFormed s → ⊥) → t .refused ≡ 12
-  pub noTarget : WellFormed s → s .count ≤ target → t .refused ≡ 13
-  pub answers : WellFormed s → target < s .count → (t .refused ≡ 0) × RecordOf s student target loss handed (t .row)
+  pub asked : Asks (λ q. q) (asks12 s ∷ asks13 s target ∷ []) (λ r. (r ≡ 0) × RecordOf s student target loss handed (t .row)) (t .refused)

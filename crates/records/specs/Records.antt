@@ -1,13 +1,15 @@
 -- Records of attempts (document 02, point 12), and what a hand-in and a withdrawal make of the used ones.
 use mathlib.Core.Path.{_≡_}
 use mathlib.Core.Bool.{Bool, true, false, cond, _&&_}
-use mathlib.Core.List.{List, [], _∷_}
+use mathlib.Core.List.{List, [], _∷_, _++_}
 use Prim.Native.Nat.{ℕ}
+use lib.ListN.{length, drop}
 use lib.Dec.{eqb}
 use Rattle.vertex_set.specs.Set.{Iff}
 use Rattle.setup.specs.declared.Setup.{Setup}
 use Rattle.bases.specs.Marks.{Counts, IsBaseOnce, Full}
 use Rattle.records.specs.declared.Record.{Record}
+use Rattle.records.specs.declared.Registered.{Registered}
 
 -- A way as a number: 0 for open, 1 for lock.
 abbrev pub wayCode : Bool → ℕ
@@ -46,3 +48,20 @@ withRecord n (r ∷ u) = cond (sameThree r n) (n ∷ u) (r ∷ withRecord n u)
 abbrev pub without : ℕ → List Record → List Record
 without k [] = []
 without k (r ∷ u) = cond (eqb (r .student) k) (without k u) (r ∷ without k u)
+
+-- What a call on the register hands back: its answer, and the slice of records as it then is.
+pub record RegisterOutcome : Type 0 where
+  pub answer : Registered
+  pub slice : List Record
+
+-- An answer, and the slice as it is after it.
+abbrev pub withSlice : Registered → List Record → RegisterOutcome
+withSlice a slice = record { answer = a; slice = slice }
+
+-- A refusal with the number q changes no record and no count.
+abbrev pub handsBack : ℕ → List Record → ℕ → RegisterOutcome
+handsBack used slice q = withSlice (record { number = q; used = used }) slice
+
+-- The call is accepted: w are the used records, and those behind them don't change.
+abbrev pub keepsUsed : List Record → List Record → RegisterOutcome
+keepsUsed w slice = withSlice (record { number = 0; used = length w }) (w ++ drop (length w) slice)

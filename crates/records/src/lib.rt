@@ -2,8 +2,10 @@
 // register's calls decide is decided here, by value: the functions over the slice decide nothing.
 ghost use mathlib.Core.Path.{_≡_};
 ghost use mathlib.Core.Bool.{cond};
+ghost use mathlib.Core.List.{[]};
 ghost use Prim.Native.Nat.{_<_, _≤_, _+_, _^_};
-ghost use Rattle.answers.specs.Answers.{marksNumber, marksValues, MarksCall};
+ghost use Rattle.questions.specs.Contract.{ends, Fulfils};
+ghost use Rattle.answers.specs.Answers.{marksReply, marksCall};
 ghost use Rattle.records.specs.Records.{wayCode, sameThree};
 ghost use Rattle.records.specs.Inner.{lesser, withdrawalTurn, takesOf, passBehind, handInTurn, stepOf, turnsOf, refusesOf, firstCount, beginOf, finishOf, studentAlone, leaving, taskOf, Attempts};
 use answers::MarksAnswer;
@@ -223,7 +225,7 @@ fn refuses(len: usize, used: usize, refused: u64) -> u64
     ensures { λ n. ⌜ n ≡ refusesOf len used refused ⌝ }
 {
     if len < used {
-        return 25;
+        return questions::OVERFULL;
     }
     refused
 }
@@ -273,12 +275,12 @@ pub fn finish(t: Task, p: Pass) -> Registered
     }
     if t.remove {
         return Registered {
-            number: 27,
+            number: questions::NO_RECORD,
             used: p.used,
         };
     }
     Registered {
-        number: 26,
+        number: questions::ALL_USED,
         used: p.used,
     }
 }
@@ -313,7 +315,7 @@ pub fn leave(student: u64) -> Task
 
 // The marks of sets that are handed in for one way of the target.
 fn mark(s: Setup, target: usize, loss: bool, handed: &[u64]) -> MarksAnswer
-    ensures { λ r. ⌜ MarksCall loss s target (now (handed .entry)) (marksNumber r) (marksValues r) ⌝ }
+    ensures { λ r. ⌜ Fulfils (marksCall loss s target (now (handed .entry))) (ends (marksReply r) []) ⌝ }
 {
     if loss {
         return answers::mark_lockout(s, target, handed);

@@ -9,47 +9,59 @@ use lib.Seq.{take-append-seam}
 use Rattle.setup.specs.declared.Setup.{Setup}
 use Rattle.records.specs.declared.Record.{Record}
 use Rattle.records.specs.declared.Registered.{Registered}
-use Rattle.records.specs.Records.{withRecord, without}
-use Rattle.register.specs.Calls.{CallRefused, RegisterLeft}
-use Rattle.register.specs.Afternoon.{RegisterCall, HandIn, Withdraw, Made, MeetsCall, sliceAfter, usedAfter, Stands, RegisterHolds, RegisterLaw}
-use Rattle.register.proofs.Outcomes.{Turned, Taken, left-number, refused-number, hand-in-outcome, withdraw-outcome, hand-in-no, withdraw-no}
+use Rattle.records.specs.Records.{withRecord, without, RegisterOutcome, withSlice, handsBack, keepsUsed}
+use Rattle.register.specs.Afternoon.{RegisterCall, HandIn, Withdraw, Made, MeetsCall, sliceAfter, usedAfter, Stands, RegisterHolds, RegisterAfter, RegisterLaw}
+use Rattle.register.proofs.Outcomes.{Turned, Taken, answer-number, hand-in-outcome, withdraw-outcome, hand-in-no, withdraw-no}
 use Rattle.register.proofs.Times.{stands-before, stands-refused, stands-withdrawn, stands-handed}
 use Rattle.register.proofs.Holds.{holds-same, holds-less, holds-more}
 
 -- the used records after a call
-used-left : (w : List Record) (a : Registered) (entry exit : List Record) → RegisterLeft w a entry exit → w ≡ take (a .used) exit
-used-left w a entry exit h =
-    sym (ap (λ (x : Registered). take (x .used) exit) (h .answer) ∙ ap (take (length w)) (h .written) ∙ take-append-seam w (drop (length w) entry))
+abbrev used-of : RegisterOutcome → List Record
+used-of o = take (o .answer .used) (o .slice)
 
-used-kept : (q used : ℕ) (a : Registered) (entry exit : List Record) → CallRefused q used a entry exit → take used entry ≡ take (a .used) exit
-used-kept q used a entry exit h = sym (ap (λ (x : Registered). take (x .used) exit) (h .answer) ∙ ap (take used) (h .untouched))
+used-left : (w entry : List Record) (o : RegisterOutcome) → o ≡ keepsUsed w entry → w ≡ used-of o
+used-left w entry o h = sym (ap used-of h ∙ take-append-seam w (drop (length w) entry))
 
-module _ (s : Setup) (used : ℕ) (entry : List Record) (earlier : List Made) (holds : RegisterHolds s (Stands earlier) (take used entry)) where
-  refused : (m : Made) {numbers : List ℕ} → Turned numbers used (m .answer) entry (m .exit) → (m .answer .number ≡ 0 → ⊥)
-      → RegisterHolds s (Stands (m ∷ earlier)) (take (m .answer .used) (m .exit))
+left-count : (w entry : List Record) (o : RegisterOutcome) → o ≡ keepsUsed w entry → length (used-of o) ≡ o .answer .used
+left-count w entry o h = ap length (sym (used-left w entry o h)) ∙ sym (ap (λ (x : RegisterOutcome). x .answer .used) h)
+
+module _ (s : Setup) (used : ℕ) (entry : List Record) (earlier : List Made) (was : RegisterAfter s earlier used entry) where
+  refused : (m : Made) {numbers : List ℕ} → Turned numbers used entry (withSlice (m .answer) (m .exit)) → (m .answer .number ≡ 0 → ⊥)
+      → RegisterAfter s (m ∷ earlier) (m .answer .used) (m .exit)
   refused m t unmet =
-      subst (λ (rs : List Record). RegisterHolds s (Stands (m ∷ earlier)) rs) (used-kept (t .number) used (m .answer) entry (m .exit) (t .refused))
-      (holds-same s (Stands earlier) (Stands (m ∷ earlier)) (stands-refused m earlier unmet) (take used entry) holds)
+      subst (λ (o : RegisterOutcome). RegisterAfter s (m ∷ earlier) (o .answer .used) (o .slice)) (sym (t .refused))
+      (record { holds = holds-same s (Stands earlier) (Stands (m ∷ earlier)) (stands-refused m earlier unmet) (take used entry) (was .holds); count = was .count })
 
   after : (call : RegisterCall) (a : Registered) (exit : List Record) → MeetsCall s call used entry a exit
-      → RegisterHolds s (Stands (record { call = call; answer = a; exit = exit } ∷ earlier)) (take (a .used) exit)
+      → RegisterAfter s (record { call = call; answer = a; exit = exit } ∷ earlier) (a .used) exit
   after (HandIn x) a exit c =
-      ⊎-elim taken (λ t. refused (record { call = HandIn x; answer = a; exit = exit }) t (λ z. hand-in-no (t .number) (t .listed) (sym (refused-number (t .refused)) ∙ z)))
+      ⊎-elim taken (λ t. refused m t (λ z. hand-in-no (t .number) (t .listed) (sym (answer-number (t .refused)) ∙ z)))
       (hand-in-outcome s used (x .student) (x .target) (x .loss) (x .handed) a entry exit c)
     where
-      taken : Taken s used (x .student) (x .target) (x .loss) (x .handed) a entry exit → RegisterHolds s (Stands (record { call = HandIn x; answer = a; exit = exit } ∷ earlier)) (take (a .used) exit)
+      m : Made
+      m = record { call = HandIn x; answer = a; exit = exit }
+
+      taken : Taken s used (x .student) (x .target) (x .loss) (x .handed) entry (withSlice a exit) → RegisterAfter s (m ∷ earlier) (a .used) exit
       taken t =
-          subst (λ (rs : List Record). RegisterHolds s (Stands (record { call = HandIn x; answer = a; exit = exit } ∷ earlier)) rs) (used-left (withRecord (t .row) (take used entry)) a entry exit (t .left))
-          (holds-more s (Stands earlier) (Stands (record { call = HandIn x; answer = a; exit = exit } ∷ earlier)) x (length earlier) (t .row) (t .isRecord) (stands-before earlier)
-          (stands-handed x a exit earlier (left-number (t .left))) (take used entry) holds)
+          record {
+            holds = subst (λ (rs : List Record). RegisterHolds s (Stands (m ∷ earlier)) rs) (used-left (withRecord (t .row) (take used entry)) entry (withSlice a exit) (t .left))
+                (holds-more s (Stands earlier) (Stands (m ∷ earlier)) x (length earlier) (t .row) (t .isRecord) (stands-before earlier)
+                (stands-handed x a exit earlier (answer-number (t .left))) (take used entry) (was .holds));
+            count = left-count (withRecord (t .row) (take used entry)) entry (withSlice a exit) (t .left);
+          }
   after (Withdraw k) a exit c =
-      ⊎-elim left (λ t. refused (record { call = Withdraw k; answer = a; exit = exit }) t (λ z. withdraw-no (t .number) (t .listed) (sym (refused-number (t .refused)) ∙ z)))
-      (withdraw-outcome used k a entry exit c)
+      ⊎-elim left (λ t. refused m t (λ z. withdraw-no (t .number) (t .listed) (sym (answer-number (t .refused)) ∙ z))) (withdraw-outcome used k a entry exit c)
     where
-      left : RegisterLeft (without k (take used entry)) a entry exit → RegisterHolds s (Stands (record { call = Withdraw k; answer = a; exit = exit } ∷ earlier)) (take (a .used) exit)
+      m : Made
+      m = record { call = Withdraw k; answer = a; exit = exit }
+
+      left : withSlice a exit ≡ keepsUsed (without k (take used entry)) entry → RegisterAfter s (m ∷ earlier) (a .used) exit
       left h =
-          subst (λ (rs : List Record). RegisterHolds s (Stands (record { call = Withdraw k; answer = a; exit = exit } ∷ earlier)) rs) (used-left (without k (take used entry)) a entry exit h)
-          (holds-less s (Stands earlier) (Stands (record { call = Withdraw k; answer = a; exit = exit } ∷ earlier)) k (stands-withdrawn k a exit earlier (left-number h)) (take used entry) holds)
+          record {
+            holds = subst (λ (rs : List Record). RegisterHolds s (Stands (m ∷ earlier)) rs) (used-left (without k (take used entry)) entry (withSlice a exit) h)
+                (holds-less s (Stands earlier) (Stands (m ∷ earlier)) k (stands-withdrawn k a exit earlier (answer-number h)) (take used entry) (was .holds));
+            count = left-count (without k (take used entry)) entry (withSlice a exit) h;
+          }
 
 none-used : (l : List Record) → take 0 l ≡ []
 none-used [] = refl
@@ -57,7 +69,10 @@ none-used (r ∷ l) = refl
 
 pub register-law : RegisterLaw
 register-law s slice [] h =
-    subst (λ (rs : List Record). RegisterHolds s (Stands []) rs) (sym (none-used slice))
-    (record { times = []; rising = tt; entries = tt; whole = λ t x p. absurd (p .handed) })
+    record {
+      holds = subst (λ (rs : List Record). RegisterHolds s (Stands []) rs) (sym (none-used slice))
+          (record { times = []; rising = tt; entries = tt; whole = λ t x p. absurd (p .handed) });
+      count = ap length (none-used slice);
+    }
 register-law s slice (m ∷ earlier) h =
     after s (usedAfter earlier) (sliceAfter slice earlier) earlier (register-law s slice earlier (h .1)) (m .call) (m .answer) (m .exit) (h .0)

@@ -9,11 +9,14 @@ use native.Mathlib.Omega.{arith}
 use lib.ListN.{length, take, drop}
 use lib.Seq.{drop-append-seam}
 use Rattle.setup.specs.declared.Setup.{Setup}
+use Rattle.questions.specs.Questions.{asks12, asks13}
+use Rattle.questions.specs.Asks.{Asks}
+use Rattle.questions.proofs.Asks.{first-no, after-all}
 use Rattle.records.specs.declared.Record.{Record}
 use Rattle.records.specs.declared.Registered.{Registered}
-use Rattle.records.specs.Records.{sameThree, hasThree, withRecord, without}
-use Rattle.register.specs.Calls.{RegisterLeft, TakesRecord, HandInCall, WithdrawCall}
-use Rattle.register.proofs.Outcomes.{left-number, refused-number, hand-in-outcome, withdraw-outcome}
+use Rattle.records.specs.Records.{sameThree, hasThree, withRecord, without, RegisterOutcome, withSlice, handsBack, keepsUsed}
+use Rattle.register.specs.Calls.{asks25, asks26, Enters, HandInCall, WithdrawCall}
+use Rattle.register.proofs.Outcomes.{answer-number, hand-in-outcome, withdraw-outcome}
 
 -- the record of a student's attempt, with its target, way and number of right sets
 abbrev attempt : ℕ → ℕ → ℕ → ℕ → Record
@@ -38,31 +41,42 @@ gone = refl
 -- ---- excluded
 
 -- 26 where a record is replaced, or where there is a place
-pub no-26-where-replaced : (n : Record) (used : ℕ) (a : Registered) (entry exit : List Record) → TakesRecord n used a entry exit → hasThree n (take used entry) ≡ true
-    → a .number ≡ 26 → ⊥
-no-26-where-replaced n used a entry exit t h e = let m = left-number (t .room (inl h)) in omega (arith, m, e)
+module _ (s : Setup) (used student target : ℕ) (loss : Bool) (handed : List ℕ) (entry : List Record) (o : RegisterOutcome)
+    (h : Enters s used student target loss handed entry o) where
+  no-26 : asks26 entry used (h .row) .Yes → o .answer .number ≡ 26 → ⊥
+  no-26 y e =
+      let m = answer-number (after-all (handsBack used entry) (λ p. p ≡ keepsUsed (withRecord (h .row) (take used entry)) entry) (asks26 entry used (h .row) ∷ []) o (h .told) (y, tt)) in
+      omega (arith, m, e)
 
-pub no-26-with-a-place : (n : Record) (used : ℕ) (a : Registered) (entry exit : List Record) → TakesRecord n used a entry exit → used < length entry → a .number ≡ 26 → ⊥
-no-26-with-a-place n used a entry exit t h e = let m = left-number (t .room (inr h)) in omega (arith, m, e)
+  pub no-26-where-replaced : hasThree (h .row) (take used entry) ≡ true → o .answer .number ≡ 26 → ⊥
+  no-26-where-replaced d = no-26 (inl d)
 
--- a number of the marking before 25
-pub no-12-before-25 : (s : Setup) (used student target : ℕ) (loss : Bool) (handed : List ℕ) (a : Registered) (entry exit : List Record)
-    → HandInCall s used student target loss handed a entry exit → length entry < used → a .number ≡ 12 → ⊥
-no-12-before-25 s used student target loss handed a entry exit c l e = let m = refused-number (c .overfull l) in omega (arith, m, e)
+  pub no-26-with-a-place : used < length entry → o .answer .number ≡ 26 → ⊥
+  no-26-with-a-place l = no-26 (inr l)
 
--- a refused hand-in that leaves a record, or loses the count
-pub no-record-left : (s : Setup) (used student target : ℕ) (loss : Bool) (handed : List ℕ) (a : Registered) (entry exit : List Record)
-    → HandInCall s used student target loss handed a entry exit → (a .number ≡ 0 → ⊥) → (exit ≡ entry) × (a .used ≡ used)
-no-record-left s used student target loss handed a entry exit c d =
-    ⊎-elim (λ t. absurd (d (left-number (t .left)))) (λ t. (t .refused .untouched, ap (λ (x : Registered). x .used) (t .refused .answer)))
-    (hand-in-outcome s used student target loss handed a entry exit c)
+module _ (s : Setup) (used student target : ℕ) (loss : Bool) (handed : List ℕ) (a : Registered) (entry exit : List Record)
+    (c : HandInCall s used student target loss handed a entry exit) where
+  -- a number of the marking before 25
+  pub no-12-before-25 : length entry < used → a .number ≡ 12 → ⊥
+  no-12-before-25 l e =
+      let m = answer-number (first-no (handsBack used entry) (Enters s used student target loss handed entry) [] (asks25 entry used) (asks12 s ∷ asks13 s target ∷ [])
+      (withSlice a exit) c tt (λ n. omega (arith, l, n))) in
+      omega (arith, m, e)
+
+  -- a refused hand-in that leaves a record, or loses the count
+  pub no-record-left : (a .number ≡ 0 → ⊥) → (exit ≡ entry) × (a .used ≡ used)
+  no-record-left d =
+      ⊎-elim (λ t. absurd (d (answer-number (t .left)))) (λ t. (ap (λ (o : RegisterOutcome). o .slice) (t .refused), ap (λ (o : RegisterOutcome). o .answer .used) (t .refused)))
+      (hand-in-outcome s used student target loss handed a entry exit c)
 
 -- freed places cleared, or filled
 pub no-place-cleared : (used student : ℕ) (a : Registered) (entry exit : List Record) → WithdrawCall used student a entry exit → drop (a .used) exit ≡ drop (a .used) entry
-no-place-cleared used student a entry exit c = ⊎-elim accepted (λ t. ap (drop (a .used)) (t .refused .untouched)) (withdraw-outcome used student a entry exit c)
+no-place-cleared used student a entry exit c = ⊎-elim accepted (λ t. ap (λ (o : RegisterOutcome). drop (a .used) (o .slice)) (t .refused)) (withdraw-outcome used student a entry exit c)
   where
-    accepted : RegisterLeft (without student (take used entry)) a entry exit → drop (a .used) exit ≡ drop (a .used) entry
+    w : List Record
+    w = without student (take used entry)
+
+    accepted : withSlice a exit ≡ keepsUsed w entry → drop (a .used) exit ≡ drop (a .used) entry
     accepted h =
-        let w = without student (take used entry) in
-        ap (λ (x : Registered). drop (x .used) exit) (h .answer) ∙ ap (drop (length w)) (h .written) ∙ drop-append-seam w (drop (length w) entry)
-        ∙ sym (ap (λ (x : Registered). drop (x .used) entry) (h .answer))
+        ap (λ (o : RegisterOutcome). drop (o .answer .used) (o .slice)) h ∙ drop-append-seam w (drop (length w) entry)
+        ∙ sym (ap (λ (o : RegisterOutcome). drop (o .answer .used) entry) h)

@@ -132,10 +132,13 @@ pub record RegisterHolds (s : Setup) (P : ℕ → Attempt → Type 0) (records :
   pub entries : Entries s P times records
   pub whole : (t : ℕ) (x : Attempt) → P t x → Held records x
 
+-- The register after these calls: its used records, as many as the count says, are those that it must hold.
+pub record RegisterAfter (s : Setup) (log : List Made) (used : ℕ) (slice : List Record) : Type 0 where
+  pub holds : RegisterHolds s (Stands log) (take used slice)
+  pub count : length (take used slice) ≡ used
+
 -- For every list of hand-ins and withdrawals over one setup from an empty register, refused ones among them, slice and count handed on as they came back:
 -- the used records are, for each student, target and way, that of the latest accepted attempt of those not withdrawn since, in the order in which these
--- three were first accepted after the student's last withdrawal. Each is its attempt's record by `RecordOf`, which says when it has full marks. How many
--- are used is said by the calls' contracts.
+-- three were first accepted after the student's last withdrawal. Each is its attempt's record by `RecordOf`, which says when it has full marks.
 abbrev pub RegisterLaw : Type 0
-RegisterLaw = (s : Setup) (slice : List Record) (log : List Made) → Afternoon s slice log
-    → RegisterHolds s (Stands log) (take (usedAfter log) (sliceAfter slice log))
+RegisterLaw = (s : Setup) (slice : List Record) (log : List Made) → Afternoon s slice log → RegisterAfter s log (usedAfter log) (sliceAfter slice log)

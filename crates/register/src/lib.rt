@@ -1,6 +1,6 @@
 // The class register: attempts in a lent slice of records. The three functions over the slice decide
 // nothing; what goes where is decided by value, record by record, in the crate `records`.
-ghost use Rattle.records.specs.Inner.{Answers, outcomeOf};
+ghost use Rattle.records.specs.Inner.{Leaves, outcomeOf};
 ghost use Rattle.register.specs.Calls.{HandInCall, WithdrawCall};
 use records::Record;
 use records::Registered;
@@ -9,7 +9,7 @@ use setup::Setup;
 
 // The pass over the slice: at each place the record there is read, and one is stored.
 fn apply(records: &mut [Record], used: usize, t: Task) -> Registered
-    ensures { λ a. ⌜ Answers a (now (records .exit)) (outcomeOf (now (records .entry)) used t) ⌝ }
+    ensures { λ a. ⌜ Leaves a (now (records .exit)) (outcomeOf (now (records .entry)) used t) ⌝ }
 {
     let mut p = records::begin(records.len(), used, t);
     let n = p.turns;

@@ -39,11 +39,11 @@ fn read_rest(s: &[u8], items: Items) -> Reading
     let at = items.at;
     let line = items.line + 1;
     if s.len() <= at {
-        return refuse(11, line);
+        return refuse(questions::NO_EDGE_PART, line);
     }
     let end = sheet_fields::find(s, at, sheet_fields::LF);
     if !sheet_lines::is_second_header(&s[at..end]) {
-        return refuse(3, line);
+        return refuse(questions::HEADER, line);
     }
     let low = items.low;
     let high = items.high;
@@ -75,14 +75,14 @@ pub fn read_sheet(sheet: &[u8]) -> Reading
     ensures { λ r. ⌜ r ≡ readSheet (now (sheet .entry)) ⌝ }
 {
     if setup::MAX_BYTES < sheet.len() {
-        return refuse(1, 0);
+        return refuse(questions::TOO_LONG, 0);
     }
     if !sheet_lines::is_text(sheet) {
-        return refuse(2, 0);
+        return refuse(questions::NO_TEXT, 0);
     }
     let end = sheet_fields::find(sheet, 0, sheet_fields::LF);
     if !sheet_lines::is_first_header(&sheet[..end]) {
-        return refuse(3, 1);
+        return refuse(questions::HEADER, 1);
     }
     let items = sheet_items::read_items(sheet, end + 1);
     let number = items.number;

@@ -87,10 +87,10 @@ pub fn read_edges(
         let colour = edge.colour;
         let row = graph.rows[to];
         if has_need(row, colour, from) {
-            return refuse(9, line);
+            return refuse(questions::EDGE_TWICE, line);
         }
         if setup::MAX_EDGES <= edges {
-            return refuse(7, line);
+            return refuse(questions::BOUND, line);
         }
         let row = with_need(row, colour, from);
         graph.rows[to] = row;

@@ -1,7 +1,7 @@
 -- The theorems of specs/Meaning: what is accepted is the written form of valid rows, and what a refusal says.
 -- Assumes nothing.
 use mathlib.Core.Path.{_≡_, refl, sym, ap, _∙_, subst}
-use mathlib.Core.List.{List}
+use mathlib.Core.List.{List, [], _∷_}
 use mathlib.Core.Bool.{true}
 use mathlib.Core.Logic.{_⊎_, inl, inr, ⊎-elim}
 use Prim.Native.Nat.{ℕ, _≤_}
@@ -15,7 +15,7 @@ use Rattle.sheet_format.specs.Text.{linesOf, all}
 use Rattle.sheet_format.specs.Rows.{Doc, Valid, render, verticesOf, withEdges, recoveryRows, setupOf}
 use Rattle.sheet_format.specs.Questions.{question1, isTextByte, endsInLF, question2}
 use Rattle.sheet_format.specs.Read.{AmongEdges, Place, noRows, refused, question11, readSheet}
-use Rattle.sheet_format.specs.Meaning.{AcceptedOfValid, ValidOfAccepted, Refusal, RefusalLaw, RefusalUnique, EmptySetup, Accepted, Refused, AcceptedOrRefused}
+use Rattle.sheet_format.specs.Meaning.{AcceptedOfValid, ValidOfAccepted, start, next, Passed, Refusal, RefusalLaw, RefusalUnique, EmptySetup, Accepted, Refused, AcceptedOrRefused}
 use Rattle.sheet_format.proofs.Lists.{each-map}
 use Rattle.vertex_set.proofs.Decisions.{and-parts}
 use Rattle.sheet_format.proofs.Lines.{Without, joined, lines-joined, joined-lines, joined-text}
@@ -47,6 +47,17 @@ valid-read d v =
 pub accepted-of-valid : AcceptedOfValid
 unfolding question11
 accepted-of-valid d v = read-accepted (render d) (record { phase = AmongEdges; above = d }) (valid-read d v) refl
+
+-- A text is the written form of one document's rows alone: reading finds them.
+passed-once : (p : Place) (lines : List (List ℕ)) (q r : Place) → Passed p lines q → Passed p lines r → q ≡ r
+passed-once p [] q r a b = sym a ∙ b
+passed-once p (line ∷ lines) q r a b = passed-once (next p line) lines q r (a .1) (b .1)
+
+pub rows-unique : (d e : Doc) → Valid d → Valid e → render d ≡ render e → d ≡ e
+rows-unique d e v w h =
+    ap (λ (p : Place). p .above)
+    (passed-once start (linesOf (render d)) (record { phase = AmongEdges; above = d }) (record { phase = AmongEdges; above = e }) (valid-read d v .passed)
+    (subst (λ (t : List ℕ). Passed start (linesOf t) (record { phase = AmongEdges; above = e })) (sym h) (valid-read e w .passed)))
 
 -- ---- accepted texts
 

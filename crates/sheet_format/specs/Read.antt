@@ -1,8 +1,10 @@
 -- Reading a sheet: questions 1 and 2 of the whole text, then the lines from the top. The first no ends it.
+use mathlib.Core.Path.{_≡_}
 use mathlib.Core.List.{List, [], _∷_, _++_}
 use mathlib.Core.Bool.{Bool, true, false, cond}
 use Prim.Native.Nat.{ℕ, zero, suc}
 use Rattle.setup.specs.declared.Setup.{Setup}
+use Rattle.questions.specs.Asks.{Question}
 use Rattle.sheet_format.specs.declared.Reading.{Reading}
 use Rattle.sheet_format.specs.Text.{linesOf, fieldsOf, isEmpty}
 use Rattle.sheet_format.specs.Rows.{ItemRow, EdgeRow, Doc, setupOf, firstHeader, secondHeader}
@@ -103,3 +105,7 @@ readLines p d k (line ∷ lines) =
 -- The reading of a text: question 1, question 2, then the lines from line 1 on.
 unfoldable pub readSheet : List ℕ → Reading
 readSheet text = cond (question1 text) (cond (question2 text) (readLines AtFirstHeader noRows 1 (linesOf text)) (refused 2 0)) (refused 1 0)
+
+-- 1 to 11: is the text accepted? The number for no is the reading's.
+abbrev pub asksSheet : List ℕ → Question
+asksSheet text = record { number = readSheet text .number; Yes = readSheet text .number ≡ 0 }

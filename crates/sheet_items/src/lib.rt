@@ -54,7 +54,7 @@ pub fn read_items(s: &[u8], start: usize) -> Items
         let end = sheet_fields::find(s, at, sheet_fields::LF);
         if end == at {
             if count == 0 {
-                return stop(10, line, at, count, vertices, low, high);
+                return stop(questions::NO_ROWS, line, at, count, vertices, low, high);
             }
             return stop(0, line, end + 1, count, vertices, low, high);
         }
@@ -73,5 +73,13 @@ pub fn read_items(s: &[u8], start: usize) -> Items
         count += 1;
         at = end + 1;
     }
-    stop(11, count as u64 + 2, at, count, vertices, low, high)
+    stop(
+        questions::NO_EDGE_PART,
+        count as u64 + 2,
+        at,
+        count,
+        vertices,
+        low,
+        high,
+    )
 }

@@ -71,13 +71,13 @@ fn join_fields(kind: KindField, start: ValueField, loss: ValueField, rank: u64) 
     ensures { λ r. ⌜ JoinsFields kind start loss rank r ⌝ }
 {
     if !kind.ok {
-        return no_vertex(5);
+        return no_vertex(questions::FORM);
     }
     if !start.ok {
-        return no_vertex(5);
+        return no_vertex(questions::FORM);
     }
     if !loss.ok {
-        return no_vertex(5);
+        return no_vertex(questions::FORM);
     }
     if rank <= setup::MAX_RANK {
         let kind = kind.kind;
@@ -93,7 +93,7 @@ fn join_fields(kind: KindField, start: ValueField, loss: ValueField, rank: u64) 
             },
         }
     } else {
-        no_vertex(5)
+        no_vertex(questions::FORM)
     }
 }
 
@@ -115,7 +115,7 @@ fn read_vertex(l: &[u8]) -> VertexFields
     if cut.ok {
         read_fields(l, cut.first, cut.second, cut.third)
     } else {
-        no_vertex(4)
+        no_vertex(questions::FIELDS)
     }
 }
 
@@ -135,11 +135,11 @@ fn join_item(name: NameField, fields: VertexFields) -> ItemLine
     ensures { λ r. ⌜ JoinsItem name fields r ⌝ }
 {
     let number = fields.number;
-    if number == 4 {
-        return no_item(4);
+    if number == questions::FIELDS {
+        return no_item(questions::FIELDS);
     }
     if !name.ok {
-        return no_item(5);
+        return no_item(questions::FORM);
     }
     let key = name.key;
     let vertex = fields.vertex;
@@ -155,7 +155,7 @@ pub fn read_item(l: &[u8]) -> ItemLine
 {
     let end = sheet_fields::end_of_field(l, 0);
     if end == 0 {
-        return no_item(4);
+        return no_item(questions::FIELDS);
     }
     let name = sheet_fields::read_name(&l[..end]);
     let fields = read_vertex(&l[end + 1..]);
@@ -236,7 +236,7 @@ pub fn take_item(
     let key = item.key;
     let found = find_name(low, high, count, key);
     if found < count {
-        return no_taken(6);
+        return no_taken(questions::NAME_USED);
     }
     let vertex = item.vertex;
     let start = vertex.start;
@@ -252,7 +252,7 @@ pub fn take_item(
             losses,
         }
     } else {
-        no_taken(7)
+        no_taken(questions::BOUND)
     }
 }
 
@@ -273,16 +273,16 @@ fn join_ends(from: NameField, to: NameField, colour: u64, rec: u64) -> EdgeLine
     ensures { λ r. ⌜ JoinsEnds from to colour rec r ⌝ }
 {
     if !from.ok {
-        return no_edge(5);
+        return no_edge(questions::FORM);
     }
     if !to.ok {
-        return no_edge(5);
+        return no_edge(questions::FORM);
     }
     if MAX_COLOUR < colour {
-        return no_edge(5);
+        return no_edge(questions::FORM);
     }
     if 1 < rec {
-        return no_edge(5);
+        return no_edge(questions::FORM);
     }
     let from = from.key;
     let to = to.key;
@@ -313,7 +313,7 @@ pub fn read_edge(l: &[u8]) -> EdgeLine
     if cut.ok {
         read_ends(l, cut.first, cut.second, cut.third)
     } else {
-        no_edge(4)
+        no_edge(questions::FIELDS)
     }
 }
 
@@ -342,12 +342,12 @@ pub fn take_edge(l: &[u8], low: &[u64], high: &[u64], count: usize) -> TakenEdge
     let key = edge.from;
     let from = find_name(low, high, count, key);
     if count <= from {
-        return no_ends(8);
+        return no_ends(questions::NAME_UNKNOWN);
     }
     let key = edge.to;
     let to = find_name(low, high, count, key);
     if count <= to {
-        return no_ends(8);
+        return no_ends(questions::NAME_UNKNOWN);
     }
     TakenEdge {
         number: 0,

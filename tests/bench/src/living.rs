@@ -27,7 +27,7 @@ fn proved(words: &mut [u64], edit: Edit) -> u64 {
         Edit::TakeIn(item) => product::take_in(words, item),
         Edit::TakeOut(item) => product::take_out(words, item),
         Edit::Add(Named { from, to, colour }, marked) => {
-            product::add_edge(words, from, to, colour, marked.into())
+            product::add_edge(words, from, to, colour, marked)
         }
         Edit::Remove(Named { from, to, colour }) => product::remove_edge(words, from, to, colour),
     }
@@ -212,7 +212,7 @@ fn remove_and_add(kind: &Kind, rounds: usize) -> [f64; 2] {
     (0..VERTICES as u64).filter(|v| held >> v & 1 == 1).for_each(|v| {
         assert_eq!(product::take_in(&mut words, v), 0, "{}: an initial item", kind.name);
     });
-    let marked = words[769 + 8 * to as usize + colour as usize] >> from & 1;
+    let marked = words[769 + 8 * to as usize + colour as usize] >> from & 1 == 1;
     let (row, mut text) = (kind.sheet[start..].to_vec(), kind.sheet.clone());
     let (before, mut read) = (words.clone(), words.clone());
     let two_calls = |words: &mut [u64]| {
@@ -221,8 +221,8 @@ fn remove_and_add(kind: &Kind, rounds: usize) -> [f64; 2] {
     };
     let mut reread = |text: &[u8]| {
         assert_eq!(product::read(black_box(text), &mut read).number, 0);
+        read[OPENED] = product::closure(&read, held).set;
         read[HELD] = held;
-        read[OPENED] = product::closure(&read[..HELD], held).set;
         black_box(&read);
     };
     let times = in_turn(

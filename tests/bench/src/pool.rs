@@ -10,7 +10,7 @@ use crate::Rounds;
 use brute::cases::draft::{joined, Draft};
 use brute::cases::Rng;
 use brute::setup::COLOURS;
-use product::{Pooled, BLANK, POOL_BYTES};
+use product::{PoolResult, BLANK, POOL_BYTES};
 use std::hint::black_box;
 use std::ops::Range;
 
@@ -47,11 +47,11 @@ struct Half<'a> {
 }
 
 impl Half<'_> {
-    fn read(text: &[u8], sheet: u64) -> Result<Half<'_>, Pooled> {
+    fn read(text: &[u8], sheet: u64) -> Result<Half<'_>, PoolResult> {
         let mut words = [0; product::WORDS];
         let reading = product::read(text, &mut words);
         if reading.number != 0 {
-            return Err(Pooled { number: reading.number, sheet, line: reading.line, length: 0 });
+            return Err(PoolResult { number: reading.number, sheet, line: reading.line, length: 0 });
         }
         let setup = Setup::from_words(&words);
         let (mut keys, mut from) = ([0; VERTICES], [0; VERTICES + 1]);
@@ -149,12 +149,12 @@ fn in_bounds(first: &Half, second: &Half, remaining: &[usize]) -> bool {
         && first.edges() + second.edges() <= EDGES
 }
 
-fn refusal(number: u64) -> Pooled {
-    Pooled { number, sheet: 0, line: 0, length: 0 }
+fn refusal(number: u64) -> PoolResult {
+    PoolResult { number, sheet: 0, line: 0, length: 0 }
 }
 
 /// The twin of the proved call.
-fn twin_pool(first: &[u8], second: &[u8], out: &mut [u8]) -> Result<Pooled, Pooled> {
+fn twin_pool(first: &[u8], second: &[u8], out: &mut [u8]) -> Result<PoolResult, PoolResult> {
     let (first, second) = (Half::read(first, 1)?, Half::read(second, 2)?);
     let (known, count) = (first.setup.count, second.setup.count);
     let mut places = [0; VERTICES];
@@ -177,7 +177,7 @@ fn twin_pool(first: &[u8], second: &[u8], out: &mut [u8]) -> Result<Pooled, Pool
         return Err(refusal(24));
     }
     write_pooled(&first, &second, &rows, &digits, out);
-    Ok(Pooled { number: 0, sheet: 0, line: 0, length: length as u64 })
+    Ok(PoolResult { number: 0, sheet: 0, line: 0, length: length as u64 })
 }
 
 fn write_pooled(first: &Half, second: &Half, rows: &[&[u8]], digits: &[u8], out: &mut [u8]) {
@@ -305,7 +305,7 @@ fn same_answers(pair: &Pair) -> u64 {
         let (mut proved, mut twin) = (vec![b'#'; places], vec![b'#'; places]);
         let answer = product::pool(&pair.first, &pair.second, &mut proved);
         let other = twin_pool(&pair.first, &pair.second, &mut twin);
-        assert_eq!(Ok(answer), other.or_else(Ok::<_, Pooled>), "{}, {places}", pair.name);
+        assert_eq!(Ok(answer), other.or_else(Ok::<_, PoolResult>), "{}, {places}", pair.name);
         assert_eq!(proved, twin, "{}, {places}", pair.name);
     }
     told.length

@@ -6,7 +6,7 @@ use crate::kinds::{Kind, ROOM};
 use crate::targets::{largest, Target};
 use crate::timing::in_turn;
 use crate::{proved, Rounds};
-use product::{Record, Registered};
+use product::{Record, RegisterResult};
 use std::hint::black_box;
 
 const CLASS: usize = 10_000;
@@ -20,9 +20,9 @@ fn class(target: u64) -> Vec<Record> {
 }
 
 /// The twin of a withdrawal: one pass that moves the others up.
-fn twin_withdraw(records: &mut [Record], used: usize, student: u64) -> Registered {
+fn twin_withdraw(records: &mut [Record], used: usize, student: u64) -> RegisterResult {
     if used > records.len() {
-        return Registered { number: 25, used };
+        return RegisterResult { number: 25, used };
     }
     let mut left = 0;
     for place in 0..used {
@@ -33,9 +33,9 @@ fn twin_withdraw(records: &mut [Record], used: usize, student: u64) -> Registere
         }
     }
     if left == used {
-        return Registered { number: 27, used };
+        return RegisterResult { number: 27, used };
     }
-    Registered { number: 0, used: left }
+    RegisterResult { number: 0, used: left }
 }
 
 /// The opening list of the kind's target, and its length.

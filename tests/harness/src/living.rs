@@ -14,32 +14,29 @@ use product::{HELD, OPENED, WORDS};
 
 type Outcome = Result<(), Box<Difference>>;
 
-/// How a buffer ends: longer by any words, just long enough, without the two words that older ones don't
-/// have, or with any length.
+/// How long a buffer is: longer by any words, just long enough, without its last words, or of any length.
 fn some_length(rng: &mut Rng) -> usize {
     let any = rng.below(WORDS + 1);
     *rng.pick(&[WORDS + 3, WORDS, WORDS - 1, HELD, any])
 }
 
-/// The call of the product, in place. Any number but 0 is a yes to the recovery mark.
-pub fn proved(words: &mut [u64], edit: Edit, yes: u64) -> u64 {
+/// The call of the product, in place.
+pub fn proved(words: &mut [u64], edit: Edit) -> u64 {
     match edit {
         Edit::TakeIn(item) => product::take_in(words, item),
         Edit::TakeOut(item) => product::take_out(words, item),
         Edit::Add(Named { from, to, colour }, marked) => {
-            product::add_edge(words, from, to, colour, if marked { yes } else { 0 })
+            product::add_edge(words, from, to, colour, marked)
         }
         Edit::Remove(Named { from, to, colour }) => product::remove_edge(words, from, to, colour),
     }
 }
 
-/// The number and the words that the brute force expects: 15 is asked last, and nothing but an accepted
-/// call in a buffer that is long enough writes a word.
+/// The number and the words that the brute force expects: nothing but an accepted call writes a word.
 fn expected(words: &[u64], setup: &Setup, edit: Edit) -> (u64, Vec<u64>) {
     let mut words = words.to_vec();
     let number = match edit.on(setup) {
         Err(number) => number.into(),
-        Ok(_) if words.len() < WORDS => 15,
         Ok(after) => {
             let front = words_of(&after).expect("what a call leaves can be said in words");
             words[..WORDS].copy_from_slice(&front);
@@ -50,15 +47,10 @@ fn expected(words: &[u64], setup: &Setup, edit: Edit) -> (u64, Vec<u64>) {
 }
 
 /// Compares one call on a buffer with any words in it, of any length. What comes back is its number.
-pub fn compare_call(
-    subject: &Subject,
-    words: &[u64],
-    edit: Edit,
-    yes: u64,
-) -> Result<u64, Box<Difference>> {
+pub fn compare_call(subject: &Subject, words: &[u64], edit: Edit) -> Result<u64, Box<Difference>> {
     let (number, after) = expected(words, &setup_said(words), edit);
     let mut lent = words.to_vec();
-    let told = proved(&mut lent, edit, yes);
+    let told = proved(&mut lent, edit);
     let named = || format!("{edit:?} in {} words: number and changed words", words.len());
     let changes = |now: &[u64]| -> Vec<(usize, u64)> {
         let pairs = now.iter().zip(words).enumerate();
@@ -87,7 +79,7 @@ impl Life {
     }
 
     /// A call on both: the number and every word are compared. What comes back is its number.
-    pub fn step(&mut self, label: &str, edit: Edit, yes: u64) -> Result<u8, Box<Difference>> {
+    pub fn step(&mut self, label: &str, edit: Edit) -> Result<u8, Box<Difference>> {
         let mut wanted = self.words.clone();
         let after = edit.on(&self.setup);
         if let Ok(after) = &after {
@@ -95,7 +87,7 @@ impl Life {
             wanted[..WORDS].copy_from_slice(&front);
         }
         let number = after.as_ref().err().copied().unwrap_or(0);
-        let told = proved(&mut self.words, edit, yes);
+        let told = proved(&mut self.words, edit);
         let subject = Subject { label, sheet: None, setup: Some(&self.setup) };
         let named = || format!("{edit:?}: number, held, opened");
         let sets = |words: &[u64]| (words[HELD], words[OPENED]);
@@ -120,7 +112,7 @@ pub fn compare_living_cases() -> Outcome {
         }
         for step in &case.steps {
             let before = life.words.clone();
-            let number = proved(&mut life.words, step.edit, 1);
+            let number = proved(&mut life.words, step.edit);
             let subject = Subject { label, sheet: Some(&case.case.sheet), setup: None };
             let named = || format!("{:?}: number, held, opened", step.edit);
             let sets = (number, life.words[HELD], life.words[OPENED]);
@@ -147,14 +139,13 @@ pub fn compare_lives(rng: &mut Rng, count: usize) -> Result<Met, Box<Difference>
         let mut life = Life::read(&text, &behind);
         for _ in 0..rng.between(1, CALLS) {
             let edit = random_edit(rng, &life.setup);
-            let yes = *rng.pick(&[1, 1, 2, 1 << 63, u64::MAX]);
             if rng.chance(1, 8) {
                 let subject = Subject { label: &label, sheet: None, setup: Some(&life.setup) };
                 let number = compare_other_lengths(&subject, rng, &life.words, edit)?;
                 met.count_other_length(number);
             }
             let before = life.setup.clone();
-            let number = life.step(&label, edit, yes)?;
+            let number = life.step(&label, edit)?;
             met.count(&before, edit, number, &life.setup);
         }
         // At the bounds the brute force takes long.
@@ -176,7 +167,7 @@ fn compare_other_lengths(
     let mut other = words.to_vec();
     other.resize(WORDS + 3, u64::MAX);
     other.truncate(length);
-    compare_call(subject, &other, edit, 1)
+    compare_call(subject, &other, edit)
 }
 
 /// Calls of each sort on any setup, malformed ones too, in buffers of several lengths.
@@ -200,7 +191,7 @@ pub fn compare_any(
             (_, 2) => Edit::Add(edge, rng.chance(1, 2)),
             _ => Edit::Remove(edge),
         };
-        compare_call(subject, words, edit, rng.number() | 1)?;
+        compare_call(subject, words, edit)?;
         compare_other_lengths(subject, rng, words, edit)?;
     }
     Ok(())
@@ -221,7 +212,7 @@ pub fn compare_every_step() -> Result<usize, Box<Difference>> {
             let refused: &[Edit] = if drawing % 4 == held { &strange } else { &[] };
             for &edit in calls.iter().chain(refused) {
                 let mut next = life.clone();
-                let number = next.step(&label, edit, 1)?;
+                let number = next.step(&label, edit)?;
                 let again = number != 0 || is_of_two_items(&fresh, &next.setup);
                 assert!(again, "{label}: {edit:?} leaves another setup");
                 compared += 1;
@@ -249,7 +240,7 @@ fn longer_lists(
     if more > 0 {
         for &edit in calls {
             let mut next = life.clone();
-            next.step(label, edit, 1)?;
+            next.step(label, edit)?;
             lists += longer_lists(label, &next, calls, more - 1)?;
         }
     }

@@ -5,7 +5,7 @@ use crate::compare::{told, Difference, Subject};
 use crate::living::compare_any;
 use crate::register::{compare_afternoon, compare_register_calls};
 use crate::walks::values;
-use crate::words::words_of;
+use crate::words::{setup_said, words_of};
 use brute::bags;
 use brute::calls::{Calls, Way};
 use brute::cases::registers::Met;
@@ -16,7 +16,7 @@ use brute::kinds::{self, Intruder, KINDS};
 use brute::lists::{Least, Marks};
 use brute::report::PORTAL_NEVER;
 use brute::setup::{holds, single, Setup, PLACES};
-use product::HELD;
+use product::{HELD, WORDS};
 
 /// How much is asked of a setup.
 #[derive(Clone, Copy)]
@@ -84,8 +84,8 @@ pub const FEW: Depth = Depth {
 
 type Outcome = Result<(), Box<Difference>>;
 
-/// Compares all calls on a setup, and counts what the register's calls came to. A setup that words
-/// can't say is passed over: `false`.
+/// Compares all calls on a setup, and counts what the register's calls came to. Now and then its words
+/// are others, so that they say no setup. A setup that words can't say is passed over: `false`.
 pub fn compare_setup(
     label: &str,
     sheet: Option<&[u8]>,
@@ -96,9 +96,10 @@ pub fn compare_setup(
 ) -> Result<bool, Box<Difference>> {
     let Some(words) = words_of(setup) else { return Ok(false) };
     let words = in_other_words(rng, words);
-    let subject = Subject { label, sheet, setup: Some(setup) };
-    compare_any(&subject, rng, &words, setup, depth.edits)?;
-    let calls = Calls::new(setup);
+    let setup = setup_said(&words);
+    let subject = Subject { label, sheet, setup: Some(&setup) };
+    compare_any(&subject, rng, &words, &setup, depth.edits)?;
+    let calls = Calls::new(&setup);
     let mut compare = Compare { subject, words, calls: &calls, rng, depth };
     compare.all()?;
     compare.register(met)?;
@@ -108,8 +109,10 @@ pub fn compare_setup(
 /// Compares all calls that leave a setup as it is: their answers are to be those of the brute force on
 /// the same setup with nothing held. The setup is well formed.
 pub fn compare_unheeding(label: &str, setup: &Setup, rng: &mut Rng, depth: Depth) -> Outcome {
-    let words = words_of(setup).expect("a well-formed setup can be said in words");
-    let words = in_other_words(rng, words);
+    let mut words = words_of(setup).expect("a well-formed setup can be said in words");
+    if rng.chance(1, 8) {
+        put_behind(rng, &mut words);
+    }
     let subject = Subject { label, sheet: None, setup: Some(setup) };
     let calls = Calls::new(&setup.nothing_held());
     let mut compare = Compare { subject, words, calls: &calls, rng, depth };
@@ -117,27 +120,32 @@ pub fn compare_unheeding(label: &str, setup: &Setup, rng: &mut Rng, depth: Depth
     compare.register(&mut Met::default())
 }
 
-/// The same setup in a buffer without the zeros at its end (of which older ones, where nothing is held,
-/// have two), in one with anything behind it, or with any number but 0 and 1 for the kind of an
-/// account.
+/// The same words with anything behind them, which says the same; now and then too few of them, without
+/// the zeros at their end or with any length, or one place's kind above 1: these say no setup.
 fn in_other_words(rng: &mut Rng, mut words: Vec<u64>) -> Vec<u64> {
-    match rng.below(8) {
+    match rng.below(24) {
         0 => {
             let last = words.iter().rposition(|&word| word != 0);
             words.truncate(last.map_or(0, |last| last + 1));
         }
         1 => {
-            let behind = 1 + rng.below(5);
-            words.extend(probes::lent_sets(rng, behind));
+            let any = rng.below(WORDS);
+            words.truncate(*rng.pick(&[WORDS - 1, HELD, any]));
         }
-        2 if words[HELD..] == [0, 0] => words.truncate(HELD),
-        3 => {
-            let kinds = words.iter_mut().skip(1).step_by(4).take(PLACES);
-            kinds.filter(|kind| **kind == 1).for_each(|kind| *kind = rng.number() | 2);
+        2 => {
+            let place = *rng.pick(&[0, PLACES - 1, rng.below(PLACES)]);
+            words[1 + 4 * place] = *rng.pick(&[2, 3, 1 << 32, 1 << 63, u64::MAX]);
         }
+        3..=5 => put_behind(rng, &mut words),
         _ => {}
     }
     words
+}
+
+/// Puts any words behind those of a setup.
+fn put_behind(rng: &mut Rng, words: &mut Vec<u64>) {
+    let behind = 1 + rng.below(5);
+    words.extend(probes::lent_sets(rng, behind));
 }
 
 struct Compare<'a> {
@@ -499,7 +507,7 @@ impl Compare<'_> {
         right: &[u64],
         members: &[(usize, u64)],
         brute: impl Fn(&[u64]) -> Result<Marks, u8>,
-        proved: fn(&[u64], u64, &[u64]) -> product::Marks,
+        proved: fn(&[u64], u64, &[u64]) -> product::MarksResult,
     ) -> Outcome {
         let allowed = members.iter().fold(0, |set, &(item, _)| set | 1 << item);
         let count = self.calls.setup().count.min(PLACES as u64);

@@ -69,7 +69,6 @@ fn reading(
         Err(refusal) => (u64::from(refusal.number), refusal.line, Setup::empty()),
     };
     let words = words_of(&setup).expect("a sheet's setup can be said in words");
-    // An older buffer has no room for the held set and what it opens.
     let other = *rng.pick(&[0, 1, HELD, WORDS - 1, WORDS, WORDS + 9]);
     for length in [WORDS + 1, other] {
         let lent = probes::lent_sets(rng, length);

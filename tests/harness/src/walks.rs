@@ -80,7 +80,7 @@ fn walk(
             let any = rng.chance(1, 8);
             let edit =
                 if any { random_edit(rng, &life.setup) } else { redrawing(rng, &life.setup) };
-            walked.changed += usize::from(life.step(label, edit, 1)? == 0);
+            walked.changed += usize::from(life.step(label, edit)? == 0);
         }
         let proved = product::next_opening(&life.words, target, last);
         let calls = Calls::new(&life.setup);

@@ -1,17 +1,17 @@
 //! A setup as the plain numbers that the proved calls take and give.
 
-use brute::setup::{Place, Setup, ACCOUNT, COLOURS, CREDENTIAL};
-use product::{BLANK, HELD, OPENED};
+use brute::setup::{Place, Setup, ACCOUNT, COLOURS, CREDENTIAL, PLACES};
+use product::{BLANK, HELD, OPENED, WORDS};
 
-/// The words of a setup; `None` for one that they can't say: another kind than the two, or the
-/// value that stands for a blank.
+/// The words of a setup; `None` for one that they can't say: a value has the number that stands for a
+/// blank. Another kind than the two is a number above 1.
 pub fn words_of(setup: &Setup) -> Option<Vec<u64>> {
     let mut words = vec![setup.count];
     for place in &setup.places {
         let kind = match place.kind {
             CREDENTIAL => 0,
             ACCOUNT => 1,
-            _ => return None,
+            other => 2 + u64::from(other),
         };
         if place.start == Some(BLANK) || place.loss == Some(BLANK) {
             return None;
@@ -25,19 +25,23 @@ pub fn words_of(setup: &Setup) -> Option<Vec<u64>> {
     Some(words)
 }
 
-/// The setup that a buffer says: 0 for a word that it does not have.
+/// The setup that a buffer says. One that is too short, or has a kind above 1 at any place, is no setup:
+/// it stands for the one that a refused sheet gives.
 pub fn setup_said(words: &[u64]) -> Setup {
-    let word = |place: usize| words.get(place).copied().unwrap_or(0);
-    let value = |place: usize| Some(word(place)).filter(|&value| value != BLANK);
+    let strange = |place: usize| words[1 + 4 * place] > 1;
+    if words.len() < WORDS || (0..PLACES).any(strange) {
+        return Setup::empty();
+    }
+    let value = |place: usize| Some(words[place]).filter(|&value| value != BLANK);
     let rows =
-        |first: usize| -> [u64; COLOURS] { std::array::from_fn(|colour| word(first + colour)) };
+        |first: usize| -> [u64; COLOURS] { std::array::from_fn(|colour| words[first + colour]) };
     let places = std::array::from_fn(|place| Place {
-        kind: if word(1 + 4 * place) == 0 { CREDENTIAL } else { ACCOUNT },
+        kind: if words[1 + 4 * place] == 0 { CREDENTIAL } else { ACCOUNT },
         start: value(2 + 4 * place),
         loss: value(3 + 4 * place),
-        rank: word(4 + 4 * place),
+        rank: words[4 + 4 * place],
         rows: rows(257 + 8 * place),
         recovery: rows(769 + 8 * place),
     });
-    Setup { count: word(0), places, held: word(HELD), opened: word(OPENED) }
+    Setup { count: words[0], places, held: words[HELD], opened: words[OPENED] }
 }

@@ -2,10 +2,10 @@
 //! written in Rust would use. `include/portal.h` tells of each call more than stands here.
 //!
 //! A setup is a buffer of [`WORDS`] plain numbers, which [`read`] writes: the count; then of each of
-//! 64 places kind (0 for a credential, any other number for an account), start, loss (or [`BLANK`])
-//! and rank; then of each place eight rows, one a colour; then the same rows of recovery edges; then
-//! the held set and what it opens. A shorter buffer counts as one with zeros behind it: nothing is held
-//! there. An item is its number, a set the sum of 2^i over its items.
+//! 64 places kind (0 for a credential, 1 for an account), start, loss (or [`BLANK`]) and rank; then of
+//! each place eight rows, one a colour; then the same rows of recovery edges; then the held set and
+//! what it opens. A shorter buffer, or one with another kind, is no setup: 12. An item is its number, a
+//! set the sum of 2^i over its items.
 //!
 //! This crate is all the unsafe code there is for the calls: a slice is a pointer and a length
 //! there, and the calls are proved to stay within it.
@@ -13,8 +13,8 @@
 mod results;
 
 pub use results::{
-    BagScore, Closure, CutSets, Finding, Forecast, Kinds, Lists, Marks, NextOpening, Part, Pooled,
-    Quick, Reading, Record, Refusal, Registered, Set, SetupRisk, SetupScore, Way,
+    BagScoreResult, ClosureResult, CutSetsResult, FindingResult, ForecastResult, KindsResult, ListsResult, MarksResult, NextOpeningResult, NameResult, PoolResult,
+    OpensResult, ReadResult, Record, Refusal, RegisterResult, LostResult, SetupRiskResult, SetupScoreResult, WayInResult,
 };
 
 /// How many words a setup has.
@@ -30,7 +30,7 @@ pub const NEVER: u64 = 1 << 62;
 /// Bytes that are always enough for a pooled sheet.
 pub const POOL_BYTES: usize = 12_526;
 /// The version of the header that this crate was written for.
-pub const VERSION: u64 = 30100;
+pub const VERSION: u64 = 40000;
 
 mod linked {
     use super::*;
@@ -39,8 +39,8 @@ mod linked {
         pub fn portal_version() -> u64;
         pub fn portal_score(sheet: *const u8, length: usize, item: u64) -> u64;
         pub fn portal_risk(sheet: *const u8, length: usize, item: u64) -> u64;
-        pub fn portal_read(sheet: *const u8, n: usize, setup: *mut u64, words: usize) -> Reading;
-        pub fn portal_name(sheet: *const u8, length: usize, item: u64) -> Part;
+        pub fn portal_read(sheet: *const u8, n: usize, setup: *mut u64, words: usize) -> ReadResult;
+        pub fn portal_name(sheet: *const u8, length: usize, item: u64) -> NameResult;
         pub fn portal_pool(
             first: *const u8,
             first_length: usize,
@@ -48,10 +48,10 @@ mod linked {
             second_length: usize,
             out: *mut u8,
             places: usize,
-        ) -> Pooled;
+        ) -> PoolResult;
         pub fn portal_check(setup: *const u64, words: usize) -> u64;
-        pub fn portal_closure(setup: *const u64, words: usize, set: u64) -> Closure;
-        pub fn portal_lost(setup: *const u64, words: usize, set: u64) -> Set;
+        pub fn portal_closure(setup: *const u64, words: usize, set: u64) -> ClosureResult;
+        pub fn portal_lost(setup: *const u64, words: usize, set: u64) -> LostResult;
         pub fn portal_way_in(
             setup: *const u64,
             words: usize,
@@ -61,36 +61,36 @@ mod linked {
             item_places: usize,
             colours: *mut u8,
             colour_places: usize,
-        ) -> Way;
-        pub fn portal_opens(setup: *const u64, words: usize, target: u64, set: u64) -> Quick;
-        pub fn portal_forecast(setup: *const u64, words: usize, target: u64) -> Forecast;
+        ) -> WayInResult;
+        pub fn portal_opens(setup: *const u64, words: usize, target: u64, set: u64) -> OpensResult;
+        pub fn portal_forecast(setup: *const u64, words: usize, target: u64) -> ForecastResult;
         pub fn portal_kinds(
             setup: *const u64,
             words: usize,
             target: u64,
             kinds: *const u8,
             places: usize,
-        ) -> Kinds;
+        ) -> KindsResult;
         pub fn portal_lists(
             setup: *const u64,
             words: usize,
             target: u64,
             sets: *mut u64,
             places: usize,
-        ) -> Lists;
+        ) -> ListsResult;
         pub fn portal_cut_sets(
             setup: *const u64,
             words: usize,
             target: u64,
             sets: *mut u64,
             places: usize,
-        ) -> CutSets;
+        ) -> CutSetsResult;
         pub fn portal_next_opening(
             setup: *const u64,
             words: usize,
             target: u64,
             last: u64,
-        ) -> NextOpening;
+        ) -> NextOpeningResult;
         pub fn portal_bag_at_most(
             bag: *const u64,
             values: usize,
@@ -105,7 +105,7 @@ mod linked {
             value_places: usize,
             lengths: *mut u64,
             length_places: usize,
-        ) -> BagScore;
+        ) -> BagScoreResult;
         pub fn portal_take_in(setup: *mut u64, words: usize, item: u64) -> u64;
         pub fn portal_take_out(setup: *mut u64, words: usize, item: u64) -> u64;
         pub fn portal_add_edge(
@@ -114,7 +114,7 @@ mod linked {
             from: u64,
             to: u64,
             colour: u64,
-            recovery: u64,
+            recovery: bool,
         ) -> u64;
         pub fn portal_remove_edge(
             setup: *mut u64,
@@ -123,22 +123,22 @@ mod linked {
             to: u64,
             colour: u64,
         ) -> u64;
-        pub fn portal_setup_score(setup: *const u64, words: usize, target: u64) -> SetupScore;
-        pub fn portal_setup_risk(setup: *const u64, words: usize, target: u64) -> SetupRisk;
+        pub fn portal_setup_score(setup: *const u64, words: usize, target: u64) -> SetupScoreResult;
+        pub fn portal_setup_risk(setup: *const u64, words: usize, target: u64) -> SetupRiskResult;
         pub fn portal_mark_openings(
             setup: *const u64,
             words: usize,
             target: u64,
             sets: *const u64,
             count: usize,
-        ) -> Marks;
+        ) -> MarksResult;
         pub fn portal_mark_lockouts(
             setup: *const u64,
             words: usize,
             target: u64,
             sets: *const u64,
             count: usize,
-        ) -> Marks;
+        ) -> MarksResult;
         pub fn portal_hand_in(
             setup: *const u64,
             words: usize,
@@ -150,21 +150,21 @@ mod linked {
             lock: bool,
             sets: *const u64,
             count: usize,
-        ) -> Registered;
+        ) -> RegisterResult;
         pub fn portal_withdraw(
             records: *mut Record,
             places: usize,
             used: usize,
             student: u64,
-        ) -> Registered;
-        pub fn portal_backdoor(setup: *const u64, words: usize, item: u64) -> Finding;
-        pub fn portal_idle(setup: *const u64, words: usize, item: u64) -> Finding;
+        ) -> RegisterResult;
+        pub fn portal_backdoor(setup: *const u64, words: usize, item: u64) -> FindingResult;
+        pub fn portal_idle(setup: *const u64, words: usize, item: u64) -> FindingResult;
         pub fn portal_out_of_rank(
             setup: *const u64,
             words: usize,
             above: u64,
             below: u64,
-        ) -> Finding;
+        ) -> FindingResult;
     }
 }
 
@@ -185,18 +185,18 @@ pub fn risk(sheet: &[u8], item: u64) -> u64 {
 
 /// Reads a sheet, and writes its setup to the front of a buffer of at least [`WORDS`] places. 1 to
 /// 11 with a line; 15 for an accepted sheet and a shorter buffer, to which nothing is written.
-pub fn read(sheet: &[u8], setup: &mut [u64]) -> Reading {
+pub fn read(sheet: &[u8], setup: &mut [u64]) -> ReadResult {
     let (text, length) = (sheet.as_ptr(), sheet.len());
     unsafe { linked::portal_read(text, length, setup.as_mut_ptr(), setup.len()) }
 }
 
 /// Where an item's name stands in the sheet. 1 to 11, 13.
-pub fn name(sheet: &[u8], item: u64) -> Part {
+pub fn name(sheet: &[u8], item: u64) -> NameResult {
     unsafe { linked::portal_name(sheet.as_ptr(), sheet.len(), item) }
 }
 
 /// Pools two sheets into a buffer. 1 to 11 with the sheet and its line; 22, 23, 24.
-pub fn pool(first: &[u8], second: &[u8], out: &mut [u8]) -> Pooled {
+pub fn pool(first: &[u8], second: &[u8], out: &mut [u8]) -> PoolResult {
     let (text, length) = (first.as_ptr(), first.len());
     let (other, other_length) = (second.as_ptr(), second.len());
     let (places, count) = (out.as_mut_ptr(), out.len());
@@ -209,18 +209,18 @@ pub fn check(setup: &[u64]) -> u64 {
 }
 
 /// What a set opens, and the number of passes. 12, 14.
-pub fn closure(setup: &[u64], set: u64) -> Closure {
+pub fn closure(setup: &[u64], set: u64) -> ClosureResult {
     unsafe { linked::portal_closure(setup.as_ptr(), setup.len(), set) }
 }
 
 /// What the loss of a set takes away. 12, 14.
-pub fn lost(setup: &[u64], set: u64) -> Set {
+pub fn lost(setup: &[u64], set: u64) -> LostResult {
     unsafe { linked::portal_lost(setup.as_ptr(), setup.len(), set) }
 }
 
 /// The way in from a set to a target: the steps' items to one list, their colours to the other.
 /// 12, 13, 14, and 15 where the answer isn't "shut".
-pub fn way_in(setup: &[u64], target: u64, set: u64, items: &mut [u8], colours: &mut [u8]) -> Way {
+pub fn way_in(setup: &[u64], target: u64, set: u64, items: &mut [u8], colours: &mut [u8]) -> WayInResult {
     unsafe {
         linked::portal_way_in(
             setup.as_ptr(),
@@ -236,36 +236,36 @@ pub fn way_in(setup: &[u64], target: u64, set: u64, items: &mut [u8], colours: &
 }
 
 /// Whether a set opens a target, and what is held at the stop. 12, 13, 14.
-pub fn opens(setup: &[u64], target: u64, set: u64) -> Quick {
+pub fn opens(setup: &[u64], target: u64, set: u64) -> OpensResult {
     unsafe { linked::portal_opens(setup.as_ptr(), setup.len(), target, set) }
 }
 
 /// How many sets a target's opening list has at most, told without listing it. 12, 13.
-pub fn forecast(setup: &[u64], target: u64) -> Forecast {
+pub fn forecast(setup: &[u64], target: u64) -> ForecastResult {
     unsafe { linked::portal_forecast(setup.as_ptr(), setup.len(), target) }
 }
 
 /// The lowest kinds of intruder that get into a target, where the list has one for each item.
 /// 12, 13, 16, 17.
-pub fn kinds(setup: &[u64], target: u64, list: &[u8]) -> Kinds {
+pub fn kinds(setup: &[u64], target: u64, list: &[u8]) -> KindsResult {
     let (words, length) = (setup.as_ptr(), setup.len());
     unsafe { linked::portal_kinds(words, length, target, list.as_ptr(), list.len()) }
 }
 
 /// The opening list and, from the next place on, the lockout list of a target. 12, 13, 15.
-pub fn lists(setup: &[u64], target: u64, sets: &mut [u64]) -> Lists {
+pub fn lists(setup: &[u64], target: u64, sets: &mut [u64]) -> ListsResult {
     let (words, length) = (setup.as_ptr(), setup.len());
     unsafe { linked::portal_lists(words, length, target, sets.as_mut_ptr(), sets.len()) }
 }
 
 /// The smallest cut sets of a target: starting items to harden so that no way in is left. 12, 13, 15.
-pub fn cut_sets(setup: &[u64], target: u64, sets: &mut [u64]) -> CutSets {
+pub fn cut_sets(setup: &[u64], target: u64, sets: &mut [u64]) -> CutSetsResult {
     let (words, length) = (setup.as_ptr(), setup.len());
     unsafe { linked::portal_cut_sets(words, length, target, sets.as_mut_ptr(), sets.len()) }
 }
 
 /// The first set of a target's opening list after the last one shown, 0 at the beginning. 12, 13, 21.
-pub fn next_opening(setup: &[u64], target: u64, last: u64) -> NextOpening {
+pub fn next_opening(setup: &[u64], target: u64, last: u64) -> NextOpeningResult {
     unsafe { linked::portal_next_opening(setup.as_ptr(), setup.len(), target, last) }
 }
 
@@ -275,7 +275,7 @@ pub fn bag_at_most(bag: &[u64], other: &[u64]) -> bool {
 }
 
 /// A target's bag score: 14 places for each bag, and the number of its values. 12, 13, 15.
-pub fn bag_score(setup: &[u64], target: u64, values: &mut [u64], lengths: &mut [u64]) -> BagScore {
+pub fn bag_score(setup: &[u64], target: u64, values: &mut [u64], lengths: &mut [u64]) -> BagScoreResult {
     unsafe {
         linked::portal_bag_score(
             setup.as_ptr(),
@@ -289,46 +289,46 @@ pub fn bag_score(setup: &[u64], target: u64, values: &mut [u64], lengths: &mut [
     }
 }
 
-/// Takes an item into the held set, and opens what it opens. 0, or 12, 13, 15; a refused call leaves
+/// Takes an item into the held set, and opens what it opens. 0, or 12, 13; a refused call leaves
 /// every word, here and in the next three.
 pub fn take_in(setup: &mut [u64], item: u64) -> u64 {
     unsafe { linked::portal_take_in(setup.as_mut_ptr(), setup.len(), item) }
 }
 
-/// Takes an item out of the held set; it stays open where the rest opens it. 0, or 12, 13, 15.
+/// Takes an item out of the held set; it stays open where the rest opens it. 0, or 12, 13.
 pub fn take_out(setup: &mut [u64], item: u64) -> u64 {
     unsafe { linked::portal_take_out(setup.as_mut_ptr(), setup.len(), item) }
 }
 
-/// Adds an edge, marked for recovery where that number isn't 0. 0, or 12, 13, 18, 19, 7, 15.
-pub fn add_edge(setup: &mut [u64], from: u64, to: u64, colour: u64, recovery: u64) -> u64 {
+/// Adds an edge, marked for recovery on a yes. 0, or 12, 13, 18, 19, 7.
+pub fn add_edge(setup: &mut [u64], from: u64, to: u64, colour: u64, recovery: bool) -> u64 {
     let (words, length) = (setup.as_mut_ptr(), setup.len());
     unsafe { linked::portal_add_edge(words, length, from, to, colour, recovery) }
 }
 
-/// Removes an edge, whatever its mark. 0, or 12, 13, 18, 20, 15.
+/// Removes an edge, whatever its mark. 0, or 12, 13, 18, 20.
 pub fn remove_edge(setup: &mut [u64], from: u64, to: u64, colour: u64) -> u64 {
     unsafe { linked::portal_remove_edge(setup.as_mut_ptr(), setup.len(), from, to, colour) }
 }
 
 /// A target's score. 12, 13.
-pub fn setup_score(setup: &[u64], target: u64) -> SetupScore {
+pub fn setup_score(setup: &[u64], target: u64) -> SetupScoreResult {
     unsafe { linked::portal_setup_score(setup.as_ptr(), setup.len(), target) }
 }
 
 /// A target's risk. 12, 13.
-pub fn setup_risk(setup: &[u64], target: u64) -> SetupRisk {
+pub fn setup_risk(setup: &[u64], target: u64) -> SetupRiskResult {
     unsafe { linked::portal_setup_risk(setup.as_ptr(), setup.len(), target) }
 }
 
 /// Marks of handed-in opening sets. 12, 13.
-pub fn mark_openings(setup: &[u64], target: u64, sets: &[u64]) -> Marks {
+pub fn mark_openings(setup: &[u64], target: u64, sets: &[u64]) -> MarksResult {
     let (words, length) = (setup.as_ptr(), setup.len());
     unsafe { linked::portal_mark_openings(words, length, target, sets.as_ptr(), sets.len()) }
 }
 
 /// Marks of handed-in lockout sets. 12, 13.
-pub fn mark_lockouts(setup: &[u64], target: u64, sets: &[u64]) -> Marks {
+pub fn mark_lockouts(setup: &[u64], target: u64, sets: &[u64]) -> MarksResult {
     let (words, length) = (setup.as_ptr(), setup.len());
     unsafe { linked::portal_mark_lockouts(words, length, target, sets.as_ptr(), sets.len()) }
 }
@@ -344,7 +344,7 @@ pub fn hand_in(
     target: u64,
     lock: bool,
     sets: &[u64],
-) -> Registered {
+) -> RegisterResult {
     unsafe {
         linked::portal_hand_in(
             setup.as_ptr(),
@@ -362,21 +362,21 @@ pub fn hand_in(
 }
 
 /// Removes all records of a student and closes the gaps, order kept. 25, 27.
-pub fn withdraw(records: &mut [Record], used: usize, student: u64) -> Registered {
+pub fn withdraw(records: &mut [Record], used: usize, student: u64) -> RegisterResult {
     unsafe { linked::portal_withdraw(records.as_mut_ptr(), records.len(), used, student) }
 }
 
 /// Is recovery a backdoor to the item? 12, 13.
-pub fn backdoor(setup: &[u64], item: u64) -> Finding {
+pub fn backdoor(setup: &[u64], item: u64) -> FindingResult {
     unsafe { linked::portal_backdoor(setup.as_ptr(), setup.len(), item) }
 }
 
 /// Is the item's recovery idle? 12, 13.
-pub fn idle(setup: &[u64], item: u64) -> Finding {
+pub fn idle(setup: &[u64], item: u64) -> FindingResult {
     unsafe { linked::portal_idle(setup.as_ptr(), setup.len(), item) }
 }
 
 /// Are the two items, in this order, out of rank? 12, 13.
-pub fn out_of_rank(setup: &[u64], above: u64, below: u64) -> Finding {
+pub fn out_of_rank(setup: &[u64], above: u64, below: u64) -> FindingResult {
     unsafe { linked::portal_out_of_rank(setup.as_ptr(), setup.len(), above, below) }
 }

@@ -41,19 +41,19 @@ macro_rules! results {
 
 results! {
     /// A sheet's reading.
-    Reading {
+    ReadResult {
         /// The line of the no, from 1 on; 0 where there is none, or where it is about the whole text.
         line,
     }
     /// A part of a sheet's bytes.
-    Part {
+    NameResult {
         /// Its first byte.
         start,
         /// How many bytes it has.
         length,
     }
     /// A pooled sheet.
-    Pooled {
+    PoolResult {
         /// The sheet that was refused, 1 or 2; 0 where neither was.
         sheet,
         /// The line of that refusal.
@@ -62,77 +62,77 @@ results! {
         length,
     }
     /// What a set opens.
-    Closure {
+    ClosureResult {
         /// The set of all items that it opens.
         set,
         /// How many passes lead there, the one that adds nothing counted as well.
         passes,
     }
     /// What the loss of a set takes away.
-    Set {
+    LostResult {
         /// The set of all items that are lost.
         set,
     }
     /// A way in.
-    Way {
+    WayInResult {
         /// 1 where the set opens the target, and 0 for "shut".
         opens,
         /// How many steps were written.
         steps,
     }
     /// A quick answer.
-    Quick {
+    OpensResult {
         /// 1 where the set opens the target, and 0 where it does not.
         opens,
         /// What is held at the stop.
         set,
     }
     /// A forecast for a target's opening list.
-    Forecast {
+    ForecastResult {
         /// How many sets it has at most.
         sets,
     }
     /// The kinds of intruder that get into a target.
-    Kinds {
+    KindsResult {
         /// The sum of 2^k over the lowest of them.
         kinds,
     }
     /// Both lists of a target.
-    Lists {
+    ListsResult {
         /// How many opening sets.
         openings,
         /// How many lockout sets.
         lockouts,
     }
     /// The smallest cut sets of a target.
-    CutSets {
+    CutSetsResult {
         /// How many there are.
         count,
     }
     /// A target's score as bags.
-    BagScore {
+    BagScoreResult {
         /// How many bags.
         bags,
     }
     /// The next set of a target's opening list.
-    NextOpening {
+    NextOpeningResult {
         /// 1 where a set is shown, and 0 for "no more".
         more,
         /// The set.
         set,
     }
     /// A target's score.
-    SetupScore {
+    SetupScoreResult {
         /// The score, or [`NEVER`](crate::NEVER).
         score,
     }
     /// A target's risk.
-    SetupRisk {
+    SetupRiskResult {
         /// The risk, or [`NEVER`](crate::NEVER).
         risk,
     }
     /// Marks of a handed-in list.
-    Marks {
+    MarksResult {
         /// Sets of the list, each counted once.
         right,
         /// Sets equal to an earlier one.
@@ -145,7 +145,7 @@ results! {
         missing,
     }
     /// A finding.
-    Finding {
+    FindingResult {
         /// 1 for yes, and 0 for no.
         yes,
     }
@@ -176,23 +176,34 @@ pub struct Record {
 /// What a call on the class register hands back, after a refusal too.
 #[repr(C)]
 #[derive(Clone, Copy, Debug, PartialEq, Eq)]
-pub struct Registered {
+pub struct RegisterResult {
     /// 0 for an answer, else the refusal's number.
     pub number: u64,
     /// How many records are used now.
     pub used: usize,
 }
 
-impl Part {
+impl NameResult {
     /// The part's bytes, of the sheet that it is a part of.
     pub fn of(self, sheet: &[u8]) -> &[u8] {
         &sheet[self.start as usize..][..self.length as usize]
     }
 }
 
-impl Marks {
+impl MarksResult {
     /// Full: nothing is repeated, shut, loose or missing.
     pub fn full(self) -> bool {
-        self.number == 0 && self.repeated + self.shut + self.loose + self.missing == 0
+        self.number == 0
+            && self.repeated == 0
+            && self.shut == 0
+            && self.loose == 0
+            && self.missing == 0
+    }
+}
+
+impl Record {
+    /// Full: nothing is repeated, shut, loose or missing.
+    pub fn full(self) -> bool {
+        self.repeated == 0 && self.shut == 0 && self.loose == 0 && self.missing == 0
     }
 }

@@ -14,7 +14,7 @@ refuse-requires c κs = search needs
 returns : tie.Need-returns
 returns c =
     let p = c .before .before in
-    read-refused _ _ (p .plan-of .result) (p .plan-of .ensures) (c .refuse .result) _ (c .before .if1 .taken) (c .refuse .ensures)
+    read-refused _ _ _ _ (p .before .before .before .before .pre) (p .plan-of .result) (p .plan-of .ensures) (c .refuse .result) _ (c .before .if1 .taken) (c .refuse .ensures)
 
 refuse-requires-2 : tie.Need-refuse-requires-2
 refuse-requires-2 c κs = search needs
@@ -22,7 +22,7 @@ refuse-requires-2 c κs = search needs
 returns-2 : tie.Need-returns-2
 returns-2 c =
     let p = c .before .before .before in
-    read-short _ _ (p .plan-of .result) (p .plan-of .ensures) (c .refuse2 .result) _ (c .before .before .if1 .left) (c .before .if2 .taken) (c .refuse2 .ensures)
+    read-short _ _ _ _ (p .before .before .before .before .pre) (p .plan-of .result) (p .plan-of .ensures) (c .refuse2 .result) _ (c .before .before .if1 .left) (c .before .if2 .taken) (c .refuse2 .ensures)
 
 write-pooled-requires : tie.Need-write-pooled-requires
 write-pooled-requires c κs =
@@ -36,7 +36,7 @@ returns-3 : tie.Need-returns-3
 returns-3 c =
     let w = c .before .before in
     let p = w .before .before .before .before in
-    read-written _ _ (p .plan-of .result) (p .plan-of .ensures) _ _ (w .before .before .before .if1 .left) (w .before .before .if2 .left) refl _ _ (w .write-pooled .ensures)
+    read-written _ _ _ _ (p .before .before .before .before .pre) (p .plan-of .result) (p .plan-of .ensures) _ _ (w .before .before .before .if1 .left) (w .before .before .if2 .left) refl _ _ (w .write-pooled .ensures)
 
 pub pool-read-spec : {M : Type 1} → statement M
 pool-read-spec =

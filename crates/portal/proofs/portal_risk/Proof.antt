@@ -24,13 +24,13 @@ code-risk-requires : tie.Need-code-risk-requires
 code-risk-requires c κs =
     let e = c .before .before in
     let r = e .before .read-sheet in
-    codable true _ _ (r .result) (r .ensures) (e .if1 .left) _ _ (c .recoverability-score .ensures)
+    codable true _ _ (r .result) (r .ensures) _ (c .recoverability-score .ensures)
 
 returns-2 : tie.Need-returns-2
 returns-2 c =
     let e = c .before .before .before in
     let r = e .before .read-sheet in
-    portal-answers true _ _ (r .result) (r .ensures) (e .if1 .left) _ _ (c .before .recoverability-score .ensures) (c .code-risk .result) (c .code-risk .ensures)
+    portal-answers true _ _ (r .result) (r .ensures) _ (e .if1 .left) (c .before .recoverability-score .ensures) (c .code-risk .result) (c .code-risk .ensures)
 
 pub portal-risk-spec : {M : Type 1} → statement M
 portal-risk-spec =

@@ -24,13 +24,13 @@ code-score-requires : tie.Need-code-score-requires
 code-score-requires c κs =
     let e = c .before .before in
     let r = e .before .read-sheet in
-    codable false _ _ (r .result) (r .ensures) (e .if1 .left) _ _ (c .security-score .ensures)
+    codable false _ _ (r .result) (r .ensures) _ (c .security-score .ensures)
 
 returns-2 : tie.Need-returns-2
 returns-2 c =
     let e = c .before .before .before in
     let r = e .before .read-sheet in
-    portal-answers false _ _ (r .result) (r .ensures) (e .if1 .left) _ _ (c .before .security-score .ensures) (c .code-score .result) (c .code-score .ensures)
+    portal-answers false _ _ (r .result) (r .ensures) _ (e .if1 .left) (c .before .security-score .ensures) (c .code-score .result) (c .code-score .ensures)
 
 pub portal-score-spec : {M : Type 1} → statement M
 portal-score-spec =

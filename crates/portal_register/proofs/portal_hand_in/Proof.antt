@@ -39,7 +39,7 @@ use denote.Triple.Table.{entered, cited}
 use denote.Triple.Walked.{says, Stays, gave-slice, stay-none, stay-none-slice, walkOf, goes-gave-slice, goes-none, goes-none-slice, Walks, ends-at, walked, walk-meets}
 use denote.Exit.{yes}
 use Rattle.register.specs.Calls.{HandInCall}
-use Rattle.portal_setup.specs.Words.{setupIn}
+use Rattle.portal_words.specs.Words.{setupIn}
 use Rattle.records.specs.declared.Record.{Record}
 use Rattle.records.specs.declared.Registered.{Registered}
 use Rattle.setup.specs.declared.Setup.{Setup}
@@ -48,10 +48,10 @@ use Rattle.records.proofs.Registered as N
 use Rattle.records.proofs.Registered.Laws as N′
 use Rattle.setup.proofs.Setup as G
 use Rattle.setup.proofs.Setup.Laws as G′
-use Rattle.portal_setup.proofs.setup_in as make
-use Rattle.portal_setup.proofs.setup_in.Symbol as make-def
-use Rattle.portal_setup.proofs.setup_in.Symbol.{name as #portal_setup·setup-in}
-use Rattle.portal_setup.proofs.setup_in.Met as make-thm
+use Rattle.portal_words.proofs.setup_in as make
+use Rattle.portal_words.proofs.setup_in.Symbol as make-def
+use Rattle.portal_words.proofs.setup_in.Symbol.{name as #portal_words·setup-in}
+use Rattle.portal_words.proofs.setup_in.Met as make-thm
 use Rattle.register.proofs.hand_in as pass
 use Rattle.register.proofs.hand_in.Symbol as pass-def
 use Rattle.register.proofs.hand_in.Symbol.{name as #register·hand-in}
@@ -130,7 +130,7 @@ module _ {M : Type 1} (𝓤 : URA M) (H : Heap 𝓤) (A : Atoms 𝓤) (W : Given
       suffices ! _ (ends-at 𝓤 H A f.ended stayed (f.clauses 𝓤 H A mem run) W (((κ₀, (κ₁, (κ₂, tt))), (q₀, (q₁, (q₂, tt))), tt, a, vals), tt) w c (tt, (zs, (tt, (tt, (tt, (tt, (tt, tt))))))) (tt, (l, (tt, (tt, (tt, (tt, (tt, tt)))))))) $ says ! e $
       nothing ! $ move ! (3 ∷ 0 ∷ []) $ join ! $ move ! (2 ∷ 0 ∷ []) $ join ! $ move ! (1 ∷ 0 ∷ []) $ join ! $ frame ! $ nothing ! $ move ! (3 ∷ 0 ∷ []) $ fjoin ! $ owned ! bool (Is bool) (bool-makes 𝓤 H A W) lock _ refl $ fjoin ! $ owned ! u64 (Is u64) (uint-makes 𝓤 H A W w64) target _ (refl, target-fits) $ fjoin ! $ owned ! u64 (Is u64) (uint-makes 𝓤 H A W w64) student _ (refl, student-fits) $ fjoin ! $ owned ! usize (Is usize) (uint-makes 𝓤 H A W w64) used _ (refl, used-fits) $ fjoin ! $ move ! (1 ∷ 0 ∷ []) $ fjoin ! $ move ! (1 ∷ 0 ∷ []) $ fjoin ! $ frame ! $ done !
 
-  module _ (C : Calls 𝓤 H) (Λ : Loops 𝓤 H) (fm : FmC 𝓤 H (W .laws) C) (known-make : Triple 𝓤 (C #portal_setup·setup-in) (Make 𝓤 H A mem run)) (known-pass : Triple 𝓤 (C #register·hand-in) (Pass 𝓤 H A mem run)) where
+  module _ (C : Calls 𝓤 H) (Λ : Loops 𝓤 H) (fm : FmC 𝓤 H (W .laws) C) (known-make : Triple 𝓤 (C #portal_words·setup-in) (Make 𝓤 H A mem run)) (known-pass : Triple 𝓤 (C #register·hand-in) (Pass 𝓤 H A mem run)) where
     walk : Room u64 (length (setup .now)) → Room T.the-row (length ys) → Room u64 (length (sets .now)) → ent 𝓤 (onEntry 𝓤 H A f.signature (κ₀, (κ₁, (κ₂, tt))) (q₀, (q₁, (q₂, tt))) a vals) (WpFn 𝓤 H C Λ code.function (v-setup ∷ s ∷ vint w64 used ∷ vint w64 student ∷ vint w64 target ∷ vbool lock ∷ v-sets ∷ []) Post)
     walk room-setup room room-sets =
         qed W ((‵ (flft κ₀ q₀) ⊛ (‵ (flft κ₁ q₁) ⊛ (‵ (flft κ₂ q₂) ⊛ ‵ ftrue))) ∷ ‵ (owns (ShrSlice (named 0) κ₀ u64 ∷ MutSlice (named 1) κ₁ T.the-row ∷ usize ∷ u64 ∷ u64 ∷ bool ∷ ShrSlice (named 2) κ₂ u64 ∷ []) a vals) ∷ []) ∵ enter ! C Λ code.function (v-setup ∷ s ∷ vint w64 used ∷ vint w64 student ∷ vint w64 target ∷ vbool lock ∷ v-sets ∷ []) _ $
@@ -169,7 +169,7 @@ module _ {M : Type 1} (𝓤 : URA M) (H : Heap 𝓤) (A : Atoms 𝓤) (W : Given
         keep ! (6 ∷ 2 ∷ 0 ∷ 4 ∷ 10 ∷ 8 ∷ 3 ∷ []) $ by ! (exits c w (zs .0) (subst (λ (u : Setup). HandInCall u used student target lock (sets .now) c ys (zs .0)) e₀ e) l))))))))))))))))))))))
 
 module _ {M : Type 1} (𝓤 : URA M) (H : Heap 𝓤) (A : Atoms 𝓤) (W : Given 𝓤 H A) (mem : Memory → SProp 𝓤) (run : Routine → Fun 𝓤) (𝓣 : Tables 𝓤 H)
-    (known-make : Triple 𝓤 (𝓣 .C #portal_setup·setup-in) (Make 𝓤 H A mem run)) (known-pass : Triple 𝓤 (𝓣 .C #register·hand-in) (Pass 𝓤 H A mem run)) where
+    (known-make : Triple 𝓤 (𝓣 .C #portal_words·setup-in) (Make 𝓤 H A mem run)) (known-pass : Triple 𝓤 (𝓣 .C #register·hand-in) (Pass 𝓤 H A mem run)) where
   walks : Walks 𝓤 H A f.ended stayed (WpFn 𝓤 H (𝓣 .C) (𝓣 .Λ) code.function) (f.clauses 𝓤 H A mem run)
   walks = walked 𝓤 H A f.ended stayed (f.clauses 𝓤 H A mem run) (WpFn 𝓤 H (𝓣 .C) (𝓣 .Λ) code.function)
       (λ κs. (slice-vals, (slice-vals, (uint-vals w64, (uint-vals w64, (uint-vals w64, (bool-vals, (slice-vals, tt))))))))
@@ -187,5 +187,5 @@ portal-hand-in-spec 𝓤 H 𝓜 𝓖 𝓡 =
     entered 𝓤 H (tripleOf 𝓤 H (𝓖 .A) f.signature (f.spec 𝓤 H (𝓖 .A) (𝓜 .mem) (𝓡 .run)))
     (tables 𝓤 H 𝓜 𝓡 code.env .C) (tables 𝓤 H 𝓜 𝓡 code.env .Λ) #portal_register·portal-hand-in code.function (code.unfolded 𝓤 H 𝓜 𝓡)
     (meets 𝓤 H (𝓖 .A) (givenOf 𝓤 H 𝓜 𝓖) (𝓜 .mem) (𝓡 .run) (tablesOf 𝓤 H 𝓜 (tables 𝓤 H 𝓜 𝓡 code.env))
-    (cited 𝓤 H (Make 𝓤 H (𝓖 .A) (𝓜 .mem) (𝓡 .run)) 𝓜 𝓡 code.env #portal_setup·setup-in make-def.routine code.calls-portal-setup·setup-in (make-thm.met 𝓤 H 𝓜 𝓖 𝓡))
+    (cited 𝓤 H (Make 𝓤 H (𝓖 .A) (𝓜 .mem) (𝓡 .run)) 𝓜 𝓡 code.env #portal_words·setup-in make-def.routine code.calls-portal-setup·setup-in (make-thm.met 𝓤 H 𝓜 𝓖 𝓡))
     (cited 𝓤 H (Pass 𝓤 H (𝓖 .A) (𝓜 .mem) (𝓡 .run)) 𝓜 𝓡 code.env #register·hand-in pass-def.routine code.calls-register·hand-in (pass-thm.met 𝓤 H 𝓜 𝓖 𝓡)))

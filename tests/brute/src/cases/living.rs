@@ -472,13 +472,11 @@ impl Met {
         }
     }
 
-    /// Counts a call in a buffer of another length, by its number: a buffer that is too short says
-    /// another setup, which question 12 may refuse, or has no room for the answer.
+    /// Counts a call in a buffer of another length, by its number: one that is too short is no setup.
     pub fn count_other_length(&mut self, number: u64) {
         match number {
             0 => self.add("another length, accepted"),
             12 => self.add("another length, refused with 12"),
-            15 => self.add("another length, refused with 15"),
             _ => {}
         }
     }
@@ -575,12 +573,11 @@ const FLOORS: &[(&str, usize)] = &[
     ("a marked edge removed", 300),
 ];
 
-/// How many calls of [`LISTS`] random lists are made in a buffer of another length besides, and accepted,
-/// refused with 12 and refused with 15 there.
+/// How many calls of [`LISTS`] random lists are made in a buffer of another length besides, and accepted
+/// or refused with 12 there.
 const LENGTH_FLOORS: &[(&str, usize)] = &[
     ("another length, accepted", 300),
-    ("another length, refused with 12", 180),
-    ("another length, refused with 15", 300),
+    ("another length, refused with 12", 480),
 ];
 
 /// How many random lists of calls the floors are for.

@@ -1,0 +1,4 @@
+pub mod Filling
+pub mod Saying
+pub mod Strict
+pub mod Writing

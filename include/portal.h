@@ -6,6 +6,7 @@
  *              portal_read                   the sheet's setup, which the calls on setups ask
  *              portal_name                   an item's name
  *              portal_pool                   two sheets, pooled into one
+ *              portal_write_sheet            the sheet of a setup that was redrawn, to keep
  *   setups     portal_check                  is this a setup?
  *              portal_closure, portal_lost   what a set opens, what the loss of a set takes away
  *              portal_way_in                 how a set opens an item, step by step
@@ -80,7 +81,7 @@ uint64_t portal_version(void);
 /* Bytes of stack: for a call that asks all subsets of the starting or losable items, which scores, lists, cut sets, the next
  * opening set and findings do, and portal_bag_score, which needs the most; for one that marks a handed-in list, which
  * portal_hand_in does; and for the others (portal_version, _read, _name, _check, _closure, _lost, _way_in, _opens, _forecast,
- * _kinds, _bag_at_most, _take_in, _take_out, _add_edge, _remove_edge, _pool, _withdraw). */
+ * _kinds, _bag_at_most, _take_in, _take_out, _add_edge, _remove_edge, _pool, _write_sheet, _withdraw). */
 #define PORTAL_STACK ((size_t)256 * 1024)
 #define PORTAL_STACK_MARKS ((size_t)512 * 1024)
 #define PORTAL_STACK_SMALL ((size_t)128 * 1024)
@@ -172,6 +173,8 @@ static inline const char *portal_refusal_text(uint64_t number)
 #define PORTAL_MAX_NAME 16
 /* Bytes that are always enough for a pooled sheet. */
 #define PORTAL_POOL_BYTES 12526
+/* Bytes that are always enough for a saved sheet. */
+#define PORTAL_SAVE_BYTES 11626
 #define PORTAL_MAX_VALUE UINT64_C(4000000000)
 
 /* Places that are always enough for one list of a target, and for both: of subsets of at most 14 items none of which lies within another
@@ -280,6 +283,12 @@ struct portal_pool_result {
     uint64_t number;
     uint64_t sheet;
     uint64_t line;
+    uint64_t length;
+};
+
+/* A saved sheet's bytes are the first `length` of the buffer. */
+struct portal_write_sheet_result {
+    uint64_t number;
     uint64_t length;
 };
 
@@ -404,6 +413,15 @@ struct portal_name_result portal_name(const uint8_t *sheet, size_t length, uint6
  * 22, 23, 24. A refusal leaves the buffer as it was, and the bytes behind the pooled sheet stay as they were.
  */
 struct portal_pool_result portal_pool(const uint8_t *first, size_t first_length, const uint8_t *second, size_t second_length, uint8_t *out, size_t places);
+
+/*
+ * The sheet of a setup, under the names of a sheet, to the front of the buffer: to keep what was drawn. A setup has no names, so the sheet
+ * that it was read from is handed over too; a setup of fewer items takes the first names. Item rows stand in item order, edge rows by the item
+ * that they lead to, then colour, then source. What is held is no part of a sheet. Reading the sheet gives the same setup with nothing held.
+ * PORTAL_SAVE_BYTES places are always enough: no sheet has more. Refused with the sheet's own number, 1 to 11; 12; 13, the setup has more
+ * items than the sheet has names; 15. A refusal leaves the buffer as it was, and the bytes behind the saved sheet stay as they were.
+ */
+struct portal_write_sheet_result portal_write_sheet(const uint8_t *sheet, size_t length, const uint64_t *setup, size_t words, uint8_t *out, size_t places);
 
 /* ---- calls on a setup ---- */
 

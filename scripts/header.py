@@ -151,6 +151,9 @@ faults += ["PORTAL_NEVER is another number"] * (macro(header, "PORTAL_NEVER") !=
 enough = re.search(r"^poolBytes = (\d+)$", read("crates/pool_format/specs/Meaning.antt"), re.M).group(1)
 faults += ["PORTAL_POOL_BYTES is another number"] * (macro(header, "PORTAL_POOL_BYTES") != enough)
 faults += ["tests/product has another number of bytes for a pooled sheet"] * (str(constant(read("tests/product/src/lib.rs"), "POOL_BYTES")) != enough)
+longest = re.search(r"^saveBytes = (\d+)$", read("crates/save_format/specs/Meaning.antt"), re.M).group(1)
+faults += ["PORTAL_SAVE_BYTES is another number"] * (macro(header, "PORTAL_SAVE_BYTES") != longest)
+faults += ["tests/product has another number of bytes for a saved sheet"] * (str(constant(read("tests/product/src/lib.rs"), "SAVE_BYTES")) != longest)
 # The opened set is the last word.
 stated = re.search(r"^setupWords = (\d+)$", read("crates/portal_words/specs/Words.antt"), re.M).group(1)
 lengths = {macro(header, "PORTAL_SETUP_WORDS"), str(opened + 1), stated}

@@ -579,6 +579,45 @@ static void try_held(void)
 }
 
 /* A refusal has its number, sheet and line, the length 0, and a buffer as it was. */
+/* A drawing saved: as it was read, redrawn, in just enough room and in one byte less; and the refusals in their order. */
+static void try_write_sheet(void)
+{
+    static const char redrawn[] =
+        "name kind start loss rank\nordpw c 1 2 0\nmailpw c 1 1 0\ntoken c 3 2 0\nmail a - - 1\norder a - - 3\n\nfrom to colour rec\n"
+        "mailpw mail 0 0\nordpw order 0 0\ntoken order 0 0\ntoken order 7 1\n";
+    const uint8_t *sheet = (const uint8_t *)SHEET;
+    size_t n = sizeof SHEET - 1, m = sizeof redrawn - 1;
+    static uint64_t drawing[WORDS], again[WORDS];
+    static uint8_t out[PORTAL_SAVE_BYTES];
+    memset(out, '#', sizeof out);
+    struct portal_write_sheet_result r = portal_write_sheet(sheet, n, setup, WORDS, out, sizeof out);
+    expect("saved", r.number, 0);
+    expect("saved, its length", r.length, n);
+    expect("saved, its bytes", (uint64_t)memcmp(out, SHEET, n), 0);
+    expect("saved, the byte behind", out[n], '#');
+    memcpy(drawing, setup, sizeof drawing);
+    expect("held", portal_take_in(drawing, WORDS, 1), 0);
+    expect("an edge more", portal_add_edge(drawing, WORDS, 2, ORDER_ITEM, 7, true), 0);
+    expect("an edge less", portal_remove_edge(drawing, WORDS, MAIL_ITEM, ORDER_ITEM, 1), 0);
+    r = portal_write_sheet(sheet, n, drawing, WORDS, out, m);
+    expect("saved, just enough room", r.number, 0);
+    expect("saved redrawn, its length", r.length, m);
+    expect("saved redrawn, its bytes", (uint64_t)memcmp(out, redrawn, m), 0);
+    expect("read again", portal_read(out, r.length, again, WORDS).number, 0);
+    drawing[PORTAL_HELD] = drawing[PORTAL_OPENED] = 0;
+    expect("read again, the same drawing", (uint64_t)memcmp(drawing, again, sizeof again), 0);
+    memset(out, '#', sizeof out);
+    r = portal_write_sheet(sheet, n, drawing, WORDS, out, m - 1);
+    expect("saved, no room", r.number, PORTAL_SHORT);
+    expect("saved, no room: length", r.length, 0);
+    expect("saved, no room: first byte", out[0], '#');
+    expect("saved, no names", portal_write_sheet((const uint8_t *)ALONE, sizeof ALONE - 1, setup, WORDS, out, sizeof out).number, PORTAL_NO_ITEM);
+    expect("saved, no setup", portal_write_sheet((const uint8_t *)ALONE, sizeof ALONE - 1, malformed, WORDS, out, sizeof out).number, PORTAL_NO_SETUP);
+    expect("saved, a refused sheet", portal_write_sheet(sheet, n - 1, malformed, WORDS, out, sizeof out).number, PORTAL_NO_TEXT);
+    expect("saved, refused: first byte", out[0], '#');
+    expect("saved, nothing at all", portal_write_sheet(NULL, 0, NULL, 0, NULL, 0).number, PORTAL_NO_TEXT);
+}
+
 static void expect_refused(const char *what, struct portal_pool_result r, uint64_t number, uint64_t sheet, uint64_t line, const uint8_t *out)
 {
     size_t changed = 0;
@@ -782,6 +821,7 @@ static const struct call {
     { "portal_remove_edge", PORTAL_STACK_SMALL, try_remove_edge },
     { "a setup that lives, to every call", PORTAL_STACK_MARKS, try_held },
     { "portal_pool", PORTAL_STACK_SMALL, try_pool },
+    { "portal_write_sheet", PORTAL_STACK_SMALL, try_write_sheet },
     { "portal_setup_score", PORTAL_STACK, try_setup_score },
     { "portal_setup_risk", PORTAL_STACK, try_setup_risk },
     { "portal_mark_openings", PORTAL_STACK_MARKS, try_mark_openings },

@@ -35,7 +35,7 @@ pub struct PoolResult {
 // What saving answers. Number 0: the sheet of the setup has `length` bytes. Else a refusal, and
 // length 0.
 #[repr(C)]
-pub struct SaveResult {
+pub struct WriteSheetResult {
     pub number: u64,
     pub length: u64,
 }
@@ -122,12 +122,12 @@ pub extern "C" fn portal_pool(first: &[u8], second: &[u8], out: &mut [u8]) -> Po
 
 // Writes the sheet of a setup, under the names of a sheet, to the start of the lent buffer.
 #[no_mangle]
-pub extern "C" fn portal_write_sheet(sheet: &[u8], setup: &[u64], out: &mut [u8]) -> SaveResult
+pub extern "C" fn portal_write_sheet(sheet: &[u8], setup: &[u64], out: &mut [u8]) -> WriteSheetResult
     ensures { λ r. ⌜ Told (saveCall (now (sheet .entry)) (setupIn (now (setup .entry))) (now (out .entry))) (r .number) (r .length ∷ []) (now (out .exit) ∷ []) ⌝ }
 {
     let s = portal_words::setup_in(setup);
     let saved = saving::write_sheet(sheet, s, out);
-    SaveResult {
+    WriteSheetResult {
         number: saved.number,
         length: saved.length as u64,
     }

@@ -15,7 +15,7 @@ mod results;
 pub use results::{
     BagScoreResult, ClosureResult, CutSetsResult, FindingResult, ForecastResult, KindsResult,
     ListsResult, LostResult, MarksResult, NameResult, NextOpeningResult, OpensResult, PoolResult,
-    ReadResult, Record, Refusal, RegisterResult, SaveResult, SetupRiskResult,
+    ReadResult, Record, Refusal, RegisterResult, WriteSheetResult, SetupRiskResult,
     SetupScoreResult, WayInResult,
 };
 
@@ -61,7 +61,7 @@ mod linked {
             words: usize,
             out: *mut u8,
             places: usize,
-        ) -> SaveResult;
+        ) -> WriteSheetResult;
         pub fn portal_check(setup: *const u64, words: usize) -> u64;
         pub fn portal_closure(setup: *const u64, words: usize, set: u64) -> ClosureResult;
         pub fn portal_lost(setup: *const u64, words: usize, set: u64) -> LostResult;
@@ -218,7 +218,7 @@ pub fn pool(first: &[u8], second: &[u8], out: &mut [u8]) -> PoolResult {
 }
 
 /// The sheet of a setup, under the names of a sheet, to a buffer. 1 to 11 of the sheet; 12, 13, 15.
-pub fn write_sheet(sheet: &[u8], setup: &[u64], out: &mut [u8]) -> SaveResult {
+pub fn write_sheet(sheet: &[u8], setup: &[u64], out: &mut [u8]) -> WriteSheetResult {
     let (text, length) = (sheet.as_ptr(), sheet.len());
     let (words, count) = (setup.as_ptr(), setup.len());
     unsafe { linked::portal_write_sheet(text, length, words, count, out.as_mut_ptr(), out.len()) }

@@ -62,7 +62,7 @@ results! {
         length,
     }
     /// The sheet of a setup.
-    SaveResult {
+    WriteSheetResult {
         /// How many bytes it has.
         length,
     }

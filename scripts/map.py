@@ -15,7 +15,6 @@ KIT = {"io", "libc", "os", "check", "bytes"}
 LINE = re.compile(r"^(\w+):([^#]*)(?:#\s*(inner: )?(.*))?$")
 # A crate that only passes on a value of another crate's type does not name that crate, and depends on it all the same.
 PASSED_ON = {
-    "sheet_cases": {"sheet_format"},
     "portal": {"setup"},
     "portal_sheets": {"vertex_set"},
     "portal_scores": {"scores"},

@@ -9,11 +9,12 @@ use crate::living::{
 use crate::long_lists::compare_long_lists;
 use crate::passes::compare_known_passes;
 use crate::pools::{compare_pool_cases, compare_pools};
-use crate::saves::{compare_longest, compare_saved_lives};
 use crate::program::Program;
+use crate::saves::{compare_longest, compare_saved_lives};
 use crate::setups::{compare_setup, Depth, FEW, FULL, MANY, MOST};
-use crate::sheets::{compare_report, compare_sheet};
+use crate::sheets::{compare_by_hand, compare_report, compare_sheet};
 use crate::walks::{compare_next_cases, compare_walks};
+use brute::cases::by_hand::by_hand;
 use brute::cases::draft::sheet_of_setup;
 use brute::cases::living::LISTS;
 use brute::cases::registers::Met;
@@ -148,6 +149,11 @@ impl Run {
         compare_long_lists(seed)?;
         compare_known_passes()?;
         compare_known_kinds()?;
+        assert!(compare_by_hand()? >= 150, "sheets worked out by hand are gone");
+        for case in by_hand() {
+            self.counts.texts += 1;
+            self.sheet(&case.case, FEW, true)?;
+        }
         compare_next_cases()?;
         compare_known_bags()?;
         let pairs = compare_bags(&mut self.rng, 20_000)?;

@@ -58,7 +58,11 @@ pub fn compare_saves(
         seen.count(answer.number);
     }
     let Ok(text) = text else { return Ok(()) };
-    subject.same(|| "a sheet that is too long to save".to_string(), text.len() <= SAVE_BYTES, true)?;
+    subject.same(
+        || "a sheet that is too long to save".to_string(),
+        text.len() <= SAVE_BYTES,
+        true,
+    )?;
     let mut again = vec![u64::MAX; WORDS];
     subject.same(|| "is it read again?".to_string(), product::read(&text, &mut again).number, 0)?;
     let wanted = words_of(&setup.nothing_held()).expect("what is saved can be said in words");
@@ -108,7 +112,8 @@ pub fn compare_saved_lives(rng: &mut Rng, count: usize) -> Result<Saves, Box<Dif
             let edit = random_edit(rng, &life.setup);
             life.step(&label, edit)?;
             if rng.chance(1, 3) {
-                let subject = Subject { label: &label, sheet: Some(&text), setup: Some(&life.setup) };
+                let subject =
+                    Subject { label: &label, sheet: Some(&text), setup: Some(&life.setup) };
                 compare_saves(&subject, rng, &text, &life.words, &mut seen)?;
             }
         }

@@ -5,6 +5,7 @@ use crate::compare::{Difference, Subject};
 use crate::program::Program;
 use crate::setups::{compare_setup, Depth};
 use crate::words::words_of;
+use brute::cases::by_hand::{by_hand, Answer, NAMES};
 use brute::cases::registers::Met;
 use brute::cases::{probes, Rng, SheetCase, Told};
 use brute::report::portal_code;
@@ -43,6 +44,32 @@ pub fn compare_sheet(
         compare_setup(&case.label, Some(&case.sheet), &sheet.setup, rng, depth, met)?;
     }
     Ok(())
+}
+
+/// The answers that were worked out by hand: number and line, or how many items, edges and recovery edges
+/// the setup has; and names. The brute force and the product are both held to them.
+pub fn compare_by_hand() -> Result<usize, Box<Difference>> {
+    let cases = by_hand();
+    for case in &cases {
+        let text = &case.case.sheet;
+        let subject = Subject { label: &case.case.label, sheet: Some(text), setup: None };
+        let mut words = vec![0; WORDS];
+        let read = product::read(text, &mut words);
+        let edges = |first: usize| {
+            words[first..first + 512].iter().map(|row| row.count_ones() as usize).sum()
+        };
+        let told = match read.number {
+            0 => Answer::Yes(words[0], edges(257), edges(769)),
+            number => Answer::No(number as u8, read.line),
+        };
+        subject.same(|| "read, as worked out by hand".to_string(), told, case.answer)?;
+    }
+    for &(text, item, name) in NAMES {
+        let subject =
+            Subject { label: "a name, as worked out by hand", sheet: Some(text), setup: None };
+        subject.same(|| format!("name({item})"), product::name(text, item).of(text), name)?;
+    }
+    Ok(cases.len())
 }
 
 /// Compares what the program `report` prints.

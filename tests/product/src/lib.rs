@@ -15,8 +15,8 @@ mod results;
 pub use results::{
     BagScoreResult, ClosureResult, CutSetsResult, FindingResult, ForecastResult, KindsResult,
     ListsResult, LostResult, MarksResult, NameResult, NextOpeningResult, OpensResult, PoolResult,
-    ReadResult, Record, Refusal, RegisterResult, WriteSheetResult, SetupRiskResult,
-    SetupScoreResult, WayInResult,
+    ReadResult, Record, Refusal, RegisterResult, SetupRiskResult, SetupScoreResult, WayInResult,
+    WriteSheetResult,
 };
 
 /// How many words a setup has.

@@ -4,6 +4,7 @@
 pub mod bags;
 pub mod bounds;
 pub mod buffers;
+pub mod by_hand;
 pub mod chains;
 pub mod cuts;
 pub mod damaged;

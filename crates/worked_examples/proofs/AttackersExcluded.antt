@@ -1,28 +1,29 @@
 -- Who gets in at document 003's example 15, and wrong scores that the contract excludes, each at an example.
 -- Assumes nothing.
-use mathlib.Core.Path.{_≡_, refl, subst, _∙_}
+use mathlib.Core.Path.{_≡_, refl, ap, subst}
 use mathlib.Core.List.{List, [], _∷_, head-eq-of-cons-eq}
-use Prim.Native.Nat.{ℕ, _/_, _%_, _^_, _<_}
+use Prim.Native.Nat.{ℕ, _/_, _%_, _^_}
 use native.Mathlib.Omega.{arith}
-use lib.ListN.{length}
 use Rattle.vertex_set.specs.Set.{Member}
 use Rattle.setup.specs.declared.Setup.{Setup}
-use Rattle.formed.specs.WellFormed.{WellFormed}
 use Rattle.attackers.specs.Attackers.{KindAtMost, EntriesFit, AttackerScore}
-use Rattle.attackers.specs.Answers.{AttackerCall}
-use Rattle.attackers.proofs.Unique.{score-unique}
+use Rattle.questions.specs.Contract.{Outcome, refuses, ends, turnsAway, Answers, Fulfils}
+use Rattle.questions.specs.Questions.{asks12, asks13}
+use Rattle.questions.proofs.Asks.{first-no}
+use Rattle.questions.proofs.Contract.{only-answer, only-given}
+use Rattle.attackers.specs.Answers.{asks16, asks17, attackerCall}
+use Rattle.attackers.proofs.Unique.{one-attackers}
 use Rattle.worked_examples.specs.Sheets.{bench, order, closed, only, spare, acc}
 use Rattle.worked_examples.specs.Attackers.{remNone, remSome, remExp, locNone, locSome, locExp, WhoGetsIn}
 use Rattle.worked_examples.proofs.Reading.{reads-well, read-bench, read-closed, read-spare}
 use Rattle.worked_examples.proofs.Table.{held}
+use Rattle.worked_examples.proofs.Settled.{Gives}
 use Rattle.worked_examples.proofs.Attackers.{fitsAt, fits-of, all-score}
 
 -- an answer that meets the contract is the score
-settled : (s : Setup) (target : ℕ) (kinds : List ℕ) (r q : ℕ) → WellFormed s → target < s .count → length kinds ≡ s .count → EntriesFit s kinds
-    → AttackerScore s kinds target r → AttackerCall s target kinds 0 (q ∷ []) → q ≡ r
-settled s target kinds r q w l e f h c =
-    let a = c .answers w l e f in
-    head-eq-of-cons-eq (a .2) ∙ score-unique s kinds kinds (record { long = refl; each = λ v k. refl }) target (a .0) r (a .3) h
+settled : (s : Setup) (target : ℕ) (kinds : List ℕ) (r q : ℕ) → AttackerScore s kinds target r → Gives (attackerCall s target kinds) (q ∷ []) → q ≡ r
+settled s target kinds r q h c =
+    head-eq-of-cons-eq (ap (λ (o : Outcome). o .reply .values) (only-answer (attackerCall s target kinds) (one-attackers s target kinds) r h _ c refl refl))
 
 -- ---- example 15: either of a remote one with some skill and a local one without
 
@@ -36,8 +37,8 @@ either-fits : EntriesFit (spare .setup) either
 unfolding fitsAt
 either-fits = fits-of spare either read-spare refl
 
-either-is : (q : ℕ) → AttackerCall (spare .setup) acc either 0 (q ∷ []) → q ≡ 10
-either-is q = settled (spare .setup) acc either 10 q (reads-well spare read-spare) (omega arith) refl either-fits either-score
+either-is : (q : ℕ) → Gives (attackerCall (spare .setup) acc either) (q ∷ []) → q ≡ 10
+either-is q = settled (spare .setup) acc either 10 q either-score
 
 -- a remote expert and a local attacker with some skill get in too, a remote one without skill does not
 pub who-gets-in : WhoGetsIn
@@ -63,18 +64,19 @@ who-gets-in =
         omega arith
 
 -- the six kinds as a chain: 1 would be below 3, and the score 2
-pub no-chain : AttackerCall (spare .setup) acc either 0 (2 ∷ []) → ⊥
+pub no-chain : Gives (attackerCall (spare .setup) acc either) (2 ∷ []) → ⊥
 no-chain c = let e = either-is 2 c in omega arith
 
 -- all who get in: 1 to 5
-pub no-upward-closure : AttackerCall (spare .setup) acc either 0 (62 ∷ []) → ⊥
+pub no-upward-closure : Gives (attackerCall (spare .setup) acc either) (62 ∷ []) → ⊥
 no-upward-closure c = let e = either-is 62 c in omega arith
 
 -- 17 for an entry above 5 where nothing starts
-pub no-other-entry-read : AttackerCall (spare .setup) acc either 17 [] → ⊥
+pub no-other-entry-read : Fulfils (attackerCall (spare .setup) acc either) (ends (refuses 17) []) → ⊥
 no-other-entry-read c =
-    let a = c .answers (reads-well spare read-spare) (omega arith) refl either-fits in
-    let z = a .1 in
+    let e = only-given (attackerCall (spare .setup) acc either) (one-attackers (spare .setup) acc either) 10 either-score _ c
+    (reads-well spare read-spare, (omega arith, (refl, (either-fits, tt)))) tt in
+    let z : _≡_ {A = ℕ} 17 0 = ap (λ (o : Outcome). o .reply .number) e in
     omega arith
 
 -- ---- a lower and a higher kind
@@ -82,17 +84,16 @@ no-other-entry-read c =
 abbrev two : List ℕ
 two = locSome ∷ remSome ∷ 0 ∷ []
 
-two-is : (q : ℕ) → AttackerCall (spare .setup) acc two 0 (q ∷ []) → q ≡ 2
-unfolding fitsAt
+two-is : (q : ℕ) → Gives (attackerCall (spare .setup) acc two) (q ∷ []) → q ≡ 2
 two-is q =
-    settled (spare .setup) acc two 2 q (reads-well spare read-spare) (omega arith) refl (fits-of spare (locSome ∷ remSome ∷ 0 ∷ []) read-spare refl)
+    settled (spare .setup) acc two 2 q
     (held spare (λ (s : Setup). AttackerScore s (locSome ∷ remSome ∷ 0 ∷ []) acc 2) read-spare (all-score .1 .1 .1 .1 .1 .0))
 
 -- the highest kinds kept; all kinds kept
-pub no-highest : AttackerCall (spare .setup) acc two 0 (16 ∷ []) → ⊥
+pub no-highest : Gives (attackerCall (spare .setup) acc two) (16 ∷ []) → ⊥
 no-highest c = let e = two-is 16 c in omega arith
 
-pub no-all : AttackerCall (spare .setup) acc two 0 (18 ∷ []) → ⊥
+pub no-all : Gives (attackerCall (spare .setup) acc two) (18 ∷ []) → ⊥
 no-all c = let e = two-is 18 c in omega arith
 
 -- ---- a set of a local one without skill and a remote expert
@@ -100,31 +101,30 @@ no-all c = let e = two-is 18 c in omega arith
 abbrev joined : List ℕ
 joined = locNone ∷ locExp ∷ remExp ∷ 255 ∷ 255 ∷ []
 
-joined-is : (q : ℕ) → AttackerCall (bench .setup) order joined 0 (q ∷ []) → q ≡ 32
-unfolding fitsAt
+joined-is : (q : ℕ) → Gives (attackerCall (bench .setup) order joined) (q ∷ []) → q ≡ 32
 joined-is q =
-    settled (bench .setup) order joined 32 q (reads-well bench read-bench) (omega arith) refl bench-fits
+    settled (bench .setup) order joined 32 q
     (held bench (λ (s : Setup). AttackerScore s (locNone ∷ locExp ∷ remExp ∷ 255 ∷ 255 ∷ []) order 32) read-bench (all-score .1 .1 .1 .0))
-  where
-    bench-fits : EntriesFit (bench .setup) (locNone ∷ locExp ∷ remExp ∷ 255 ∷ 255 ∷ [])
-    bench-fits = fits-of bench (locNone ∷ locExp ∷ remExp ∷ 255 ∷ 255 ∷ []) read-bench refl
 
 -- the larger number as a set's kind: 3, which would be below 5
-pub no-larger-number : AttackerCall (bench .setup) order joined 0 (8 ∷ []) → ⊥
+pub no-larger-number : Gives (attackerCall (bench .setup) order joined) (8 ∷ []) → ⊥
 no-larger-number c = let e = joined-is 8 c in omega arith
 
 -- ---- an empty score, and questions 16 and 17
 
 -- 1, which is kind 0, where nobody gets in
-pub no-one-for-none : AttackerCall (closed .setup) only (255 ∷ []) 0 (1 ∷ []) → ⊥
-unfolding fitsAt
+pub no-one-for-none : Gives (attackerCall (closed .setup) only (255 ∷ [])) (1 ∷ []) → ⊥
 no-one-for-none c =
-    let e = settled (closed .setup) only (255 ∷ []) 0 1 (reads-well closed read-closed) (omega arith) refl (fits-of closed (255 ∷ []) read-closed refl)
+    let e = settled (closed .setup) only (255 ∷ []) 0 1
     (held closed (λ (s : Setup). AttackerScore s (255 ∷ []) only 0) read-closed (all-score .1 .1 .1 .1 .1 .1 .0)) c in
     omega arith
 
 -- 17 before 16: a list that is too long, with a starting item's entry above 5
-pub no-seventeen-first : AttackerCall (spare .setup) acc (6 ∷ 6 ∷ 6 ∷ 6 ∷ []) 17 [] → ⊥
+pub no-seventeen-first : Fulfils (attackerCall (spare .setup) acc (6 ∷ 6 ∷ 6 ∷ 6 ∷ [])) (ends (refuses 17) []) → ⊥
+unfolding Fulfils
 no-seventeen-first c =
-    let a = c .otherLength (reads-well spare read-spare) (omega arith) (λ e. let z : _≡_ {A = ℕ} 4 3 = e in omega arith) .numbered in
+    let e = first-no (turnsAway []) (Answers (attackerCall (spare .setup) acc (6 ∷ 6 ∷ 6 ∷ 6 ∷ []))) (asks12 (spare .setup) ∷ asks13 (spare .setup) acc ∷ [])
+    (asks16 (spare .setup) (6 ∷ 6 ∷ 6 ∷ 6 ∷ [])) (asks17 (spare .setup) (6 ∷ 6 ∷ 6 ∷ 6 ∷ []) ∷ []) _ c (reads-well spare read-spare, (omega arith, tt))
+    (λ e. let z : _≡_ {A = ℕ} 4 3 = e in omega arith) in
+    let z : _≡_ {A = ℕ} 17 16 = ap (λ (o : Outcome). o .reply .number) e in
     omega arith

@@ -2,7 +2,7 @@
 -- Assumes nothing.
 use mathlib.Core.Path.{_≡_, refl, ap, subst}
 use mathlib.Core.Bool.{true, false}
-use mathlib.Core.List.{List, [], _∷_}
+use mathlib.Core.List.{List, [], _∷_, _++_}
 use mathlib.Core.Logic.{inl, inr, ⊎-elim}
 use Prim.Native.Nat.{ℕ, _+_, _≤_, _<_}
 use native.Mathlib.Omega.{arith}
@@ -15,15 +15,18 @@ use Rattle.setup.specs.declared.Graph.{Graph}
 use Rattle.setup.specs.declared.Setup.{Setup}
 use Rattle.setup.specs.Setup.{row, Edge, WithoutRecovery}
 use Rattle.formed.specs.WellFormed.{WellFormed}
-use Rattle.setup.specs.Calls.{Inside}
+use Rattle.setup.specs.Calls.{Inside, written}
 use Rattle.derivations.specs.Access.{Step, access}
 use Rattle.derivations.specs.Passes.{Passes}
 use Rattle.derivations.specs.Way.{Way}
-use Rattle.access.specs.Answers.{ClosureCall, WayCall}
+use Rattle.questions.specs.Contract.{Reply, Outcome, gives, refuses, ends, Fulfils}
+use Rattle.questions.proofs.Contract.{only-given, only-short}
+use Rattle.access.specs.Answers.{closureCall, wayCall}
 use Rattle.bases.specs.Base.{Base}
 use Rattle.scores.specs.Never.{never}
 use Rattle.bases.specs.Score.{Score}
-use Rattle.answers.specs.Answers.{BasesCall, ScoreCall, MarksCall}
+use Rattle.answers.specs.Answers.{Bases, AreBases, basesCall, scoreCall, marksCall}
+use Rattle.answers.proofs.Unique.{one-bases}
 use Rattle.reference.specs.Tests.{lowest, some, every, filtered, isListed, isMember, isWithin, isMeeting, withVertex}
 use Rattle.reference.specs.Closures.{isComplete, isBroken, colourOf, isAdded, passOf, passesOf, closureOf, derivesOf, nextVertex, stepsOf, wayOf}
 use Rattle.reference.specs.Bases.{isChosen, setsOfSize, setsUpTo, setsOf, targetSetsOf, isMinimal, baseOf, leastSum, scoreOf, markOf, marksFrom, countsOf, marksOf}
@@ -32,18 +35,12 @@ use Rattle.worked_examples.specs.Sheets.{bench, ordpw, mailpw, token, ma
 use Rattle.worked_examples.specs.Table.{Example, lockout, marks, setOf, AllHold}
 use Rattle.worked_examples.proofs.Reading.{_&_, reads-well, read-bench, read-ring, read-closed, read-pair}
 use Rattle.worked_examples.proofs.Table.{held, all-hold, table-holds, further-holds}
-use Rattle.worked_examples.proofs.Settled.{closure-settled, way-counted, bases-settled, bases-counted, score-settled, marks-settled}
+use Rattle.worked_examples.proofs.Settled.{Gives, closure-told, way-told, bases-told, score-told, marks-told}
 
 -- ---- what is known of the examples
 
 well : WellFormed (bench .setup)
 well = reads-well bench read-bench
-
-well-ring : WellFormed (ring .setup)
-well-ring = reads-well ring read-ring
-
-well-closed : WellFormed (closed .setup)
-well-closed = reads-well closed read-closed
 
 pub inside : (set : ℕ) → set < 32 → Inside (bench .setup) set
 inside set h = record { each = λ v m. member-below 5 set v h m }
@@ -102,41 +99,55 @@ second-apart a b x y n e = n cc
 -- ---- closures and ways in
 
 -- A closure that hands its set back (B2): {mailpw} opens mail and order.
-pub no-set-back : (n : ℕ) → ClosureCall (bench .setup) (setOf (mailpw ∷ [])) 0 (setOf (mailpw ∷ []) ∷ n ∷ []) → ⊥
-no-set-back n c = apart 2 26 (n ∷ []) (3 ∷ []) (omega arith) (closure-settled (bench .setup) well 2 26 3 0 _ (inside 2 (omega arith)) by-mail c)
+pub no-set-back : (n : ℕ) → Gives (closureCall (bench .setup) (setOf (mailpw ∷ []))) (setOf (mailpw ∷ []) ∷ n ∷ []) → ⊥
+no-set-back n c = apart 2 26 (n ∷ []) (3 ∷ []) (omega arith) (closure-told (bench .setup) 2 26 3 _ by-mail c)
 
 -- Two passes from {mailpw}: a loop in place makes two turns; two are counted where the pass that adds nothing is left out; the longest way in
 -- from there has two steps.
-pub no-two-passes : ClosureCall (bench .setup) (setOf (mailpw ∷ [])) 0 (setOf (mailpw ∷ mail ∷ order ∷ []) ∷ 2 ∷ []) → ⊥
-no-two-passes c = second-apart 2 3 26 26 (omega arith) (closure-settled (bench .setup) well 2 26 3 0 _ (inside 2 (omega arith)) by-mail c)
+pub no-two-passes : Gives (closureCall (bench .setup) (setOf (mailpw ∷ []))) (setOf (mailpw ∷ mail ∷ order ∷ []) ∷ 2 ∷ []) → ⊥
+no-two-passes c = second-apart 2 3 26 26 (omega arith) (closure-told (bench .setup) 2 26 3 _ by-mail c)
 
 -- Vertices added, and one more: {ordpw, mailpw, token} opens mail and order in one pass.
-pub no-vertices-counted : ClosureCall (bench .setup) (setOf (ordpw ∷ mailpw ∷ token ∷ [])) 0 (setOf (ordpw ∷ mailpw ∷ token ∷ mail ∷ order ∷ []) ∷ 3 ∷ []) → ⊥
-no-vertices-counted c = second-apart 3 2 31 31 (omega arith) (closure-settled (bench .setup) well 7 31 2 0 _ (inside 7 (omega arith)) together c)
+pub no-vertices-counted : Gives (closureCall (bench .setup) (setOf (ordpw ∷ mailpw ∷ token ∷ []))) (setOf (ordpw ∷ mailpw ∷ token ∷ mail ∷ order ∷ []) ∷ 3 ∷ []) → ⊥
+no-vertices-counted c = second-apart 3 2 31 31 (omega arith) (closure-told (bench .setup) 7 31 2 _ together c)
 
 -- A loop that is cut off after as many passes as vertices are outside: from {p} there are two, and q alone is outside.
-pub no-pass-cut-off : ClosureCall (pair .setup) (setOf (p ∷ [])) 0 (setOf (p ∷ q ∷ []) ∷ 1 ∷ []) → ⊥
-no-pass-cut-off c =
-    second-apart 1 2 3 3 (omega arith)
-    (closure-settled (pair .setup) (reads-well pair read-pair) 1 3 2 0 _ (record { each = λ v m. let l = member-below 1 1 v (omega arith) m in omega arith }) to-and-fro c)
+pub no-pass-cut-off : Gives (closureCall (pair .setup) (setOf (p ∷ []))) (setOf (p ∷ q ∷ []) ∷ 1 ∷ []) → ⊥
+no-pass-cut-off c = second-apart 1 2 3 3 (omega arith) (closure-told (pair .setup) 1 3 2 _ to-and-fro c)
 
 -- "Shut" before looking (B6): there is a way in of two steps, whatever room the lists have.
-pub no-early-shut : (entry exit entry′ exit′ : List ℕ) → WayCall (bench .setup) order (setOf (mailpw ∷ [])) 0 (0 ∷ []) entry exit entry′ exit′ → ⊥
-no-early-shut entry exit entry′ exit′ c =
-    let e = way-counted (bench .setup) well order (omega arith) 2 (0 ∷ []) entry exit entry′ exit′ steps (inside 2 (omega arith)) b6 c in
+pub no-early-shut : (vertices colours : List ℕ) (lent : List (List ℕ)) → Fulfils (wayCall (bench .setup) order (setOf (mailpw ∷ [])) vertices colours) (ends (gives (0 ∷ [])) lent) → ⊥
+no-early-shut vertices colours lent c =
+    let e = way-told (bench .setup) order 2 steps vertices colours (0 ∷ []) lent b6 c in
     let z : _≡_ {A = ℕ} 1 2 = ap length e in
     omega arith
 
 -- ---- lists
 
+abbrev both-lists : Bases
+both-lists =
+    record {
+      opening = setOf (mailpw ∷ []) ∷ setOf (ordpw ∷ token ∷ []) ∷ [];
+      lockout = setOf (ordpw ∷ mailpw ∷ []) ∷ setOf (mailpw ∷ token ∷ []) ∷ [];
+    }
+
+are-both : AreBases (bench .setup) order both-lists
+are-both = record { isOpening = b3; isLockout = b4 }
+
+-- with room for them, both lists of order are what the call gives
+in-room : (list : List ℕ) (o : Outcome) → Fulfils (basesCall (bench .setup) order list) o → 4 ≤ length list
+    → o ≡ ends (gives (2 ∷ 2 ∷ [])) (written (both-lists .opening ++ both-lists .lockout) list ∷ [])
+in-room list o c l = only-given (basesCall (bench .setup) order list) (one-bases (bench .setup) order list) both-lists are-both o c (well, (omega arith, tt)) (l, tt)
+
 -- An always empty list (B3, B4): order has two opening sets and two lockout sets.
-pub no-empty-list : (n : ℕ) (entry exit : List ℕ) → BasesCall (bench .setup) order 0 (0 ∷ n ∷ []) entry exit → ⊥
-no-empty-list n entry exit c = apart 0 2 (n ∷ []) (2 ∷ []) (omega arith) (bases-counted (bench .setup) well order (omega arith) _ _ _ entry exit b3 b4 c)
+pub no-empty-list : (n : ℕ) (list : List ℕ) (lent : List (List ℕ)) → Fulfils (basesCall (bench .setup) order list) (ends (gives (0 ∷ n ∷ [])) lent) → ⊥
+no-empty-list n list lent c = apart 0 2 (n ∷ []) (2 ∷ []) (omega arith) (bases-told (bench .setup) order both-lists list _ lent are-both c)
 
 -- One minimal set instead of all, as where vertices are dropped one by one from the full set (B8): the ring has four.
-pub no-single-set : (n : ℕ) (entry exit : List ℕ) → BasesCall (ring .setup) accBackup 0 (1 ∷ n ∷ []) entry exit → ⊥
-no-single-set n entry exit c =
-    apart 1 4 (n ∷ []) (0 ∷ []) (omega arith) (bases-counted (ring .setup) well-ring accBackup (omega arith) _ _ _ entry exit b8 (held ring _ read-ring (further .0)) c)
+pub no-single-set : (n : ℕ) (list : List ℕ) (lent : List (List ℕ)) → Fulfils (basesCall (ring .setup) accBackup list) (ends (gives (1 ∷ n ∷ [])) lent) → ⊥
+no-single-set n list lent c =
+    apart 1 4 (n ∷ []) (0 ∷ []) (omega arith)
+    (bases-told (ring .setup) accBackup _ list _ lent (record { isOpening = b8; isLockout = held ring _ read-ring (further .0) }) c)
 
 -- Loss through one colour where another still opens (B4): without ordpw the colour of ordpw and token is broken, and mail still opens order.
 pub no-loss-by-one-colour : (l : List ℕ) → Base true (bench .setup) (bench .setup .graph) order l → Listed l (setOf (ordpw ∷ [])) → ⊥
@@ -148,24 +159,22 @@ no-loss-by-one-colour l b m = none (subst (λ (k : List ℕ). Listed k 1) (base-
     none (inr (inr z)) = z
 
 -- 15 at equality: four places are enough for order's two lists.
-pub no-refusal-at-equality : (entry exit : List ℕ) → length entry ≡ 4 → BasesCall (bench .setup) order 15 [] entry exit → ⊥
-no-refusal-at-equality entry exit n c =
-    let w = bases-settled (bench .setup) well order (omega arith) _ _ 15 [] entry exit b3 b4 c in
-    let z : _≡_ {A = ℕ} 15 0 = w .room (omega arith) .0 in
+pub no-refusal-at-equality : (list : List ℕ) (lent : List (List ℕ)) → length list ≡ 4 → Fulfils (basesCall (bench .setup) order list) (ends (refuses 15) lent) → ⊥
+no-refusal-at-equality list lent n c =
+    let z : _≡_ {A = ℕ} 15 0 = ap (λ (o : Outcome). o .reply .number) (in-room list _ c (omega arith)) in
     omega arith
 
 -- 15 judged by one list alone: three places have room for either list and not for both.
-pub no-room-for-one : (values entry exit : List ℕ) → length entry ≡ 3 → BasesCall (bench .setup) order 0 values entry exit → ⊥
-no-room-for-one values entry exit n c =
-    let w = bases-settled (bench .setup) well order (omega arith) _ _ 0 values entry exit b3 b4 c in
-    let z : _≡_ {A = ℕ} 0 15 = w .short (omega arith) .0 .numbered in
+pub no-room-for-one : (values list : List ℕ) (lent : List (List ℕ)) → length list ≡ 3 → Fulfils (basesCall (bench .setup) order list) (ends (gives values) lent) → ⊥
+no-room-for-one values list lent n c =
+    let e = only-short (basesCall (bench .setup) order list) (one-bases (bench .setup) order list) both-lists are-both _ c (well, (omega arith, tt)) (λ k. let j = k .0 in omega arith) in
+    let z : _≡_ {A = ℕ} 0 15 = ap (λ (o : Outcome). o .reply .number) e in
     omega arith
 
 -- A lockout list one place late: behind order's two opening sets the first lockout set stands.
-pub no-gap : (number : ℕ) (values entry exit : List ℕ) → 4 ≤ length entry → BasesCall (bench .setup) order number values entry exit → getD exit 2 0 ≡ setOf (ordpw ∷ mailpw ∷ [])
-no-gap number values entry exit l c =
-    let w = bases-settled (bench .setup) well order (omega arith) _ _ number values entry exit b3 b4 c in
-    ap (λ (k : List ℕ). getD k 2 0) (w .room l .2)
+pub no-gap : (reply : Reply) (list after : List ℕ) → 4 ≤ length list → Fulfils (basesCall (bench .setup) order list) (ends reply (after ∷ []))
+    → getD after 2 0 ≡ setOf (ordpw ∷ mailpw ∷ [])
+no-gap reply list after l c = ap (λ (o : Outcome). getD (getD (o .lent) 0 []) 2 0) (in-room list _ c l)
 
 -- Order by number only: {0, 1} is the smaller number, and {2} has fewer vertices, so it comes first.
 pub no-order-by-number : Ordered (3 ∷ 4 ∷ []) → ⊥
@@ -175,30 +184,30 @@ no-order-by-number o = ⊎-elim (λ l. omega arith) (λ p. let e = p .0 in omega
 -- ---- scores
 
 -- "Never" beside an empty list (B5): the score is 1.
-pub no-early-never : ScoreCall false (bench .setup) order 0 (never ∷ []) → ⊥
-no-early-never c = apart never 1 [] [] (omega arith) (score-settled (bench .setup) well order (omega arith) false 1 0 _ b5 c)
+pub no-early-never : Gives (scoreCall false (bench .setup) order) (never ∷ []) → ⊥
+no-early-never c = apart never 1 [] [] (omega arith) (score-told (bench .setup) order false 1 _ b5 c)
 
 -- Score 0 where the list is empty (B10): it is never.
-pub no-free-score : ScoreCall false (closed .setup) only 0 (0 ∷ []) → ⊥
-no-free-score c = apart 0 never [] [] (omega arith) (score-settled (closed .setup) well-closed only (omega arith) false never 0 _ b10 c)
+pub no-free-score : Gives (scoreCall false (closed .setup) only) (0 ∷ []) → ⊥
+no-free-score c = apart 0 never [] [] (omega arith) (score-told (closed .setup) only false never _ b10 c)
 
 -- A number above "never" (B10), which the portal would take for a refusal.
-pub no-score-above-never : ScoreCall false (closed .setup) only 0 ((never + 1) ∷ []) → ⊥
-no-score-above-never c = apart (never + 1) never [] [] (omega arith) (score-settled (closed .setup) well-closed only (omega arith) false never 0 _ b10 c)
+pub no-score-above-never : Gives (scoreCall false (closed .setup) only) ((never + 1) ∷ []) → ⊥
+no-score-above-never c = apart (never + 1) never [] [] (omega arith) (score-told (closed .setup) only false never _ b10 c)
 
 -- ---- marks
 
 -- Loose before shut: {mailpw, mail} opens, and so does a part of it, but mail is no initial vertex.
-pub no-loose-before-shut : MarksCall false (bench .setup) order (setOf (mailpw ∷ mail ∷ []) ∷ []) 0 (0 ∷ 0 ∷ 0 ∷ 1 ∷ 2 ∷ []) → ⊥
+pub no-loose-before-shut : Gives (marksCall false (bench .setup) order (setOf (mailpw ∷ mail ∷ []) ∷ [])) (0 ∷ 0 ∷ 0 ∷ 1 ∷ 2 ∷ []) → ⊥
 no-loose-before-shut c =
-    let e = marks-settled (bench .setup) well order (omega arith) false (setOf (mailpw ∷ mail ∷ []) ∷ []) 0 0 1 0 2 0 _ (held bench _ read-bench (further .1 .0)) c in
+    let e = marks-told (bench .setup) order false (setOf (mailpw ∷ mail ∷ []) ∷ []) 0 0 1 0 2 _ (held bench _ read-bench (further .1 .0)) c in
     let z : _≡_ {A = ℕ} 0 1 = ap (λ (l : List ℕ). getD l 2 0) e in
     omega arith
 
 -- Full marks for a list with a set missing: {mailpw} alone is one of two.
-pub no-full-marks-early : MarksCall false (bench .setup) order (setOf (mailpw ∷ []) ∷ []) 0 (1 ∷ 0 ∷ 0 ∷ 0 ∷ 0 ∷ []) → ⊥
+pub no-full-marks-early : Gives (marksCall false (bench .setup) order (setOf (mailpw ∷ []) ∷ [])) (1 ∷ 0 ∷ 0 ∷ 0 ∷ 0 ∷ []) → ⊥
 no-full-marks-early c =
-    let e = marks-settled (bench .setup) well order (omega arith) false (setOf (mailpw ∷ []) ∷ []) 1 0 0 0 1 0 _ (held bench _ read-bench (further .1 .1 .0)) c in
+    let e = marks-told (bench .setup) order false (setOf (mailpw ∷ []) ∷ []) 1 0 0 0 1 _ (held bench _ read-bench (further .1 .1 .0)) c in
     let z : _≡_ {A = ℕ} 0 1 = ap (λ (l : List ℕ). getD l 4 0) e in
     omega arith
 

@@ -3,13 +3,13 @@
 use mathlib.Core.Path.{_≡_, refl}
 use mathlib.Core.Bool.{true, false}
 use mathlib.Core.List.{List}
-use mathlib.Core.Logic.{_⊎_, inl, inr, ⊎-elim}
+use mathlib.Core.Logic.{inl, inr, ⊎-elim}
 use Prim.Native.Nat.{ℕ, _-_, _^_, _≤_, _<_}
 use native.Mathlib.Omega.{arith}
 use lib.Count.{ones}
 use Rattle.vertex_set.specs.Set.{Member}
 use Rattle.vertex_set.proofs.Cases.{false-true}
-use Rattle.vertex_set.proofs.Decisions.{iff-refl, decide-yes}
+use Rattle.vertex_set.proofs.Decisions.{iff-refl}
 use Rattle.vertex_set.proofs.Sets.{in-one, none-in-zero}
 use Rattle.vertex_set.proofs.Places.{in-removed}
 use Rattle.setup.specs.Bounds.{mostEdges}
@@ -18,9 +18,10 @@ use Rattle.setup.specs.declared.Setup.{Setup}
 use Rattle.setup.specs.Setup.{row, Edge, edgeCount}
 use Rattle.setup.specs.Inner.{graphWithRow}
 use Rattle.formed.specs.WellFormed.{WellFormed}
-use Rattle.living.specs.Calls.{Call, TakeIn, TakeOut, AddEdge, RemoveEdge, Placed, CallOf}
-use Rattle.living.specs.Inner.{RowPlace, EdgeMore, EdgeLess}
-use Rattle.living.proofs.Calls.{hold-done, hold-asked, vertex-beyond, asked-colour, add-asked, add-there, add-done, remove-missing, remove-done}
+use Rattle.questions.specs.Asks.{Asks}
+use Rattle.questions.proofs.Asks.{AllYes, ask-all}
+use Rattle.living.specs.Calls.{Call, TakeIn, TakeOut, AddEdge, RemoveEdge, drawingOf, after, Redrawn, questionsOf, back, Done, CallOf}
+use Rattle.living.specs.Inner.{RowPlace, EdgeMore, EdgeLess, Placed}
 use Rattle.living.proofs.Drawing.{let-go-other, row-place, more-shaped, more-edges, less-shaped, less-edges, add-redrawn, remove-redrawn}
 use Rattle.living.proofs.Kept.{step}
 use Rattle.reference.specs.Graphs.{GraphOf}
@@ -48,8 +49,12 @@ draws s g r =
       opened = record { 0 = closureOf false (s .count) g (s .held .0) };
     }
 
-formed-after : (c : Call) (s t : Setup) → WellFormed s → CallOf c s 0 t → WellFormed t
-formed-after c s t w a = ⊎-elim (λ k. k .formed) (λ k. absurd (k .number refl)) (step s 0 t w c a)
+-- an accepted call: a yes to each question, and the setup that it leaves
+taken : (c : Call) (s t : Setup) → AllYes (questionsOf c s) → Redrawn s (after c (drawingOf s)) t → CallOf c s (back t 0)
+taken c s t y r = ask-all (back s) (Done c s) (questionsOf c s) (back t 0) y (record { numbered = refl; redrawn = r })
+
+formed-after : (c : Call) (s t : Setup) → CallOf c s (back t 0) → WellFormed t
+formed-after c s t a = ⊎-elim (λ k. k .formed) (λ k. absurd (k .number refl)) (step c s (back t 0) a)
 
 -- The graph with an edge more; the graphs without an edge that is no recovery edge.
 more : Setup → ℕ → ℕ → ℕ → Graph
@@ -62,9 +67,9 @@ unmarked : Setup → ℕ → ℕ → ℕ → Graph
 unmarked s f v c = graphWithRow (s .recovery) v c (row (s .recovery) v c)
 
 module _ (s : Setup) (w : WellFormed s) where
-  takes-in : (v : ℕ) → v < s .count → CallOf (TakeIn v) s 0 (withHeld s (withVertex (s .held .0) v))
+  takes-in : (v : ℕ) → v < s .count → CallOf (TakeIn v) s (back (withHeld s (withVertex (s .held .0) v)) 0)
   takes-in v l =
-      hold-done s v (TakeIn v) 0 (withHeld s (withVertex (s .held .0) v)) refl w l
+      taken (TakeIn v) s (withHeld s (withVertex (s .held .0) v)) (w, (l, tt))
       (record {
         count = refl;
         vertices = refl;
@@ -75,9 +80,9 @@ module _ (s : Setup) (w : WellFormed s) where
         opened = closure-of false s (s .graph) w (own-graph s w) (withVertex (s .held .0) v);
       })
 
-  takes-out : (v : ℕ) → v < s .count → Member (s .held .0) v → CallOf (TakeOut v) s 0 (withHeld s (s .held .0 - 2 ^ v))
+  takes-out : (v : ℕ) → v < s .count → Member (s .held .0) v → CallOf (TakeOut v) s (back (withHeld s (s .held .0 - 2 ^ v)) 0)
   takes-out v l m =
-      hold-done s v (TakeOut v) 0 (withHeld s (s .held .0 - 2 ^ v)) refl w l
+      taken (TakeOut v) s (withHeld s (s .held .0 - 2 ^ v)) (w, (l, tt))
       (record {
         count = refl;
         vertices = refl;
@@ -88,8 +93,9 @@ module _ (s : Setup) (w : WellFormed s) where
         opened = closure-of false s (s .graph) w (own-graph s w) (s .held .0 - 2 ^ v);
       })
 
-  beyond : (v : ℕ) → s .count ≤ v → CallOf (TakeIn v) s 13 s
-  beyond v l = hold-asked s v (TakeIn v) true 13 (decide-yes w) (vertex-beyond true (s .count) v refl l) (λ e. omega arith)
+  beyond : (v : ℕ) → s .count ≤ v → CallOf (TakeIn v) s (back s 13)
+  unfolding Asks
+  beyond v l = inr (w, inl (λ k. omega arith, refl))
 
   module _ (f v c : ℕ) (q : Placed s f v c) where
     place : RowPlace v c
@@ -107,9 +113,9 @@ module _ (s : Setup) (w : WellFormed s) where
               (more-edges (s .graph) f v c (w .shaped .graph) place (more s f v c) is-more a u b .to m);
         }
 
-    adds : (Edge (s .graph) f v c → ⊥) → edgeCount (s .graph) < mostEdges → CallOf (AddEdge f v c false) s 0 (draws s (more s f v c) (s .recovery))
+    adds : (Edge (s .graph) f v c → ⊥) → edgeCount (s .graph) < mostEdges → CallOf (AddEdge f v c false) s (back (draws s (more s f v c) (s .recovery)) 0)
     adds n l =
-        add-done s f v c false 0 (draws s (more s f v c) (s .recovery)) refl w q n l
+        taken (AddEdge f v c false) s (draws s (more s f v c) (s .recovery)) (w, (q .from, (q .to, (q .colour, (n, (l, tt))))))
         (add-redrawn s (draws s (more s f v c) (s .recovery)) f v c w q (more s f v c) (s .recovery)
         (record { count = refl; vertices = refl; isGraph = refl; isRecovery = refl; held = refl; opened = closure-of false s (more s f v c) w more-graph (s .held .0) })
         false is-more (record { marked = λ e. absurd (false-true e); unmarked = λ e. refl }))
@@ -130,9 +136,9 @@ module _ (s : Setup) (w : WellFormed s) where
             ends = λ a u b m. w .ends a u b (less-edges (s .graph) f v c (w .shaped .graph) place (less s f v c) is-less a u b .to m .0);
           }
 
-      removes : (Edge (s .recovery) f v c → ⊥) → CallOf (RemoveEdge f v c) s 0 (draws s (less s f v c) (unmarked s f v c))
+      removes : (Edge (s .recovery) f v c → ⊥) → CallOf (RemoveEdge f v c) s (back (draws s (less s f v c) (unmarked s f v c)) 0)
       removes n =
-          remove-done s f v c 0 (draws s (less s f v c) (unmarked s f v c)) refl w q e
+          taken (RemoveEdge f v c) s (draws s (less s f v c) (unmarked s f v c)) (w, (q .from, (q .to, (q .colour, (e, tt)))))
           (remove-redrawn s (draws s (less s f v c) (unmarked s f v c)) f v c w q (less s f v c) (unmarked s f v c)
           (record { count = refl; vertices = refl; isGraph = refl; isRecovery = refl; held = refl; opened = closure-of false s (less s f v c) w less-graph (s .held .0) })
           is-less (is-unmarked n))
@@ -149,11 +155,11 @@ well = reads-well bench read-bench
 abbrev one : Setup
 one = withHeld fresh (withVertex 0 mailpw)
 
-first : CallOf (TakeIn mailpw) fresh 0 one
+first : CallOf (TakeIn mailpw) fresh (back one 0)
 first = takes-in fresh well mailpw (omega arith)
 
 one-well : WellFormed one
-one-well = formed-after (TakeIn mailpw) fresh one well first
+one-well = formed-after (TakeIn mailpw) fresh one first
 
 placed : (s : Setup) → s .count ≡ 5 → Placed s ordpw mail 0
 placed s e = record { from = omega arith; to = omega arith; colour = omega arith }
@@ -169,11 +175,11 @@ few : edgeCount (one .graph) < mostEdges
 unfolding edgeCount ones
 few = let e : edgeCount (one .graph) ≡ 4 = refl in omega arith
 
-second : CallOf (AddEdge ordpw mail 0 false) one 0 two
+second : CallOf (AddEdge ordpw mail 0 false) one (back two 0)
 second = adds one one-well ordpw mail 0 (placed one refl) no-edge few
 
 two-well : WellFormed two
-two-well = formed-after (AddEdge ordpw mail 0 false) one two one-well second
+two-well = formed-after (AddEdge ordpw mail 0 false) one two second
 
 -- .. and no longer
 abbrev three : Setup
@@ -186,50 +192,53 @@ there = in-with 2 ordpw ordpw .from (inr refl)
 no-mark : Edge (two .recovery) ordpw mail 0 → ⊥
 no-mark m = none-in-zero ordpw m
 
-third : CallOf (RemoveEdge ordpw mail 0) two 0 three
+third : CallOf (RemoveEdge ordpw mail 0) two (back three 0)
 third = removes two two-well ordpw mail 0 (placed two refl) there no-mark
 
 -- mail, which is open, is taken in, and its opener out
 abbrev four : Setup
 four = withHeld one (withVertex (withVertex 0 mailpw) mail)
 
-fourth : CallOf (TakeIn mail) one 0 four
+fourth : CallOf (TakeIn mail) one (back four 0)
 fourth = takes-in one one-well mail (omega arith)
 
 four-well : WellFormed four
-four-well = formed-after (TakeIn mail) one four one-well fourth
+four-well = formed-after (TakeIn mail) one four fourth
 
 abbrev five : Setup
 five = withHeld four (withVertex (withVertex 0 mailpw) mail - 2 ^ mailpw)
 
-fifth : CallOf (TakeOut mailpw) four 0 five
+fifth : CallOf (TakeOut mailpw) four (back five 0)
 fifth = takes-out four four-well mailpw (omega arith) (in-with (withVertex 0 mailpw) mail mailpw .from (inl (in-with 0 mailpw mailpw .from (inr refl))))
 
 -- .. or taken out itself
 abbrev six : Setup
 six = withHeld four (withVertex (withVertex 0 mailpw) mail - 2 ^ mail)
 
-sixth : CallOf (TakeOut mail) four 0 six
+sixth : CallOf (TakeOut mail) four (back six 0)
 sixth = takes-out four four-well mail (omega arith) (in-with (withVertex 0 mailpw) mail mail .from (inr refl))
 
 -- held already
 abbrev seven : Setup
 seven = withHeld one (withVertex (withVertex 0 mailpw) mailpw)
 
-seventh : CallOf (TakeIn mailpw) one 0 seven
+seventh : CallOf (TakeIn mailpw) one (back seven 0)
 seventh = takes-in one one-well mailpw (omega arith)
 
 -- refused
-colour-eight : CallOf (AddEdge ordpw mail 8 false) one 18 one
-colour-eight = add-asked one ordpw mail 8 false true 18 (decide-yes one-well) (asked-colour true (one .count) ordpw mail 8 refl (omega arith) (omega arith) (omega arith)) (λ e. omega arith)
+colour-eight : CallOf (AddEdge ordpw mail 8 false) one (back one 18)
+unfolding Asks
+colour-eight = inr (one-well, inr (omega arith, inr (omega arith, inl (λ k. omega arith, refl))))
 
-not-there : CallOf (RemoveEdge ordpw mail 0) one 20 one
-not-there = remove-missing one ordpw mail 0 one-well (placed one refl) no-edge
+not-there : CallOf (RemoveEdge ordpw mail 0) one (back one 20)
+unfolding Asks
+not-there = inr (one-well, inr (omega arith, inr (omega arith, inr (omega arith, inl (no-edge, refl)))))
 
-same-edge : CallOf (AddEdge mailpw mail 0 true) fresh 19 fresh
-same-edge = add-there fresh mailpw mail 0 true well (record { from = omega arith; to = omega arith; colour = omega arith }) (in-one 1 1 .from refl)
+same-edge : CallOf (AddEdge mailpw mail 0 true) fresh (back fresh 19)
+unfolding Asks
+same-edge = inr (well, inr (omega arith, inr (omega arith, inr (omega arith, inl (λ n. n (in-one 1 1 .from refl), refl)))))
 
-sixth-item : CallOf (TakeIn 5) one 13 one
+sixth-item : CallOf (TakeIn 5) one (back one 13)
 sixth-item = beyond one one-well 5 (omega arith)
 
 -- ---- what is held and opened then, computed

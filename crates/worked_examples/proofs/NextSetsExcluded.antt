@@ -4,22 +4,25 @@ use mathlib.Core.Path.{_≡_, refl, sym, ap, subst}
 use mathlib.Core.Bool.{false}
 use mathlib.Core.List.{List, [], _∷_}
 use mathlib.Core.Logic.{inl, inr, ⊎-elim}
-use Prim.Native.Nat.{ℕ, _<_}
+use Prim.Native.Nat.{ℕ}
 use native.Mathlib.Omega.{arith}
 use lib.Count.{ones, onesIn}
 use lib.ListN.{getD}
 use Rattle.vertex_set.specs.Order.{Before}
-use Rattle.vertex_set.proofs.Cases.{same-or}
-use Rattle.vertex_set.proofs.Sets.{in-one, member-below}
+use Rattle.vertex_set.proofs.Sets.{in-one}
 use Rattle.setup.specs.declared.Setup.{Setup}
 use Rattle.setup.specs.Setup.{Chosen}
 use Rattle.formed.specs.WellFormed.{WellFormed}
 use Rattle.bases.specs.Base.{Base}
 use Rattle.next_sets.specs.Next.{OfInitial, NextSet}
-use Rattle.next_sets.specs.Answers.{NextCall}
-use Rattle.next_sets.specs.Walks.{Walk}
-use Rattle.next_sets.proofs.Calls.{next-answers}
-use Rattle.next_sets.proofs.Unique.{one-next-answer}
+use Rattle.questions.specs.Contract.{Outcome, refuses, ends, turnsAway, Answers, Fulfils}
+use Rattle.questions.specs.Questions.{asks12, asks13}
+use Rattle.questions.proofs.Asks.{first-no}
+use Rattle.questions.proofs.Contract.{fulfilled, given, fulfils-once}
+use Rattle.next_sets.specs.Answers.{asks21, Next, Shown, End, nextValues, nextCall}
+use Rattle.next_sets.specs.Walks.{Tells, Walk}
+use Rattle.next_sets.proofs.Unique.{one-next}
+use Rattle.next_sets.proofs.Walks.{told-right}
 use Rattle.worked_examples.specs.Sheets.{ring, seed}
 use Rattle.worked_examples.proofs.Reading.{reads-well, read-ring}
 use Rattle.worked_examples.proofs.Table.{held, further-holds}
@@ -38,8 +41,8 @@ base : Base false s (s .graph) seed (8 ∷ 5 ∷ 6 ∷ [])
 base = held ring (λ (t : Setup). Base false t (t .graph) seed (8 ∷ 5 ∷ 6 ∷ [])) read-ring (further-holds .1 .1 .1 .1 .1 .1 .1 .1 .1 .0)
 
 -- two answers after one set have the same values
-same : (last : ℕ) (v v′ : List ℕ) → NextCall s seed last 0 v → NextCall s seed last 0 v′ → v ≡ v′
-same last v v′ a b = one-next-answer s seed last 0 0 v v′ a b .values
+same : (last : ℕ) (a b : Next) → Tells s seed last a → Tells s seed last b → nextValues a ≡ nextValues b
+same last a b f g = ap (λ (o : Outcome). o .reply .values) (fulfils-once (nextCall s seed last) (one-next s seed last) _ _ f g)
 
 other-set : {x y : ℕ} → 1 ∷ x ∷ [] ≡ 1 ∷ y ∷ [] → x ≡ y
 other-set e = ap (λ (l : List ℕ). getD l 1 0) e
@@ -48,24 +51,24 @@ not-both : {x : ℕ} → 1 ∷ x ∷ [] ≡ 0 ∷ [] → ⊥
 not-both e = let z : _≡_ {A = ℕ} 1 0 = ap (λ (l : List ℕ). getD l 0 0) e in omega arith
 
 -- The order of set numbers alone: {pwdBackup, device}, 5, before {seed}, 8.
-pub no-number-order : NextCall s seed 0 0 (1 ∷ 5 ∷ []) → ⊥
-no-number-order c = let e = other-set (same 0 (1 ∷ 8 ∷ []) (1 ∷ 5 ∷ []) (shown .0) c) in omega arith
+pub no-number-order : Tells s seed 0 (Shown 5) → ⊥
+no-number-order c = let e = other-set (same 0 (Shown 8) (Shown 5) (shown .0) c) in omega arith
 
 -- .. and "no more" behind {seed}, since no set of the list has a larger number.
-pub no-end-by-number : NextCall s seed 8 0 (0 ∷ []) → ⊥
-no-end-by-number c = not-both (same 8 (1 ∷ 5 ∷ []) (0 ∷ []) (shown .1 .0) c)
+pub no-end-by-number : Tells s seed 8 End → ⊥
+no-end-by-number c = not-both (same 8 (Shown 5) End (shown .1 .0) c)
 
 -- At or after: the same set again.
-pub no-same-again : NextCall s seed 8 0 (1 ∷ 8 ∷ []) → ⊥
-no-same-again c = let e = other-set (same 8 (1 ∷ 5 ∷ []) (1 ∷ 8 ∷ []) (shown .1 .0) c) in omega arith
+pub no-same-again : Tells s seed 8 (Shown 8) → ⊥
+no-same-again c = let e = other-set (same 8 (Shown 5) (Shown 8) (shown .1 .0) c) in omega arith
 
 -- Larger sizes alone: the second set of two items is lost.
-pub no-larger-sizes-alone : NextCall s seed 5 0 (0 ∷ []) → ⊥
-no-larger-sizes-alone c = not-both (same 5 (1 ∷ 6 ∷ []) (0 ∷ []) (shown .1 .1 .0) c)
+pub no-larger-sizes-alone : Tells s seed 5 End → ⊥
+no-larger-sizes-alone c = not-both (same 5 (Shown 6) End (shown .1 .1 .0) c)
 
 -- Any set that opens seed: {pwdBackup, seed}, 9, of which {seed} is a part.
-pub no-loose-set : NextCall s seed 6 0 (1 ∷ 9 ∷ []) → ⊥
-no-loose-set c = not-both (same 6 (1 ∷ 9 ∷ []) (0 ∷ []) c (shown .1 .1 .1))
+pub no-loose-set : Tells s seed 6 (Shown 9) → ⊥
+no-loose-set c = not-both (same 6 (Shown 9) End c (shown .1 .1 .1))
 
 -- ---- a last set that is not in the list
 
@@ -76,10 +79,8 @@ four-before-eight = inr (refl, omega arith)
 device-initial : OfInitial s 4
 device-initial = record { each = λ v m. subst (Chosen false s) (sym (in-one 2 v .to m)) refl }
 
-after-device : NextCall s seed 4 0 (1 ∷ 8 ∷ [])
-after-device =
-    next-answers s seed 4 well (omega arith) device-initial 0 (1 ∷ 8 ∷ [])
-    (record { either = inl (record { set = 8; isNext = next; numbered = refl; told = refl }) })
+after-device : Tells s seed 4 (Shown 8)
+after-device = fulfilled (nextCall s seed 4) _ (well, (omega arith, (device-initial, tt))) (given (nextCall s seed 4) (Shown 8) next tt _ refl)
   where
     next : NextSet s seed 4 8
     next =
@@ -90,14 +91,8 @@ after-device =
         }
 
 -- "No more" where the last set is not in the list, or has left it: {device} is in no list of seed, and {seed} comes after it.
-pub no-end-outside-the-list : NextCall s seed 4 0 (0 ∷ []) → ⊥
-no-end-outside-the-list c = not-both (same 4 (1 ∷ 8 ∷ []) (0 ∷ []) after-device c)
-
-passwords-initial : OfInitial s 3
-passwords-initial = record { each = λ v m. initial v (member-below 2 3 v (omega arith) m) }
-  where
-    initial : (v : ℕ) → v < 2 → Chosen false s v
-    initial v l = ⊎-elim (λ e. rw e refl) (λ n. let e : v ≡ 1 = omega (arith, n) in rw e refl) (same-or v 0)
+pub no-end-outside-the-list : Tells s seed 4 End → ⊥
+no-end-outside-the-list c = not-both (same 4 (Shown 8) End after-device c)
 
 not-three-before-eight : Before 3 8 → ⊥
 unfolding Before ones onesIn
@@ -107,11 +102,8 @@ not-three-before-eight b =
     ⊎-elim (λ l. omega (arith, l)) (λ p. let e = p .0 in omega (arith, e)) b
 
 -- The next by its place in the list: {pwdBackup, pwdManager}, 3, has none there, and is not followed by the list's first set but by 5.
-pub no-first-place : NextCall s seed 3 0 (1 ∷ 8 ∷ []) → ⊥
-no-first-place c =
-    ⊎-elim (λ h. not-three-before-eight (subst (λ (x : ℕ). Before 3 x) (sym (other-set (h .told))) (h .isNext .after)))
-    (λ e. not-both (e .told))
-    (c .answers well (omega arith) passwords-initial)
+pub no-first-place : Tells s seed 3 (Shown 8) → ⊥
+no-first-place c = not-three-before-eight (told-right s seed 3 (Shown 8) c .after)
 
 -- ---- a last set with an item that is not a starting one
 
@@ -119,5 +111,9 @@ beyond-stranger : OfInitial s 64 → ⊥
 beyond-stranger i = let e : _≡_ {A = ℕ} 0 1 = i .each 6 (in-one 6 6 .from refl) in omega arith
 
 -- 14 for 21: the last set is that of item 6, and the setup has six items. What is not in it is no starting item either.
-pub no-fourteen : NextCall s seed 64 14 [] → ⊥
-no-fourteen c = let e = c .stranger well (omega arith) beyond-stranger .numbered in omega arith
+pub no-fourteen : Fulfils (nextCall s seed 64) (ends (refuses 14) []) → ⊥
+unfolding Fulfils
+no-fourteen c =
+    let e = first-no (turnsAway []) (Answers (nextCall s seed 64)) (asks12 s ∷ asks13 s seed ∷ []) (asks21 s 64) [] _ c (well, (omega arith, tt)) beyond-stranger in
+    let z : _≡_ {A = ℕ} 14 21 = ap (λ (o : Outcome). o .reply .number) e in
+    omega arith

@@ -1,6 +1,6 @@
 -- The storeroom's sheets are pooled as the example says, and one loss is not kept.
 -- Assumes nothing.
-use mathlib.Core.Path.{_≡_, refl, sym, ap, _∙_}
+use mathlib.Core.Path.{_≡_, refl, sym, ap, subst, _∙_}
 use mathlib.Core.Bool.{true, false}
 use mathlib.Core.List.{List, [], _∷_, map}
 use mathlib.Core.Logic.{inl, inr}
@@ -16,9 +16,11 @@ use Rattle.sheet_format.specs.Text.{bytesOf, sameText, all}
 use Rattle.sheet_format.specs.Fields.{isDigit, isNameByte, isName, digitsIn, decimal}
 use Rattle.sheet_format.specs.Rows.{ItemRow, EdgeRow, Doc, Each, ValidItem, ValidEdge, Valid, firstHeader, secondHeader, startCount, lossCount, itemLines, edgeLines, render, numberIn, withEdge, withEdges, setupOf}
 use Rattle.sheet_format.specs.Questions.{isKnown}
-use Rattle.sheet_format.specs.Read.{readSheet, accepted}
+use Rattle.questions.specs.Asks.{Asks}
+use Rattle.questions.proofs.Asks.{first-no, after-all}
+use Rattle.sheet_format.specs.Read.{readSheet, accepted, asksSheet}
 use Rattle.sheet_format.proofs.Tests.{text-decided}
-use Rattle.sheet_format.proofs.Meaning.{accepted-of-valid}
+use Rattle.sheet_format.proofs.Meaning.{accepted-of-valid, rows-unique}
 use Rattle.sheet_format.proofs.Question12Yielded.{well-formed-of-valid}
 use Rattle.sheet.proofs.Names.{item-there, names-of-rows}
 use Rattle.bases.specs.Base.{Derives}
@@ -27,6 +29,7 @@ use Rattle.reference.specs.Closures.{isComplete, isBroken, colourOf, isAdded, p
 use Rattle.reference.proofs.Graphs.{own-graph}
 use Rattle.reference.proofs.Meaning.{meaning}
 use Rattle.pool_format.specs.Rows.{Agree, remaining, usesColour, lowestFree, isTaken, newColour, recoloured, pooled, Fits}
+use Rattle.pool_format.specs.Call.{asks22, asks23, asks24, poolRefusal, poolsText, PoolsRows}
 use Rattle.pool_format.specs.Meaning.{SameItem}
 use Rattle.pool_format.proofs.Lengths.{rows-short}
 use Rattle.pool_format.proofs.PooledRows.{pooled-valid}
@@ -222,11 +225,24 @@ storeroom =
 
 -- ---- a disagreement
 
+read-well : (text : List ℕ) (d : Doc) → Valid d → text ≡ render d → readSheet text .number ≡ 0
+read-well text d v e = ap (λ (r : Reading). r .number) (ap readSheet e ∙ accepted-of-valid d v)
+
+apart : Agree (first .items) (other .items) → ⊥
+apart a = let e : 1 ≡ 2 = ap (λ (v : Vertex). v .rank) (a .1 .0 .0 refl) in omega arith
+
+-- both sheets are read, the rows are theirs, and question 22 is the first that is answered no
 pub disagree : Disagree
 disagree r entry exit c =
-    c .pools first other valid-first valid-other text-first text-other .disagree (λ a.
-    let e : 1 ≡ 2 = ap (λ (v : Vertex). v .rank) (a .1 .0 .0 refl) in
-    omega arith)
+    let a = linesText firstLab in
+    let b = linesText otherLab in
+    let second = after-all (poolRefusal 1 (readSheet a .line) entry) (Asks (poolRefusal 2 (readSheet b .line) entry) (asksSheet b ∷ []) (PoolsRows a b entry)) (asksSheet a ∷ []) _ c
+    (read-well a first valid-first text-first, tt) in
+    let h = after-all (poolRefusal 2 (readSheet b .line) entry) (PoolsRows a b entry) (asksSheet b ∷ []) _ second (read-well b other valid-other text-other, tt) in
+    let d = rows-unique (h .d) first (h .valid) valid-first (sym (h .is) ∙ text-first) in
+    let e = rows-unique (h .e) other (h .validSecond) valid-other (sym (h .isSecond) ∙ text-other) in
+    first-no (poolRefusal 0 0 entry) (λ p. p ≡ poolsText (render (pooled (h .d) (h .e))) entry) [] (asks22 (h .d) (h .e)) (asks23 (h .d) (h .e) ∷ asks24 (h .d) (h .e) entry ∷ []) _
+    (h .told) tt (λ k. apart (subst (λ (x : Doc). Agree (first .items) (x .items)) e (subst (λ (x : Doc). Agree (x .items) (h .e .items)) d k)))
 
 -- ---- a loss that is not kept
 

@@ -1,6 +1,6 @@
 -- All examples of quick answers hold; and wrong quick answers that the contract excludes, each at one of them.
 -- Assumes nothing.
-use mathlib.Core.Path.{_≡_, refl, subst}
+use mathlib.Core.Path.{_≡_, refl, ap, subst}
 use mathlib.Core.Bool.{true, false}
 use mathlib.Core.List.{List, [], _∷_}
 use mathlib.Core.Logic.{_⊎_, inl, inr, ⊎-elim}
@@ -13,9 +13,12 @@ use Rattle.setup.specs.declared.Setup.{Setup}
 use Rattle.setup.specs.Calls.{Inside}
 use Rattle.derivations.specs.Derivation.{Adds}
 use Rattle.derivations.specs.Access.{Step, access, AccessFrom}
-use Rattle.quick_yes.specs.Answers.{HeldAtStop, QuickCall}
-use Rattle.quick_yes.proofs.Calls.{quick-yes, quick-no}
-use Rattle.quick_yes.proofs.Unique.{one-quick-answer}
+use Rattle.questions.specs.Contract.{Outcome, ends, turnsAway, Answers, Fulfils}
+use Rattle.questions.specs.Questions.{asks12, asks13, asks14}
+use Rattle.questions.proofs.Asks.{first-no}
+use Rattle.questions.proofs.Contract.{fulfilled, given, fulfils-once}
+use Rattle.quick_yes.specs.Answers.{HeldAtStop, quickCall}
+use Rattle.quick_yes.proofs.Unique.{one-quick}
 use Rattle.reference.specs.Tests.{lowest, some, every, isMember, isWithin, isMeeting, withVertex}
 use Rattle.reference.specs.Closures.{isComplete, isBroken, colourOf, isAdded, passOf, passesOf, closureOf, derivesOf, nextVertex, stepsOf, wayOf}
 use Rattle.reference.proofs.Graphs.{own-graph}
@@ -26,6 +29,7 @@ use Rattle.worked_examples.specs.Table.{setOf}
 use Rattle.worked_examples.specs.Quick.{AllTell}
 use Rattle.worked_examples.proofs.Reading.{_&_, reads-well, read-bench, read-closed}
 use Rattle.worked_examples.proofs.Table.{held}
+use Rattle.worked_examples.proofs.Settled.{Gives}
 use Rattle.worked_examples.proofs.Excluded.{inside}
 
 -- ---- the examples
@@ -47,23 +51,26 @@ in-held g set (e ∷ d) v =
 
 module _ (x : Sheet) (r : ReadsSheet x) (target set : ℕ) (l : target < x .setup .count) (i : Inside (x .setup) set) where
   yes-told : (q : ℕ) → derivesOf false (x .setup .count) (x .setup .graph) target set ≡ true → heldOf set (wayOf (x .setup .count) (x .setup .graph) target set) ≡ q
-      → QuickCall (x .setup) target set 0 (1 ∷ q ∷ [])
+      → Gives (quickCall (x .setup) target set) (1 ∷ q ∷ [])
   yes-told q d e =
       let w = reads-well x r in
       let steps : List Step = wayOf (x .setup .count) (x .setup .graph) target set in
-      quick-yes (x .setup) target set w l i q (subst (HeldAtStop (x .setup .graph) target set) e
+      let call = quickCall (x .setup) target set in
+      fulfilled call _ (w, (l, (i, tt))) (given call (record { opens = true; held = q }) (subst (HeldAtStop (x .setup .graph) target set) e
       (record {
         steps = steps;
         way = meaning (x .setup) (x .setup .graph) w (own-graph (x .setup) w) .way target set d;
         each = in-held (x .setup .graph) set steps;
-      }))
+      })) tt _ refl)
 
   no-told : (q : ℕ) → derivesOf false (x .setup .count) (x .setup .graph) target set ≡ false → closureOf false (x .setup .count) (x .setup .graph) set ≡ q
-      → QuickCall (x .setup) target set 0 (0 ∷ q ∷ [])
+      → Gives (quickCall (x .setup) target set) (0 ∷ q ∷ [])
   no-told q d e =
       let w = reads-well x r in
       let m = meaning (x .setup) (x .setup .graph) w (own-graph (x .setup) w) in
-      quick-no (x .setup) target set w l i q (m .shut target set d) (subst (AccessFrom (x .setup .graph) set) e (m .closure false set))
+      let call = quickCall (x .setup) target set in
+      fulfilled call _ (w, (l, (i, tt)))
+      (given call (record { opens = false; held = q }) (m .shut target set d, subst (AccessFrom (x .setup .graph) set) e (m .closure false set)) tt _ refl)
 
 inside-closed : Inside (closed .setup) 0
 inside-closed = record { each = λ v m. let k = member-below 0 0 v (omega arith) m in omega arith }
@@ -83,36 +90,44 @@ all-tell =
 -- ---- wrong answers
 
 -- what meets the contract has the example's values
-module _ (target set : ℕ) (y h : ℕ) (told : QuickCall (bench .setup) target set 0 (y ∷ h ∷ [])) where
-  no-other-set : (k : ℕ) → (k ≡ h → ⊥) → QuickCall (bench .setup) target set 0 (y ∷ k ∷ []) → ⊥
-  no-other-set k n c = let e = one-quick-answer (bench .setup) target set 0 0 (y ∷ k ∷ []) (y ∷ h ∷ []) c told .values in n cc
+module _ (target set : ℕ) (y h : ℕ) (told : Gives (quickCall (bench .setup) target set) (y ∷ h ∷ [])) where
+  only-values : (values : List ℕ) → Gives (quickCall (bench .setup) target set) values → values ≡ y ∷ h ∷ []
+  only-values values c = ap (λ (o : Outcome). o .reply .values) (fulfils-once (quickCall (bench .setup) target set) (one-quick (bench .setup) target set) _ _ c told)
 
-  no-other-word : (z k : ℕ) → (z ≡ y → ⊥) → QuickCall (bench .setup) target set 0 (z ∷ k ∷ []) → ⊥
-  no-other-word z k n c = let e = one-quick-answer (bench .setup) target set 0 0 (z ∷ k ∷ []) (y ∷ h ∷ []) c told .values in n cc
+  no-other-set : (k : ℕ) → (k ≡ h → ⊥) → Gives (quickCall (bench .setup) target set) (y ∷ k ∷ []) → ⊥
+  no-other-set k n c = let e = only-values (y ∷ k ∷ []) c in n cc
+
+  no-other-word : (z k : ℕ) → (z ≡ y → ⊥) → Gives (quickCall (bench .setup) target set) (z ∷ k ∷ []) → ⊥
+  no-other-word z k n c = let e = only-values (z ∷ k ∷ []) c in n cc
 
 abbrev AtBench : ℕ → ℕ → ℕ → ℕ → Setup → Type 0
-AtBench target set y h s = QuickCall s target set 0 (y ∷ h ∷ [])
+AtBench target set y h s = Gives (quickCall s target set) (y ∷ h ∷ [])
 
 -- Whole passes until the target is in, the closure handed back on a yes, or one step too many: {ordpw, mailpw, token} opens mail and order together.
-pub no-whole-pass : QuickCall (bench .setup) mail (setOf (ordpw ∷ mailpw ∷ token ∷ [])) 0 (1 ∷ setOf (ordpw ∷ mailpw ∷ token ∷ mail ∷ order ∷ []) ∷ []) → ⊥
+pub no-whole-pass : Gives (quickCall (bench .setup) mail (setOf (ordpw ∷ mailpw ∷ token ∷ []))) (1 ∷ setOf (ordpw ∷ mailpw ∷ token ∷ mail ∷ order ∷ []) ∷ []) → ⊥
 no-whole-pass = no-other-set mail 7 1 15 (held bench (AtBench mail 7 1 15) read-bench (all-tell .0)) 31 (omega arith)
 
 -- A pruned way: order needs no mail there, but mail is the lower item.
-pub no-pruned-way : QuickCall (bench .setup) order (setOf (ordpw ∷ mailpw ∷ token ∷ [])) 0 (1 ∷ setOf (ordpw ∷ mailpw ∷ token ∷ order ∷ []) ∷ []) → ⊥
+pub no-pruned-way : Gives (quickCall (bench .setup) order (setOf (ordpw ∷ mailpw ∷ token ∷ []))) (1 ∷ setOf (ordpw ∷ mailpw ∷ token ∷ order ∷ []) ∷ []) → ⊥
 no-pruned-way = no-other-set order 7 1 31 (held bench (AtBench order 7 1 31) read-bench (all-tell .1 .0)) 23 (omega arith)
 
 -- The closure for a target that is held.
-pub no-closure-of-held : QuickCall (bench .setup) token (setOf (mailpw ∷ token ∷ [])) 0 (1 ∷ setOf (mailpw ∷ token ∷ mail ∷ order ∷ []) ∷ []) → ⊥
+pub no-closure-of-held : Gives (quickCall (bench .setup) token (setOf (mailpw ∷ token ∷ []))) (1 ∷ setOf (mailpw ∷ token ∷ mail ∷ order ∷ []) ∷ []) → ⊥
 no-closure-of-held = no-other-set token 6 1 6 (held bench (AtBench token 6 1 6) read-bench (all-tell .1 .1 .1 .0)) 30 (omega arith)
 
 -- No, with the given set.
-pub no-set-on-no : QuickCall (bench .setup) ordpw (setOf (mailpw ∷ [])) 0 (0 ∷ setOf (mailpw ∷ []) ∷ []) → ⊥
+pub no-set-on-no : Gives (quickCall (bench .setup) ordpw (setOf (mailpw ∷ []))) (0 ∷ setOf (mailpw ∷ []) ∷ []) → ⊥
 no-set-on-no = no-other-set ordpw 2 0 26 (held bench (AtBench ordpw 2 0 26) read-bench (all-tell .1 .1 .1 .1 .0)) 2 (omega arith)
 
 -- Yes for a starting item that is not held.
-pub no-yes-for-starting : (h : ℕ) → QuickCall (bench .setup) ordpw (setOf (mailpw ∷ [])) 0 (1 ∷ h ∷ []) → ⊥
+pub no-yes-for-starting : (h : ℕ) → Gives (quickCall (bench .setup) ordpw (setOf (mailpw ∷ []))) (1 ∷ h ∷ []) → ⊥
 no-yes-for-starting h = no-other-word ordpw 2 0 26 (held bench (AtBench ordpw 2 0 26) read-bench (all-tell .1 .1 .1 .1 .0)) 1 h (omega arith)
 
 -- 14 before 13: of no item, and from a set that is outside too.
-pub no-fourteen-first : (values : List ℕ) → QuickCall (bench .setup) 5 (2 ^ 5) 14 values → ⊥
-no-fourteen-first values c = let e = c .noTarget (reads-well bench read-bench) (omega arith) .numbered in omega arith
+pub no-fourteen-first : (values : List ℕ) → Fulfils (quickCall (bench .setup) 5 (2 ^ 5)) (ends (record { number = 14; values = values }) []) → ⊥
+unfolding Fulfils
+no-fourteen-first values c =
+    let e = first-no (turnsAway []) (Answers (quickCall (bench .setup) 5 (2 ^ 5))) (asks12 (bench .setup) ∷ []) (asks13 (bench .setup) 5) (asks14 (bench .setup) (2 ^ 5) ∷ []) _ c
+    (reads-well bench read-bench, tt) (λ l. omega arith) in
+    let z : _≡_ {A = ℕ} 14 13 = ap (λ (o : Outcome). o .reply .number) e in
+    omega arith

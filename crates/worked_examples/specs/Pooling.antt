@@ -7,7 +7,7 @@ use Prim.Native.String.{String}
 use Rattle.sheet_format.specs.Read.{readSheet}
 use Rattle.bases.specs.Base.{Derives}
 use Rattle.pool_format.specs.declared.Pooled.{Pooled}
-use Rattle.pool_format.specs.Call.{PoolCall, PoolRefused}
+use Rattle.pool_format.specs.Call.{withBuffer, poolRefusal, PoolCall}
 use Rattle.pool_format.specs.Meaning.{IsPooled, SameItem}
 use Rattle.worked_examples.specs.Sheets.{linesText}
 
@@ -67,7 +67,7 @@ otherLab =
     ∷ []
 
 abbrev pub Disagree : Type 0
-Disagree = (r : Pooled) (entry exit : List ℕ) → PoolCall (linesText firstLab) (linesText otherLab) r entry exit → PoolRefused 22 0 0 r entry exit
+Disagree = (r : Pooled) (entry exit : List ℕ) → PoolCall (linesText firstLab) (linesText otherLab) r entry exit → withBuffer r exit ≡ poolRefusal 0 0 entry 22
 
 -- No such thing is promised about losses: losing the badge, item 0, takes the storeroom, item 1, away in the first lab's sheet and not in the pooled one.
 pub record LossNotKept : Type 0 where

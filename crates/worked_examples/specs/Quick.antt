@@ -2,7 +2,8 @@
 use mathlib.Core.List.{List, [], _∷_}
 use Prim.Native.Nat.{ℕ}
 use Rattle.sheet_format.specs.Rows.{Each}
-use Rattle.quick_yes.specs.Answers.{QuickCall}
+use Rattle.questions.specs.Contract.{gives, ends, Fulfils}
+use Rattle.quick_yes.specs.Answers.{quickCall}
 use Rattle.worked_examples.specs.Sheets.{Sheet, Yields, bench, ordpw, mailpw, token, mail, order, closed, only}
 use Rattle.worked_examples.specs.Table.{setOf}
 
@@ -18,7 +19,7 @@ abbrev pub quick : Sheet → ℕ → List ℕ → ℕ → List ℕ → QuickExam
 quick sheet target given opens held = record { sheet = sheet; target = target; given = given; opens = opens; held = held }
 
 abbrev pub QuickHolds : QuickExample → Type 0
-QuickHolds x = Yields (x .sheet) (λ s. QuickCall s (x .target) (setOf (x .given)) 0 (x .opens ∷ setOf (x .held) ∷ []))
+QuickHolds x = Yields (x .sheet) (λ s. Fulfils (quickCall s (x .target) (setOf (x .given))) (ends (gives (x .opens ∷ setOf (x .held) ∷ [])) []))
 
 abbrev pub quickAnswers : List QuickExample
 quickAnswers =

@@ -1,17 +1,22 @@
--- A list filled from the front, and the values of all vertices.
+-- A list filled from the front: the values of all vertices, and the family of a target.
 -- Assumes nothing.
-use mathlib.Core.Path.{_≡_, sym, ap, _∙_}
+use mathlib.Core.Path.{_≡_, sym, ap, subst, _∙_}
 use mathlib.Core.Bool.{Bool}
 use mathlib.Core.List.{List}
 use mathlib.Core.Logic.{_⊎_, ⊎-elim}
-use Prim.Native.Nat.{ℕ, _+_, _≤_, _<_}
+use Prim.Native.Nat.{ℕ, _+_, _*_, _/_, _%_, _≤_, _<_}
 use native.Mathlib.Omega.{arith}
 use lib.ListN.{length, getD, set, length-set, List·getD-eq-default}
+use Rattle.vertex_set.specs.Set.{Member, Iff}
 use Rattle.vertex_set.proofs.Cases.{less-or}
 use Rattle.vertex_set.proofs.Filling.{fill-more}
 use Rattle.setup.specs.declared.Vertex.{Vertex}
 use Rattle.setup.specs.declared.Setup.{Setup}
 use Rattle.setup.specs.Setup.{points, valueOf, unusedVertex}
+use Rattle.derivations.specs.Derivation.{Rule, Derivation}
+use Rattle.families.specs.Inner.Family.{In}
+use Rattle.families.specs.Inner.Masks.{Picked}
+use Rattle.tables.specs.Inner.Table.{Table, FamilyOfVertex}
 use Rattle.bases.specs.Inner.Readers.{Values}
 use Rattle.bases.specs.Score.{pointsAt}
 use Rattle.bases.proofs.Formed.{blank}
@@ -42,3 +47,14 @@ values-all loss s r long b = record { long = b .words; each = λ v. ⊎-elim (b 
     outside v k =
         List·getD-eq-default r 0 (let w = b .words in omega arith)
         ∙ sym (ap (λ (x : Vertex). points (valueOf loss x)) (List·getD-eq-default (s .vertices) unusedVertex (omega arith)) ∙ blank loss)
+
+-- ---- the family of a target
+
+-- the words of a table from target * 256 on, copied
+pub copied-family : (r : Rule) (chosen target : ℕ) (w out : List ℕ) → target < 64 → Table r chosen w
+    → FilledBelow (λ b. getD w (target * 256 + b) 0) 256 256 out → FamilyOfVertex r chosen target out
+unfolding In
+copied-family r chosen target w out h t b =
+    record {
+      each = λ m hm. subst (λ (x : ℕ). Iff (Member x (m % 64)) (Derivation r (Picked chosen m) target)) (sym (b .each (m / 64) (omega arith))) (t .each target m h hm);
+    }

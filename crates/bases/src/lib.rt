@@ -22,7 +22,9 @@ pub fn family_of(graph: Graph, chosen: VertexSet, loss: bool, target: usize, out
     let mut w = [0u64; TABLE];
     tables::fill(graph, chosen, loss, &mut w);
     let from = target * WORDS;
-    family_words::copy_in(out, &w[from..from + WORDS]);
+    for b in 0..WORDS {
+        out[b] = w[from + b];
+    }
 }
 
 // The start values of all vertices, or for a loss the loss values; 0 for a blank.

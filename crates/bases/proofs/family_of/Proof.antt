@@ -1,68 +1,88 @@
-use mathlib.Core.Path.{sym, subst, _∙_}
-use Prim.Native.Nat.{_+_, _-_, _*_}
+-- `bases::family_of` meets its contract. The invariant: the words before b are those of the target in the table.
+-- Assumes nothing.
+use mathlib.Core.Path.{_≡_, refl}
+use Prim.Native.Nat.{_+_, _-_, _*_, _≤_}
 use native.Mathlib.Omega.{arith}
+use lib.ListN.{getD}
 use Rattle.derivations.specs.Both.{ruleOf}
-use Rattle.families.specs.Inner.Family.{familyWords}
-use Rattle.tables.specs.Inner.Table.{FamilyOfVertex}
-use Rattle.tables.proofs.Tables.{family-of}
+use Rattle.bases.proofs.Readers.{FilledBelow, filled-none, filled-more, copied-family}
 use borrow.Author.Needs.{needs}
 use Rattle.bases.proofs.family_of.Statement.{statement}
 use Rattle.bases.proofs.family_of.Tie as tie
 
-slice-aggregate-fill : tie.Need-slice-aggregate-fill
+abbrev Inv-loop : tie.InvT-loop
+Inv-loop loss target out₀ w from b₀ out b = (b ≤ 256) × FilledBelow (λ k. getD w (from + k) 0) 256 b out
+
+abbrev μ-loop : tie.MeasureT-loop
+μ-loop loss target out₀ w from b₀ out b = 256 - b
+
+slice-aggregate-fill : tie.Need-slice-aggregate-fill Inv-loop μ-loop
 slice-aggregate-fill c = search needs
 
-fill-requires : tie.Need-fill-requires
+fill-requires : tie.Need-fill-requires Inv-loop μ-loop
 fill-requires c κs = search needs
 
-mul-from : tie.Need-mul-from
+mul-from : tie.Need-mul-from Inv-loop μ-loop
 mul-from c = search needs
 
-add-copy-in : tie.Need-add-copy-in
-add-copy-in c = search needs
+loop-holds : tie.Need-loop-holds Inv-loop μ-loop
+loop-holds c = (search needs, filled-none _ 256 _ (c .before .before .before .before .pre .1))
 
-mul-copy-in : tie.Need-mul-copy-in
-mul-copy-in c = search needs
+add-out : tie.Need-add-out Inv-loop μ-loop
+add-out c = search needs
 
-sub-copy-in : tie.Need-sub-copy-in
-sub-copy-in c = search needs
+mul-out : tie.Need-mul-out Inv-loop μ-loop
+mul-out c = search needs
 
-part-copy-in-start : tie.Need-part-copy-in-start
-part-copy-in-start c = search needs
+array-read-out : tie.Need-array-read-out Inv-loop μ-loop
+array-read-out c = search needs
 
-part-copy-in-end : tie.Need-part-copy-in-end
-part-copy-in-end c = search needs
+mul-out-2 : tie.Need-mul-out-2 Inv-loop μ-loop
+mul-out-2 c = search needs
 
-copy-in-requires : tie.Need-copy-in-requires
-copy-in-requires c κs = search needs
+slice-write-out : tie.Need-slice-write-out Inv-loop μ-loop
+slice-write-out c = search needs
 
-same-length : tie.Need-same-length
+add-b : tie.Need-add-b Inv-loop μ-loop
+add-b c = search needs
+
+loop-less : tie.Need-loop-less Inv-loop μ-loop
+loop-less c = search needs
+
+loop-again : tie.Need-loop-again Inv-loop μ-loop
+loop-again c =
+    let l = c .before in
+    (omega arith, filled-more _ 256 (l .loop .b) _ (l .loop .out) (omega arith) (l .loop .inv .1) refl)
+
+same-length : tie.Need-same-length Inv-loop μ-loop
 same-length c = search needs
 
-returns : tie.Need-returns
+returns : tie.Need-returns Inv-loop μ-loop
 returns c =
-    let k = c .before .before in
-    let f = k .before .before .before .before .before in
-    let st = f .before .before .before in
-    let a = st .args in
-    let from = a .target * familyWords in (
-      k .copy-in .kept .0 ∙ st .pre .1,
-      subst (FamilyOfVertex (ruleOf (a .loss) (a .graph)) (a .chosen .0) (a .target)) (sym (k .copy-in .ensures))
-          (family-of (ruleOf (a .loss) (a .graph)) (a .chosen .0) (a .target) (from + familyWords - from) _ (st .pre .0) (omega arith) (f .fill .ensures .1)),
-    )
+    let f = c .before .before .before in
+    let s = f .before .before .before in
+    let a = s .args in
+    let e : c .before .loop .b ≡ 256 = omega arith in
+    let all = rw e at (c .before .loop .inv .1) in
+    (all .words, copied-family (ruleOf (a .loss) (a .graph)) (a .chosen .0) (a .target) _ _ (s .pre .0) (f .fill .ensures .1) all)
 
 pub family-of-spec : {M : Type 1} → statement M
 family-of-spec =
     tie.close
     (tie.spec
+    Inv-loop
+    μ-loop
     slice-aggregate-fill
     fill-requires
     mul-from
-    add-copy-in
-    mul-copy-in
-    sub-copy-in
-    part-copy-in-start
-    part-copy-in-end
-    copy-in-requires
+    loop-holds
+    add-out
+    mul-out
+    array-read-out
+    mul-out-2
+    slice-write-out
+    add-b
+    loop-less
+    loop-again
     same-length
     returns)

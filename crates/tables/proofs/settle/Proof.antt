@@ -12,21 +12,15 @@ use Rattle.tables.proofs.settle.Statement.{statement}
 use Rattle.tables.proofs.settle.Tie as tie
 
 abbrev Inv-loop : tie.InvT-loop
-Inv-loop loss w₀ graph needs todo₀ after₀ w todo after = Settling loss graph needs w₀ w todo
+Inv-loop loss list first w₀ graph todo₀ after₀ w todo after = Settling loss graph list w₀ w todo
 
 abbrev μ-loop : tie.MeasureT-loop
-μ-loop loss w₀ graph needs todo₀ after₀ w todo after = room w * 2 ^ 64 + todo
-
-slice-aggregate-all-needed : tie.Need-slice-aggregate-all-needed Inv-loop μ-loop
-slice-aggregate-all-needed c = search needs
-
-all-needed-requires : tie.Need-all-needed-requires Inv-loop μ-loop
-all-needed-requires c κs = search needs
+μ-loop loss list first w₀ graph todo₀ after₀ w todo after = room w * 2 ^ 64 + todo
 
 loop-holds : tie.Need-loop-holds Inv-loop μ-loop
 loop-holds c =
-    let s = c .before .before .before .before in
-    settling-none _ _ _ _ (s .pre) (c .before .all-needed .ensures)
+    let s = c .before .before in
+    settling-none _ _ _ _ _ (s .pre .1 .0) (s .pre .0) (s .pre .1 .1)
 
 next-requires : tie.Need-next-requires Inv-loop μ-loop
 next-requires c κs = search needs
@@ -46,20 +40,17 @@ element-copy-out-step c = search needs
 step-requires : tie.Need-step-requires Inv-loop μ-loop
 step-requires c κs = search needs
 
-slice-aggregate-users : tie.Need-slice-aggregate-users Inv-loop μ-loop
-slice-aggregate-users c = search needs
-
 users-requires : tie.Need-users-requires Inv-loop μ-loop
 users-requires c κs = search needs
 
 loop-less : tie.Need-loop-less Inv-loop μ-loop
 loop-less c =
-    let t = c .before .before .before .before .before in
-    falls-more _ _ _ _ (t .step .ensures .more (c .before .before .if1 .taken)) (or-lt 64 _ _ (t .before .before .before .without .ok) (c .users .ok))
+    let t = c .before .before .before .before in
+    falls-more _ _ _ _ (t .step .ensures .more (c .before .if1 .taken)) (or-lt 64 _ _ (t .before .before .before .without .ok) (c .users .ok))
 
 loop-again : tie.Need-loop-again Inv-loop μ-loop
 loop-again c =
-    let t = c .before .before .before .before .before in
+    let t = c .before .before .before .before in
     let o = t .before .before .before in
     settling-more _ _ _ _ _ _ _ _ _ _ (o .before .before .before .loop .inv) (o .without .ensures) (o .before .next .ensures .place) (t .step .ensures) _ (c .users .ensures)
 
@@ -80,7 +71,7 @@ same-length c = search needs
 
 returns : tie.Need-returns Inv-loop μ-loop
 returns c =
-    let s = c .before .before .before .before .before .before in
+    let s = c .before .before .before .before in
     let long : length (s .args .t1 .rows) ≡ 64 = simp length-map at (s .good .0 .1 .1 .0 .1 .0 .1) in
     settled _ (s .args .t1) _ _ _ _ long (c .loop-test .left) (c .before .loop .inv)
 
@@ -90,8 +81,6 @@ settle-spec =
     (tie.spec
     Inv-loop
     μ-loop
-    slice-aggregate-all-needed
-    all-needed-requires
     loop-holds
     next-requires
     without-requires
@@ -99,7 +88,6 @@ settle-spec =
     mul-step
     element-copy-out-step
     step-requires
-    slice-aggregate-users
     users-requires
     loop-less
     loop-again

@@ -1,3 +1,4 @@
+pub mod Sweeps
 pub mod Parts
 pub mod Starts
 pub mod Settling

@@ -11,7 +11,7 @@ ghost use Rattle.successors.specs.Inner.{VertexOf, Successors};
 ghost use Rattle.family_words.specs.Inner.Words.{partWords, PartWhere};
 ghost use Rattle.lanes.specs.Inner.Lanes.{blockWords};
 ghost use Rattle.tables.specs.Inner.Table.{tableWords, Table};
-ghost use Rattle.tables.specs.Inner.Steps.{Stepped, Quiet, Closed, Started, Extended};
+ghost use Rattle.tables.specs.Inner.Steps.{Stepped, wayOn, Beyond, Quiet, Closed, Started, Extended};
 ghost use Rattle.tables.specs.Inner.Blocks.{blockBits, tableBlocks, AtPlace, VertexAt, BlockOf, PutBlock, Block, TableBelow};
 use families::WORDS;
 use family_words::PART;
@@ -47,17 +47,46 @@ fn step(w: &mut [u64], v: usize, rows: Rows, loss: bool) -> bool
     family_words::join(&mut w[a..a + PART], &gains)
 }
 
-// The vertex of `todo` that is looked at next: the lowest that is in `after` too, else the lowest
-// of all. So the vertices take turns.
-fn next(todo: u64, after: u64) -> usize
+// The end of a set that is not empty: its lowest vertex or, going down, its highest.
+fn end(s: u64, up: bool) -> usize
+    requires { ⌜ (s ≡ 0 → ⊥) ⌝ }
+    ensures { λ r. ⌜ VertexOf s r ⌝ }
+{
+    if up {
+        successors::lowest(s)
+    } else {
+        successors::highest(s)
+    }
+}
+
+// The vertex of `todo` that is looked at next: the first, going up or down, that is in `after` too,
+// else the first of all.
+fn next(todo: u64, after: u64, up: bool) -> usize
     requires { ⌜ (todo ≡ 0 → ⊥) ⌝ }
     ensures { λ r. ⌜ VertexOf todo r ⌝ }
 {
     let later = todo & after;
     if later == 0 {
-        return successors::lowest(todo);
+        return end(todo, up);
     }
-    successors::lowest(later)
+    end(later, up)
+}
+
+// The way to go: on while there is something later that way, else back.
+fn direction(later: u64, up: bool) -> bool
+    ensures { λ r. ⌜ r ≡ wayOn later up ⌝ }
+{
+    if later == 0 { !up } else { up }
+}
+
+// The vertices that come later than v: those above it or, going down, those below it.
+fn beyond(v: usize, up: bool) -> u64
+    requires { ⌜ v < 64 ⌝ }
+    ensures { λ r. ⌜ Beyond v up r ⌝ }
+{
+    let one: u64 = 1;
+    let below = (one << v) - 1;
+    if up { !below } else { below }
 }
 
 // The vertices that need v, by the list of all successors.
@@ -105,7 +134,8 @@ fn start(chosen: VertexSet, w: &mut [u64])
 
 // Each lane grows to what is derivable from it. At the beginning only the vertices of `first` can
 // be new in a lane. A vertex is looked at again only when a vertex that it needs has been added to
-// some lane; the vertices take turns.
+// some lane. The vertices take turns in sweeps up and down: an edge of either direction is then soon
+// followed.
 fn settle(graph: Graph, loss: bool, list: &[u64], first: u64, w: &mut [u64])
     requires { ⌜ Successors graph (now list) ⌝ }
     requires { ⌜ length (now w) ≡ blockWords ⌝ }
@@ -114,10 +144,12 @@ fn settle(graph: Graph, loss: bool, list: &[u64], first: u64, w: &mut [u64])
 {
     let mut todo: u64 = first;
     let mut after: u64 = ALL;
+    let mut up = true;
     while todo != 0 {
-        let v = next(todo, after);
+        up = direction(todo & after, up);
+        let v = next(todo, after, up);
         todo = successors::without(todo, v);
-        after = 0xFFFF_FFFF_FFFF_FFFE << v;
+        after = beyond(v, up);
         if step(w, v, graph.rows[v], loss) {
             todo = todo | users(list, v);
         }

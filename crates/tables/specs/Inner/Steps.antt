@@ -1,9 +1,10 @@
 -- Inner: what the functions below fill do to the lanes of a block.
 use mathlib.Core.Path.{_≡_}
-use mathlib.Core.Bool.{Bool, true, false}
+use mathlib.Core.Bool.{Bool, true, false, not, cond}
 use mathlib.Core.List.{List}
 use mathlib.Core.Logic.{_⊎_}
-use Prim.Native.Nat.{ℕ, _+_, _*_, _<_}
+use Prim.Native.Nat.{ℕ, _+_, _*_, _≤_, _<_}
+use lib.Dec.{eqb}
 use lib.ListN.{length}
 use Rattle.vertex_set.specs.Set.{Member, Iff}
 use Rattle.setup.specs.declared.Rows.{Rows}
@@ -22,6 +23,19 @@ pub record Stepped (loss : Bool) (rows : Rows) (v : ℕ) (w : List ℕ) (r : Boo
   pub each : (b i u : ℕ) → b < partWords → i < 64 → Iff (Lane e b i u) (Lane w b i u ⊎ ((u ≡ v) × Admits loss rows (Lane w b i)))
   pub same : r ≡ false → e ≡ w
   pub more : r ≡ true → room e < room w
+
+-- Up or down: on, while there is something later that way, else back.
+unfoldable pub wayOn : ℕ → Bool → Bool
+wayOn later up = cond (eqb later 0) (not up) up
+
+-- Going up, u comes as late as v or later; going down, later.
+unfoldable pub Later : Bool → ℕ → ℕ → Type 0
+Later true v u = v ≤ u
+Later false v u = u < v
+
+-- r is the set of the vertices that come later.
+pub record Beyond (v : ℕ) (up : Bool) (r : ℕ) : Type 0 where
+  pub each : (u : ℕ) → u < 64 → Iff (Member r u) (Later up v u)
 
 -- A vertex that is not in todo is in every lane that admits it.
 pub record Quiet (loss : Bool) (g : Graph) (todo : ℕ) (w : List ℕ) : Type 0 where

@@ -24,12 +24,12 @@ use vertex_set::VertexSet;
 pub const TABLE: usize = VERTICES * WORDS;
 
 // A block has the words of a part for each vertex, and a table has so many blocks.
-const BLOCK: usize = VERTICES * PART;
+pub const BLOCK: usize = VERTICES * PART;
 
 const BLOCKS: usize = WORDS / PART;
 
 // The bits of a mask that tell its lane within a block.
-const BLOCK_BITS: usize = 10;
+pub const BLOCK_BITS: usize = 10;
 
 // All vertices, and the word that has all 64 lanes.
 const ALL: u64 = 0xFFFF_FFFF_FFFF_FFFF;
@@ -209,6 +209,16 @@ fn first_block(graph: Graph, chosen: VertexSet, loss: bool, list: &[u64], w: &mu
 {
     start(chosen, w);
     settle(graph, loss, list, ALL, w);
+}
+
+// Fills the first block alone: a whole table, if at most ten vertices are chosen.
+pub fn fill_block(graph: Graph, chosen: VertexSet, loss: bool, x: &mut [u64])
+    requires { ⌜ length (now x) ≡ blockWords ⌝ }
+    ensures { λ _. ⌜ Block (ruleOf loss graph) (chosen .0) 0 (now (x .exit)) ⌝ }
+{
+    let mut list = [0u64; 64];
+    successors::fill(graph, &mut list);
+    first_block(graph, chosen, loss, &list, x);
 }
 
 // Copies block b of the table w to x.

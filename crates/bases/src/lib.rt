@@ -84,7 +84,8 @@ pub fn score_of(s: Setup, graph: Graph, loss: bool, target: usize) -> u64
     let mut family = [0u64; WORDS];
     family_of(graph, chosen, loss, target, &mut family);
     let mut minimal = [0u64; WORDS];
-    families::minimal_members(&family, &mut minimal);
+    let words = families::words_for(chosen);
+    families::minimal_members(&family, words, &mut minimal);
     least_sums::least_sum(&minimal, chosen, values)
 }
 
@@ -103,7 +104,8 @@ pub fn both_families(
     ensures { λ r. ⌜ BothFamilies loss s graph target (chosen .0) (now (family .exit)) (now (minimal .exit)) r ⌝ }
 {
     family_of(graph, chosen, loss, target, family);
-    families::minimal_members(family, minimal);
+    let words = families::words_for(chosen);
+    families::minimal_members(family, words, minimal);
     families::count_members(minimal)
 }
 

@@ -14,11 +14,14 @@ use borrow.Rule.Slice.PartMut.{putMid}
 use Rattle.vertex_set.specs.Set.{Member, Within, Iff}
 use Rattle.vertex_set.proofs.Cases.{same-or, less-or}
 use Rattle.vertex_set.proofs.Decisions.{iff-trans}
+use Rattle.vertex_set.proofs.Sets.{member-below}
 use Rattle.vertex_set.proofs.Shifts.{in-low, in-high}
 use Rattle.setup.specs.declared.Graph.{Graph}
+use Rattle.setup.specs.Setup.{rowsAt}
 use Rattle.derivations.specs.Derivation.{Rule, Derivation}
 use Rattle.derivations.specs.Both.{ruleOf}
-use Rattle.successors.specs.Inner.{Without}
+use Rattle.derivations.proofs.Admits.{admits-local, admits-some}
+use Rattle.successors.specs.Inner.{Without, Successors, AllSuccessors}
 use Rattle.successors.proofs.Members.{Passed, passed-none, passed-more, passed-all, left-within}
 use Rattle.families.specs.Inner.Masks.{placeAmong, Picked}
 use Rattle.families.proofs.Exact.{place-lt}
@@ -242,6 +245,17 @@ module _ (loss : Bool) (g : Graph) (chosen : ℕ) where
             (same-derivable loss g (Lane w j i) (Picked chosen (0 * 1024 + (j * 64 + i)))
             (λ u. let q : j * 64 + i ≡ 0 * 1024 + (j * 64 + i) = omega arith in
             subst (λ (m : ℕ). Iff (Lane w j i u) (Picked chosen m u)) q (s .each j i u hj hi)) v);
+      }
+
+  -- at its start only the successors of chosen vertices can be new: a vertex that needs none of a lane is not admitted by it
+  pub start-quiet : (list w : List ℕ) (first : ℕ) → chosen < 2 ^ 64 → Successors g list → AllSuccessors list chosen first → Started chosen w → Quiet loss g first w
+  unfolding Picked
+  start-quiet list w first fits s a t =
+      record {
+        each = λ v l no b i hb hi m. absurd (admits-some loss (rowsAt g v) (λ _. ⊥) (λ j f. f) (admits-local loss (rowsAt g v) (Lane w b i) (λ _. ⊥)
+            (λ c j r p.
+            let k = t .each b i j hb hi .to p .0 in
+            no (a .each v .from (record { vertex = j; holds = k; edge = s .each j v (member-below 64 chosen j fits k) .from (record { colour = c; member = r }) }))) m));
       }
 
   pub block-quiet : (b : ℕ) (x : List ℕ) → Block (ruleOf loss g) chosen b x → Quiet loss g 0 x

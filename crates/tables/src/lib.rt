@@ -201,14 +201,16 @@ fn widen(graph: Graph, chosen: VertexSet, loss: bool, list: &[u64], k: usize, w:
     extend(graph, loss, list, v, w);
 }
 
-// The block of the masks below 1,024.
+// The block of the masks below 1,024. At the beginning a lane has chosen vertices alone, so only a
+// vertex that needs one of them can be new.
 fn first_block(graph: Graph, chosen: VertexSet, loss: bool, list: &[u64], w: &mut [u64])
     requires { ⌜ Successors graph (now list) ⌝ }
     requires { ⌜ length (now w) ≡ blockWords ⌝ }
     ensures { λ _. ⌜ Block (ruleOf loss graph) (chosen .0) 0 (now (w .exit)) ⌝ }
 {
     start(chosen, w);
-    settle(graph, loss, list, ALL, w);
+    let first = successors::of_set(list, chosen.0);
+    settle(graph, loss, list, first, w);
 }
 
 // Fills the first block alone: a whole table, if at most ten vertices are chosen.

@@ -19,13 +19,13 @@ use Rattle.setup.specs.Setup.{ChosenSet}
 use Rattle.formed.specs.WellFormed.{WellFormed}
 use Rattle.derivations.specs.Derivation.{Derivation}
 use Rattle.derivations.specs.Both.{ruleOf}
-use Rattle.families.specs.Inner.Family.{familyWords, masks, In, MinimalMembers, size}
+use Rattle.families.specs.Inner.Family.{familyWords, masks, In, MinimalMembers, size, LeastBelow}
 use Rattle.families.specs.Inner.Masks.{SetOfMask}
-use Rattle.families.specs.Inner.Exact.{OnChosen}
+use Rattle.families.specs.Inner.Exact.{OnChosen, WordsFor}
 use Rattle.family_lists.specs.Inner.Lists.{ListOf, LeastSum}
 use Rattle.families.proofs.Families.{in-or}
 use Rattle.families.proofs.Masks.{spread, set-of}
-use Rattle.families.proofs.Exact.{minimal-on-chosen}
+use Rattle.families.proofs.Exact.{minimal-on-chosen, least-below}
 use Rattle.family_lists.proofs.Order.{Words}
 use Rattle.family_lists.proofs.SetLists.{setsOf, list-of, length-sets-of}
 use Rattle.family_lists.proofs.SetsOfFamily.{Has, MaskFor, mask-for, set-for, smallest-within, list-smallest}
@@ -40,6 +40,11 @@ use Rattle.bases.specs.Score.{sumOf, Score}
 pub on-chosen : (loss : Bool) (g : Graph) (target chosen : ℕ) (f m : List ℕ) → FamilyOfVertex (ruleOf loss g) chosen target f → MinimalMembers f m → OnChosen chosen m
 on-chosen loss g target chosen f m fam min =
     minimal-on-chosen chosen (λ held. Derivation (ruleOf loss g) held target) (derivation-rising loss g target) f fam m min
+
+-- so they are all in the words of the chosen vertices' masks
+pub least-words : (loss : Bool) (g : Graph) (target chosen : ℕ) (f : List ℕ) (n : ℕ) → FamilyOfVertex (ruleOf loss g) chosen target f → WordsFor chosen n → LeastBelow n f
+least-words loss g target chosen f n fam w =
+    least-below chosen (λ held. Derivation (ruleOf loss g) held target) (derivation-rising loss g target) f fam n w
 
 -- a base lists exactly the minimal sets
 pub base-exactly : (loss : Bool) (s : Setup) (g : Graph) (target : ℕ) (l : List ℕ) → Iff (Base loss s g target l) (ListsExactly (MinimalSet loss s g target) l)

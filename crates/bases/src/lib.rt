@@ -1,28 +1,62 @@
 // Bases and scores, read from a table of all subsets.
 ghost use mathlib.Core.Path.{_≡_};
-ghost use Prim.Native.Nat.{_<_};
+ghost use Prim.Native.Nat.{_≤_, _<_};
+ghost use lib.Count.{ones};
 ghost use lib.ListN.{length};
 ghost use Rattle.formed.specs.WellFormed.{WellFormed};
 ghost use Rattle.derivations.specs.Both.{ruleOf};
+ghost use Rattle.tables.specs.Inner.Blocks.{blockBits};
 ghost use Rattle.tables.specs.Inner.Table.{FamilyOfVertex};
 ghost use Rattle.families.specs.Inner.Family.{familyWords};
 ghost use Rattle.bases.specs.Inner.Readers.{CanList, BaseFamily, BothFamilies, Values, ScoreBoth};
 use families::WORDS;
+use family_words::PART;
 use setup::Graph;
 use setup::Setup;
+use tables::BLOCK;
+use tables::BLOCK_BITS;
 use tables::TABLE;
 use vertex_set::VertexSet;
 
-// The family of the sets of chosen vertices from which the target has a derivation. The table of
-// all vertices is a local of this function alone.
-pub fn family_of(graph: Graph, chosen: VertexSet, loss: bool, target: usize, out: &mut [u64])
+// The family of the sets of chosen vertices from which the target has a derivation, by a table of
+// all vertices. The table is a local of this function alone.
+fn family_by_table(graph: Graph, chosen: VertexSet, loss: bool, target: usize, out: &mut [u64])
     requires { ⌜ (target < 64) × (length (now out) ≡ familyWords) ⌝ }
     ensures { λ _. ⌜ (length (now (out .exit)) ≡ familyWords) × FamilyOfVertex (ruleOf loss graph) (chosen .0) target (now (out .exit)) ⌝ }
 {
     let mut w = [0u64; TABLE];
     tables::fill(graph, chosen, loss, &mut w);
     let from = target * WORDS;
-    family_words::copy_in(out, &w[from..from + WORDS]);
+    for b in 0..WORDS {
+        out[b] = w[from + b];
+    }
+}
+
+// The same by one block of a table. At most ten vertices are chosen: no mask's set heeds a bit that
+// tells blocks apart, so the target's words of one block are those of every block.
+fn family_by_block(graph: Graph, chosen: VertexSet, loss: bool, target: usize, out: &mut [u64])
+    requires { ⌜ (target < 64) × (length (now out) ≡ familyWords) ⌝ }
+    requires { ⌜ ones (chosen .0) ≤ blockBits ⌝ }
+    ensures { λ _. ⌜ (length (now (out .exit)) ≡ familyWords) × FamilyOfVertex (ruleOf loss graph) (chosen .0) target (now (out .exit)) ⌝ }
+{
+    let mut x = [0u64; BLOCK];
+    tables::fill_block(graph, chosen, loss, &mut x);
+    let from = target * PART;
+    for b in 0..WORDS {
+        out[b] = x[from + b % PART];
+    }
+}
+
+// The family of the sets of chosen vertices from which the target has a derivation.
+pub fn family_of(graph: Graph, chosen: VertexSet, loss: bool, target: usize, out: &mut [u64])
+    requires { ⌜ (target < 64) × (length (now out) ≡ familyWords) ⌝ }
+    ensures { λ _. ⌜ (length (now (out .exit)) ≡ familyWords) × FamilyOfVertex (ruleOf loss graph) (chosen .0) target (now (out .exit)) ⌝ }
+{
+    if u64::count_ones(chosen.0) as usize <= BLOCK_BITS {
+        family_by_block(graph, chosen, loss, target, out);
+        return;
+    }
+    family_by_table(graph, chosen, loss, target, out);
 }
 
 // The start values of all vertices, or for a loss the loss values; 0 for a blank.
@@ -50,7 +84,8 @@ pub fn score_of(s: Setup, graph: Graph, loss: bool, target: usize) -> u64
     let mut family = [0u64; WORDS];
     family_of(graph, chosen, loss, target, &mut family);
     let mut minimal = [0u64; WORDS];
-    families::minimal_members(&family, &mut minimal);
+    let words = families::words_for(chosen);
+    families::minimal_members(&family, words, &mut minimal);
     least_sums::least_sum(&minimal, chosen, values)
 }
 
@@ -69,7 +104,8 @@ pub fn both_families(
     ensures { λ r. ⌜ BothFamilies loss s graph target (chosen .0) (now (family .exit)) (now (minimal .exit)) r ⌝ }
 {
     family_of(graph, chosen, loss, target, family);
-    families::minimal_members(family, minimal);
+    let words = families::words_for(chosen);
+    families::minimal_members(family, words, minimal);
     families::count_members(minimal)
 }
 

@@ -3,22 +3,23 @@
 use mathlib.Core.Path.{_≡_, refl, sym, subst, _∙_}
 use mathlib.Core.Logic.{_⊎_, ⊎-elim}
 use mathlib.Core.List.{List}
-use Prim.Native.Nat.{ℕ, _+_, _-_, _/_, _%_, _^_, _≤_, _<_}
+use Prim.Native.Nat.{ℕ, _+_, _-_, _*_, _/_, _%_, _^_, _≤_, _<_}
 use native.Mathlib.Numerals.{add-one}
 use native.Mathlib.Omega.{arith}
-use lib.ListN.{length, getD, drop, set, List·getD-eq-default}
+use lib.ListN.{length, getD, drop, set, length-set, List·getD-eq-default}
 use lib.Seq.{drop-cons, drop-length, getD-set-same, getD-set-other}
 use lib.Pow.{pow-add}
 use lib.Count.{ones}
 use Rattle.vertex_set.specs.Set.{Member, Iff}
 use Rattle.vertex_set.proofs.Cases.{less-or, same-or}
 use Rattle.vertex_set.proofs.Decisions.{iff-refl}
+use Rattle.vertex_set.proofs.Filling.{fill-more}
 use Rattle.vertex_set.proofs.Sets.{none-in-zero, member-or, member-below}
 use Rattle.vertex_set.proofs.Places.{member-le}
 use Rattle.vertex_set.proofs.Shifts.{in-low, in-high}
 use Rattle.vertex_set.proofs.Subsets.{proper-lacks, within-removed, removed-proper, proper-less}
-use Rattle.families.specs.Inner.Family.{In, size, Monotone, Minimal, Least, MinimalMembers}
-use Rattle.families.specs.Inner.Steps.{StepInWord, LeastLane, LeastWord}
+use Rattle.families.specs.Inner.Family.{In, size, Monotone, Minimal, Least, MinimalMembers, LeastBelow}
+use Rattle.families.specs.Inner.Steps.{StepInWord, LeastLane, LeastWord, ClearedFrom}
 
 -- ---- one mask
 
@@ -86,7 +87,7 @@ least-lane f m l =
     }
 
 -- in a monotone family one step down is enough
-least-minimal : (f : List ℕ) (m : ℕ) → Monotone f → m < 16384 → Least f m → Minimal f m
+pub least-minimal : (f : List ℕ) (m : ℕ) → Monotone f → m < 16384 → Least f m → Minimal f m
 least-minimal f m mono h l =
     record {
       is = l .is;
@@ -98,6 +99,66 @@ least-minimal f m mono h l =
 
 pub minimal-least : (f : List ℕ) (m : ℕ) → Minimal f m → Least f m
 minimal-least f m l = record { is = l .is; none = λ j k i. l .none (m - 2 ^ j) (removed-proper m j k) i }
+
+-- the words from n to b are 0
+pub record ClearedTo (n b : ℕ) (d : List ℕ) : Type 0 where
+  pub words : length d ≡ 256
+  pub place : b ≤ 256
+  pub each : (k : ℕ) → n ≤ k → k < b → getD d k 0 ≡ 0
+
+pub cleared-none : (n : ℕ) (d : List ℕ) → length d ≡ 256 → n ≤ 256 → ClearedTo n n d
+cleared-none n d e h = record { words = e; place = h; each = λ k a b. absurd (omega arith) }
+
+pub cleared-more : (n b : ℕ) (d : List ℕ) → b < 256 → ClearedTo n b d → ClearedTo n (b + 1) (set d b 0)
+cleared-more n b d h c =
+    record {
+      words = length-set d b 0 ∙ c .words;
+      place = omega arith;
+      each = λ k a l. ⊎-elim
+          (λ e. subst (λ (j : ℕ). getD (set d b 0) j 0 ≡ 0) (sym e) (getD-set-same d b 0 0 (let w = c .words in omega arith)))
+          (λ o. getD-set-other d b k 0 0 o ∙ c .each k a (omega (arith, o)))
+          (same-or k b);
+    }
+
+-- a word that has no least lane
+least-none : (f : List ℕ) (n b : ℕ) → LeastBelow n f → n ≤ b → b < 256 → LeastWord f b 0
+least-none f n b l h k =
+    record {
+      each = λ i hi. record {
+        to = λ m. absurd (none-in-zero i m);
+        from = λ q.
+            let e : b ≡ (b * 64 + i) / 64 = omega arith in
+            let g : i ≡ (b * 64 + i) % 64 = omega arith in
+            let r = subst (λ (x : ℕ). LeastLane f x ((b * 64 + i) % 64)) e (subst (LeastLane f b) g q) in
+            let z = l .below (b * 64 + i) (omega arith) (lane-least f (b * 64 + i) (omega arith) r) in
+            absurd (omega arith);
+      };
+    }
+
+-- the words below b have their least lanes; those from n on are 0
+pub record LeastTo (f : List ℕ) (n b : ℕ) (g : List ℕ) : Type 0 where
+  pub place : b ≤ n
+  pub words : length g ≡ 256
+  pub done : (k : ℕ) → k < b → LeastWord f k (getD g k 0)
+  pub rest : (k : ℕ) → n ≤ k → k < 256 → getD g k 0 ≡ 0
+
+module _ (f : List ℕ) (n : ℕ) (l : LeastBelow n f) where
+  pub least-to-none : (g : List ℕ) → ClearedFrom n g → LeastTo f n 0 g
+  least-to-none g c = record { place = omega arith; words = c .words; done = λ k h. absurd (omega arith); rest = c .each }
+
+  pub least-to-more : (b r : ℕ) (g : List ℕ) → b < n → LeastTo f n b g → LeastWord f b r → LeastTo f n (b + 1) (set g b r)
+  least-to-more b r g h t w =
+      record {
+        place = omega arith;
+        words = length-set g b r ∙ t .words;
+        done = fill-more 0 (LeastWord f) g b r (let e = t .words in let p = l .place in omega arith) (t .done) w;
+        rest = λ k a o. getD-set-other g b k r 0 (omega arith) ∙ t .rest k a o;
+      }
+
+  -- so every word has its least lanes
+  pub least-to-all : (b : ℕ) (g : List ℕ) → n ≤ b → LeastTo f n b g → (k : ℕ) → k < 256 → LeastWord f k (getD g k 0)
+  least-to-all b g h t k o =
+      ⊎-elim (λ a. t .done k (omega arith)) (λ a. rw (t .rest k a o) (least-none f n k l a o)) (less-or k n)
 
 pub minimal-members : (f g : List ℕ) → ((b : ℕ) → b < 256 → LeastWord f b (getD g b 0)) → MinimalMembers f g
 unfolding In

@@ -4,15 +4,39 @@ ghost use mathlib.Core.Path.{_≡_};
 ghost use Prim.Native.Nat.{_≤_, _<_};
 ghost use lib.ListN.{length};
 ghost use lib.Count.{ones};
-ghost use Rattle.families.specs.Inner.Family.{familyWords, maskBits, size, MinimalMembers};
+ghost use Rattle.families.specs.Inner.Family.{familyWords, maskBits, size, MinimalMembers, LeastBelow};
+ghost use Rattle.families.specs.Inner.Exact.{WordsFor};
 ghost use Rattle.families.specs.Inner.Masks.{MaskOf};
-ghost use Rattle.families.specs.Inner.Steps.{StepsInWord, StepsToWord, LeastWord};
+ghost use Rattle.families.specs.Inner.Steps.{StepsInWord, StepsToWord, LeastWord, ClearedFrom};
 use vertex_set::VertexSet;
 
 // A family has 256 words of 64 bits, a bit for each of 2^14 masks. The number of masks is no mask.
 pub const WORDS: usize = 256;
 
 pub const MASKS: usize = WORDS * 64;
+
+// How many words the masks of sets of chosen vertices fill: no minimal member is in a later one.
+pub fn words_for(chosen: VertexSet) -> usize
+    requires { ⌜ ones (chosen .0) ≤ maskBits ⌝ }
+    ensures { λ r. ⌜ WordsFor (chosen .0) r ⌝ }
+{
+    let n = u64::count_ones(chosen.0) as usize;
+    if n <= 6 {
+        return 1;
+    }
+    let one: usize = 1;
+    one << (n - 6)
+}
+
+// The number of a word's members. Most words have none.
+fn count_word(x: u64) -> usize
+    ensures { λ r. ⌜ r ≡ ones x ⌝ }
+{
+    if x == 0 {
+        return 0;
+    }
+    u64::count_ones(x) as usize
+}
 
 // The number of the family's members.
 pub fn count_members(f: &[u64]) -> usize
@@ -21,7 +45,7 @@ pub fn count_members(f: &[u64]) -> usize
 {
     let mut n: usize = 0;
     for b in 0..WORDS {
-        n += u64::count_ones(f[b]) as usize;
+        n += count_word(f[b]);
     }
     n
 }
@@ -68,13 +92,27 @@ fn least_word(f: &[u64], b: usize) -> u64
     x & !(low | high)
 }
 
-// The family's minimal members, written to out. One step down is enough: the family is monotone.
-pub fn minimal_members(f: &[u64], out: &mut [u64])
+// The words from n on become 0.
+fn clear_from(n: usize, d: &mut [u64])
+    requires { ⌜ length (now d) ≡ familyWords ⌝ }
+    requires { ⌜ n ≤ familyWords ⌝ }
+    ensures { λ _. ⌜ ClearedFrom n (now (d .exit)) ⌝ }
+{
+    for b in n..WORDS {
+        d[b] = 0;
+    }
+}
+
+// The family's minimal members, written to out; they are all in the first n words. One step down is
+// enough: the family is monotone.
+pub fn minimal_members(f: &[u64], n: usize, out: &mut [u64])
     requires { ⌜ length (now f) ≡ familyWords ⌝ }
+    requires { ⌜ LeastBelow n (now f) ⌝ }
     requires { ⌜ length (now out) ≡ familyWords ⌝ }
     ensures { λ _. ⌜ MinimalMembers (now (f .entry)) (now (out .exit)) ⌝ }
 {
-    for b in 0..WORDS {
+    clear_from(n, out);
+    for b in 0..n {
         out[b] = least_word(f, b);
     }
 }

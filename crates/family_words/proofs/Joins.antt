@@ -1,4 +1,4 @@
--- A family is joined with another: either nothing is new and it stays as it is, or its words have less room to grow.
+-- A part is joined with another: either nothing is new and it stays as it is, or its words have less room to grow.
 -- Assumes nothing.
 use mathlib.Core.Path.{_≡_, sym, ap, _∙_, subst}
 use mathlib.Core.Bool.{true, not}
@@ -17,7 +17,7 @@ use Rattle.vertex_set.proofs.Cases.{same-or}
 use Rattle.vertex_set.proofs.Sets.{in-or, within-test, within-le, same-set}
 use Rattle.family_words.specs.Inner.Words.{mergedWord, Merged, room, Joined}
 use Rattle.family_words.proofs.Words.{Mapped, mapped-more}
-use Rattle.family_words.proofs.Families.{merge-family}
+use Rattle.family_words.proofs.Families.{merge-part}
 
 -- ---- room
 
@@ -64,7 +64,7 @@ pub record Joining (d₀ s d : List ℕ) (n fresh : ℕ) : Type 0 where
   pub more : (fresh ≡ 0 → ⊥) → room d < room d₀
 
 module _ (d₀ s : List ℕ) where
-  module _ (d : List ℕ) (n fresh : ℕ) (j : Joining d₀ s d n fresh) (h : n < 256) (hd : getD d n 0 < 2 ^ 64) (hs : getD s n 0 < 2 ^ 64) where
+  module _ (d : List ℕ) (n fresh : ℕ) (j : Joining d₀ s d n fresh) (h : n < 16) (hd : getD d n 0 < 2 ^ 64) (hs : getD s n 0 < 2 ^ 64) where
     old : ℕ
     old = getD d n 0
 
@@ -117,11 +117,11 @@ module _ (d₀ s : List ℕ) where
               (same-or news 0);
         }
 
-  pub joined : (d : List ℕ) (n fresh : ℕ) → Joining d₀ s d n fresh → 256 ≤ n → Joined d₀ s (not (eqb fresh 0)) d
+  pub joined : (d : List ℕ) (n fresh : ℕ) → Joining d₀ s d n fresh → 16 ≤ n → Joined d₀ s (not (eqb fresh 0)) d
   unfolding mergedWord Merged
   joined d n fresh j h =
       record {
-        family = merge-family true d₀ s d n (j .words) h;
+        family = merge-part true d₀ s d n (j .words) h;
         same = λ e. j .same (eqb-true _ _ (not-false _ e));
         more = λ e. j .more (eqb-false _ _ (not-true _ e));
       }

@@ -15,9 +15,9 @@ use Rattle.vertex_set.proofs.Decisions.{iff-trans}
 use Rattle.vertex_set.proofs.Digits.{digit, digit-lt}
 use Rattle.vertex_set.proofs.Sets.{none-in-zero}
 use Rattle.vertex_set.proofs.Shifts.{in-low, in-high, all, all-at}
-use Rattle.family_words.specs.Inner.Words.{FamilyWhere}
+use Rattle.family_words.specs.Inner.Words.{PartWhere}
 use Rattle.family_words.proofs.Words.{Mapped}
-use Rattle.family_words.proofs.Families.{mapped-family, family-as, full-word}
+use Rattle.family_words.proofs.Families.{mapped-part, part-as, full-word}
 
 -- the six patterns, and the test that each bit of each is right
 unfoldable pub patterns : List ℕ
@@ -56,9 +56,9 @@ in-block b j i h =
     (λ n. let z : digit b j ≡ 0 = omega (arith, n) in rw z (record { to = λ m. absurd (none-in-zero i m); from = λ m. absurd (omega arith) }))
     (same-or (digit b j) 1)
 
-pub start-low : (k : ℕ) (d : List ℕ) → k < 6 → FamilyWhere (λ b i. Member (getD patterns k 0) i) d → FamilyWhere (λ b i. Member (b * 64 + i) k) d
-start-low k d h l = family-as d l (λ b i hb hi. iff-trans (in-pattern k i h hi) (mask-low b i k hi h))
+pub start-low : (k : ℕ) (d : List ℕ) → k < 6 → PartWhere (λ b i. Member (getD patterns k 0) i) d → PartWhere (λ b i. Member (b * 64 + i) k) d
+start-low k d h l = part-as d l (λ b i hb hi. iff-trans (in-pattern k i h hi) (mask-low b i k hi h))
 
-pub start-high : (k : ℕ) (d₀ d : List ℕ) (n : ℕ) → 6 ≤ k → Mapped (λ b. b / 2 ^ (k - 6) % 2 * (2 ^ 64 - 1)) d₀ d n → 256 ≤ n
-    → FamilyWhere (λ b i. Member (b * 64 + i) k) d
-start-high k d₀ d n h m l = mapped-family _ _ d₀ d n m l (λ b i hb hi. iff-trans (in-block b (k - 6) i hi) (mask-high b i k hi h))
+pub start-high : (k : ℕ) (d₀ d : List ℕ) (n : ℕ) → 6 ≤ k → Mapped (λ b. b / 2 ^ (k - 6) % 2 * (2 ^ 64 - 1)) d₀ d n → 16 ≤ n
+    → PartWhere (λ b i. Member (b * 64 + i) k) d
+start-high k d₀ d n h m l = mapped-part _ _ d₀ d n m l (λ b i hb hi. iff-trans (in-block b (k - 6) i hi) (mask-high b i k hi h))

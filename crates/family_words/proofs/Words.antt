@@ -1,4 +1,4 @@
--- Loops that write a family's words one after the other: word b becomes f b, and may be read before.
+-- Loops that write a part's words one after the other: word b becomes f b, and may be read before.
 -- Assumes nothing.
 use mathlib.Core.Path.{_≡_, sym, _∙_, subst}
 use mathlib.Core.List.{List}
@@ -11,13 +11,13 @@ use Rattle.vertex_set.proofs.Cases.{same-or}
 
 -- The first n words of d are f's; the others are those of d₀ still.
 pub record Mapped (f : ℕ → ℕ) (d₀ d : List ℕ) (n : ℕ) : Type 0 where
-  pub place : n ≤ 256
-  pub words : length d ≡ 256
+  pub place : n ≤ 16
+  pub words : length d ≡ 16
   pub done : (b : ℕ) → b < n → getD d b 0 ≡ f b
   pub left : (b : ℕ) → n ≤ b → getD d b 0 ≡ getD d₀ b 0
 
 module _ (f : ℕ → ℕ) (d₀ : List ℕ) where
-  pub mapped-more : (d : List ℕ) (n x : ℕ) → Mapped f d₀ d n → n < 256 → x ≡ f n → Mapped f d₀ (set d n x) (n + 1)
+  pub mapped-more : (d : List ℕ) (n x : ℕ) → Mapped f d₀ d n → n < 16 → x ≡ f n → Mapped f d₀ (set d n x) (n + 1)
   mapped-more d n x m h e =
       record {
         place = omega arith;
@@ -30,5 +30,5 @@ module _ (f : ℕ → ℕ) (d₀ : List ℕ) where
       }
 
 -- all words written: a list of the same length that has them
-pub mapped-copy : (d₀ s d : List ℕ) (n : ℕ) → length s ≡ 256 → Mapped (λ b. getD s b 0) d₀ d n → 256 ≤ n → d ≡ s
+pub mapped-copy : (d₀ s d : List ℕ) (n : ℕ) → length s ≡ 16 → Mapped (λ b. getD s b 0) d₀ d n → 16 ≤ n → d ≡ s
 mapped-copy d₀ s d n e m h = ext-getD 0 d s (m .words ∙ sym e) (λ b l. m .done b (let w = m .words in omega arith))

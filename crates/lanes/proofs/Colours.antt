@@ -17,8 +17,8 @@ use Rattle.derivations.specs.Derivation.{Vertices}
 use Rattle.derivations.specs.Inner.Admits.{Admits}
 use Rattle.derivations.proofs.Admits.{admits-coloured}
 use Rattle.successors.specs.Inner.{Coloured, Needed}
-use Rattle.family_words.specs.Inner.Words.{At, FamilyWhere, Merged}
-use Rattle.family_words.proofs.Families.{family-as, full-word}
+use Rattle.family_words.specs.Inner.Words.{At, PartWhere, Merged}
+use Rattle.family_words.proofs.Families.{part-as, full-word}
 use Rattle.lanes.specs.Inner.Lanes.{Lane, Over, Colour, Takes, untakenWord}
 use Rattle.lanes.proofs.Over.{merged-same, below-more}
 
@@ -41,13 +41,13 @@ colour-over true P row n =
     }
 
 module _ (loss : Bool) (w : List ℕ) (row : ℕ) (out : List ℕ) where
-  pub take-none : length out ≡ 256 → row ≡ 0 → FamilyWhere (λ b i. Takes loss (At out b i) (Lane w b i) row) out
+  pub take-none : length out ≡ 16 → row ≡ 0 → PartWhere (λ b i. Takes loss (At out b i) (Lane w b i) row) out
   take-none h e = record { words = h; each = λ b i hb hi. empty-taken loss (At out b i) (Lane w b i) row e }
 
-  pub take-one : (part out′ : List ℕ) → (row ≡ 0 → ⊥) → FamilyWhere (λ b i. Over loss (Member row) (Lane w b i)) part
-      → FamilyWhere (λ b i. Merged (not loss) (At out b i) (At part b i)) out′ → FamilyWhere (λ b i. Takes loss (At out b i) (Lane w b i) row) out′
+  pub take-one : (part out′ : List ℕ) → (row ≡ 0 → ⊥) → PartWhere (λ b i. Over loss (Member row) (Lane w b i)) part
+      → PartWhere (λ b i. Merged (not loss) (At out b i) (At part b i)) out′ → PartWhere (λ b i. Takes loss (At out b i) (Lane w b i) row) out′
   take-one part out′ n p l =
-      family-as out′ l (λ b i hb hi.
+      part-as out′ l (λ b i hb hi.
       merged-same (not loss) _ _ _ _ iff-refl (iff-trans (p .each b i hb hi) (colour-over loss (Lane w b i) row n)))
 
 -- ---- all colours
@@ -81,15 +81,15 @@ colours-all true rows P n v e h k =
 
 pub record Taken (w : List ℕ) (rows : Rows) (loss : Bool) (n : ℕ) (out : List ℕ) : Type 0 where
   pub place : n ≤ 8
-  pub family : FamilyWhere (λ b i. Colours loss rows (Lane w b i) n) out
+  pub family : PartWhere (λ b i. Colours loss rows (Lane w b i) n) out
 
 module _ (w : List ℕ) (rows : Rows) where
-  pub taken-none : (loss : Bool) (x : ℕ) (out : List ℕ) → x ≡ untakenWord loss → FamilyWhere (λ b i. Member x i) out → Taken w rows loss 0 out
+  pub taken-none : (loss : Bool) (x : ℕ) (out : List ℕ) → x ≡ untakenWord loss → PartWhere (λ b i. Member x i) out → Taken w rows loss 0 out
   unfolding Over
   taken-none false x out q l =
       record {
         place = omega arith;
-        family = family-as out l (λ b i hb hi. record {
+        family = part-as out l (λ b i hb hi. record {
           to = λ m. absurd (not-empty _ i m q);
           from = λ s. let k = s .is in absurd (omega arith);
         });
@@ -97,7 +97,7 @@ module _ (w : List ℕ) (rows : Rows) where
   taken-none true x out q l =
       record {
         place = omega arith;
-        family = family-as out l (λ b i hb hi. record {
+        family = part-as out l (λ b i hb hi. record {
           to = λ m. record { each = λ c k. absurd (omega arith) };
           from = λ _. subst (λ (y : ℕ). Member y i) (sym q) (full-word i hi);
         });
@@ -105,26 +105,26 @@ module _ (w : List ℕ) (rows : Rows) where
 
   module _ (loss : Bool) (n : ℕ) where
     pub taken-more : (out out′ : List ℕ) → n < 8 → Taken w rows loss n out
-        → FamilyWhere (λ b i. Takes loss (At out b i) (Lane w b i) (rowOf rows n)) out′ → Taken w rows loss (n + 1) out′
+        → PartWhere (λ b i. Takes loss (At out b i) (Lane w b i) (rowOf rows n)) out′ → Taken w rows loss (n + 1) out′
     taken-more out out′ h g l =
         record {
           place = omega arith;
-          family = family-as out′ l (λ b i hb hi.
+          family = part-as out′ l (λ b i hb hi.
               iff-trans (merged-same (not loss) _ _ _ _ (g .family .each b i hb hi) iff-refl)
               (below-more (not loss) (λ c. Colour loss (Lane w b i) (rowOf rows c)) n));
         }
 
     pub taken-done : (s : ℕ) (out : List ℕ) → length (rows .needs) ≡ 8 → 8 ≤ n → Needed rows s → (s ≡ 0 → ⊥) → Taken w rows loss n out
-        → FamilyWhere (λ b i. Admits loss rows (Lane w b i)) out
+        → PartWhere (λ b i. Admits loss rows (Lane w b i)) out
     taken-done s out e h d z g =
         let m = some-member s z in
-        family-as out (g .family) (λ b i hb hi. colours-all loss rows (Lane w b i) n (m .0) e h (d .each (m .0) .to (m .1)))
+        part-as out (g .family) (λ b i hb hi. colours-all loss rows (Lane w b i) n (m .0) e h (d .each (m .0) .to (m .1)))
 
   -- a vertex that needs nothing has no colour
-  pub admitted-none : (loss : Bool) (s : ℕ) (out : List ℕ) → Needed rows s → s ≡ 0 → FamilyWhere (λ b i. Member 0 i) out
-      → FamilyWhere (λ b i. Admits loss rows (Lane w b i)) out
+  pub admitted-none : (loss : Bool) (s : ℕ) (out : List ℕ) → Needed rows s → s ≡ 0 → PartWhere (λ b i. Member 0 i) out
+      → PartWhere (λ b i. Admits loss rows (Lane w b i)) out
   admitted-none loss s out d z l =
-      family-as out l (λ b i hb hi. record {
+      part-as out l (λ b i hb hi. record {
         to = λ m. absurd (none-in-zero i m);
         from = λ a.
             let c = admits-coloured loss rows (Lane w b i) a in

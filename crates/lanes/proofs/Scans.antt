@@ -1,4 +1,4 @@
--- A row's vertices are passed one after the other, and the families of those passed are merged.
+-- A row's vertices are passed one after the other, and the parts of those passed are merged.
 -- Assumes nothing.
 use mathlib.Core.Path.{_≡_, sym, _∙_, subst}
 use mathlib.Core.Bool.{Bool}
@@ -13,25 +13,25 @@ use Rattle.vertex_set.proofs.Cases.{same-or}
 use Rattle.vertex_set.proofs.Decisions.{iff-trans}
 use Rattle.successors.specs.Inner.{Without}
 use Rattle.successors.proofs.Members.{Passed, passed-more, passed-all, left-within}
-use Rattle.family_words.specs.Inner.Words.{At, FamilyWhere, Merged}
-use Rattle.family_words.proofs.Families.{family-as}
+use Rattle.family_words.specs.Inner.Words.{At, PartWhere, Merged}
+use Rattle.family_words.proofs.Families.{part-as}
 use Rattle.lanes.specs.Inner.Lanes.{Lane, Over}
 use Rattle.lanes.proofs.Over.{merged-same, over-same, over-one, over-more}
 
--- the words from v * 256 on are the family of v
-pub part-lane : (w : List ℕ) (v n b i : ℕ) → b < n → Iff (At (take n (drop (v * 256) w)) b i) (Lane w b i v)
+-- the words from v * 16 on are the part of v
+pub part-lane : (w : List ℕ) (v n b i : ℕ) → b < n → Iff (At (take n (drop (v * 16) w)) b i) (Lane w b i v)
 unfolding At Lane
 part-lane w v n b i h =
-    let e : getD (take n (drop (v * 256) w)) b 0 ≡ getD w (v * 256 + b) 0 = getD-take n (drop (v * 256) w) b 0 h ∙ getD-drop (v * 256) w b 0 in
+    let e : getD (take n (drop (v * 16) w)) b 0 ≡ getD w (v * 16 + b) 0 = getD-take n (drop (v * 16) w) b 0 h ∙ getD-drop (v * 16) w b 0 in
     record { to = subst (λ (x : ℕ). Member x i) e; from = subst (λ (x : ℕ). Member x i) (sym e) }
 
 pub record Scan (any : Bool) (w : List ℕ) (row left : ℕ) (out : List ℕ) : Type 0 where
   pub within : Within left row
-  pub family : FamilyWhere (λ b i. Over any (Passed row left) (Lane w b i)) out
+  pub family : PartWhere (λ b i. Over any (Passed row left) (Lane w b i)) out
 
 module _ (any : Bool) (w : List ℕ) (row : ℕ) where
   -- the first vertex alone has been passed
-  pub scan-first : (v rest n : ℕ) (out : List ℕ) → Member row v → Without row v rest → n ≡ 256 → length out ≡ 256 → out ≡ take n (drop (v * 256) w)
+  pub scan-first : (v rest n : ℕ) (out : List ℕ) → Member row v → Without row v rest → n ≡ 16 → length out ≡ 16 → out ≡ take n (drop (v * 16) w)
       → Scan any w row rest out
   scan-first v rest n out m o h long e =
       record {
@@ -52,18 +52,18 @@ module _ (any : Bool) (w : List ℕ) (row : ℕ) where
           }
 
   -- and one more
-  pub scan-more : (left v rest n : ℕ) (out out′ : List ℕ) → Member left v → Without left v rest → n ≡ 256 → Scan any w row left out
-      → FamilyWhere (λ b i. Merged any (At out b i) (At (take n (drop (v * 256) w)) b i)) out′ → Scan any w row rest out′
+  pub scan-more : (left v rest n : ℕ) (out out′ : List ℕ) → Member left v → Without left v rest → n ≡ 16 → Scan any w row left out
+      → PartWhere (λ b i. Merged any (At out b i) (At (take n (drop (v * 16) w)) b i)) out′ → Scan any w row rest out′
   scan-more left v rest n out out′ m o h s l =
       record {
         within = left-within row left v rest (s .within) o;
-        family = family-as out′ l (λ b i hb hi.
+        family = part-as out′ l (λ b i hb hi.
             iff-trans (merged-same any _ _ _ _ (s .family .each b i hb hi) (part-lane w v n b i (omega arith)))
             (iff-trans (over-more any (Passed row left) (Lane w b i) v)
             (over-same any (λ u. Passed row left u ⊎ (u ≡ v)) (Passed row rest) (Lane w b i) (passed-more row left v rest (s .within) m o))));
       }
 
   -- nothing is left
-  pub scan-done : (left : ℕ) (out : List ℕ) → left ≡ 0 → Scan any w row left out → FamilyWhere (λ b i. Over any (Member row) (Lane w b i)) out
+  pub scan-done : (left : ℕ) (out : List ℕ) → left ≡ 0 → Scan any w row left out → PartWhere (λ b i. Over any (Member row) (Lane w b i)) out
   scan-done left out e s =
-      family-as out (s .family) (λ b i hb hi. over-same any (Passed row left) (Member row) (Lane w b i) (passed-all row left e))
+      part-as out (s .family) (λ b i hb hi. over-same any (Passed row left) (Member row) (Lane w b i) (passed-all row left e))

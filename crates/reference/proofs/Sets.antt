@@ -9,7 +9,7 @@ use native.Mathlib.Nat.{pow-suc}
 use native.Mathlib.Omega.{arith}
 use lib.Arith.{bin-ind}
 use lib.Count.{ones, ones-step, ones-cat, ones-le}
-use lib.Pow.{pow-pos, high}
+use lib.Pow.{pow-pos}
 use Rattle.vertex_set.specs.Set.{Member, Within, Iff, Decides}
 use Rattle.vertex_set.specs.Order.{Listed, Before}
 use Rattle.vertex_set.proofs.Cases.{byTest, less-or, same-or, false-true}
@@ -19,6 +19,7 @@ use Rattle.vertex_set.proofs.Places.{in-removed, removed-within}
 use Rattle.vertex_set.proofs.Sorted.{listed-append, listed-map, listed-of-map, Sorted, sorted-append, sorted-map, sorted-change}
 use Rattle.setup.specs.declared.Setup.{Setup}
 use Rattle.setup.specs.Setup.{given, valueOf, vertexAt, Chosen}
+use Rattle.successors.proofs.Members.{top-member}
 use Rattle.formed.specs.WellFormed.{WellFormed}
 use Rattle.reference.specs.Bases.{isChosen, setsOfSize, setsUpTo, setsOf}
 use Rattle.reference.proofs.Graphs.{chosen-below}
@@ -31,15 +32,6 @@ no-ones = bin-ind (λ (x : ℕ). ones x ≡ 0 → x ≡ 0) (λ e. refl) (λ x ih
 one-one : ones 1 ≡ 1
 unfolding ones
 one-one = refl
-
--- a number of n + 1 digits that is no number of n digits has the vertex n
-top-member : (n x : ℕ) → x < 2 ^ suc n → 2 ^ n ≤ x → Member x n
-unfolding Member
-top-member n x l h =
-    let p = pow-suc 2 n in
-    let e : x ≡ 1 * 2 ^ n + (x - 2 ^ n) = omega arith in
-    let q : x / 2 ^ n ≡ 1 = ap (λ (y : ℕ). y / 2 ^ n) e ∙ high 1 n {lo = x - 2 ^ n} (omega arith) in
-    rw q
 
 -- a set whose vertices are below n is below 2 ^ n
 pub below-pow : (n x : ℕ) → n ≤ 64 → ((v : ℕ) → Member x v → v < n) → x < 2 ^ n

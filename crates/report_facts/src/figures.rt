@@ -2,7 +2,7 @@
 ghost use mathlib.Core.Path.{_≡_};
 ghost use lib.ListN.{length};
 ghost use Rattle.formed.specs.WellFormed.{WellFormed};
-ghost use Rattle.lanes.specs.Inner.Lanes.{tableWords};
+ghost use Rattle.tables.specs.Inner.Table.{tableWords};
 ghost use Rattle.report_facts.specs.Inner.Facts.{HasNames, FactsOf, TablesOf};
 ghost use Rattle.report_facts.specs.Inner.Figures.{CanFill, BothScored, FindingsOf};
 use super::names;

@@ -3,7 +3,7 @@
 use mathlib.Core.Path.{_≡_, refl, sym, ap, subst, _∙_}
 use mathlib.Core.Bool.{Bool}
 use mathlib.Core.List.{List, _++_}
-use mathlib.Core.Logic.{⊎-elim}
+use mathlib.Core.Logic.{inl, inr, ⊎-elim}
 use Prim.Native.Nat.{ℕ, _+_, _*_, _^_, _≤_, _<_}
 use native.Mathlib.Omega.{arith}
 use lib.ListN.{length, getD, take, drop, set, length-append, length-drop, length-set, List·getD-eq-default}
@@ -50,6 +50,15 @@ members-most w v e h words =
 
 -- the words that are put at a vertex are its words then, and those of other vertices are kept
 module _ (w d : List ℕ) (v k : ℕ) (hw : length w ≡ 16384) (hv : v < 64) (hk : k ≡ 256) (hd : length d ≡ 256) where
+  fit : v * 256 + k ≤ length w
+  fit = omega arith
+
+  own-long : length d ≡ k
+  own-long = omega arith
+
+  table-long : length (putMid (v * 256) k w d) ≡ 16384
+  table-long = put-length w d (v * 256) k fit own-long ∙ hw
+
   words-put : wordsAt (putMid (v * 256) k w d) v ≡ d
   words-put =
       ap (take 256) (drop-at (take (v * 256) w) (d ++ drop k (drop (v * 256) w)) (v * 256) (length-take-le (v * 256) w (omega arith)))
@@ -57,17 +66,17 @@ module _ (w d : List ℕ) (v k : ℕ) (hw : length w ≡ 16384) (hv : v < 64) (h
 
   words-kept : (u : ℕ) → u < 64 → (u ≡ v → ⊥) → wordsAt (putMid (v * 256) k w d) u ≡ wordsAt w u
   words-kept u hu n =
-      let long = words-long (putMid (v * 256) k w d) u (put-length w d v k hw hv hk hd) hu in
+      let long = words-long (putMid (v * 256) k w d) u table-long hu in
       ext-getD 0 (wordsAt (putMid (v * 256) k w d) u) (wordsAt w u) (long ∙ sym (words-long w u hw hu))
       (λ i l. let h : i < 256 = omega arith in
-      word-at (putMid (v * 256) k w d) u i h ∙ put-other w d v k hw hv hk hd u i h n ∙ sym (word-at w u i h))
+      word-at (putMid (v * 256) k w d) u i h ∙ put-other w d (v * 256) k fit own-long (u * 256 + i) (⊎-elim (λ s. inl (omega arith)) (λ s. inr (omega (arith, n))) (less-or u v)) ∙ sym (word-at w u i h))
 
   -- the minimal members are put in the family's place, and their least sum is r
   pub kept-at : (low high : List ℕ) (r : ℕ) → MinimalMembers (take k (drop (v * 256) w)) d
       → LeastBy (take k (drop (v * 256) (putMid (v * 256) k w d))) low high r → KeptAt w low high v r (putMid (v * 256) k w d)
   kept-at low high r min least =
       record {
-        words = put-length w d v k hw hv hk hd;
+        words = table-long;
         own = record {
           minimal = subst (MinimalMembers (wordsAt w v)) (sym words-put) (subst (λ (n : ℕ). MinimalMembers (take n (drop (v * 256) w)) d) hk min);
           least = subst (λ (n : ℕ). LeastBy (take n (drop (v * 256) (putMid (v * 256) k w d))) low high r) hk least;

@@ -7,7 +7,7 @@ ghost use lib.ListN.{length, getD};
 ghost use Rattle.vertex_set.specs.Order.{sumOver};
 ghost use Rattle.scores.specs.Inner.Lists.{securityAt, recoverabilityAt};
 ghost use Rattle.family_lists.specs.Inner.Tables.{TablesFit};
-ghost use Rattle.lanes.specs.Inner.Lanes.{tableWords};
+ghost use Rattle.tables.specs.Inner.Table.{tableWords};
 ghost use Rattle.report_scores.specs.Inner.Scores.{CanScore, Scored, Numbers, CanRead, Listing, Summands, KeptAt, KeptAll};
 use families::WORDS;
 use scores::RecoverabilityScore;

@@ -1,7 +1,7 @@
 // Where the report of a sheet begins.
 ghost use mathlib.Core.Path.{_≡_};
 ghost use lib.ListN.{length};
-ghost use Rattle.lanes.specs.Inner.Lanes.{tableWords};
+ghost use Rattle.tables.specs.Inner.Table.{tableWords};
 ghost use Rattle.report_writer.specs.Whole.{Begun};
 use crate::steps::Cursor;
 use report_facts::Facts;

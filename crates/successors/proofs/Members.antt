@@ -1,19 +1,20 @@
--- The lowest vertex of a set, and the set without a vertex; what holds of the vertices that a loop over a set has passed.
+-- The lowest and the highest vertex of a set, and the set without a vertex; what holds of the vertices that a loop over a set has passed.
 -- Assumes nothing.
-use mathlib.Core.Path.{_≡_, sym, subst}
+use mathlib.Core.Path.{_≡_, sym, ap, subst, _∙_}
 use mathlib.Core.List.{List}
 use mathlib.Core.Logic.{_⊎_, inl, inr, ⊎-elim}
-use Prim.Native.Nat.{ℕ, _-_, _*_, _%_, _^_, _≤_, _<_}
+use Prim.Native.Nat.{ℕ, suc, _+_, _-_, _*_, _/_, _%_, _^_, _≤_, _<_}
+use native.Mathlib.Nat.{pow-suc}
 use native.Mathlib.Omega.{arith}
-use lib.Count.{trailingZeros}
-use lib.Pow.{pow-pos}
+use lib.Count.{trailingZeros, leadingZeros, leading-top}
+use lib.Pow.{pow-pos, high}
 use Rattle.vertex_set.specs.Set.{Member, Within, Iff}
 use Rattle.vertex_set.specs.Order.{Listed}
 use Rattle.vertex_set.proofs.Cases.{same-or}
 use Rattle.vertex_set.proofs.Sets.{member-below, shifted-one, none-in-zero}
 use Rattle.vertex_set.proofs.Places.{lowest-member, places-lowest, listed-places, sorted-places, in-removed, member-le}
 use Rattle.vertex_set.proofs.Sorted.{Sorted}
-use Rattle.successors.specs.Inner.{VertexOf, LowestOf, Without}
+use Rattle.successors.specs.Inner.{VertexOf, LowestOf, HighestOf, Without}
 
 pub lowest-trailing : (s : ℕ) → (s ≡ 0 → ⊥) → s < 2 ^ 64 → LowestOf s (trailingZeros 64 s)
 lowest-trailing s p h =
@@ -26,6 +27,27 @@ lowest-trailing s p h =
           ⊎-elim (λ q. omega (arith, q)) (λ q. let l = t .0 i q in omega arith)
           (subst (λ (l : List ℕ). Listed l i) e (listed-places 64 s i .from (k, member-below 64 s i h k)));
     }
+
+-- a number of n + 1 digits that is no number of n digits has the vertex n
+pub top-member : (n x : ℕ) → x < 2 ^ suc n → 2 ^ n ≤ x → Member x n
+unfolding Member
+top-member n x l h =
+    let p = pow-suc 2 n in
+    let e : x ≡ 1 * 2 ^ n + (x - 2 ^ n) = omega arith in
+    let q : x / 2 ^ n ≡ 1 = ap (λ (y : ℕ). y / 2 ^ n) e ∙ high 1 n {lo = x - 2 ^ n} (omega arith) in
+    rw q
+
+pub highest-leading : (s : ℕ) → (s ≡ 0 → ⊥) → s < 2 ^ 64 → (leadingZeros 64 s ≤ 63) × HighestOf s (63 - leadingZeros 64 s)
+highest-leading s p h =
+    let t = leading-top 64 s (omega (arith, p)) h in
+    let q = t .1 in
+    let e : 63 - leadingZeros 64 s ≡ t .0 = omega arith in (
+      omega arith,
+      subst (HighestOf s) (sym e) (record {
+        vertex = record { place = omega arith; member = top-member (t .0) s (t .3) (t .2) };
+        higher = λ i m. let l = member-below (suc (t .0)) s i (t .3) m in omega arith;
+      }),
+    )
 
 module _ (s v : ℕ) (l : VertexOf s v) where
   pub without-fits : (1 * 2 ^ v) % 2 ^ 64 ≤ s

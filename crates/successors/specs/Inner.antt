@@ -21,6 +21,11 @@ pub record LowestOf (s v : ℕ) : Type 0 where
   pub vertex : VertexOf s v
   pub lower : (i : ℕ) → Member s i → v ≤ i
 
+-- v is the highest vertex of the set s.
+pub record HighestOf (s v : ℕ) : Type 0 where
+  pub vertex : VertexOf s v
+  pub higher : (i : ℕ) → Member s i → i ≤ v
+
 -- r is the set s without the vertex v.
 pub record Without (s v r : ℕ) : Type 0 where
   pub each : (i : ℕ) → Iff (Member r i) (Member s i × (i ≡ v → ⊥))

@@ -3,7 +3,7 @@
 ghost use mathlib.Core.Path.{_≡_};
 ghost use Prim.Native.Nat.{_<_};
 ghost use lib.ListN.{length, replicate};
-ghost use Rattle.successors.specs.Inner.{VertexOf, LowestOf, Without, Needed, Noted, Successors, AllSuccessors};
+ghost use Rattle.successors.specs.Inner.{VertexOf, LowestOf, HighestOf, Without, Needed, Noted, Successors, AllSuccessors};
 use setup::Graph;
 use setup::Rows;
 use vertex_set::VERTICES;
@@ -16,6 +16,14 @@ pub fn lowest(s: u64) -> usize
     ensures { λ r. ⌜ LowestOf s r ⌝ }
 {
     u64::trailing_zeros(s) as usize
+}
+
+// The highest vertex of a set that is not empty.
+pub fn highest(s: u64) -> usize
+    requires { ⌜ (s ≡ 0 → ⊥) ⌝ }
+    ensures { λ r. ⌜ HighestOf s r ⌝ }
+{
+    63 - u64::leading_zeros(s) as usize
 }
 
 // The set without v, which is one of its vertices.

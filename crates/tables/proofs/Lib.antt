@@ -1,5 +1,7 @@
-pub mod Starts
+pub mod Sweeps
 pub mod Parts
-pub mod Needs
+pub mod Starts
 pub mod Settling
+pub mod Extending
+pub mod Blocks
 pub mod Tables

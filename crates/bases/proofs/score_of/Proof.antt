@@ -3,7 +3,7 @@ use native.Mathlib.Omega.{arith}
 use Rattle.vertex_set.proofs.Sums.{sum-over-same}
 use Rattle.family_lists.proofs.MinimalSets.{least-of-minimal}
 use Rattle.bases.specs.Score.{pointsAt}
-use Rattle.bases.proofs.Bridge.{minimal-within, score-of}
+use Rattle.bases.proofs.Bridge.{least-words, minimal-within, score-of}
 use Rattle.bases.proofs.Scores.{score-base}
 use Rattle.bases.proofs.Formed.{few, points-range}
 use borrow.Author.Needs.{needs}
@@ -22,6 +22,12 @@ slice-aggregate-family-of c = search needs
 family-of-requires : tie.Need-family-of-requires
 family-of-requires c κs = search needs
 
+words-for-requires : tie.Need-words-for-requires
+words-for-requires c κs =
+    let h = c .before .before .before .before in
+    let s = h .before in
+    few (s .args .loss) (s .args .s) (h .chosen .result .0) (s .pre .0) (h .chosen .ensures)
+
 slice-aggregate-minimal-members : tie.Need-slice-aggregate-minimal-members
 slice-aggregate-minimal-members c = search needs
 
@@ -29,7 +35,12 @@ slice-aggregate-minimal-members-2 : tie.Need-slice-aggregate-minimal-members-2
 slice-aggregate-minimal-members-2 c = search needs
 
 minimal-members-requires : tie.Need-minimal-members-requires
-minimal-members-requires c κs = search needs
+minimal-members-requires c κs =
+    let w = c .before .before in
+    let f = w .before .before in
+    let h = f .before .before .before in
+    let a = h .before .args in
+    (f .family-of .ensures .0, (least-words (a .loss) (a .graph) (a .target) (h .chosen .result .0) _ _ (f .family-of .ensures .1) (w .words-for .ensures), search needs))
 
 slice-aggregate-least-sum : tie.Need-slice-aggregate-least-sum
 slice-aggregate-least-sum c = search needs
@@ -37,7 +48,7 @@ slice-aggregate-least-sum c = search needs
 least-sum-requires : tie.Need-least-sum-requires
 least-sum-requires c κs =
     let m = c .before .before in
-    let v = m .before .before .before .before .before .before in
+    let v = m .before .before .before .before .before .before .before in
     let h = v .before in
     let st = h .before in (
       search needs,
@@ -50,7 +61,7 @@ least-sum-requires c κs =
 returns : tie.Need-returns
 returns c =
     let m = c .before .before .before in
-    let f = m .before .before .before .before in
+    let f = m .before .before .before .before .before in
     let v = f .before .before in
     let h = v .before in
     let st = h .before in
@@ -74,6 +85,7 @@ score-of-spec =
     values-of-requires
     slice-aggregate-family-of
     family-of-requires
+    words-for-requires
     slice-aggregate-minimal-members
     slice-aggregate-minimal-members-2
     minimal-members-requires

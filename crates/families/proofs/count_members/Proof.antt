@@ -20,18 +20,22 @@ abbrev μ-loop : tie.MeasureT-loop
 loop-holds : tie.Need-loop-holds Inv-loop μ-loop
 loop-holds c = search needs
 
-mul-n : tie.Need-mul-n Inv-loop μ-loop
-mul-n c = search needs
+mul-count-word : tie.Need-mul-count-word Inv-loop μ-loop
+mul-count-word c = search needs
 
-shared-slice-read-n : tie.Need-shared-slice-read-n Inv-loop μ-loop
-shared-slice-read-n c = search needs
+shared-slice-read-count-word : tie.Need-shared-slice-read-count-word Inv-loop μ-loop
+shared-slice-read-count-word c = search needs
+
+count-word-requires : tie.Need-count-word-requires Inv-loop μ-loop
+count-word-requires c κs = search needs
 
 -- a word has at most 64 ones
-few : (c : tie.After-shared-slice-known Inv-loop μ-loop) → ones (getD (c .before .before .before .args .f .now) (c .before .before .loop .b) 0) ≤ 64
-few c = ones-le 64 _ (c .shared-slice-known .given (c .before .before .loop .b) .fits)
-
-cast-n : tie.Need-cast-n Inv-loop μ-loop
-cast-n c = omega (arith, few c)
+few : (c : tie.After-count-word Inv-loop μ-loop) → c .count-word .result ≤ 64
+few c =
+    let s = c .before in
+    let l = ones-le 64 _ (s .shared-slice-known2 .given (s .before .before .loop .b) .fits) in
+    let e = c .count-word .ensures in
+    omega arith
 
 add-n : tie.Need-add-n Inv-loop μ-loop
 add-n c = omega (arith, few c)
@@ -44,11 +48,13 @@ loop-less c = search needs
 
 loop-again : tie.Need-loop-again Inv-loop μ-loop
 loop-again c =
-    let e = size-drop (c .before .before .before .args .f .now) (c .before .before .loop .b) (search needs) in
+    let l = c .before .before .before in
+    let e = size-drop (l .before .before .args .f .now) (l .loop .b) (search needs) in
+    let w = c .count-word .ensures in
     omega (arith, few c)
 
 returns : tie.Need-returns Inv-loop μ-loop
-returns c = let e = size-end (c .before .before .args .f .now) (c .before .loop .b) (omega arith) in omega arith
+returns c = let e = size-end (c .before .before .before .args .f .now) (c .before .loop .b) (omega arith) in omega arith
 
 pub count-members-spec : {M : Type 1} → statement M
 count-members-spec =
@@ -57,9 +63,9 @@ count-members-spec =
     Inv-loop
     μ-loop
     loop-holds
-    mul-n
-    shared-slice-read-n
-    cast-n
+    mul-count-word
+    shared-slice-read-count-word
+    count-word-requires
     add-n
     add-b
     loop-less

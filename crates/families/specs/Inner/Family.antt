@@ -1,6 +1,6 @@
 -- Families of masks: a truth table of 2^14 bits, kept as a list of 256 words.
 use mathlib.Core.List.{List, [], _∷_}
-use Prim.Native.Nat.{ℕ, _+_, _-_, _/_, _%_, _^_, _<_}
+use Prim.Native.Nat.{ℕ, _+_, _-_, _*_, _/_, _%_, _^_, _≤_, _<_}
 use lib.ListN.{getD}
 use lib.Count.{ones}
 use Rattle.vertex_set.specs.Set.{Member, Within, ProperlyWithin, Iff}
@@ -44,3 +44,8 @@ pub record Least (f : List ℕ) (m : ℕ) : Type 0 where
 pub record MinimalMembers (f g : List ℕ) : Type 0 where
   pub minimal : Monotone f → (m : ℕ) → m < masks → Iff (In g m) (Minimal f m)
   pub least : (m : ℕ) → m < masks → Iff (In g m) (Least f m)
+
+-- Of the masks that are least one step down all are in the first n words.
+pub record LeastBelow (n : ℕ) (f : List ℕ) : Type 0 where
+  pub place : n ≤ familyWords
+  pub below : (m : ℕ) → m < masks → Least f m → m < n * 64

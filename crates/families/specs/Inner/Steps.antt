@@ -1,8 +1,10 @@
 -- Inner: what the functions below minimal_members compute, in words b and lanes i; the mask is 64 * b + i.
+use mathlib.Core.Path.{_≡_}
 use mathlib.Core.List.{List}
-use Prim.Native.Nat.{ℕ, _-_, _^_, _<_}
-use lib.ListN.{getD}
+use Prim.Native.Nat.{ℕ, _-_, _^_, _≤_, _<_}
+use lib.ListN.{length, getD}
 use Rattle.vertex_set.specs.Set.{Member, Iff}
+use Rattle.families.specs.Inner.Family.{familyWords}
 
 -- A lane that has one bit fewer than i is in the word x.
 abbrev pub StepInWord : ℕ → ℕ → Type 0
@@ -26,3 +28,8 @@ pub record LeastLane (f : List ℕ) (b i : ℕ) : Type 0 where
 
 pub record LeastWord (f : List ℕ) (b r : ℕ) : Type 0 where
   pub each : (i : ℕ) → i < 64 → Iff (Member r i) (LeastLane f b i)
+
+-- The words from n on are 0.
+pub record ClearedFrom (n : ℕ) (d : List ℕ) : Type 0 where
+  pub words : length d ≡ familyWords
+  pub each : (b : ℕ) → n ≤ b → b < familyWords → getD d b 0 ≡ 0

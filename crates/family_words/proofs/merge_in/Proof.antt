@@ -7,7 +7,7 @@ use lib.ListN.{getD}
 use borrow.Author.Needs.{needs}
 use Rattle.family_words.specs.Inner.Words.{mergedWord}
 use Rattle.family_words.proofs.Words.{Mapped, mapped-more}
-use Rattle.family_words.proofs.Families.{merge-family}
+use Rattle.family_words.proofs.Families.{merge-part}
 use Rattle.family_words.proofs.merge_in.Statement.{statement}
 use Rattle.family_words.proofs.merge_in.Tie as tie
 
@@ -15,7 +15,7 @@ abbrev Inv-loop : tie.InvT-loop
 Inv-loop any d₀ s b₀ d b = Mapped (λ k. mergedWord any (getD d₀ k 0) (getD s k 0)) d₀ d b
 
 abbrev μ-loop : tie.MeasureT-loop
-μ-loop any d₀ s b₀ d b = 256 - b
+μ-loop any d₀ s b₀ d b = 16 - b
 
 loop-holds : tie.Need-loop-holds Inv-loop μ-loop
 loop-holds c = search needs
@@ -58,7 +58,7 @@ same-length : tie.Need-same-length Inv-loop μ-loop
 same-length c = search needs
 
 returns : tie.Need-returns Inv-loop μ-loop
-returns c = merge-family _ _ _ _ _ (c .before .loop .inv) (c .loop-test .left)
+returns c = merge-part _ _ _ _ _ (c .before .loop .inv) (c .loop-test .left)
 
 pub merge-in-spec : {M : Type 1} → statement M
 merge-in-spec =

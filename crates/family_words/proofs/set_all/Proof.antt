@@ -4,7 +4,7 @@ use mathlib.Core.Path.{refl}
 use Prim.Native.Nat.{_-_}
 use borrow.Author.Needs.{needs}
 use Rattle.vertex_set.proofs.Decisions.{iff-refl}
-use Rattle.family_words.proofs.Families.{mapped-family}
+use Rattle.family_words.proofs.Families.{mapped-part}
 use Rattle.family_words.proofs.Words.{Mapped, mapped-more}
 use Rattle.family_words.proofs.set_all.Statement.{statement}
 use Rattle.family_words.proofs.set_all.Tie as tie
@@ -13,7 +13,7 @@ abbrev Inv-loop : tie.InvT-loop
 Inv-loop d₀ x b₀ d b = Mapped (λ _. x) d₀ d b
 
 abbrev μ-loop : tie.MeasureT-loop
-μ-loop d₀ x b₀ d b = 256 - b
+μ-loop d₀ x b₀ d b = 16 - b
 
 loop-holds : tie.Need-loop-holds Inv-loop μ-loop
 loop-holds c = search needs
@@ -37,7 +37,7 @@ same-length : tie.Need-same-length Inv-loop μ-loop
 same-length c = search needs
 
 returns : tie.Need-returns Inv-loop μ-loop
-returns c = mapped-family _ _ _ _ _ (c .before .loop .inv) (c .loop-test .left) (λ b i hb hi. iff-refl)
+returns c = mapped-part _ _ _ _ _ (c .before .loop .inv) (c .loop-test .left) (λ b i hb hi. iff-refl)
 
 pub set-all-spec : {M : Type 1} → statement M
 set-all-spec =

@@ -1,4 +1,4 @@
--- Families of masks as words, 64 masks in each of 256 words, and what the word operations do to them.
+-- Families of masks as words, 64 masks in each; a part of a family has 16 words. What the word operations do to a part.
 use mathlib.Core.Path.{_≡_}
 use mathlib.Core.Bool.{Bool, true, false}
 use mathlib.Core.List.{List, [], _∷_}
@@ -7,16 +7,19 @@ use Prim.Native.Nat.{ℕ, _+_, _-_, _^_, _<_}
 use lib.Bits.{bitAnd, bitOr}
 use lib.ListN.{length, getD}
 use Rattle.vertex_set.specs.Set.{Member, Iff}
-use Rattle.families.specs.Inner.Family.{familyWords}
 
--- Bit i of word b of a family.
+-- The number of words that a part of a family has.
+abbrev pub partWords : ℕ
+partWords = 16
+
+-- Bit i of word b of a part.
 unfoldable pub At : List ℕ → ℕ → ℕ → Type 0
 At f b i = Member (getD f b 0) i
 
--- The family f has 256 words, and its bits are those of which P holds.
-pub record FamilyWhere (P : ℕ → ℕ → Type 0) (f : List ℕ) : Type 0 where
-  pub words : length f ≡ familyWords
-  pub each : (b i : ℕ) → b < familyWords → i < 64 → Iff (At f b i) (P b i)
+-- f is a part of a family, and its bits are those of which P holds.
+pub record PartWhere (P : ℕ → ℕ → Type 0) (f : List ℕ) : Type 0 where
+  pub words : length f ≡ partWords
+  pub each : (b i : ℕ) → b < partWords → i < 64 → Iff (At f b i) (P b i)
 
 -- The bits of both words or, with any, of either.
 unfoldable pub mergedWord : Bool → ℕ → ℕ → ℕ
@@ -33,8 +36,8 @@ unfoldable pub room : List ℕ → ℕ
 room [] = 0
 room (x ∷ l) = (2 ^ 64 - x) + room l
 
--- The family d has become e by gaining what s has; r says whether that was more than it had.
+-- The part d has become e by gaining what s has; r says whether that was more than it had.
 pub record Joined (d s : List ℕ) (r : Bool) (e : List ℕ) : Type 0 where
-  pub family : FamilyWhere (λ b i. At d b i ⊎ At s b i) e
+  pub family : PartWhere (λ b i. At d b i ⊎ At s b i) e
   pub same : r ≡ false → e ≡ d
   pub more : r ≡ true → room e < room d

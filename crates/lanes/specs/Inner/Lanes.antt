@@ -1,4 +1,4 @@
--- Lanes of a table: a table has a family for each vertex, and the bits at one place of all families are one set of vertices.
+-- Lanes of a block: a block has a part of each vertex's family, and the bits at one place of all parts are one set of vertices.
 use mathlib.Core.Bool.{Bool, true, false, not}
 use mathlib.Core.List.{List}
 use Prim.Native.Nat.{ℕ, _+_, _-_, _*_, _^_}
@@ -6,16 +6,15 @@ use lib.ListN.{getD}
 use Rattle.vertex_set.specs.Set.{Member}
 use Rattle.derivations.specs.Derivation.{Vertices}
 use Rattle.derivations.specs.Inner.Admits.{Complete, Broken}
-use Rattle.family_words.specs.Inner.Words.{Merged}
-use Rattle.families.specs.Inner.Family.{familyWords}
+use Rattle.family_words.specs.Inner.Words.{Merged, partWords}
 
--- The words of a table: those of a family for each of 64 vertices.
-abbrev pub tableWords : ℕ
-tableWords = 64 * familyWords
+-- The words of a block: those of a part for each of 64 vertices.
+abbrev pub blockWords : ℕ
+blockWords = 64 * partWords
 
--- The vertices in whose family bit i of word b is set: vertex v has the words from v * 256 on.
+-- The vertices in whose part bit i of word b is set: vertex v has the words from v * 16 on.
 unfoldable pub Lane : List ℕ → ℕ → ℕ → Vertices
-Lane w b i v = Member (getD w (v * familyWords + b) 0) i
+Lane w b i v = Member (getD w (v * partWords + b) 0) i
 
 -- Q holds at all places of S.
 pub record AllOf (S Q : ℕ → Type 0) : Type 0 where
@@ -37,11 +36,11 @@ unfoldable pub Colour : Bool → Vertices → ℕ → Type 0
 Colour false held row = Complete held row
 Colour true lost row = Broken lost row
 
--- What a family becomes by one colour: what it was or the colour is complete; with loss, what it was and the colour is broken.
+-- What a part becomes by one colour: what it was or the colour is complete; with loss, what it was and the colour is broken.
 abbrev pub Takes : Bool → Type 0 → Vertices → ℕ → Type 0
 Takes loss was held row = Merged (not loss) was (Colour loss held row)
 
--- Each word of a family before any colour is taken in: empty or, with loss, full.
+-- Each word of a part before any colour is taken in: empty or, with loss, full.
 abbrev pub untakenWord : Bool → ℕ
 untakenWord false = 0
 untakenWord true = 2 ^ 64 - 1

@@ -10,7 +10,7 @@ use Rattle.setup.specs.declared.Graph.{Graph}
 use Rattle.setup.specs.declared.Setup.{Setup}
 use Rattle.setup.specs.Setup.{ChosenSet}
 use Rattle.formed.specs.WellFormed.{WellFormed}
-use Rattle.lanes.specs.Inner.Lanes.{tableWords}
+use Rattle.tables.specs.Inner.Table.{tableWords}
 use Rattle.report_scores.specs.Inner.Scores.{BaseTable, Scored}
 use Rattle.derivations.specs.Both.{ruleOf}
 use Rattle.reference.specs.Bases.{scoreOf}

@@ -14,8 +14,7 @@ use Rattle.derivations.specs.Derivation.{Rule}
 use Rattle.derivations.specs.Both.{ruleOf}
 use Rattle.families.specs.Inner.Family.{familyWords, masks, MinimalMembers}
 use Rattle.family_lists.specs.Inner.Lists.{LeastBy}
-use Rattle.lanes.specs.Inner.Lanes.{tableWords}
-use Rattle.tables.specs.Inner.Table.{FamilyOfVertex}
+use Rattle.tables.specs.Inner.Table.{tableWords, FamilyOfVertex}
 use Rattle.bases.specs.Base.{Base}
 use Rattle.bases.specs.Score.{Score}
 

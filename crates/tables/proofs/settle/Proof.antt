@@ -12,21 +12,18 @@ use Rattle.tables.proofs.settle.Statement.{statement}
 use Rattle.tables.proofs.settle.Tie as tie
 
 abbrev Inv-loop : tie.InvT-loop
-Inv-loop loss w₀ graph needs todo₀ after₀ w todo after = Settling loss graph needs w₀ w todo
+Inv-loop loss list first w₀ graph todo₀ after₀ up₀ w todo after up = Settling loss graph list w₀ w todo
 
 abbrev μ-loop : tie.MeasureT-loop
-μ-loop loss w₀ graph needs todo₀ after₀ w todo after = room w * 2 ^ 64 + todo
-
-slice-aggregate-all-needed : tie.Need-slice-aggregate-all-needed Inv-loop μ-loop
-slice-aggregate-all-needed c = search needs
-
-all-needed-requires : tie.Need-all-needed-requires Inv-loop μ-loop
-all-needed-requires c κs = search needs
+μ-loop loss list first w₀ graph todo₀ after₀ up₀ w todo after up = room w * 2 ^ 64 + todo
 
 loop-holds : tie.Need-loop-holds Inv-loop μ-loop
 loop-holds c =
-    let s = c .before .before .before .before in
-    settling-none _ _ _ _ (s .pre) (c .before .all-needed .ensures)
+    let s = c .before .before in
+    settling-none _ _ _ _ _ (s .pre .1 .0) (s .pre .0) (s .pre .1 .1)
+
+direction-requires : tie.Need-direction-requires Inv-loop μ-loop
+direction-requires c κs = search needs
 
 next-requires : tie.Need-next-requires Inv-loop μ-loop
 next-requires c κs = search needs
@@ -34,8 +31,8 @@ next-requires c κs = search needs
 without-requires : tie.Need-without-requires Inv-loop μ-loop
 without-requires c κs = search needs
 
-shl-after : tie.Need-shl-after Inv-loop μ-loop
-shl-after c = search needs
+beyond-requires : tie.Need-beyond-requires Inv-loop μ-loop
+beyond-requires c κs = search needs
 
 mul-step : tie.Need-mul-step Inv-loop μ-loop
 mul-step c = search needs
@@ -46,41 +43,38 @@ element-copy-out-step c = search needs
 step-requires : tie.Need-step-requires Inv-loop μ-loop
 step-requires c κs = search needs
 
-slice-aggregate-users : tie.Need-slice-aggregate-users Inv-loop μ-loop
-slice-aggregate-users c = search needs
-
 users-requires : tie.Need-users-requires Inv-loop μ-loop
 users-requires c κs = search needs
 
 loop-less : tie.Need-loop-less Inv-loop μ-loop
 loop-less c =
-    let t = c .before .before .before .before .before in
-    falls-more _ _ _ _ (t .step .ensures .more (c .before .before .if1 .taken)) (or-lt 64 _ _ (t .before .before .before .without .ok) (c .users .ok))
+    let t = c .before .before .before .before in
+    falls-more _ _ _ _ (t .step .ensures .more (c .before .if1 .taken)) (or-lt 64 _ _ (t .before .before .before .before .without .ok) (c .users .ok))
 
 loop-again : tie.Need-loop-again Inv-loop μ-loop
 loop-again c =
-    let t = c .before .before .before .before .before in
-    let o = t .before .before .before in
-    settling-more _ _ _ _ _ _ _ _ _ _ (o .before .before .before .loop .inv) (o .without .ensures) (o .before .next .ensures .place) (t .step .ensures) _ (c .users .ensures)
+    let t = c .before .before .before .before in
+    let o = t .before .before .before .before in
+    settling-more _ _ _ _ _ _ _ _ _ _ (o .before .before .before .before .loop .inv) (o .without .ensures) (o .before .next .ensures .place) (t .step .ensures) _ (c .users .ensures)
 
 loop-less-2 : tie.Need-loop-less-2 Inv-loop μ-loop
 loop-less-2 c =
     let t = c .before .before .before in
-    let o = t .before .before .before in
+    let o = t .before .before .before .before in
     falls-same _ _ _ _ (t .step .ensures .same (c .if1 .left)) (o .without .ensures .less)
 
 loop-again-2 : tie.Need-loop-again-2 Inv-loop μ-loop
 loop-again-2 c =
     let t = c .before .before .before in
-    let o = t .before .before .before in
-    settling-same _ _ _ _ _ _ _ _ _ _ (o .before .before .before .loop .inv) (o .without .ensures) (o .before .next .ensures .place) (t .step .ensures) (c .if1 .left)
+    let o = t .before .before .before .before in
+    settling-same _ _ _ _ _ _ _ _ _ _ (o .before .before .before .before .loop .inv) (o .without .ensures) (o .before .next .ensures .place) (t .step .ensures) (c .if1 .left)
 
 same-length : tie.Need-same-length Inv-loop μ-loop
 same-length c = search needs
 
 returns : tie.Need-returns Inv-loop μ-loop
 returns c =
-    let s = c .before .before .before .before .before .before in
+    let s = c .before .before .before .before in
     let long : length (s .args .t1 .rows) ≡ 64 = simp length-map at (s .good .0 .1 .1 .0 .1 .0 .1) in
     settled _ (s .args .t1) _ _ _ _ long (c .loop-test .left) (c .before .loop .inv)
 
@@ -90,16 +84,14 @@ settle-spec =
     (tie.spec
     Inv-loop
     μ-loop
-    slice-aggregate-all-needed
-    all-needed-requires
     loop-holds
+    direction-requires
     next-requires
     without-requires
-    shl-after
+    beyond-requires
     mul-step
     element-copy-out-step
     step-requires
-    slice-aggregate-users
     users-requires
     loop-less
     loop-again

@@ -19,23 +19,23 @@ loop-holds c = started-none _ _ (c .before .pre)
 mul-a : tie.Need-mul-a Inv-loop μ-loop
 mul-a c = search needs
 
-add-start-family : tie.Need-add-start-family Inv-loop μ-loop
-add-start-family c = search needs
+add-start-part : tie.Need-add-start-part Inv-loop μ-loop
+add-start-part c = search needs
 
-mul-start-family : tie.Need-mul-start-family Inv-loop μ-loop
-mul-start-family c = search needs
+mul-start-part : tie.Need-mul-start-part Inv-loop μ-loop
+mul-start-part c = search needs
 
-sub-start-family : tie.Need-sub-start-family Inv-loop μ-loop
-sub-start-family c = search needs
+sub-start-part : tie.Need-sub-start-part Inv-loop μ-loop
+sub-start-part c = search needs
 
-part-start-family-start : tie.Need-part-start-family-start Inv-loop μ-loop
-part-start-family-start c = search needs
+part-start-part-start : tie.Need-part-start-part-start Inv-loop μ-loop
+part-start-part-start c = search needs
 
-part-start-family-end : tie.Need-part-start-family-end Inv-loop μ-loop
-part-start-family-end c = search needs
+part-start-part-end : tie.Need-part-start-part-end Inv-loop μ-loop
+part-start-part-end c = search needs
 
-start-family-requires : tie.Need-start-family-requires Inv-loop μ-loop
-start-family-requires c κs = search needs
+start-part-requires : tie.Need-start-part-requires Inv-loop μ-loop
+start-part-requires c κs = search needs
 
 add-v : tie.Need-add-v Inv-loop μ-loop
 add-v c = search needs
@@ -48,7 +48,7 @@ loop-again c =
     let f = c .before .before in
     let i = f .before .before in
     let v = i .before .loop .v in
-    started-more _ v (v * 256 + 256 - v * 256) _ _ (i .loop-test .taken) (omega arith) (i .before .loop .inv) (f .start-family .ensures)
+    started-more _ v (v * 16 + 16 - v * 16) _ _ (i .loop-test .taken) (omega arith) (i .before .loop .inv) (f .start-part .ensures)
 
 same-length : tie.Need-same-length Inv-loop μ-loop
 same-length c = search needs
@@ -66,12 +66,12 @@ start-spec =
     μ-loop
     loop-holds
     mul-a
-    add-start-family
-    mul-start-family
-    sub-start-family
-    part-start-family-start
-    part-start-family-end
-    start-family-requires
+    add-start-part
+    mul-start-part
+    sub-start-part
+    part-start-part-start
+    part-start-part-end
+    start-part-requires
     add-v
     loop-less
     loop-again

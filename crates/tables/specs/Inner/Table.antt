@@ -8,6 +8,10 @@ use Rattle.families.specs.Inner.Masks.{Picked}
 use Rattle.families.specs.Inner.Exact as exact
 use Rattle.families.specs.Inner.Family.{familyWords, masks}
 
+-- The words of a table: those of a family for each of 64 vertices.
+abbrev pub tableWords : ℕ
+tableWords = 64 * familyWords
+
 -- w is the table of the rule r and the chosen vertices: bit m % 64 of word m / 64 of the vertex v says whether v has a derivation
 -- from the set that the mask m stands for.
 pub record Table (r : Rule) (chosen : ℕ) (w : List ℕ) : Type 0 where

@@ -1,0 +1,87 @@
+-- `bases::family_by_block` meets its contract. The invariant: the words before b are those of the target in the block, over and over.
+-- Assumes nothing.
+use mathlib.Core.Path.{_≡_, refl}
+use Prim.Native.Nat.{_+_, _-_, _*_, _%_, _≤_}
+use native.Mathlib.Omega.{arith}
+use lib.ListN.{getD}
+use Rattle.bases.proofs.Readers.{FilledBelow, filled-none, filled-more, repeated-family}
+use borrow.Author.Needs.{needs}
+use Rattle.bases.proofs.family_by_block.Statement.{statement}
+use Rattle.bases.proofs.family_by_block.Tie as tie
+
+abbrev Inv-loop : tie.InvT-loop
+Inv-loop loss target out₀ x from b₀ out b = (b ≤ 256) × FilledBelow (λ k. getD x (from + k % 16) 0) 256 b out
+
+abbrev μ-loop : tie.MeasureT-loop
+μ-loop loss target out₀ x from b₀ out b = 256 - b
+
+slice-aggregate-fill-block : tie.Need-slice-aggregate-fill-block Inv-loop μ-loop
+slice-aggregate-fill-block c = search needs
+
+fill-block-requires : tie.Need-fill-block-requires Inv-loop μ-loop
+fill-block-requires c κs = search needs
+
+mul-from : tie.Need-mul-from Inv-loop μ-loop
+mul-from c = search needs
+
+loop-holds : tie.Need-loop-holds Inv-loop μ-loop
+loop-holds c = (search needs, filled-none _ 256 _ (c .before .before .before .before .pre .0 .1))
+
+add-out : tie.Need-add-out Inv-loop μ-loop
+add-out c = search needs
+
+mul-out : tie.Need-mul-out Inv-loop μ-loop
+mul-out c = search needs
+
+array-read-out : tie.Need-array-read-out Inv-loop μ-loop
+array-read-out c = search needs
+
+mul-out-2 : tie.Need-mul-out-2 Inv-loop μ-loop
+mul-out-2 c = search needs
+
+slice-write-out : tie.Need-slice-write-out Inv-loop μ-loop
+slice-write-out c = search needs
+
+add-b : tie.Need-add-b Inv-loop μ-loop
+add-b c = search needs
+
+loop-less : tie.Need-loop-less Inv-loop μ-loop
+loop-less c = search needs
+
+loop-again : tie.Need-loop-again Inv-loop μ-loop
+loop-again c =
+    let l = c .before in
+    (omega arith, filled-more _ 256 (l .loop .b) _ (l .loop .out) (omega arith) (l .loop .inv .1) refl)
+
+same-length : tie.Need-same-length Inv-loop μ-loop
+same-length c = search needs
+
+returns : tie.Need-returns Inv-loop μ-loop
+returns c =
+    let f = c .before .before .before in
+    let s = f .before .before .before in
+    let a = s .args in
+    let e : c .before .loop .b ≡ 256 = omega arith in
+    let all = rw e at (c .before .loop .inv .1) in
+    (all .words, repeated-family (a .loss) (a .graph) (a .chosen .0) (a .target) _ _ (s .pre .1) (f .fill-block .ensures) all)
+
+pub family-by-block-spec : {M : Type 1} → statement M
+family-by-block-spec =
+    tie.close
+    (tie.spec
+    Inv-loop
+    μ-loop
+    slice-aggregate-fill-block
+    fill-block-requires
+    mul-from
+    loop-holds
+    add-out
+    mul-out
+    array-read-out
+    mul-out-2
+    slice-write-out
+    add-b
+    loop-less
+    loop-again
+    same-length
+    returns)

@@ -53,7 +53,7 @@ def looked_for(block):
 
 # Files that stand on those of the scratch crate.
 ABOVE = """
-quick_yes/Agrees answers/Demand3 sheet_format/Meaning histories/Histories histories/NoHeed portal/Portal demands/OneAnswer demands/Outcomes demands/Sheets demands/Register demands/Living demands/Pools demands/Demands reference/Meaning
+quick_yes/Agrees answers/Demand3 sheet_format/Meaning histories/Histories histories/NoHeed portal/Portal demands/OneAnswer demands/Outcomes demands/Sheets demands/Register demands/Living demands/Pools demands/Demands reference/Meaning soundness/Closures soundness/Secure soundness/Schemes soundness/Scores soundness/Horn
 report_text/Meaning written/Rows report_writer/Inner/Steps report_writer/Whole portal_closures/Check portal_living/Living demands/OneResult
 """.split()
 # What Whole cites of the report's steps, with the same type and nothing known: no alteration is about it, and what it says need not be believed.

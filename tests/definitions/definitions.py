@@ -1546,6 +1546,334 @@ def OneMultisetsAnswer(s, target, a, b, answers):
         for n_, v_, x_, y_ in answers
     )
 
+# ---- soundness/Closures
+
+
+def ClosedByAccess(g, t):
+    return all(
+        implies(lambda: row(g, v, c) != 0 and Within(row(g, v, c), t), lambda: Member(t, v)) for v in world.vertices for c in world.colours
+    )
+
+
+def ClosedByLockout(g, t):
+    return all(
+        implies(
+            lambda: row(g, v, c) != 0 and all(implies(lambda: row(g, v, d) != 0, lambda: Meets(row(g, v, d), t)) for d in world.colours),
+            lambda: Member(t, v),
+        )
+        for v in world.vertices
+        for c in world.colours
+    )
+
+
+def SmallestClosed(Closed, s, t):
+    contains = Within(s, t)
+    closed = Closed(t)
+    smallest = all(implies(lambda: Within(s, u) and Closed(u), lambda: Within(t, u)) for u in world.sets)
+    return contains and closed and smallest
+
+
+def AccessIsSmallest(asked):
+    return all(Iff(AccessFrom(g, s, t), SmallestClosed(lambda u: ClosedByAccess(g, u), s, t)) for g, s, t in asked)
+
+
+def LockoutIsSmallest(asked):
+    return all(Iff(LockoutFrom(g, s, t), SmallestClosed(lambda u: ClosedByLockout(g, u), s, t)) for g, s, t in asked)
+
+
+def OneClosure(loss, g, s):
+    return any(
+        Closure(ruleOf(loss, g), s, t) and all(implies(lambda: Closure(ruleOf(loss, g), s, u), lambda: u == t) for u in world.sets)
+        for t in world.sets
+    )
+
+
+# ---- soundness/Secure
+
+
+def ChosenOnly(loss, s, x):
+    return all(implies(lambda: Member(x, v), lambda: Chosen(loss, s, v)) for v in world.vertices)
+
+
+def BaseAtMost(loss, s, g, a, b):
+    return all(implies(lambda: ChosenOnly(loss, s, x) and Derives(loss, g, b, x), lambda: Derives(loss, g, a, x)) for x in world.sets)
+
+
+def EachContains(k, l):
+    return all(implies(lambda: Listed(k, y), lambda: any(Listed(l, x) and Within(x, y) for x in world.sets)) for y in world.sets)
+
+
+def BasesCompared(asked):
+    return all(
+        implies(lambda: Base(loss, s, g, a, l) and Base(loss, s, g, b, k), lambda: Iff(EachContains(k, l), BaseAtMost(loss, s, g, a, b)))
+        for loss, s, g, a, b, l, k in asked
+    )
+
+
+def TargetSetsCompared(asked):
+    return all(
+        Iff(all(implies(lambda: TargetSet(loss, s, g, b, x), lambda: TargetSet(loss, s, g, a, x)) for x in world.sets), BaseAtMost(loss, s, g, a, b))
+        for loss, s, g, a, b in asked
+    )
+
+
+def MinimalWithin(loss, s, g, target):
+    return all(
+        implies(lambda: TargetSet(loss, s, g, target, x), lambda: any(Within(y, x) and MinimalSet(loss, s, g, target, y) for y in world.sets))
+        for x in world.sets
+    )
+
+
+def OneBase(loss, s, g, target):
+    return any(
+        Base(loss, s, g, target, l) and all(implies(lambda: Base(loss, s, g, target, k), lambda: k == l) for k in world.lists) for l in world.lists
+    )
+
+
+# ---- soundness/Schemes: a scheme has the lists of values, and the scores, that the statements are asked of
+
+
+class Scheme:
+    def __init__(self, ValueAtMost, evalSet, ScoreAtMost, Combines, lists=(), scores=()):
+        self.ValueAtMost, self.evalSet, self.ScoreAtMost, self.Combines = ValueAtMost, evalSet, ScoreAtMost, Combines
+        self.lists, self.scores = lists, scores
+
+
+def Among(l, x):
+    if not l:
+        return False
+    return x == l[0] or Among(l[1:], x)
+
+
+def EachAbove(AtMost, k, l):
+    return all(implies(lambda: Among(k, d), lambda: any(Among(l, u) and AtMost(u, d) for u in k + l)) for d in k + l)
+
+
+def scheme(AtMost, evalSet, combine, lists=(), scores=()):
+    return Scheme(ValueAtMost=AtMost, evalSet=evalSet, ScoreAtMost=AtMost, Combines=lambda l, r: r == combine(l), lists=lists, scores=scores)
+
+
+def GrowsWithSets(k, loss, s):
+    return all(
+        implies(
+            lambda: ChosenOnly(loss, s, x) and ChosenOnly(loss, s, y) and Within(x, y),
+            lambda: k.ValueAtMost(k.evalSet(x), k.evalSet(y)),
+        )
+        for x in world.sets
+        for y in world.sets
+    )
+
+
+def GrowsWithValues(k):
+    return all(
+        implies(lambda: k.Combines(S, p) and k.Combines(T, q) and EachAbove(k.ValueAtMost, T, S), lambda: k.ScoreAtMost(p, q))
+        for S in k.lists
+        for T in k.lists
+        for p in k.scores
+        for q in k.scores
+    )
+
+
+def Sound(k, loss, s, g, asked):
+    return all(
+        implies(
+            lambda: Base(loss, s, g, a, baseA)
+            and Base(loss, s, g, b, baseB)
+            and k.Combines([k.evalSet(x) for x in baseA], p)
+            and k.Combines([k.evalSet(x) for x in baseB], q)
+            and BaseAtMost(loss, s, g, a, b),
+            lambda: k.ScoreAtMost(p, q),
+        )
+        for a, b, baseA, baseB in asked
+        for p in k.scores
+        for q in k.scores
+    )
+
+
+def ConditionsSuffice(schemes, loss, s, g, asked):
+    return all(implies(lambda: GrowsWithSets(k, loss, s) and GrowsWithValues(k), lambda: Sound(k, loss, s, g, asked)) for k in schemes)
+
+
+# ---- soundness/Scores
+
+
+def leastValue(l):
+    if not l:
+        return never
+    return min(l[0], leastValue(l[1:]))
+
+
+def sumThenLeast(loss, s, lists=(), scores=()):
+    return scheme(lambda a, b: a <= b, lambda x: sumOf(loss, s, x), leastValue, lists, scores)
+
+
+def ScoreIsLeast(asked):
+    return all(
+        implies(lambda: Base(loss, s, g, target, l) and Score(loss, s, g, target, r), lambda: r == leastValue([sumOf(loss, s, x) for x in l]))
+        for loss, s, g, target, r, l in asked
+    )
+
+
+def SumMeetsBoth(loss, s, lists, scores):
+    k = sumThenLeast(loss, s, lists, scores)
+    return GrowsWithSets(k, loss, s) and GrowsWithValues(k)
+
+
+def ScoresSound(asked):
+    return all(
+        implies(lambda: Score(loss, s, g, a, p) and Score(loss, s, g, b, q) and BaseAtMost(loss, s, g, a, b), lambda: p <= q)
+        for loss, s, g, a, b, p, q in asked
+    )
+
+
+def MultisetsSound(asked):
+    return all(
+        implies(
+            lambda: WellFormed(s) and MultisetScore(s, a, l) and MultisetScore(s, b, k) and BaseAtMost(False, s, s.graph, a, b),
+            lambda: BagScoreAtMost(s, l, k),
+        )
+        for s, a, b, l, k in asked
+    )
+
+
+def AttackersSound(s, kinds, a, b, p, q):
+    return implies(
+        lambda: WellFormed(s)
+        and EntriesFit(s, kinds)
+        and AttackerScore(s, kinds, a, p)
+        and AttackerScore(s, kinds, b, q)
+        and BaseAtMost(False, s, s.graph, a, b),
+        lambda: KindsAtMost(p, q),
+    )
+
+
+# ---- soundness/Horn: a variable is a pair or a triple; of clauses, the names, and the body of a name as a predicate on variables
+
+
+class Clauses:
+    def __init__(self, names, Body, head):
+        self.names, self.Body, self.head = names, Body, head
+
+
+def vertex(v):
+    return ("vertex", v)
+
+
+def coloured(v, c):
+    return ("coloured", v, c)
+
+
+def variables():
+    return [vertex(v) for v in world.vertices] + [coloured(v, c) for v in world.vertices for c in world.colours]
+
+
+def HasColour(g, v, c):
+    return row(g, v, c) != 0
+
+
+def AccessClause(g):
+    return [(kind, v, c) for kind in ("opens", "completes") for v in world.vertices for c in world.colours if HasColour(g, v, c)]
+
+
+def accessBody(g, name, x):
+    kind, v, c = name
+    if kind == "opens":
+        return x == coloured(v, c)
+    return any(Edge(g, f, v, c) and x == vertex(f) for f in world.vertices)
+
+
+def accessHead(g, name):
+    kind, v, c = name
+    if kind == "opens":
+        return vertex(v)
+    return coloured(v, c)
+
+
+def accessClauses(g):
+    return Clauses(AccessClause(g), lambda n, x: accessBody(g, n, x), lambda n: accessHead(g, n))
+
+
+def LockoutClause(g):
+    return [("shuts", v, c) for v in world.vertices for c in world.colours if HasColour(g, v, c)] + [
+        ("breaks", v, c, f) for v in world.vertices for c in world.colours for f in world.vertices if Edge(g, f, v, c)
+    ]
+
+
+def lockoutBody(g, name, x):
+    if name[0] == "shuts":
+        kind, v, c = name
+        return any(HasColour(g, v, d) and x == coloured(v, d) for d in world.colours)
+    kind, v, c, f = name
+    return x == vertex(f)
+
+
+def lockoutHead(g, name):
+    if name[0] == "shuts":
+        kind, v, c = name
+        return vertex(v)
+    kind, v, c, f = name
+    return coloured(v, c)
+
+
+def lockoutClauses(g):
+    return Clauses(LockoutClause(g), lambda n, x: lockoutBody(g, n, x), lambda n: lockoutHead(g, n))
+
+
+def variablesOf(held, x):
+    if x[0] == "vertex":
+        return held(x[1])
+    return False
+
+
+def Concludes(k, Given, x):
+    """Inductive: what is given, and heads of clauses whose bodies were concluded before."""
+    found = {y for y in variables() if Given(y)}
+    while True:
+        more = {k.head(n) for n in k.names if all(implies(lambda: k.Body(n, y), lambda: y in found) for y in variables())} | found
+        if more == found:
+            return x in found
+        found = more
+
+
+def Satisfies(k, value):
+    return all(
+        implies(lambda: all(implies(lambda: k.Body(n, y), lambda: value(y) == True) for y in variables()), lambda: value(k.head(n)) == True)
+        for n in k.names
+    )
+
+
+def Entails(k, Given, x):
+    """Assignments of the variables that clauses have or that are asked for; the others matter to nothing."""
+    used = sorted({k.head(n) for n in k.names} | {y for n in k.names for y in variables() if k.Body(n, y)} | {x})
+    return all(
+        implies(
+            lambda: Satisfies(k, lambda y: y in true) and all(implies(lambda: Given(y), lambda: y in true) for y in used),
+            lambda: x in true,
+        )
+        for m in range(2 ** len(used))
+        for true in [{y for i, y in enumerate(used) if Member(m, i)}]
+    )
+
+
+def AccessByClauses(g, s):
+    held = lambda i: Member(s, i)
+    return all(Iff(Concludes(accessClauses(g), lambda x: variablesOf(held, x), vertex(v)), HasAccess(g, held, v)) for v in world.vertices)
+
+
+def LockoutByClauses(g, s):
+    lost = lambda i: Member(s, i)
+    return all(Iff(Concludes(lockoutClauses(g), lambda x: variablesOf(lost, x), vertex(v)), Derivation(lockout(g), lost, v)) for v in world.vertices)
+
+
+def AccessEntailed(g, s, v):
+    held = lambda i: Member(s, i)
+    return Iff(Entails(accessClauses(g), lambda x: variablesOf(held, x), vertex(v)), HasAccess(g, held, v))
+
+
+def LockoutEntailed(g, s, v):
+    lost = lambda i: Member(s, i)
+    return Iff(Entails(lockoutClauses(g), lambda x: variablesOf(lost, x), vertex(v)), Derivation(lockout(g), lost, v))
+
 
 # ---- next_sets/Next
 

@@ -801,6 +801,84 @@ def of_bag_scores(D):
     ]
 
 
+def of_soundness(D):
+    """Document 003's theorems about order and mail: what opens mail opens order, and not the other way round."""
+    sets, access = range(32), lambda t: D.ClosedByAccess(G, t)
+    asked = [(False, bench, G, a, b) for a in (MAIL, ORDER) for b in (MAIL, ORDER)]
+    bases = {MAIL: [2], ORDER: [2, 5]}
+    lists = [[], [1], [4], [1, 4], [2]]
+    sums = lambda: D.sumThenLeast(False, bench, lists, (0, 1, 2, 4, D.never))
+    # values of sets that fall as the set grows, and a score that is the largest value
+    falls = lambda: D.scheme(lambda a, b: a <= b, lambda x: 9 - D.sumOf(False, bench, x), D.leastValue, lists, (0, 4, 5, 8, 9))
+    most = lambda: D.scheme(lambda a, b: a <= b, lambda x: D.sumOf(False, bench, x), lambda l: max(l, default=0), lists, (0, 1, 2, 4))
+    both = [(a, b, bases[a], bases[b]) for a in (MAIL, ORDER) for b in (MAIL, ORDER)]
+    risks = {MAIL: 1, ORDER: 3}
+    held = lambda s: lambda i: D.Member(s, i)
+    return [
+        ("closed: what mailpw opens", lambda: access(26), True),
+        ("not closed: mailpw alone", lambda: access(2), False),
+        ("closed: nothing", lambda: access(0), True),
+        ("closed by loss: ordpw alone", lambda: D.ClosedByLockout(G, 1), True),
+        ("not closed by loss: mailpw alone", lambda: D.ClosedByLockout(G, 2), False),
+        ("closed by loss: what ordpw and mailpw lose", lambda: D.ClosedByLockout(G, 27), True),
+        ("smallest closed: from mailpw", lambda: D.SmallestClosed(access, 2, 26), True),
+        ("not smallest closed: ordpw too", lambda: D.SmallestClosed(access, 2, 27), False),
+        ("not smallest closed: without mailpw", lambda: D.SmallestClosed(access, 2, 0), False),
+        ("not smallest closed: not closed", lambda: D.SmallestClosed(access, 2, 2), False),
+        ("access is smallest", lambda: D.AccessIsSmallest([(G, s, t) for s in (0, 2, 4, 5) for t in sets]), True),
+        ("lockout is smallest", lambda: D.LockoutIsSmallest([(G, s, t) for s in (0, 1, 2, 3) for t in sets]), True),
+        ("one closure", lambda: all(D.OneClosure(loss, G, s) for loss in (False, True) for s in (0, 2, 5)), True),
+        ("chosen only: ordpw and token", lambda: D.ChosenOnly(False, bench, 5), True),
+        ("not chosen only: mail", lambda: D.ChosenOnly(False, bench, 8), False),
+        ("base at most: order and mail", lambda: D.BaseAtMost(False, bench, G, ORDER, MAIL), True),
+        ("not base at most: mail and order", lambda: D.BaseAtMost(False, bench, G, MAIL, ORDER), False),
+        ("base at most: risks of mail and order", lambda: D.BaseAtMost(True, bench, G, MAIL, ORDER), True),
+        ("each contains: mail's, order's", lambda: D.EachContains([2], [2, 5]), True),
+        ("each contains: a larger one", lambda: D.EachContains([3], [2]), True),
+        ("not each contains: order's, mail's", lambda: D.EachContains([2, 5], [2]), False),
+        ("bases compared", lambda: D.BasesCompared([(False, bench, G, a, b, bases[a], bases[b]) for a in bases for b in bases]), True),
+        ("target sets compared", lambda: D.TargetSetsCompared(asked), True),
+        ("minimal within", lambda: D.MinimalWithin(False, bench, G, ORDER), True),
+        ("one base", lambda: D.OneBase(False, bench, G, ORDER), True),
+        ("among", lambda: D.Among([1, 4], 4), True),
+        ("not among", lambda: D.Among([1, 4], 2), False),
+        ("each above: 4 above 1", lambda: D.EachAbove(lambda a, b: a <= b, [4], [1, 5]), True),
+        ("not each above: 1 above 4", lambda: D.EachAbove(lambda a, b: a <= b, [1], [4]), False),
+        ("grows with sets: sums", lambda: D.GrowsWithSets(sums(), False, bench), True),
+        ("not grows with sets: what falls", lambda: D.GrowsWithSets(falls(), False, bench), False),
+        ("grows with values: the least", lambda: D.GrowsWithValues(sums()), True),
+        ("not grows with values: the largest", lambda: D.GrowsWithValues(most()), False),
+        ("sound scheme: sums", lambda: D.Sound(sums(), False, bench, G, both), True),
+        ("not sound scheme: the largest", lambda: D.Sound(most(), False, bench, G, both), False),
+        ("conditions suffice", lambda: D.ConditionsSuffice([sums(), falls(), most()], False, bench, G, both), True),
+        ("least value", lambda: D.leastValue([4, 1, 2]) == 1, True),
+        ("least value of none", lambda: D.leastValue([]) == D.never, True),
+        ("sums of start values, and of loss values", lambda: [D.sumThenLeast(loss, bench).evalSet(3) for loss in (False, True)] == [2, 3], True),
+        ("score is least", lambda: D.ScoreIsLeast([(False, bench, G, ORDER, 1, [2, 5]), (True, bench, G, ORDER, 3, [3, 6]), (False, bench, G, 5, D.never, [])]), True),
+        ("sum meets both", lambda: D.SumMeetsBoth(False, bench, lists, (1, 2, 4, D.never)), True),
+        ("scores sound", lambda: D.ScoresSound([(True, bench, G, a, b, risks[a], risks[b]) for a in risks for b in risks]), True),
+        ("kinds sound by bases", lambda: D.AttackersSound(bench, APART, ORDER, MAIL, 20, 4), True),
+        ("a colour: mail's first", lambda: D.HasColour(G, MAIL, 0), True),
+        ("not a colour: mail's second", lambda: D.HasColour(G, MAIL, 1), False),
+        ("concludes: order from mailpw", lambda: D.Concludes(D.accessClauses(G), lambda x: D.variablesOf(held(2), x), D.vertex(ORDER)), True),
+        ("not concludes: order from token", lambda: D.Concludes(D.accessClauses(G), lambda x: D.variablesOf(held(4), x), D.vertex(ORDER)), False),
+        ("satisfies: nothing true", lambda: D.Satisfies(D.accessClauses(G), lambda y: False), True),
+        ("not satisfies: mailpw alone", lambda: D.Satisfies(D.accessClauses(G), lambda y: y == D.vertex(1)), False),
+        ("entails: mail from mailpw", lambda: D.Entails(D.accessClauses(G), lambda x: D.variablesOf(held(2), x), D.vertex(MAIL)), True),
+        ("not entails: mail from token", lambda: D.Entails(D.accessClauses(G), lambda x: D.variablesOf(held(4), x), D.vertex(MAIL)), False),
+        ("access by clauses", lambda: all(D.AccessByClauses(G, s) for s in (0, 1, 2, 4, 5)), True),
+        ("lockout by clauses", lambda: all(D.LockoutByClauses(G, s) for s in (0, 1, 2, 3, 6)), True),
+        ("access entailed", lambda: all(D.AccessEntailed(G, s, v) for s in (0, 2) for v in (MAIL, ORDER)), True),
+        ("lockout entailed", lambda: all(D.LockoutEntailed(G, s, v) for s in (3, 5) for v in (MAIL, ORDER)), True),
+    ]
+
+
+def of_sound_bags(D):
+    """Document 003's theorem 4, of t and of what opens it."""
+    t = 5
+    return [("bags sound by bases", lambda: D.MultisetsSound([(bags, t, b, [4, 3], [x]) for b, x in ((2, 4), (3, 8), (4, 16), (0, 1))]), True)]
+
+
 def of_next_sets(D):
     """Order's opening list, {mailpw} and {ordpw, token}, shown set by set; `drawn` has lost the edge from mail, and with it the first set."""
     drawn = bench._replace(graph=with_row(bench.graph, ORDER, 1, 0), recovery=with_row(bench.recovery, ORDER, 1, 0))
@@ -1654,12 +1732,12 @@ GROUPS = {
     "one": [of_one, of_few_cuts],
     "sums": [of_sums],
     "bench": [of_derivations, of_passes, of_ways, of_bases, of_scores, of_marks, of_set_calls, of_way_calls, of_base_calls, of_score_calls, of_demand3]
-    + [of_quick, of_forecasts, of_cuts, of_attackers, of_next_sets, of_register, of_living, of_findings, of_portal, of_same, of_told, of_readings, of_one_answer, of_results, of_demands, of_both_demands],
+    + [of_quick, of_forecasts, of_cuts, of_attackers, of_next_sets, of_register, of_living, of_findings, of_portal, of_same, of_told, of_readings, of_one_answer, of_results, of_demands, of_both_demands, of_soundness],
     "rows": [of_valid_rows, of_rows, of_stated, of_meaning, of_refusals],
     "spare": [of_spare],
     "pool": [of_pools],
     "ring": [of_ring],
-    "bags": [of_bags, of_bag_scores],
+    "bags": [of_bags, of_bag_scores, of_sound_bags],
 }
 
 

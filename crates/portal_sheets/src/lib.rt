@@ -122,7 +122,11 @@ pub extern "C" fn portal_pool(first: &[u8], second: &[u8], out: &mut [u8]) -> Po
 
 // Writes the sheet of a setup, under the names of a sheet, to the start of the lent buffer.
 #[no_mangle]
-pub extern "C" fn portal_write_sheet(sheet: &[u8], setup: &[u64], out: &mut [u8]) -> WriteSheetResult
+pub extern "C" fn portal_write_sheet(
+    sheet: &[u8],
+    setup: &[u64],
+    out: &mut [u8],
+) -> WriteSheetResult
     ensures { λ r. ⌜ Told (saveCall (now (sheet .entry)) (setupIn (now (setup .entry))) (now (out .entry))) (r .number) (r .length ∷ []) (now (out .exit) ∷ []) ⌝ }
 {
     let s = portal_words::setup_in(setup);

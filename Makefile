@@ -1,25 +1,40 @@
-# `make test` proves and tests everything; its last line is the verdict.
-.PHONY: test report pool definitions prove lib install fuzz bench mutate alter check-contracts
+# `make` alone says what there is. `make test` proves and tests everything; its last line is the verdict.
+.PHONY: help test quick report pool definitions prove lib install fuzz bench mutate alter check-contracts clean
+
+ALONE = @bash scripts/alone.sh
+
+help:
+	@echo 'make report     prints the report of examples/document.sheet; SHEET=file, that of another sheet'
+	@echo 'make pool       pools two sheets: FIRST=file SECOND=file'
+	@echo 'make lib        makes the library for C in build/lib, with include/portal.h'
+	@echo 'make install    library, header, programs and manual pages to PREFIX=/usr/local'
+	@echo 'make definitions  prints every definition that must be believed'
+	@echo 'make quick      layout, contracts, rows, map, index and header, in seconds'
+	@echo 'make test       the gate: proves every crate, tries the edits that must fail, runs all tests (half an hour)'
+	@echo 'make prove      the proofs alone'
+	@echo 'make fuzz       fresh inputs against the brute force; SECONDS=600, SEED=7'
+	@echo 'make bench, make mutate, make alter   measurements and records: README has a line for each'
+	@echo 'make clean      removes target/ and build/'
 
 test:
-	@bash scripts/test.sh
+	$(ALONE) test rt python3 cargo gcc g++ -- bash scripts/test.sh
+
+# What can be told without a proof.
+quick:
+	$(ALONE) quick rt python3 -- bash scripts/quick.sh
 
 # The report of a sheet, and nothing else on standard output: what is built first goes to build/report.log.
 report: export SHEET ?= examples/document.sheet
 report:
 	@test -r "$$SHEET" || { echo "report: cannot read $$SHEET" >&2; exit 1; }
-	@test -x target/bin/report || echo "report: proving the program first, which takes minutes (build/report.log)" >&2
-	@mkdir -p build
-	@python3 scripts/prove.py report build/report.log
+	$(ALONE) report rt python3 -- python3 scripts/prove.py report build/report.log report
 	@target/bin/report < "$$SHEET"
 
 # The pooled sheet of two sheets, and nothing else on standard output.
 pool: export FIRST ?= examples/first-lab.sheet
 pool: export SECOND ?= examples/second-lab.sheet
 pool:
-	@test -x target/bin/pool || echo "pool: proving the program first, which takes minutes (build/pool.log)" >&2
-	@mkdir -p build
-	@python3 scripts/prove.py pool build/pool.log
+	$(ALONE) pool rt python3 -- python3 scripts/prove.py pool build/pool.log pool
 	@target/bin/pool "$$FIRST" "$$SECOND"
 
 # Every definition that must be believed, in reading order, as one text.
@@ -28,33 +43,36 @@ definitions:
 
 # The proofs alone: no must-fail edits, no programs, no Rust or C.
 prove:
-	@rt prove
+	$(ALONE) prove rt -- rt prove
 
 # The portal's library for C: build/lib/libportal.a and a shared library, with include/portal.h.
 lib:
-	@bash scripts/lib.sh
+	$(ALONE) lib rt python3 gcc ar -- bash scripts/lib.sh
 
 # Library, header, pkg-config file, the programs `report` and `pool`, and manual pages: make install PREFIX=/usr/local.
 PREFIX = /usr/local
 install:
-	@bash scripts/install.sh "$(PREFIX)"
+	$(ALONE) install rt python3 gcc ar -- bash scripts/install.sh "$(PREFIX)"
 
 # Fresh inputs against the brute force: make fuzz, make fuzz SECONDS=600, make fuzz SEED=7 to repeat a run.
 SECONDS = 60
 fuzz:
-	@bash scripts/fuzz.sh $(SECONDS) $(SEED)
+	$(ALONE) fuzz rt python3 cargo gcc ar -- bash scripts/fuzz.sh $(SECONDS) $(SEED)
 
 # The proved code beside the same algorithm in Rust; writes docs/PERFORMANCE.md and records/performance.md. On a machine with nothing else to do.
 bench:
-	@bash scripts/bench.sh
+	$(ALONE) bench rt python3 cargo gcc ar -- bash scripts/bench.sh
 
 # Small edits of every function, each of which the prover must refuse; writes records/mutation.md. make mutate CRATE=bases tries one crate.
 mutate:
-	@python3 scripts/mutate.py $(CRATE)
+	$(ALONE) mutate rt python3 -- python3 scripts/mutate.py $(CRATE)
 
 # Each definition altered, and an example that notices it: records/definitions.md.
 alter:
-	@python3 tests/definitions/alter.py
+	$(ALONE) alter rt python3 -- python3 tests/definitions/alter.py
 
 check-contracts:
 	@python3 scripts/contracts.py
+
+clean:
+	$(ALONE) clean -- rm -rf target build/bench build/bin build/cargo build/dist build/lib build/report.log build/pool.log build/lib.log

@@ -9,8 +9,8 @@ to=${DESTDIR:-}$prefix
 [[ $prefix == /* ]] || { echo "install: PREFIX must be a path from the root on" >&2; exit 1; }
 
 bash scripts/make_older.sh build/lib/libportal.a bash scripts/lib.sh
-bash scripts/make_older.sh target/bin/report rt check report
-bash scripts/make_older.sh target/bin/pool rt check pool
+bash scripts/make_older.sh target/bin/report python3 scripts/prove.py install build/report.log report
+bash scripts/make_older.sh target/bin/pool python3 scripts/prove.py install build/pool.log pool
 version=$(sed -n 's/^#define PORTAL_VERSION \([0-9]*\)$/\1/p' include/portal.h)
 dotted=$((version / 10000)).$((version / 100 % 100)).$((version % 100))
 

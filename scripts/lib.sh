@@ -1,6 +1,6 @@
 #!/bin/bash
 # Makes the portal's library in build/lib: the objects of all crates that export calls, as one archive and as one shared
-# library. What the prover prints is shown where it fails.
+# library. Says how far it is; what the prover prints is shown where it fails.
 set -euo pipefail
 cd "$(dirname "$0")/.."
 
@@ -19,11 +19,13 @@ archives() {
     ln -s "$PWD/crates" "$PWD/crates.txt" "$room"
     ln -s "$PWD/target/rlib" "$PWD/target/stamp" "$room/target"
     for crate; do
+        echo "lib: the archive of $crate" >&2
         (cd "$room" && rt staticlib "$crate") > "$room/log" 2>&1 || { cat "$room/log"; return 1; }
     done
 }
 
-rt check "${crates[@]}" > "$rooms/log" 2>&1 || { cat "$rooms/log"; exit 1; }
+mkdir -p build
+python3 scripts/prove.py lib build/lib.log "${crates[@]}"
 half=$(((${#crates[@]} + 1) / 2))
 archives first "${crates[@]:0:half}" &
 archives second "${crates[@]:half}" || { wait; exit 1; }

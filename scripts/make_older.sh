@@ -1,6 +1,6 @@
 #!/bin/bash
-# Makes a file that is missing, or older than a source: make_older.sh FILE COMMAND ... What the command prints is shown
-# where it fails.
+# Makes a file that is missing, or older than a source: make_older.sh FILE COMMAND ... The command says on standard error how far
+# it is; what else it prints is shown where it fails.
 set -euo pipefail
 cd "$(dirname "$0")/.."
 
@@ -9,5 +9,5 @@ shift
 if [[ ! -f $made || -n $(find crates -path '*/src/*' -newer "$made") ]]; then
     log=$(mktemp)
     trap 'rm -f "$log"' EXIT
-    "$@" > "$log" 2>&1 || { cat "$log"; exit 1; }
+    "$@" > "$log" || { cat "$log"; exit 1; }
 fi

@@ -8,27 +8,7 @@ log=$(mktemp)
 memory=''
 trap 'rm -rf "$log" "$memory"' EXIT
 
-for tool in rt python3 cargo gcc g++; do
-    command -v "$tool" > /dev/null || { echo "test: $tool is missing" >&2; exit 1; }
-done
-
-echo "test: layout"
-rt fmt --check
-
-echo "test: contracts"
-python3 scripts/contracts.py
-
-echo "test: rows, straight into the bytes that go out"
-python3 scripts/rows.py
-
-echo "test: the map of the crates"
-python3 scripts/map.py
-
-echo "test: the index"
-python3 scripts/index.py
-
-echo "test: the header"
-python3 scripts/header.py
+bash scripts/quick.sh
 
 # For every crate and edit that it checks the prover lays out thousands of small files. In memory that takes a tenth less time;
 # a folder there is taken if programs run in it, since some of what follows runs its own.

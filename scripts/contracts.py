@@ -3,7 +3,8 @@
 
 Every public function and method says something of its result (`ensures`). A crate whose line in crates.txt has no comment
 with the word `inner` is offered to callers: none of its public functions asks something of them (`requires`), and none has an inner
-definition in its contract, which a caller would then have to believe. A body has at most 40 lines. The proof of a loop says the loop's
+definition in its contract, which a caller would then have to believe; and its contract has the one shape: `Fulfils`, `Told`, `Decides` or `Asks`,
+or a name that is short for one of these, but for the few of OTHERS, whose reasons stand in docs/DECISIONS.md. A body has at most 40 lines. The proof of a loop says the loop's
 invariant in plain words: by a comment line right above `Inv-loop`, or by the file's first comment, which then has the word `invariant`.
 Of every edit that is to be refused the old texts stand just once in their files: one that does not fit is refused for nothing. The exit
 status is 1 where something of this does not hold.
@@ -19,6 +20,14 @@ LONGEST = 40
 LITERAL = re.compile(r"""b"(?:[^"\\]|\\.)*"|b'(?:[^'\\]|\\.)*'""")
 HEAD = re.compile(r'^\s*(?:pub\(crate\)\s+)?(pub\s+)?(?:extern\s+"C"\s+)?fn\s+(\w+)')
 INNER = re.compile(r"^ghost use Rattle·[\w·]+\.specs\.Inner[\w.]*\.\{([^}]*)\};", re.M)
+# A call's contract has one of these, or a name that a definition makes short for one of them.
+SHAPES = {"Fulfils", "Told", "Decides", "Asks"}
+SHORT = re.compile(r"^abbrev pub (\w+) :.*\n(?:.*\n)*?\1\b[^\n]*=\s*(\w+)\b", re.M)
+# Contracts of another shape: a crate, or a function of it. docs/DECISIONS.md says why.
+OTHERS = {"vertex_set", "setup", "scores", "demands", "formed::row_sizes", "answers::demand_three", "sheet::read_sheet", "sheet::name_of"} | {
+    "portal_sheets::portal_read",
+    "portal_sheets::portal_version",
+}
 INVARIANT = re.compile(r"^(?:abbrev\s+|unfoldable\s+)?Inv-loop\S*\s+:")
 WORDS = re.compile(r"^--\s+[\w`]")
 
@@ -79,6 +88,14 @@ def named_in_contract(head, names):
     return sorted(names & set(re.findall(r"[\w′-]+", " ".join(clauses))))
 
 
+def shapes():
+    """The names that say a contract of the one shape."""
+    found = set(SHAPES)
+    for path in sorted(ROOT.glob("crates/*/specs/*.antt")):
+        found |= {name for name, head in SHORT.findall(path.read_text(encoding="utf-8")) if head in SHAPES}
+    return found
+
+
 def edit_faults():
     """The edits that cannot be made."""
     faults, count = [], 0
@@ -104,7 +121,7 @@ def invariants(lines):
 
 
 def main():
-    inner = inner_crates()
+    inner, shaped, unused = inner_crates(), shapes(), set(OTHERS)
     faults, public_count, count = [], 0, 0
     for path in sorted(ROOT.glob("crates/*/src/**/*.rt")):
         crate, text = path.relative_to(ROOT).parts[1], path.read_text(encoding="utf-8")
@@ -119,8 +136,13 @@ def main():
                 faults.append(f"{place}: a `requires` in a crate that is offered")
             if public:
                 faults += [f"{place}: its contract has the inner definition {one}" for one in named_in_contract(head, hidden)]
+            if public and crate not in inner and not named_in_contract(head, shaped):
+                unused -= {crate, f"{crate}::{name}"}
+                if not OTHERS & {crate, f"{crate}::{name}"}:
+                    faults.append(f"{place}: its contract is no Fulfils, Told, Decides or Asks")
             if length > LONGEST:
                 faults.append(f"{place}: {length} lines")
+    faults += [f"scripts/contracts.py: {one} needs no exception" for one in sorted(unused)]
     loops = 0
     for path in sorted(ROOT.glob("crates/*/proofs/**/Proof.antt")):
         for line, said in invariants(path.read_text(encoding="utf-8").split("\n")):

@@ -17,8 +17,8 @@ LINE = re.compile(r"^(\w+):([^#]*)(?:#\s*(inner: )?(.*))?$")
 PASSED_ON = {
     "sheet_cases": {"sheet_format"},
     "portal": {"setup"},
-    "portal_results": {"vertex_set", "scores"},
-    "portal_bases": {"scores"},
+    "portal_sheets": {"vertex_set"},
+    "portal_scores": {"scores"},
     "demands": {"scores"},
 }
 BEGIN, END = "<!-- the map: written by scripts/map.py from crates.txt -->\n", "<!-- end of the map -->\n"

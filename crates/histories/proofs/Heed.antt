@@ -4,41 +4,40 @@ use mathlib.Core.Path.{_≡_, refl, sym, subst}
 use mathlib.Core.Bool.{Bool, true, false}
 use mathlib.Core.List.{List, [], _∷_, _++_}
 use Prim.Native.Nat.{ℕ}
-use lib.ListN.{length}
 use Rattle.vertex_set.specs.declared.VertexSet.{VertexSet}
 use Rattle.vertex_set.specs.Set.{Iff, Decides}
 use Rattle.vertex_set.specs.Order.{Smallest}
-use Rattle.vertex_set.proofs.Decisions.{decide-iff}
+use Rattle.vertex_set.proofs.Decisions.{decide-iff, iff-refl}
 use Rattle.vertex_set.proofs.Lists.{exactly-same}
 use Rattle.setup.specs.declared.Graph.{Graph}
 use Rattle.setup.specs.declared.Setup.{Setup}
-use Rattle.setup.specs.Calls.{written}
+use Rattle.setup.specs.Calls.{Inside}
+use Rattle.setup.specs.Inner.{holding}
 use Rattle.formed.specs.WellFormed.{WellFormed}
-use Rattle.access.specs.Answers.{ClosureCall, LostCall, WayCall}
-use Rattle.quick_yes.specs.Answers.{QuickCall}
+use Rattle.questions.specs.Asks.{Question}
+use Rattle.questions.specs.Questions.{asks12, asks13, asks14}
+use Rattle.questions.specs.Contract.{Outcome, Contract, Fulfils}
+use Rattle.questions.proofs.Asks.{Alike, asks-alike}
+use Rattle.questions.proofs.Contract.{fulfils-alike}
 use Rattle.bases.specs.Base.{TargetSet, MinimalSet, Base}
 use Rattle.bases.specs.Score.{Score}
 use Rattle.bases.specs.Marks.{Mark, Repeated, Shut, Loose, Right, CountsAs, MarkedAs, Counts, IsBaseOnce}
-use Rattle.answers.specs.Answers.{BasesCall, ScoreCall, MarksCall}
 use Rattle.findings.specs.Findings.{Compared, Backdoor, IneffectiveRecovery, Inconsistent, FindsBackdoor, FindsIneffective, FindsInconsistent}
-use Rattle.findings.specs.Answers.{FindingCall, BackdoorCall, IneffectiveCall, InconsistentCall}
-use Rattle.forecasts.specs.Answers.{ForecastCall}
 use Rattle.forecasts.proofs.Bounds.{forecast-holds}
-use Rattle.next_sets.proofs.Changes.{drawing-alone}
+use Rattle.next_sets.specs.Next.{OfInitial, NextSet, NoMore}
 use Rattle.cut_sets.specs.Cuts.{CutSet}
-use Rattle.cut_sets.specs.Answers.{CutsCall}
 use Rattle.cut_sets.proofs.Theorems.{duality-holds}
-use Rattle.attackers.specs.Attackers.{OfBase, KindInScore, AttackerScore}
-use Rattle.attackers.specs.Answers.{AttackerCall}
+use Rattle.attackers.specs.Attackers.{OfBase, KindInScore, AttackerScore, EntriesFit}
 use Rattle.multisets.specs.Multisets.{placesOf}
 use Rattle.multiset_scores.specs.Scores.{multisetOf, FirstInScore, allPlaces, allLengths}
-use Rattle.multiset_scores.specs.Answers.{MultisetsCall}
+use Rattle.access.specs.Answers.{IsClosure}
+use Rattle.next_sets.specs.Answers.{Next, Shown, End, IsNext}
 use Rattle.records.specs.declared.Record.{Record}
-use Rattle.records.specs.declared.Registered.{Registered}
-use Rattle.records.specs.Records.{RecordOf}
-use Rattle.register.specs.Calls.{HandInCall}
-use Rattle.histories.specs.NoHeed.{OnlyHolding, SameAnswers, NoHeed}
-use Rattle.setup.specs.Inner.{holding}
+use Rattle.records.specs.Records.{RegisterOutcome, withSlice, handsBack}
+use Rattle.register.specs.Calls.{asks25, Enters, HandInCall}
+use Rattle.histories.specs.Requests as requests
+use Rattle.histories.specs.Requests.{Request, contractOf}
+use Rattle.histories.specs.NoHeed.{OnlyHolding, NoHeed}
 
 -- ---- sets, lists and scores: count, vertices and graphs are the setup's own
 
@@ -211,200 +210,120 @@ places-too : (s : Setup) (h o : VertexSet) (l : List ℕ) → allPlaces s l ≡ 
 places-too s h o [] = refl
 places-too s h o (x ∷ l) = λ i. placesOf (multisetOf s x) ++ places-too s h o l i
 
+-- ---- questions
+
+module _ (s : Setup) (h o : VertexSet) (w : WellFormed s) (u : WellFormed (holding s h o)) where
+  formed-too : Iff (WellFormed s) (WellFormed (holding s h o))
+  formed-too = record { to = λ k. u; from = λ k. w }
+
+  target-questions : (target : ℕ) → Alike (asks12 s ∷ asks13 s target ∷ []) (asks12 (holding s h o) ∷ asks13 (holding s h o) target ∷ [])
+  target-questions target = (refl, formed-too, (refl, iff-refl, tt))
+
+  inside-too : (set : ℕ) → Iff (Inside s set) (Inside (holding s h o) set)
+  inside-too set = record { to = λ k. record { each = k .each }; from = λ k. record { each = k .each } }
+
+  set-questions : (set : ℕ) → Alike (asks12 s ∷ asks14 s set ∷ []) (asks12 (holding s h o) ∷ asks14 (holding s h o) set ∷ [])
+  set-questions set = (refl, formed-too, (refl, inside-too set, tt))
+
+  way-questions : (target set : ℕ) → Alike (asks12 s ∷ asks13 s target ∷ asks14 s set ∷ []) (asks12 (holding s h o) ∷ asks13 (holding s h o) target ∷ asks14 (holding s h o) set ∷ [])
+  way-questions target set = (refl, formed-too, (refl, iff-refl, (refl, inside-too set, tt)))
+
+-- ---- the next set
+
+next-too : (s : Setup) (h o : VertexSet) (target last : ℕ) (a : Next) → IsNext s target last a → IsNext (holding s h o) target last a
+next-too s h o target last (Shown x) n =
+    record { is = minimal-too s h o false (s .graph) target x (n .is); after = n .after; first = λ y m. n .first y (minimal-back s h o false (s .graph) target y m) }
+next-too s h o target last End n = record { none = λ y m. n .none y (minimal-back s h o false (s .graph) target y m) }
+
 -- ---- the calls
 
 module _ (s : Setup) (h o : VertexSet) (w : WellFormed s) (u : WellFormed (holding s h o)) where
-  closure-call : (set n : ℕ) (v : List ℕ) → ClosureCall s set n v → ClosureCall (holding s h o) set n v
-  closure-call set n v a =
+  -- behind question 12 each contract says the same
+  heedless : (q : Request) (p : Outcome) → Fulfils (contractOf q s) p → Fulfils (contractOf q (holding s h o)) p
+  heedless (requests.Closure set) p =
+      fulfils-alike _ _ _ _ _ _ _ _ _ (set-questions s h o w u set) (λ a r. record { opened = r .opened; passes = r .passes; most = r .most; once = r .once }) (λ a. refl) p
+  heedless (requests.Lost set) p = fulfils-alike _ _ _ _ _ _ _ _ _ (set-questions s h o w u set) (λ a r. r) (λ a. refl) p
+  heedless (requests.WayTo target set vertices colours) p = fulfils-alike _ _ _ _ _ _ _ _ _ (way-questions s h o w u target set) (λ a r. r) (λ a. refl) p
+  heedless (requests.QuickYes target set) p = fulfils-alike _ _ _ _ _ _ _ _ _ (way-questions s h o w u target set) (λ a r. r) (λ a. refl) p
+  heedless (requests.BothBases target list) p =
+      fulfils-alike _ _ _ _ _ _ _ _ _ (target-questions s h o w u target)
+      (λ a r. record { isOpening = base-too s h o false (s .graph) target (a .opening) (r .isOpening); isLockout = base-too s h o true (s .graph) target (a .lockout) (r .isLockout) })
+      (λ a. refl) p
+  heedless (requests.ScoreOf loss target) p =
+      fulfils-alike _ _ _ _ _ _ _ _ _ (target-questions s h o w u target)
+      (λ a r. record { all = score-too s h o loss (s .graph) target a (r .all); base = λ k b. r .base k (base-too (holding s h o) (s .held) (s .opened) loss (s .graph) target k b) })
+      (λ a. refl) p
+  heedless (requests.MarksOf loss target handed) p =
+      fulfils-alike _ _ _ _ _ _ _ _ _ (target-questions s h o w u target)
+      (λ a r. record {
+        counts = counts-too s h o loss (s .graph) target handed (a .right) (a .repeated) (a .shut) (a .loose) (a .missing) (r .counts);
+        full = record { to = λ f. once-too s h o loss (s .graph) target handed (r .full .to f); from = λ b. r .full .from (once-too (holding s h o) (s .held) (s .opened) loss (s .graph) target handed b) };
+      }) (λ a. refl) p
+  heedless (requests.Backdoor item) p = fulfils-alike _ _ _ _ _ _ _ _ _ (target-questions s h o w u item) (finds-backdoor s h o item) (λ a. refl) p
+  heedless (requests.Idle item) p = fulfils-alike _ _ _ _ _ _ _ _ _ (target-questions s h o w u item) (finds-idle s h o item) (λ a. refl) p
+  heedless (requests.OutOfRank above below) p = fulfils-alike _ _ _ _ _ _ _ _ _ (refl, formed-too s h o w u, (refl, iff-refl, (refl, iff-refl, tt))) (finds-pair s h o above below) (λ a. refl) p
+  heedless (requests.ForecastOf target) p =
+      fulfils-alike _ _ _ _ _ _ _ _ _ (target-questions s h o w u target)
+      (λ n r. record { counted = r .counted; is = forecast-holds (holding s h o) target (r .counted) n (record { each = r .is .isCounted .each }) (r .is .ways) }) (λ a. refl) p
+  heedless (requests.Cuts target list) p =
+      fulfils-alike _ _ _ _ _ _ _ _ _ (target-questions s h o w u target)
+      (λ cuts r.
+      let same = exactly-same (Smallest (CutSet s target)) (Smallest (CutSet (holding s h o) target)) cuts
+      (λ q. record { to = smallest-cut s h o target q; from = smallest-cut (holding s h o) (s .held) (s .opened) target q }) (r .list) in
+      record { list = same; duality = duality-holds (holding s h o) target cuts u same }) (λ a. refl) p
+  heedless (requests.Attackers target kinds) p =
+      fulfils-alike _ _ _ _ _ _ _ _ _ (refl, formed-too s h o w u, (refl, iff-refl, (refl, iff-refl, (refl, record { to = λ k. record { each = k .each }; from = λ k. record { each = k .each } }, tt))))
+      (attackers-too s h o kinds target) (λ a. refl) p
+  heedless (requests.NextSet target last) p =
+      fulfils-alike _ _ _ _ _ _ _ _ _ (refl, formed-too s h o w u, (refl, iff-refl, (refl, record { to = λ k. record { each = k .each }; from = λ k. record { each = k .each } }, tt)))
+      (next-too s h o target last) (λ a. refl) p
+  heedless (requests.Bags target places lengths) p =
+      fulfils-alike _ _ _ _ _ _ _ _ _ (target-questions s h o w u target)
+      (λ l r. exactly-same (FirstInScore s target) (FirstInScore (holding s h o) target) l
+      (λ q. record { to = first-in-score s h o target q; from = first-in-score (holding s h o) (s .held) (s .opened) target q }) r)
+      (λ l i. places-too s h o l i ∷ allLengths s l ∷ []) p
+
+-- ---- a hand-in
+
+module _ (s : Setup) (h o : VertexSet) (used student target : ℕ) (loss : Bool) (handed : List ℕ) (entry : List Record) where
+  enters-too : (p : RegisterOutcome) → Enters s used student target loss handed entry p → Enters (holding s h o) used student target loss handed entry p
+  enters-too p e =
+      let r = e .row in
+      let c = e .isRecord in
       record {
-        malformed = λ m. absurd (m u);
-        outside = λ z i. a .outside w (λ k. i (record { each = k .each }));
-        answers = λ z i.
-            let x = a .answers w (record { each = i .each }) in
-            (x .0, x .1, x .2, x .3, x .4, record { passes = x .5 .passes; most = x .5 .most; once = x .5 .once });
+        row = r;
+        isRecord = record {
+          isStudent = c .isStudent;
+          isTarget = c .isTarget;
+          isWay = c .isWay;
+          counts = counts-too s h o loss (s .graph) target handed (r .right) (r .repeated) (r .shut) (r .loose) (r .missing) (c .counts);
+          full = record { to = λ f. once-too s h o loss (s .graph) target handed (c .full .to f); from = λ b. c .full .from (once-too (holding s h o) (s .held) (s .opened) loss (s .graph) target handed b) };
+        };
+        told = e .told;
       }
 
-  lost-call : (set n : ℕ) (v : List ℕ) → LostCall s set n v → LostCall (holding s h o) set n v
-  lost-call set n v a =
-      record {
-        malformed = λ m. absurd (m u);
-        outside = λ z i. a .outside w (λ k. i (record { each = k .each }));
-        answers = λ z i. a .answers w (record { each = i .each });
-      }
+  hand-in-too : WellFormed s → WellFormed (holding s h o) → (p : RegisterOutcome) → HandInCall s used student target loss handed (p .answer) entry (p .slice)
+      → HandInCall (holding s h o) used student target loss handed (p .answer) entry (p .slice)
+  hand-in-too w u p =
+      asks-alike (handsBack used entry) (Enters s used student target loss handed entry) (Enters (holding s h o) used student target loss handed entry)
+      (asks25 entry used ∷ asks12 s ∷ asks13 s target ∷ []) (asks25 entry used ∷ asks12 (holding s h o) ∷ asks13 (holding s h o) target ∷ []) p
+      (refl, iff-refl, target-questions s h o w u target) (enters-too p)
 
-  way-call : (target set n : ℕ) (v a x b y : List ℕ) → WayCall s target set n v a x b y → WayCall (holding s h o) target set n v a x b y
-  way-call target set n v a x b y c =
-      record {
-        malformed = λ m. absurd (m u);
-        noTarget = λ z l. c .noTarget w l;
-        outside = λ z l i. c .outside w l (λ k. i (record { each = k .each }));
-        shut = λ z l i. c .shut w l (record { each = i .each });
-        found = λ z l i. c .found w l (record { each = i .each });
-      }
+-- ---- the statement
 
-  quick-call : (target set n : ℕ) (v : List ℕ) → QuickCall s target set n v → QuickCall (holding s h o) target set n v
-  quick-call target set n v c =
-      record {
-        malformed = λ m. absurd (m u);
-        noTarget = λ z l. c .noTarget w l;
-        outside = λ z l i. c .outside w l (λ k. i (record { each = k .each }));
-        yes = λ z l i. c .yes w l (record { each = i .each });
-        no = λ z l i. c .no w l (record { each = i .each });
-      }
+module _ (s t : Setup) (k : OnlyHolding s t) where
+  whole : holding s (t .held) (t .opened) ≡ t
+  whole = λ i. record { count = k .count i; vertices = k .vertices i; graph = k .graph i; recovery = k .recovery i; held = t .held; opened = t .opened }
 
-  bases-call : (target n : ℕ) (v a x : List ℕ) → BasesCall s target n v a x → BasesCall (holding s h o) target n v a x
-  bases-call target n v a x c =
-      record {
-        malformed = λ m. absurd (m u);
-        noTarget = λ z l. c .noTarget w l;
-        answers = λ z l.
-            let y = c .answers w l in
-            (y .0, y .1, base-too s h o false (s .graph) target (y .0) (y .2), base-too s h o true (s .graph) target (y .1) (y .3), y .4);
-      }
-
-  score-call : (loss : Bool) (target n : ℕ) (v : List ℕ) → ScoreCall loss s target n v → ScoreCall loss (holding s h o) target n v
-  score-call loss target n v c =
-      record {
-        malformed = λ m. absurd (m u);
-        noTarget = λ z l. c .noTarget w l;
-        answers = λ z l.
-            let y = c .answers w l in (
-              y .0,
-              y .1,
-              y .2,
-              score-too s h o loss (s .graph) target (y .0) (y .3),
-              λ k b. y .4 k (base-too (holding s h o) (s .held) (s .opened) loss (s .graph) target k b),
-            );
-      }
-
-  marks-call : (loss : Bool) (target : ℕ) (handed : List ℕ) (n : ℕ) (v : List ℕ) → MarksCall loss s target handed n v → MarksCall loss (holding s h o) target handed n v
-  marks-call loss target handed n v c =
-      record {
-        malformed = λ m. absurd (m u);
-        noTarget = λ z l. c .noTarget w l;
-        answers = λ z l.
-            let y = c .answers w l in (
-              y .0,
-              y .1,
-              y .2,
-              y .3,
-              y .4,
-              y .5,
-              y .6,
-              counts-too s h o loss (s .graph) target handed (y .0) (y .1) (y .2) (y .3) (y .4) (y .7),
-              record {
-                to = λ f. once-too s h o loss (s .graph) target handed (y .8 .to f);
-                from = λ b. y .8 .from (once-too (holding s h o) (s .held) (s .opened) loss (s .graph) target handed b);
-              },
-            );
-      }
-
-  finding-call : (F F′ : Bool → Type 0) → ((b : Bool) → F b → F′ b) → (vertices : List ℕ) (n : ℕ) (v : List ℕ) → FindingCall F s vertices n v
-      → FindingCall F′ (holding s h o) vertices n v
-  finding-call F F′ f vertices n v c =
-      record {
-        malformed = λ m. absurd (m u);
-        noVertex = λ z i k l. c .noVertex w i k l;
-        answers = λ z l. let y = c .answers w l in (y .0, y .1, y .2, f (y .0) (y .3));
-      }
-
-  forecast-call : (target n : ℕ) (v : List ℕ) → ForecastCall s target n v → ForecastCall (holding s h o) target n v
-  forecast-call target n v c =
-      record {
-        malformed = λ m. absurd (m u);
-        noTarget = λ z l. c .noTarget w l;
-        answers = λ z l.
-            let y = c .answers w l in
-            (y .0, y .1, y .2, y .3, forecast-holds (holding s h o) target (y .0) (y .1) (record { each = y .4 .isCounted .each }) (y .4 .ways));
-      }
-
-  cuts-call : (target n : ℕ) (v a x : List ℕ) → CutsCall s target n v a x → CutsCall (holding s h o) target n v a x
-  cuts-call target n v a x c =
-      record {
-        malformed = λ m. absurd (m u);
-        noTarget = λ z l. c .noTarget w l;
-        answers = λ z l.
-            let y = c .answers w l in
-            let cuts = exactly-same (Smallest (CutSet s target)) (Smallest (CutSet (holding s h o) target)) (y .0)
-            (λ q. record { to = smallest-cut s h o target q; from = smallest-cut (holding s h o) (s .held) (s .opened) target q }) (y .1) in
-            (y .0, cuts, y .2, duality-holds (holding s h o) target (y .0) u cuts);
-      }
-
-  attacker-call : (target : ℕ) (kinds : List ℕ) (n : ℕ) (v : List ℕ) → AttackerCall s target kinds n v → AttackerCall (holding s h o) target kinds n v
-  attacker-call target kinds n v c =
-      record {
-        malformed = λ m. absurd (m u);
-        noTarget = λ z l. c .noTarget w l;
-        otherLength = λ z l e. c .otherLength w l e;
-        noKind = λ z l e f. c .noKind w l e (λ k. f (record { each = k .each }));
-        answers = λ z l e f.
-            let y = c .answers w l e (record { each = f .each }) in
-            (y .0, y .1, y .2, attackers-too s h o kinds target (y .0) (y .3));
-      }
-
-  multisets-call : (target n : ℕ) (v a x b y : List ℕ) → MultisetsCall s target n v a x b y → MultisetsCall (holding s h o) target n v a x b y
-  multisets-call target n v a x b y c =
-      record {
-        malformed = λ m. absurd (m u);
-        noTarget = λ z l. c .noTarget w l;
-        answers = λ z l.
-            let k = c .answers w l in
-            let first = exactly-same (FirstInScore s target) (FirstInScore (holding s h o) target) (k .0)
-            (λ q. record { to = first-in-score s h o target q; from = first-in-score (holding s h o) (s .held) (s .opened) target q }) (k .1) in (
-              k .0,
-              first,
-              record {
-                room = λ p q. subst (λ (places : List ℕ). (n ≡ 0) × (v ≡ length (k .0) ∷ []) × (x ≡ written places a) × (y ≡ written (allLengths s (k .0)) b)) (places-too s h o (k .0)) (k .2 .room p q);
-                short = k .2 .short;
-              },
-            );
-      }
-
-  record-too : (student target : ℕ) (loss : Bool) (handed : List ℕ) (r : Record) → RecordOf s student target loss handed r
-      → RecordOf (holding s h o) student target loss handed r
-  record-too student target loss handed r c =
-      let back = once-too (holding s h o) (s .held) (s .opened) loss (s .graph) target handed in
-      record {
-        isStudent = c .isStudent;
-        isTarget = c .isTarget;
-        isWay = c .isWay;
-        counts = counts-too s h o loss (s .graph) target handed (r .right) (r .repeated) (r .shut) (r .loose) (r .missing) (c .counts);
-        full = record { to = λ f. once-too s h o loss (s .graph) target handed (c .full .to f); from = λ b. c .full .from (back b) };
-      }
-
-  hand-in-call : (used student target : ℕ) (loss : Bool) (handed : List ℕ) (r : Registered) (a x : List Record) → HandInCall s used student target loss handed r a x
-      → HandInCall (holding s h o) used student target loss handed r a x
-  hand-in-call used student target loss handed r a x c =
-      record {
-        overfull = c .overfull;
-        malformed = λ e m. absurd (m u);
-        noTarget = λ e z l. c .noTarget e w l;
-        answers = λ e z l. let k = c .answers e w l in (k .0, record-too student target loss handed (k .0) (k .1), k .2);
-      }
-
-same-answers : (s : Setup) (h o : VertexSet) → WellFormed s → WellFormed (holding s h o) → SameAnswers s (holding s h o)
-same-answers s h o w u =
-    record {
-      closure = closure-call s h o w u;
-      lost = lost-call s h o w u;
-      way = way-call s h o w u;
-      quick = quick-call s h o w u;
-      bases = bases-call s h o w u;
-      score = score-call s h o w u;
-      marks = marks-call s h o w u;
-      backdoor = λ item. finding-call s h o w u (FindsBackdoor s item) (FindsBackdoor (holding s h o) item) (finds-backdoor s h o item) (item ∷ []);
-      idle = λ item. finding-call s h o w u (FindsIneffective s item) (FindsIneffective (holding s h o) item) (finds-idle s h o item) (item ∷ []);
-      pair = λ above below. finding-call s h o w u (FindsInconsistent s above below) (FindsInconsistent (holding s h o) above below) (finds-pair s h o above below) (above ∷ below ∷ []);
-      forecast = forecast-call s h o w u;
-      next = λ target last n v. drawing-alone s (holding s h o) target last n v w u refl refl refl;
-      cuts = cuts-call s h o w u;
-      attackers = attacker-call s h o w u;
-      multisets = multisets-call s h o w u;
-      handIn = hand-in-call s h o w u;
-    }
+  formed-held : WellFormed (holding s (t .held) (t .opened))
+  formed-held = subst WellFormed (sym whole) (k .second)
 
 pub no-heed : NoHeed
-no-heed s t k = subst (SameAnswers s) whole (same-answers s (t .held) (t .opened) (k .first) (subst WellFormed (sym whole) (k .second)))
-  where
-    whole : holding s (t .held) (t .opened) ≡ t
-    whole = λ i. record { count = k .count i; vertices = k .vertices i; graph = k .graph i; recovery = k .recovery i; held = t .held; opened = t .opened }
+no-heed =
+    record {
+      calls = λ q s t k p f.
+          subst (λ (x : Setup). Fulfils (contractOf q x) p) (whole s t k) (heedless s (t .held) (t .opened) (k .first) (formed-held s t k) q p f);
+      handIn = λ s t k used student target loss handed a entry exit f.
+          subst (λ (x : Setup). HandInCall x used student target loss handed a entry exit) (whole s t k)
+          (hand-in-too s (t .held) (t .opened) used student target loss handed entry (k .first) (formed-held s t k) (withSlice a exit) f);
+    }

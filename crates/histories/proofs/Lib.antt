@@ -1,3 +1,4 @@
 pub mod Runs
 pub mod Reaching
 pub mod Heed
+pub mod Once

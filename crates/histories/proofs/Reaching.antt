@@ -22,11 +22,11 @@ use Rattle.derivations.proofs.Closures.{closure-unique}
 use Rattle.reference.specs.Closures.{closureOf}
 use Rattle.reference.proofs.Graphs.{own-graph}
 use Rattle.reference.proofs.Closures.{closure-of}
-use Rattle.living.specs.Calls.{Call, TakeIn, CallOf, drawingOf, after}
-use Rattle.living.proofs.Calls.{hold-done}
+use Rattle.questions.proofs.Asks.{ask-all}
+use Rattle.living.specs.Calls.{Call, TakeIn, questionsOf, back, Done, CallOf}
 use Rattle.sheet_format.proofs.Question12.{question-12-sheets, yielded-formed}
 use Rattle.histories.specs.Histories.{Reached, Question12}
-use Rattle.histories.proofs.Runs.{follow, fresh-left, ran-more}
+use Rattle.histories.proofs.Runs.{still-formed, ran-more}
 
 pub holding-formed : (s : Setup) (h o : VertexSet) → WellFormed s → ((v : ℕ) → Member (h .0) v → v < s .count) → AccessFrom (s .graph) (h .0) (o .0)
     → WellFormed (holding s h o)
@@ -48,7 +48,7 @@ holding-formed s h o w b a =
     }
 
 -- one call more
-further : (s t : Setup) (c : Call) (n : ℕ) → Reached s → CallOf c s n t → Reached t
+further : (s t : Setup) (c : Call) (n : ℕ) → Reached s → CallOf c s (record { number = n; setup = t }) → Reached t
 further s t c n r a =
     record {
       text = r .text;
@@ -85,23 +85,27 @@ module _ (s : Setup) (w : WellFormed s) where
   part-formed k l = holding-formed s _ _ w (λ v m. w .holds .each v (in-lower k v l .to m .0)) (opens (lower k))
 
   -- one held vertex more
-  takes : (k : ℕ) → suc k ≤ 64 → Member (s .held .0) k → CallOf (TakeIn k) (withHeld s (lower k)) 0 (withHeld s (lower (suc k)))
+  takes : (k : ℕ) → suc k ≤ 64 → Member (s .held .0) k → CallOf (TakeIn k) (withHeld s (lower k)) (record { number = 0; setup = withHeld s (lower (suc k)) })
   takes k l m =
-      hold-done (withHeld s (lower k)) k (TakeIn k) 0 (withHeld s (lower (suc k))) refl (part-formed k (omega arith)) (w .holds .each k m)
+      ask-all (back (withHeld s (lower k))) (Done (TakeIn k) (withHeld s (lower k))) (questionsOf (TakeIn k) (withHeld s (lower k)))
+      (record { number = 0; setup = withHeld s (lower (suc k)) }) (part-formed k (omega arith), (w .holds .each k m, tt))
       (record {
-        count = refl;
-        vertices = refl;
-        shaped = part-formed (suc k) l .shaped;
-        edges = λ f v c. iff-refl;
-        marks = λ f v c. iff-refl;
-        held = λ i.
-            let a = in-lower (suc k) i l in
-            let b = in-lower k i (omega arith) in
-            record {
-              to = λ n. let p = a .to n in ⊎-elim (λ e. inr e) (λ d. inl (b .from (p .0, let h = p .1 in omega (arith, d)))) (same-or i k);
-              from = ⊎-elim (λ n. let p = b .to n in a .from (p .0, let h = p .1 in omega arith)) (λ e. a .from (subst (Member (s .held .0)) (sym e) m, omega arith));
-            };
-        opened = opens (lower (suc k));
+        numbered = refl;
+        redrawn = record {
+          count = refl;
+          vertices = refl;
+          shaped = part-formed (suc k) l .shaped;
+          edges = λ f v c. iff-refl;
+          marks = λ f v c. iff-refl;
+          held = λ i.
+              let a = in-lower (suc k) i l in
+              let b = in-lower k i (omega arith) in
+              record {
+                to = λ n. let p = a .to n in ⊎-elim (λ e. inr e) (λ d. inl (b .from (p .0, let h = p .1 in omega (arith, d)))) (same-or i k);
+                from = ⊎-elim (λ n. let p = b .to n in a .from (p .0, let h = p .1 in omega arith)) (λ e. a .from (subst (Member (s .held .0)) (sym e) m, omega arith));
+              };
+          opened = opens (lower (suc k));
+        };
       })
 
   -- a vertex that is not held
@@ -152,9 +156,4 @@ module _ (s : Setup) (w : WellFormed s) where
 
 pub question-12 : Question12
 question-12 s =
-    record {
-      to = reached s;
-      from = λ r.
-          follow (r .fresh) (r .calls) (r .numbers) (r .fresh) s (drawingOf (r .fresh)) (fresh-left (r .fresh) (yielded-formed (r .text) (r .fresh) (r .reading))) (r .ran)
-          .formed;
-    }
+    record { to = reached s; from = λ r. still-formed (r .calls) (r .numbers) (r .fresh) s (yielded-formed (r .text) (r .fresh) (r .reading)) (r .ran) }

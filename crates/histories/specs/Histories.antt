@@ -3,7 +3,9 @@ use mathlib.Core.Path.{_≡_}
 use mathlib.Core.List.{List, [], _∷_}
 use Prim.Native.Nat.{ℕ, zero, suc}
 use Rattle.vertex_set.specs.Set.{Iff}
+use Rattle.vertex_set.specs.Order.{Listed}
 use Rattle.setup.specs.declared.Setup.{Setup}
+use Rattle.setup.specs.Setup.{noItems}
 use Rattle.formed.specs.WellFormed.{WellFormed}
 use Rattle.living.specs.Calls.{Call, CallOf, Drawing, drawingOf, after, Redrawn}
 use Rattle.sheet_format.specs.Read.{readSheet, accepted}
@@ -13,7 +15,7 @@ abbrev pub Ran : Setup → List Call → List ℕ → Setup → Type 0
 Ran s [] [] s′ = s ≡ s′
 Ran s [] (n ∷ numbers) s′ = ⊥
 Ran s (c ∷ calls) [] s′ = ⊥
-Ran s (c ∷ calls) (n ∷ numbers) s′ = (t : Setup) × CallOf c s n t × Ran t calls numbers s′
+Ran s (c ∷ calls) (n ∷ numbers) s′ = (t : Setup) × CallOf c s (record { number = n; setup = t }) × Ran t calls numbers s′
 
 -- The drawing that the accepted ones of these calls, those with the number 0, have left.
 abbrev pub leftBy : List Call → List ℕ → Drawing → Drawing
@@ -22,11 +24,16 @@ leftBy (c ∷ calls) [] d = d
 leftBy (c ∷ calls) (zero ∷ numbers) d = leftBy calls numbers (after c d)
 leftBy (c ∷ calls) (suc n ∷ numbers) d = leftBy calls numbers d
 
--- Point 8's theorem: for every list of calls from a freshly read setup, refused ones among them, the setup has the drawing which the accepted
--- calls have left, and its opened set is what the held vertices open in it.
+-- Point 8's theorem: for every list of calls on a freshly read setup, refused ones among them, the setup has the drawing which the accepted calls have
+-- left, and its opened set is what the held vertices open in it. So it is for every text, a refused one too.
 abbrev pub OpenedAlways : Type 0
-OpenedAlways = (text : List ℕ) (fresh : Setup) → readSheet text ≡ accepted fresh → (calls : List Call) (numbers : List ℕ) (s : Setup)
-    → Ran fresh calls numbers s → Redrawn fresh (leftBy calls numbers (drawingOf fresh)) s
+OpenedAlways = (text : List ℕ) (calls : List Call) (numbers : List ℕ) (s : Setup) → Ran (readSheet text .setup) calls numbers s
+    → Redrawn (readSheet text .setup) (leftBy calls numbers (drawingOf (readSheet text .setup))) s
+
+-- The setup of a refused text has 0 items. Every call on it is refused with 12, and so it stays as it was, with nothing opened.
+abbrev pub RefusedStays : Type 0
+RefusedStays = (text : List ℕ) → (readSheet text .number ≡ 0 → ⊥) → (calls : List Call) (numbers : List ℕ) (s : Setup)
+    → Ran (readSheet text .setup) calls numbers s → (s ≡ noItems) × ((n : ℕ) → Listed numbers n → n ≡ 12)
 
 -- Some accepted sheet and some list of calls reach the setup s.
 pub record Reached (s : Setup) : Type 0 where

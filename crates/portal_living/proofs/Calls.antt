@@ -25,7 +25,7 @@ use Rattle.portal_words.specs.Words.{setupWords, setupIn, wordsOf}
 use Rattle.portal_words.specs.Inner.{WroteAll}
 use Rattle.portal_words.proofs.Saying.{words-long}
 use Rattle.portal_words.proofs.Strict.{words-are, well-formed-back, formed-says}
-use Rattle.portal_living.specs.Living.{livingCall, Answered, NoWordChanges}
+use Rattle.portal_living.specs.Living.{livingCall, Redrew, NoWordChanges}
 use Rattle.portal_living.specs.Inner.{HasRoom, PutBack}
 
 -- ---- what the code puts back
@@ -99,7 +99,7 @@ module _ (c : Call) (entry : List ℕ) where
       a
 
   pub living-told : (s : Setup) → s ≡ setupIn entry → (r : Redrawing) (number : ℕ) (exit : List ℕ) → CallOf c s r → (number ≡ r .number) × PutBack r entry exit
-      → Answered c number entry exit
+      → Redrew c number entry exit
   living-told s e r number exit a b =
       record {
         values = [];
@@ -117,7 +117,7 @@ module _ (c : Call) (entry : List ℕ) where
       (step c (setupIn entry) (record { number = 0; setup = t })
       (ask-all (back (setupIn entry)) (Done c (setupIn entry)) (questionsOf c (setupIn entry)) (record { number = 0; setup = t }) y (record { numbered = refl; redrawn = r })))
 
-  done-of : (number : ℕ) (values : List ℕ) (exit : List ℕ) → AllYes (questionsOf c (setupIn entry))
+  pub done-of : (number : ℕ) (values : List ℕ) (exit : List ℕ) → AllYes (questionsOf c (setupIn entry))
       → Answers (livingCall c entry) (ends (record { number = number; values = values }) (exit ∷ [])) → Done c (setupIn entry) (record { number = number; setup = setupIn exit })
   unfolding Asks
   done-of number values exit y a =
@@ -129,7 +129,7 @@ module _ (c : Call) (entry : List ℕ) where
       })
       (a .told)
 
-  pub call-of : (number : ℕ) (exit : List ℕ) → Answered c number entry exit → CallOf c (setupIn entry) (record { number = number; setup = setupIn exit })
+  pub call-of : (number : ℕ) (exit : List ℕ) → Redrew c number entry exit → CallOf c (setupIn entry) (record { number = number; setup = setupIn exit })
   unfolding Fulfils
   call-of number exit t =
       asks-map (turnsAway (entry ∷ [])) (back (setupIn entry)) (Answers (livingCall c entry)) (Done c (setupIn entry)) (questionsOf c (setupIn entry))
@@ -153,7 +153,7 @@ same-words entry w =
     ∙ ap (λ (l : List ℕ). l ++ drop setupWords entry) (sym (words-are entry says)) ∙ take-append-drop setupWords entry
 
 -- an accepted call that leaves the setup as it was
-unchanged : (c : Call) (number : ℕ) (entry exit : List ℕ) → AllYes (questionsOf c (setupIn entry)) → Answered c number entry exit
+unchanged : (c : Call) (number : ℕ) (entry exit : List ℕ) → AllYes (questionsOf c (setupIn entry)) → Redrew c number entry exit
     → ((r : Redrawing) → CallOf c (setupIn entry) r → r ≡ back (setupIn entry) 0) → (number ≡ 0) × (exit ≡ entry)
 unfolding Asks
 unchanged c number entry exit y t same =

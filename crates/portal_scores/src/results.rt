@@ -21,7 +21,7 @@ pub struct SetupScoreResult {
     pub score: u64,
 }
 
-pub fn tell_score(answer: ScoreAnswer) -> SetupScoreResult
+pub(crate) fn tell_score(answer: ScoreAnswer) -> SetupScoreResult
     ensures { λ r. ⌜ InStruct (scoreReply answer) (r .number) (r .score ∷ []) ⌝ }
 {
     match answer {
@@ -42,7 +42,7 @@ pub struct SetupRiskResult {
     pub risk: u64,
 }
 
-pub fn tell_risk(answer: RiskAnswer) -> SetupRiskResult
+pub(crate) fn tell_risk(answer: RiskAnswer) -> SetupRiskResult
     ensures { λ r. ⌜ InStruct (riskReply answer) (r .number) (r .risk ∷ []) ⌝ }
 {
     match answer {
@@ -64,7 +64,7 @@ pub struct MarksResult {
     pub missing: u64,
 }
 
-pub fn tell_marks(answer: MarksAnswer) -> MarksResult
+pub(crate) fn tell_marks(answer: MarksAnswer) -> MarksResult
     ensures { λ r. ⌜ InStruct (marksReply answer) (r .number) (r .right ∷ r .repeated ∷ r .shut ∷ r .loose ∷ r .missing ∷ []) ⌝ }
 {
     match answer {
@@ -93,7 +93,7 @@ pub struct FindingResult {
     pub yes: u64,
 }
 
-pub fn tell_finding(answer: FindingAnswer) -> FindingResult
+pub(crate) fn tell_finding(answer: FindingAnswer) -> FindingResult
     ensures { λ r. ⌜ InStruct (findingReply answer) (r .number) (r .yes ∷ []) ⌝ }
 {
     match answer {
@@ -111,7 +111,7 @@ pub struct KindsResult {
     pub kinds: u64,
 }
 
-pub fn tell_kinds(answer: AttackerAnswer) -> KindsResult
+pub(crate) fn tell_kinds(answer: AttackerAnswer) -> KindsResult
     ensures { λ r. ⌜ InStruct (attackerReply answer) (r .number) (r .kinds ∷ []) ⌝ }
 {
     match answer {
@@ -129,7 +129,7 @@ pub struct BagScoreResult {
     pub bags: u64,
 }
 
-pub fn tell_bags(answer: MultisetAnswer) -> BagScoreResult
+pub(crate) fn tell_bags(answer: MultisetAnswer) -> BagScoreResult
     ensures { λ r. ⌜ InStruct (bagsReply answer) (r .number) (r .bags ∷ []) ⌝ }
 {
     match answer {

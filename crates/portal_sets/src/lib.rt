@@ -4,7 +4,7 @@
 ghost use mathlib.Core.Path.{_≡_};
 ghost use mathlib.Core.List.{[], _∷_};
 ghost use Rattle.questions.specs.Asks.{Asks};
-ghost use Rattle.questions.specs.Questions.{asks12};
+ghost use Rattle.portal_sets.specs.Check.{asksReached};
 ghost use Rattle.questions.specs.Told.{Told};
 ghost use Rattle.access.specs.Answers.{closureCall, lostCall, wayCall};
 ghost use Rattle.quick_yes.specs.Answers.{quickCall};
@@ -25,10 +25,10 @@ use vertex_set::VertexSet;
 
 pub mod results;
 
-// Question 12: 0 for yes, and 12 for no.
+// Question 12: 0 for yes, and 12 for no. The test is the one that every call makes.
 #[no_mangle]
 pub extern "C" fn portal_check(setup: &[u64]) -> u64
-    ensures { λ r. ⌜ Asks (λ q. q) (asks12 (setupIn (now (setup .entry))) ∷ []) (λ n. n ≡ 0) r ⌝ }
+    ensures { λ r. ⌜ Asks (λ q. q) (asksReached (setupIn (now (setup .entry))) ∷ []) (λ n. n ≡ 0) r ⌝ }
 {
     let s = portal_words::setup_in(setup);
     if formed::well_formed(s) {

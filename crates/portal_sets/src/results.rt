@@ -25,7 +25,7 @@ pub struct ClosureResult {
     pub passes: u64,
 }
 
-pub fn tell_closure(answer: ClosureAnswer) -> ClosureResult
+pub(crate) fn tell_closure(answer: ClosureAnswer) -> ClosureResult
     ensures { λ r. ⌜ InStruct (closureReply answer) (r .number) (r .set ∷ r .passes ∷ []) ⌝ }
 {
     match answer {
@@ -48,7 +48,7 @@ pub struct LostResult {
     pub set: u64,
 }
 
-pub fn tell_lost(answer: LostAnswer) -> LostResult
+pub(crate) fn tell_lost(answer: LostAnswer) -> LostResult
     ensures { λ r. ⌜ InStruct (lostReply answer) (r .number) (r .set ∷ []) ⌝ }
 {
     match answer {
@@ -67,7 +67,7 @@ pub struct WayInResult {
     pub steps: u64,
 }
 
-pub fn tell_way(answer: WayAnswer) -> WayInResult
+pub(crate) fn tell_way(answer: WayAnswer) -> WayInResult
     ensures { λ r. ⌜ InStruct (wayReply answer) (r .number) (r .opens ∷ r .steps ∷ []) ⌝ }
 {
     match answer {
@@ -96,7 +96,7 @@ pub struct OpensResult {
     pub set: u64,
 }
 
-pub fn tell_quick(answer: QuickAnswer) -> OpensResult
+pub(crate) fn tell_quick(answer: QuickAnswer) -> OpensResult
     ensures { λ r. ⌜ InStruct (quickReply answer) (r .number) (r .opens ∷ r .set ∷ []) ⌝ }
 {
     match answer {
@@ -125,7 +125,7 @@ pub struct ListsResult {
     pub lockouts: u64,
 }
 
-pub fn tell_lists(answer: BasesAnswer) -> ListsResult
+pub(crate) fn tell_lists(answer: BasesAnswer) -> ListsResult
     ensures { λ r. ⌜ InStruct (basesReply answer) (r .number) (r .openings ∷ r .lockouts ∷ []) ⌝ }
 {
     match answer {
@@ -148,7 +148,7 @@ pub struct ForecastResult {
     pub sets: u64,
 }
 
-pub fn tell_forecast(answer: ForecastAnswer) -> ForecastResult
+pub(crate) fn tell_forecast(answer: ForecastAnswer) -> ForecastResult
     ensures { λ r. ⌜ InStruct (forecastReply answer) (r .number) (r .sets ∷ []) ⌝ }
 {
     match answer {
@@ -164,7 +164,7 @@ pub struct NextOpeningResult {
     pub set: u64,
 }
 
-pub fn tell_next(answer: NextAnswer) -> NextOpeningResult
+pub(crate) fn tell_next(answer: NextAnswer) -> NextOpeningResult
     ensures { λ r. ⌜ InStruct (nextReply answer) (r .number) (r .more ∷ r .set ∷ []) ⌝ }
 {
     match answer {
@@ -192,7 +192,7 @@ pub struct CutSetsResult {
     pub count: u64,
 }
 
-pub fn tell_cuts(answer: CutsAnswer) -> CutSetsResult
+pub(crate) fn tell_cuts(answer: CutsAnswer) -> CutSetsResult
     ensures { λ r. ⌜ InStruct (cutsReply answer) (r .number) (r .count ∷ []) ⌝ }
 {
     match answer {

@@ -82,12 +82,12 @@ module _ (text : List ℕ) (r : Reading) (q : r ≡ readSheet text) where
         record { values = []; call = inr (sym number-is ∙ z, inl (λ h. let b = h in omega arith, refl)); unused = 2; told = refl }
 
     pub name-there : r .number ≡ 0 → item < r .setup .count → (p : Span) → p ≡ spanOf text item
-        → Told (nameCall text item) 0 (p .from ∷ p .to - p .from ∷ []) []
+        → Told (nameCall text item) 0 (p .from ∷ (p .to - p .from) ∷ []) []
     name-there z l p e =
         record {
-          values = p .from ∷ p .to - p .from ∷ [];
-          call = fulfilled (nameCall text item) (ends (gives (p .from ∷ p .to - p .from ∷ [])) []) (sym number-is ∙ z, (below, tt))
-              (given (nameCall text item) (record { start = p .from; size = p .to - p .from }) holds tt (ends (gives (p .from ∷ p .to - p .from ∷ [])) []) refl);
+          values = p .from ∷ (p .to - p .from) ∷ [];
+          call = fulfilled (nameCall text item) (ends (gives (p .from ∷ (p .to - p .from) ∷ [])) []) (sym number-is ∙ z, (below, tt))
+              (given (nameCall text item) (record { start = p .from; size = p .to - p .from }) holds tt (ends (gives (p .from ∷ (p .to - p .from) ∷ [])) []) refl);
           unused = 0;
           told = refl;
         }

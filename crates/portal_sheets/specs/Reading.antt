@@ -3,7 +3,7 @@ use mathlib.Core.Path.{_≡_}
 use mathlib.Core.List.{List, [], _∷_}
 use Prim.Native.Nat.{ℕ, _≤_, _<_}
 use lib.ListN.{length, take, drop}
-use Rattle.sheet_format.specs.Read.{readSheet}
+use Rattle.sheet_format.specs.Read.{readSheet, asksSheet}
 use Rattle.sheet_format.specs.Names.{nameOf, nameStart}
 use Rattle.setup.specs.Calls.{written}
 use Rattle.questions.specs.Contract.{Contract, telling}
@@ -25,12 +25,12 @@ pub record ReadingCall (text : List ℕ) (number line : ℕ) (entry exit : List 
   pub untouched : length entry < setupWords → exit ≡ entry
 
 -- A part of the sheet's bytes: where it begins, and how many bytes it has.
-pub record Part : Type 0 where
+pub record NamePart : Type 0 where
   pub start : ℕ
   pub size : ℕ
 
 -- The part holds the item's name.
-pub record HoldsName (text : List ℕ) (item : ℕ) (p : Part) : Type 0 where
+pub record HoldsName (text : List ℕ) (item : ℕ) (p : NamePart) : Type 0 where
   pub begins : p .start ≡ nameStart text item
   pub long : p .size ≡ length (nameOf text item)
   pub bytes : take (p .size) (drop (p .start) text) ≡ nameOf text item

@@ -160,6 +160,12 @@ empty-said =
 says-back : (s : Setup) → Sayable s → (rest : List ℕ) → setupIn (wordsOf s ++ rest) ≡ s
 says-back s h rest = setup-spelt (wordsOf s ++ rest) (written-says s (h .shaped) rest) ∙ spelt-back s h rest
 
+pub well-formed-says : (s : Setup) → WellFormed s → (rest : List ℕ) → SaysSetup (wordsOf s ++ rest)
+well-formed-says s w = written-says s (w .shaped)
+
+pub empty-says : (rest : List ℕ) → SaysSetup (wordsOf noItems ++ rest)
+empty-says = written-says noItems (empty-said .shaped)
+
 pub well-formed-back : (s : Setup) → WellFormed s → (rest : List ℕ) → setupIn (wordsOf s ++ rest) ≡ s
 well-formed-back s w = says-back s (well-formed-said s w)
 

@@ -2,14 +2,18 @@
 -- Assumes nothing.
 use mathlib.Core.Path.{_≡_, refl, sym, ap, subst, _∙_}
 use mathlib.Core.List.{List, _++_}
+use mathlib.Core.Bool.{true}
+use mathlib.Core.Logic.{inl, inr, ⊎-elim}
 use Prim.Native.Nat.{ℕ, _+_}
 use native.Mathlib.Omega.{arith}
 use lib.ListN.{length, replicate, length-append, length-replicate}
 use Rattle.setup.specs.declared.Setup.{Setup}
-use Rattle.questions.specs.Contract.{Reply, Outcome, ends, Contract, Fulfils, OneAnswer}
-use Rattle.questions.specs.Told.{Told, OneResult}
+use Rattle.questions.specs.Contract.{Reply, Outcome, ends, turnsAway, Contract, Fulfils, numbers, OneAnswer}
+use Rattle.questions.specs.Told.{Told, ToldNo, SettledTold}
+use Rattle.questions.specs.Asks.{TurnedAway}
 use Rattle.questions.specs.Inner.{InStruct}
-use Rattle.questions.proofs.Contract.{fulfils-once}
+use Rattle.questions.proofs.Asks.{positive}
+use Rattle.questions.proofs.Contract.{fulfils-once, settled}
 
 -- as many fields behind the same values
 padding-length : (v : List ℕ) (k : ℕ) → length (v ++ replicate k 0) ≡ length v + k
@@ -22,15 +26,36 @@ same-unused v v′ f f′ k k′ e h p q =
     let c : length v ≡ length v′ = ap length e in
     omega arith
 
-pub one-result : (c : Contract) → OneAnswer c → OneResult c
-one-result c one n n′ f f′ l l′ e t t′ =
-    let h = fulfils-once c one (ends (record { number = n; values = t .values }) l) (ends (record { number = n′; values = t′ .values }) l′) (t .call) (t′ .call) in
-    let v : t .values ≡ t′ .values = ap (λ (o : Outcome). o .reply .values) h in
-    let k = same-unused (t .values) (t′ .values) f f′ (t .unused) (t′ .unused) v e (t .told) (t′ .told) in (
-      ap (λ (o : Outcome). o .reply .number) h,
-      t .told ∙ ap (λ (x : List ℕ). x ++ replicate (t .unused) 0) v ∙ ap (λ (j : ℕ). t′ .values ++ replicate j 0) k ∙ sym (t′ .told),
-      ap (λ (o : Outcome). o .lent) h,
-    )
+-- no fields but zeros where there are no values
+only-zeros : (f : List ℕ) (k : ℕ) → f ≡ replicate k 0 → f ≡ replicate (length f) 0
+only-zeros f k e = e ∙ ap (λ (n : ℕ). replicate n 0) (sym (ap length e ∙ length-replicate k 0))
+
+module _ (c : Contract) (one : OneAnswer c) (n : ℕ) (f : List ℕ) (l : List (List ℕ)) (t : Told c n f l) where
+  one-result : (n′ : ℕ) (f′ : List ℕ) (l′ : List (List ℕ)) → length f′ ≡ length f → Told c n′ f′ l′ → (n′ ≡ n) × (f′ ≡ f) × (l′ ≡ l)
+  one-result n′ f′ l′ e t′ =
+      let h = fulfils-once c one (ends (record { number = n′; values = t′ .values }) l′) (ends (record { number = n; values = t .values }) l) (t′ .call) (t .call) in
+      let v : t′ .values ≡ t .values = ap (λ (o : Outcome). o .reply .values) h in
+      let k = same-unused (t′ .values) (t .values) f′ f (t′ .unused) (t .unused) v e (t′ .told) (t .told) in (
+        ap (λ (o : Outcome). o .reply .number) h,
+        t′ .told ∙ ap (λ (x : List ℕ). x ++ replicate (t′ .unused) 0) v ∙ ap (λ (j : ℕ). t .values ++ replicate j 0) k ∙ sym (t .told),
+        ap (λ (o : Outcome). o .lent) h,
+      )
+
+  told-no : TurnedAway (λ o. o .reply .number) (turnsAway (c .lent)) (numbers c) (ends (record { number = n; values = t .values }) l) → ToldNo c n f l
+  told-no h =
+      record {
+        listed = h .listed;
+        some = h .some;
+        zeros = only-zeros f (t .unused) (t .told ∙ ap (λ (o : Outcome). o .reply .values ++ replicate (t .unused) 0) (h .is));
+        kept = ap (λ (o : Outcome). o .lent) (h .is);
+      }
+
+  pub settled-told : positive (c .questions) ≡ true → SettledTold c n f l
+  settled-told pos =
+      record {
+        outcome = ⊎-elim (λ z. inl z) (λ h. inr (told-no h)) (settled c pos one (ends (record { number = n; values = t .values }) l) (t .call) .outcome);
+        only = one-result;
+      }
 
 -- of the answer y, which is the case x
 pub tells-as : {A : Type 0} (reply : A → Reply) (x y : A) → y ≡ x → (fields : List ℕ) (unused : ℕ) → fields ≡ reply x .values ++ replicate unused 0

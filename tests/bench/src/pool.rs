@@ -51,7 +51,12 @@ impl Half<'_> {
         let mut words = [0; product::WORDS];
         let reading = product::read(text, &mut words);
         if reading.number != 0 {
-            return Err(PoolResult { number: reading.number, sheet, line: reading.line, length: 0 });
+            return Err(PoolResult {
+                number: reading.number,
+                sheet,
+                line: reading.line,
+                length: 0,
+            });
         }
         let setup = Setup::from_words(&words);
         let (mut keys, mut from) = ([0; VERTICES], [0; VERTICES + 1]);

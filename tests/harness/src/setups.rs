@@ -133,7 +133,8 @@ fn in_other_words(rng: &mut Rng, mut words: Vec<u64>) -> Vec<u64> {
             words.truncate(*rng.pick(&[WORDS - 1, HELD, any]));
         }
         2 => {
-            let place = *rng.pick(&[0, PLACES - 1, rng.below(PLACES)]);
+            let any = rng.below(PLACES);
+            let place = *rng.pick(&[0, PLACES - 1, any]);
             words[1 + 4 * place] = *rng.pick(&[2, 3, 1 << 32, 1 << 63, u64::MAX]);
         }
         3..=5 => put_behind(rng, &mut words),

@@ -13,8 +13,9 @@
 mod results;
 
 pub use results::{
-    BagScoreResult, ClosureResult, CutSetsResult, FindingResult, ForecastResult, KindsResult, ListsResult, MarksResult, NextOpeningResult, NameResult, PoolResult,
-    OpensResult, ReadResult, Record, Refusal, RegisterResult, LostResult, SetupRiskResult, SetupScoreResult, WayInResult,
+    BagScoreResult, ClosureResult, CutSetsResult, FindingResult, ForecastResult, KindsResult,
+    ListsResult, LostResult, MarksResult, NameResult, NextOpeningResult, OpensResult, PoolResult,
+    ReadResult, Record, Refusal, RegisterResult, SetupRiskResult, SetupScoreResult, WayInResult,
 };
 
 /// How many words a setup has.
@@ -39,7 +40,8 @@ mod linked {
         pub fn portal_version() -> u64;
         pub fn portal_score(sheet: *const u8, length: usize, item: u64) -> u64;
         pub fn portal_risk(sheet: *const u8, length: usize, item: u64) -> u64;
-        pub fn portal_read(sheet: *const u8, n: usize, setup: *mut u64, words: usize) -> ReadResult;
+        pub fn portal_read(sheet: *const u8, n: usize, setup: *mut u64, words: usize)
+            -> ReadResult;
         pub fn portal_name(sheet: *const u8, length: usize, item: u64) -> NameResult;
         pub fn portal_pool(
             first: *const u8,
@@ -123,7 +125,8 @@ mod linked {
             to: u64,
             colour: u64,
         ) -> u64;
-        pub fn portal_setup_score(setup: *const u64, words: usize, target: u64) -> SetupScoreResult;
+        pub fn portal_setup_score(setup: *const u64, words: usize, target: u64)
+            -> SetupScoreResult;
         pub fn portal_setup_risk(setup: *const u64, words: usize, target: u64) -> SetupRiskResult;
         pub fn portal_mark_openings(
             setup: *const u64,
@@ -220,7 +223,13 @@ pub fn lost(setup: &[u64], set: u64) -> LostResult {
 
 /// The way in from a set to a target: the steps' items to one list, their colours to the other.
 /// 12, 13, 14, and 15 where the answer isn't "shut".
-pub fn way_in(setup: &[u64], target: u64, set: u64, items: &mut [u8], colours: &mut [u8]) -> WayInResult {
+pub fn way_in(
+    setup: &[u64],
+    target: u64,
+    set: u64,
+    items: &mut [u8],
+    colours: &mut [u8],
+) -> WayInResult {
     unsafe {
         linked::portal_way_in(
             setup.as_ptr(),
@@ -275,7 +284,12 @@ pub fn bag_at_most(bag: &[u64], other: &[u64]) -> bool {
 }
 
 /// A target's bag score: 14 places for each bag, and the number of its values. 12, 13, 15.
-pub fn bag_score(setup: &[u64], target: u64, values: &mut [u64], lengths: &mut [u64]) -> BagScoreResult {
+pub fn bag_score(
+    setup: &[u64],
+    target: u64,
+    values: &mut [u64],
+    lengths: &mut [u64],
+) -> BagScoreResult {
     unsafe {
         linked::portal_bag_score(
             setup.as_ptr(),

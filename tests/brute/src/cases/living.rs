@@ -575,10 +575,8 @@ const FLOORS: &[(&str, usize)] = &[
 
 /// How many calls of [`LISTS`] random lists are made in a buffer of another length besides, and accepted
 /// or refused with 12 there.
-const LENGTH_FLOORS: &[(&str, usize)] = &[
-    ("another length, accepted", 300),
-    ("another length, refused with 12", 480),
-];
+const LENGTH_FLOORS: &[(&str, usize)] =
+    &[("another length, accepted", 300), ("another length, refused with 12", 480)];
 
 /// How many random lists of calls the floors are for.
 pub const LISTS: usize = 400;

@@ -229,7 +229,7 @@ read-well : (text : List ℕ) (d : Doc) → Valid d → text ≡ render d → re
 read-well text d v e = ap (λ (r : Reading). r .number) (ap readSheet e ∙ accepted-of-valid d v)
 
 apart : Agree (first .items) (other .items) → ⊥
-apart a = let e : 1 ≡ 2 = ap (λ (v : Vertex). v .rank) (a .1 .0 .0 refl) in omega arith
+apart a = let e : _≡_ {A = ℕ} 1 2 = ap (λ (v : Vertex). v .rank) (a .1 .0 .0 refl) in omega arith
 
 -- both sheets are read, the rows are theirs, and question 22 is the first that is answered no
 pub disagree : Disagree

@@ -517,8 +517,8 @@ static void try_remove_edge(void)
     expect("with its mark", drawn[PORTAL_ROW(ORDER_ITEM, 1)] + drawn[PORTAL_RECOVERY(ORDER_ITEM, 1)], 0);
     lives("and comes back without it", drawn, portal_add_edge(drawn, WORDS, MAIL_ITEM, ORDER_ITEM, 1, false), ORDPW, ORDPW);
     memcpy(drawn, setup, sizeof setup);
-    refused("no room to remove", setup, drawn, portal_remove_edge(drawn, PORTAL_OPENED, 2, ORDER_ITEM, 0), PORTAL_SHORT);
-    refused("no room, and no edge", setup, drawn, portal_remove_edge(drawn, PORTAL_OPENED, 2, ORDER_ITEM, 1), PORTAL_NO_EDGE);
+    refused("too short to remove", setup, drawn, portal_remove_edge(drawn, PORTAL_OPENED, 2, ORDER_ITEM, 0), PORTAL_NO_SETUP);
+    refused("too short, and no edge", setup, drawn, portal_remove_edge(drawn, PORTAL_OPENED, 2, ORDER_ITEM, 1), PORTAL_NO_SETUP);
 }
 
 /* The other calls refuse a stale setup, and pay no heed to what is held in one that isn't. */

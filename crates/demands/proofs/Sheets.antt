@@ -20,9 +20,10 @@ use Rattle.sheet_format.specs.Meaning.{Accepted, Refused}
 use Rattle.sheet_format.proofs.Meaning.{accepted-of-valid, valid-of-accepted, refusal-law, refusal-unique, empty-setup, accepted-or-refused}
 use Rattle.sheet_format.proofs.Stated.{stands-below, at-place, stated-by-rows, name-in}
 use Rattle.sheet.proofs.Names.{refused-none, beyond-none, name-none, start-none, names-of-rows, name-places}
-use Rattle.reference.proofs.Unique.{score-unique}
+use Rattle.questions.specs.Asks.{Asks}
+use Rattle.bases.specs.Score.{Score}
 use Rattle.portal.specs.Portal.{PortalCall}
-use Rattle.portal.proofs.Portal.{decoded}
+use Rattle.portal.proofs.Portal.{one-number}
 use Rattle.demands.specs.Sheets.{sheetNumbers, RowsOf, Reads, SettledReading, Named, SettledName, SettledPortal}
 
 -- ---- the reading
@@ -100,7 +101,6 @@ module _ (text : List ℕ) (r : Reading) (h : Reads text r) where
               ap (λ (x : Reading). x .setup) (e ∙ f .reading) ∙ empty-setup,
             ))
             (accepted-or-refused .either text);
-        meets = h;
         only = only-reading;
       }
 
@@ -146,7 +146,6 @@ module _ (text : List ℕ) (item : ℕ) where
         record {
           outcome = by-item (λ d h x i. inl (λ e. name-some (d .items) item x (h .valid .items) i (sym (k .name d h x i) ∙ e)))
               (λ d h l. inr (k .beyond d h l)) (λ n. inr (k .refused n));
-          meets = k;
           only = λ p a j. by-item
               (λ d h x i. (j .name d h x i ∙ sym (k .name d h x i), j .place d h x i ∙ sym (k .place d h x i)))
               (λ d h l. both (j .beyond d h l) (k .beyond d h l)) (λ n. both (j .refused n) (k .refused n));
@@ -157,27 +156,18 @@ module _ (text : List ℕ) (item : ℕ) where
 
 -- ---- the portal's number
 
-module _ (loss : Bool) (text : List ℕ) (item r : ℕ) (h : PortalCall loss text item r) where
-  pub settled-portal : SettledPortal loss text item r
-  settled-portal = record { outcome = ⊎-elim refusal inl (less-or never r); meets = h; only = only }
-    where
-      number-listed : (readSheet text .number ≡ 0 → ⊥) → Listed sheetNumbers (readSheet text .number)
-      number-listed n =
-          ⊎-elim (λ z. absurd (n (z .0))) (λ f. f .0) (settled-reading text (readSheet text) (reads text (readSheet text) refl) refl .outcome)
+number-listed : (text : List ℕ) → (readSheet text .number ≡ 0 → ⊥) → Listed sheetNumbers (readSheet text .number)
+number-listed text n =
+    ⊎-elim (λ z. absurd (n (z .0))) (λ f. f .0) (settled-reading text (readSheet text) (reads text (readSheet text) refl) refl .outcome)
 
-      refusal : never < r → (r ≤ never) ⊎ ((q : ℕ) × Listed (13 ∷ sheetNumbers) q × (r ≡ never + q))
-      refusal l =
-          ⊎-elim
-          (λ z. ⊎-elim (λ n. absurd (n z)) (λ b. inr (13, inl refl, h .noItem z b)) (decoded loss text item r h .refusal l))
-          (λ n. inr (readSheet text .number, inr (number-listed n), h .refused n))
-          (same-or (readSheet text .number) 0)
-
-      only : (q : ℕ) → PortalCall loss text item q → q ≡ r
-      only q k =
-          ⊎-elim
-          (λ z. ⊎-elim
-          (λ l. score-unique loss (readSheet text .setup) (readSheet text .setup .graph) item q r (k .answers z l) (h .answers z l))
-          (λ l. k .noItem z l ∙ sym (h .noItem z l))
-          (less-or item (readSheet text .setup .count)))
-          (λ n. k .refused n ∙ sym (h .refused n))
-          (same-or (readSheet text .number) 0)
+pub settled-portal : (loss : Bool) (text : List ℕ) (item r : ℕ) → PortalCall loss text item r → SettledPortal loss text item r
+unfolding Asks
+settled-portal loss text item r h =
+    record {
+      outcome = ⊎-elim (λ n. inr (readSheet text .number, inr (number-listed text (n .0)), n .1))
+          (λ y. ⊎-elim (λ n. inr (13, inl refl, n .1)) (λ x. inl (at-most (x .1))) (y .1)) h;
+      only = λ q k. one-number loss text item q r k h;
+    }
+  where
+    at-most : Score loss (readSheet text .setup) (readSheet text .setup .graph) item r → r ≤ never
+    at-most s = ⊎-elim (λ l. absurd (let z = s .none (λ v t. let b = s .some v t in omega arith) in omega arith)) (λ l. l) (less-or never r)

@@ -39,7 +39,6 @@ pub record Reads (text : List ℕ) (r : Reading) : Type 0 where
 -- A text is accepted with number and line 0, or refused with one of the numbers and the setup of 0 items; and no second reading is right.
 pub record SettledReading (text : List ℕ) (r : Reading) : Type 0 where
   pub outcome : ((r .number ≡ 0) × (r .line ≡ 0)) ⊎ (Listed sheetNumbers (r .number) × (r .setup ≡ noItems))
-  pub meets : Reads text r
   pub only : (p : Reading) → Reads text p → p ≡ r
 
 -- ---- an item's name
@@ -57,7 +56,6 @@ pub record Named (text : List ℕ) (item sheet : ℕ) (part : List ℕ) (at : �
 -- A name has a byte, or the part is the empty one at the sheet's start; and no second part is right.
 pub record SettledName (text : List ℕ) (item sheet : ℕ) (part : List ℕ) (at : ℕ) : Type 0 where
   pub outcome : (part ≡ [] → ⊥) ⊎ ((part ≡ []) × (at ≡ sheet))
-  pub meets : Named text item sheet part at
   pub only : (p : List ℕ) (a : ℕ) → Named text item sheet p a → (p ≡ part) × (a ≡ at)
 
 -- ---- the portal's number
@@ -65,5 +63,4 @@ pub record SettledName (text : List ℕ) (item sheet : ℕ) (part : List ℕ) (a
 -- A number up to 2^62 is an answer. A refusal is 2^62 plus one of the sheet's numbers, or plus 13. No second number is right.
 pub record SettledPortal (loss : Bool) (text : List ℕ) (item r : ℕ) : Type 0 where
   pub outcome : (r ≤ never) ⊎ ((q : ℕ) × Listed (13 ∷ sheetNumbers) q × (r ≡ never + q))
-  pub meets : PortalCall loss text item r
   pub only : (q : ℕ) → PortalCall loss text item q → q ≡ r

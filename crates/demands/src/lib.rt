@@ -1,24 +1,25 @@
-// Demands 1 and 2, as the contracts of functions that make the offered calls on any sheet, item,
-// setup, set, vertices, handed-in lists, list of kinds and lent lists. Demand 3 is the contract of
-// `answers::demand_three`. That two answers which meet a call's contract are equal, lent places
-// included, is stated in specs/OneAnswer.antt and, for the calls for C, in
-// specs/OneResult.antt, and proved in the files of these names in proofs/.
+// Demands 1, 2 and 3, as the contracts of functions that make the offered calls on any sheet, item,
+// setup, set, vertices, handed-in lists, list of kinds and lent lists. What the demands say of the
+// calls for C is told of their contracts (specs/Demands.antt).
 ghost use mathlib.Core.Path.{_≡_};
 ghost use mathlib.Core.Bool.{true, false};
+ghost use mathlib.Core.List.{[], _∷_};
 ghost use Rattle.vertex_set.specs.Set.{Decides};
-ghost use Rattle.access.specs.Answers.{closureNumber, closureValues, ClosureCall, lostNumber, lostValues, LostCall, wayNumber, wayValues, WayCall};
-ghost use Rattle.quick_yes.specs.Answers.{quickNumber, quickValues, QuickCall};
+ghost use Rattle.questions.specs.Contract.{ends, Fulfils};
+ghost use Rattle.access.specs.Answers.{closureReply, closureCall, lostReply, lostCall, wayReply, wayCall};
+ghost use Rattle.quick_yes.specs.Answers.{quickReply, quickCall};
 ghost use Rattle.multisets.specs.Multisets.{BagAtMost};
-ghost use Rattle.multiset_scores.specs.Answers.{multisetNumber, multisetValues, MultisetsCall};
-ghost use Rattle.findings.specs.Answers.{findingNumber, findingValues, BackdoorCall, IneffectiveCall, InconsistentCall};
+ghost use Rattle.multiset_scores.specs.Answers.{bagsReply, bagsCall};
+ghost use Rattle.findings.specs.Answers.{findingReply, backdoorCall, ineffectiveCall, inconsistentCall};
+ghost use Rattle.living.specs.Calls.{TakeIn, TakeOut, AddEdge, RemoveEdge, CallOf};
+ghost use Rattle.register.specs.Calls.{HandInCall, WithdrawCall};
+ghost use Rattle.pool_format.specs.Call.{PoolCall};
 ghost use Rattle.sheet_format.specs.Read.{readSheet};
 ghost use Rattle.portal.specs.Portal.{PortalCall};
 ghost use Rattle.histories.specs.Histories.{Reached};
-ghost use Rattle.demands.specs.Living.{LivingDemand1, LivingDemand2};
 ghost use Rattle.demands.specs.Sheets.{Reads, Named, SettledName};
-ghost use Rattle.demands.specs.Demands.{Demand1, Demand2};
-ghost use Rattle.demands.specs.Register.{HandInDemands, WithdrawDemands};
-ghost use Rattle.demands.specs.Pools.{SettledPool, PoolsAsStated};
+ghost use Rattle.demands.specs.Calls.{threeMade, allMade, SettledLiving, SettledHandIn, SettledWithdrawal, SettledPool};
+ghost use Rattle.demands.specs.Demands.{Demand1, Demand2, Demand3Reached};
 use access::ClosureAnswer;
 use access::LostAnswer;
 use access::WayAnswer;
@@ -95,10 +96,10 @@ fn ask_sets(
     vertices: &mut [u8],
     colours: &mut [u8],
 ) -> SetAnswers
-    ensures closure { λ r. ⌜ ClosureCall s (set .0) (closureNumber (r .closure)) (closureValues (r .closure)) ⌝ }
-    ensures lost { λ r. ⌜ LostCall s (set .0) (lostNumber (r .lost)) (lostValues (r .lost)) ⌝ }
-    ensures way { λ r. ⌜ WayCall s target (set .0) (wayNumber (r .way)) (wayValues (r .way)) (now (vertices .entry)) (now (vertices .exit)) (now (colours .entry)) (now (colours .exit)) ⌝ }
-    ensures quick { λ r. ⌜ QuickCall s target (set .0) (quickNumber (r .quick)) (quickValues (r .quick)) ⌝ }
+    ensures closure { λ r. ⌜ Fulfils (closureCall s (set .0)) (ends (closureReply (r .closure)) []) ⌝ }
+    ensures lost { λ r. ⌜ Fulfils (lostCall s (set .0)) (ends (lostReply (r .lost)) []) ⌝ }
+    ensures way { λ r. ⌜ Fulfils (wayCall s target (set .0) (now (vertices .entry)) (now (colours .entry))) (ends (wayReply (r .way)) (now (vertices .exit) ∷ now (colours .exit) ∷ [])) ⌝ }
+    ensures quick { λ r. ⌜ Fulfils (quickCall s target (set .0)) (ends (quickReply (r .quick)) []) ⌝ }
 {
     let closure = access::access_from(s, set);
     let lost = access::lockout_from(s, set);
@@ -114,9 +115,9 @@ fn ask_sets(
 
 // Asks for the three findings, and question 12.
 fn ask_findings(s: Setup, target: usize, other: usize) -> FindingAnswers
-    ensures backdoor { λ r. ⌜ BackdoorCall s target (findingNumber (r .backdoor)) (findingValues (r .backdoor)) ⌝ }
-    ensures idle { λ r. ⌜ IneffectiveCall s target (findingNumber (r .idle)) (findingValues (r .idle)) ⌝ }
-    ensures pair { λ r. ⌜ InconsistentCall s target other (findingNumber (r .pair)) (findingValues (r .pair)) ⌝ }
+    ensures backdoor { λ r. ⌜ Fulfils (backdoorCall s target) (ends (findingReply (r .backdoor)) []) ⌝ }
+    ensures idle { λ r. ⌜ Fulfils (ineffectiveCall s target) (ends (findingReply (r .idle)) []) ⌝ }
+    ensures pair { λ r. ⌜ Fulfils (inconsistentCall s target other) (ends (findingReply (r .pair)) []) ⌝ }
     ensures formed { λ r. ⌜ Decides (Reached s) (r .formed) ⌝ }
 {
     let backdoor = findings::has_backdoor(s, target);
@@ -158,7 +159,7 @@ fn ask_bags(
     lengths: &mut [u64],
 ) -> BagAnswers
     ensures compared { λ r. ⌜ Decides (BagAtMost (now (bag .entry)) (now (above .entry))) (r .compared) ⌝ }
-    ensures score { λ r. ⌜ MultisetsCall s target (multisetNumber (r .score)) (multisetValues (r .score)) (now (parts .entry)) (now (parts .exit)) (now (lengths .entry)) (now (lengths .exit)) ⌝ }
+    ensures score { λ r. ⌜ Fulfils (bagsCall s target (now (parts .entry)) (now (lengths .entry))) (ends (bagsReply (r .score)) (now (parts .exit) ∷ now (lengths .exit) ∷ [])) ⌝ }
 {
     let compared = multisets::multiset_at_most(bag, above);
     let score = multiset_scores::multiset_score(s, target, parts, lengths);
@@ -183,7 +184,7 @@ pub fn demand_two(
     parts: &mut [u64],
     lengths: &mut [u64],
 ) -> Answers
-    ensures { λ r. ⌜ Demand2 (now (sheet .entry)) item s (set .0) target other (now (opened .entry)) (now (locked .entry)) (now (kinds .entry)) (now (vertices .entry)) (now (vertices .exit)) (now (colours .entry)) (now (colours .exit)) (now (list .entry)) (now (list .exit)) (now (harden .entry)) (now (harden .exit)) (now (parts .entry)) (now (parts .exit)) (now (lengths .entry)) (now (lengths .exit)) r ⌝ }
+    ensures { λ r. ⌜ Demand2 (now (sheet .entry)) item s (allMade (set .0) target other (now (opened .entry)) (now (locked .entry)) (now (kinds .entry)) (now (vertices .entry)) (now (vertices .exit)) (now (colours .entry)) (now (colours .exit)) (now (list .entry)) (now (list .exit)) (now (harden .entry)) (now (harden .exit)) (now (parts .entry)) (now (parts .exit)) (now (lengths .entry)) (now (lengths .exit)) r) (now (opened .entry)) (now (locked .entry)) r ⌝ }
 {
     let sets = ask_sets(s, set, target, vertices, colours);
     let lists = answers::demand_three(s, target, list, opened, locked);
@@ -226,7 +227,7 @@ pub fn demand_one(
     parts: &mut [u64],
     lengths: &mut [u64],
 ) -> Answers
-    ensures { λ r. ⌜ Demand1 (now (sheet .entry)) item s (set .0) target other (now (opened .entry)) (now (locked .entry)) (now (kinds .entry)) (now (vertices .entry)) (now (vertices .exit)) (now (colours .entry)) (now (colours .exit)) (now (list .entry)) (now (list .exit)) (now (harden .entry)) (now (harden .exit)) (now (parts .entry)) (now (parts .exit)) (now (lengths .entry)) (now (lengths .exit)) r ⌝ }
+    ensures { λ r. ⌜ Demand1 (now (sheet .entry)) item s (allMade (set .0) target other (now (opened .entry)) (now (locked .entry)) (now (kinds .entry)) (now (vertices .entry)) (now (vertices .exit)) (now (colours .entry)) (now (colours .exit)) (now (list .entry)) (now (list .exit)) (now (harden .entry)) (now (harden .exit)) (now (parts .entry)) (now (parts .exit)) (now (lengths .entry)) (now (lengths .exit)) r) (now (opened .entry)) (now (locked .entry)) r ⌝ }
 {
     demand_two(
         sheet,
@@ -245,6 +246,19 @@ pub fn demand_one(
         parts,
         lengths,
     )
+}
+
+// Demand 3, about the code: on every setup that passes, and every item of it, these calls answer.
+pub fn demand_three(
+    s: Setup,
+    target: usize,
+    list: &mut [u64],
+    opened: &[u64],
+    locked: &[u64],
+) -> AllAnswers
+    ensures { λ r. ⌜ Demand3Reached s target (threeMade target (now (list .entry)) (now (list .exit)) (now (opened .entry)) (now (locked .entry)) r) ⌝ }
+{
+    answers::demand_three(s, target, list, opened, locked)
 }
 
 // Both demands of an item's name, the part of the sheet that is handed back.
@@ -266,20 +280,20 @@ pub fn demands_of_hand_in(
     loss: bool,
     handed: &[u64],
 ) -> Registered
-    ensures { λ a. ⌜ HandInDemands s used student target loss (now (handed .entry)) a (now (records .entry)) (now (records .exit)) ⌝ }
+    ensures { λ a. ⌜ SettledHandIn s used student target loss (now (handed .entry)) a (now (records .entry)) (now (records .exit)) × HandInCall s used student target loss (now (handed .entry)) a (now (records .entry)) (now (records .exit)) ⌝ }
 {
     register::hand_in(records, used, s, student, target, loss, handed)
 }
 
 // Both demands of a withdrawal from the class register.
 pub fn demands_of_withdrawal(records: &mut [Record], used: usize, student: u64) -> Registered
-    ensures { λ a. ⌜ WithdrawDemands used student a (now (records .entry)) (now (records .exit)) ⌝ }
+    ensures { λ a. ⌜ SettledWithdrawal used student a (now (records .entry)) (now (records .exit)) × WithdrawCall used student a (now (records .entry)) (now (records .exit)) ⌝ }
 {
     register::withdraw(records, used, student)
 }
 
-// Makes the four calls on a setup that lives.
-fn ask_living(
+// Both demands of the calls on a setup that lives: each hands a setup back.
+pub fn demands_of_living(
     s: Setup,
     item: usize,
     from: usize,
@@ -287,7 +301,8 @@ fn ask_living(
     colour: usize,
     rec: bool,
 ) -> LivingAnswers
-    ensures { λ r. ⌜ LivingDemand2 s item from to colour rec r ⌝ }
+    ensures one { λ r. ⌜ SettledLiving (TakeIn item) s (r .taken) × SettledLiving (TakeOut item) s (r .freed) × SettledLiving (AddEdge from to colour rec) s (r .added) × SettledLiving (RemoveEdge from to colour) s (r .removed) ⌝ }
+    ensures two { λ r. ⌜ CallOf (TakeIn item) s (r .taken) × CallOf (TakeOut item) s (r .freed) × CallOf (AddEdge from to colour rec) s (r .added) × CallOf (RemoveEdge from to colour) s (r .removed) ⌝ }
 {
     let taken = living::take_in(s, item);
     let freed = living::take_out(s, item);
@@ -301,25 +316,10 @@ fn ask_living(
     }
 }
 
-// Both demands of the calls on a setup that lives: each hands a setup back.
-pub fn demands_of_living(
-    s: Setup,
-    item: usize,
-    from: usize,
-    to: usize,
-    colour: usize,
-    rec: bool,
-) -> LivingAnswers
-    ensures one { λ r. ⌜ LivingDemand1 s item from to colour rec r ⌝ }
-    ensures two { λ r. ⌜ LivingDemand2 s item from to colour rec r ⌝ }
-{
-    ask_living(s, item, from, to, colour, rec)
-}
-
 // Both demands of pooling, whose input is two sheets.
 pub fn demands_of_pool(first: &[u8], second: &[u8], out: &mut [u8]) -> Pooled
     ensures one { λ r. ⌜ SettledPool (now (first .entry)) (now (second .entry)) r (now (out .entry)) (now (out .exit)) ⌝ }
-    ensures two { λ r. ⌜ PoolsAsStated (now (first .entry)) (now (second .entry)) r (now (out .entry)) (now (out .exit)) ⌝ }
+    ensures two { λ r. ⌜ PoolCall (now (first .entry)) (now (second .entry)) r (now (out .entry)) (now (out .exit)) ⌝ }
 {
     pooling::pool_sheets(first, second, out)
 }

@@ -1,7 +1,7 @@
 use borrow.Author.Needs.{needs}
 use Rattle.demands.proofs.ask_findings.Statement.{statement}
 use Rattle.demands.proofs.ask_findings.Tie as tie
-use Rattle.demands.proofs.Outcomes.{reached}
+use Rattle.demands.proofs.Calls.{reached}
 
 has-backdoor-requires : tie.Need-has-backdoor-requires
 has-backdoor-requires c κs = search needs

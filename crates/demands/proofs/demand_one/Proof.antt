@@ -27,7 +27,7 @@ same-length-6 c = search needs
 returns : tie.Need-returns
 returns c =
     let t = c .before .before .before .before .before .before .before .before .before .before .before .before in
-    one-of-two (t .demand-two .ensures)
+    one-of-two _ _ _ _ _ _ (t .demand-two .result) (t .demand-two .ensures)
 
 pub demand-one-spec : {M : Type 1} → statement M
 demand-one-spec =

@@ -1,6 +1,5 @@
-use Rattle.register.proofs.Afternoon.{register-law}
-use Rattle.demands.proofs.Pools.{pool-meaning}
-use Rattle.demands.proofs.Living.{living-meaning}
+use Rattle.demands.specs.Calls.{Every}
+use Rattle.demands.proofs.Demands.{papers}
 use borrow.Author.Needs.{needs}
 use Rattle.demands.proofs.demand_two.Statement.{statement}
 use Rattle.demands.proofs.demand_two.Tie as tie
@@ -64,6 +63,7 @@ same-length-6 : tie.Need-same-length-6
 same-length-6 c = search needs
 
 returns : tie.Need-returns
+unfolding Every
 returns c =
     let b = c .before .before .before .before in
     let x = next-set c in
@@ -77,32 +77,50 @@ returns c =
     let findings = f .ask-findings .ensures in
     let sheet = t .ask-sheet .ensures in
     record {
-      closure = asked .0;
-      lost = asked .1 .0;
-      way = asked .1 .1 .0;
-      bases = lists .lists;
-      score = lists .security;
-      risk = lists .recoverability;
-      openings = lists .openings;
-      lockouts = lists .lockouts;
-      backdoor = findings .0;
-      idle = findings .1 .0;
-      pair = findings .1 .1 .0;
+      onSetup = (
+        asked .0,
+        (
+          asked .1 .0,
+          (
+            asked .1 .1 .0,
+            (
+              asked .1 .1 .1,
+              (
+                findings .0,
+                (
+                  findings .1 .0,
+                  (
+                    findings .1 .1 .0,
+                    (
+                      n .forecast-base .ensures,
+                      (
+                        k .smallest-cuts .ensures,
+                        (
+                          a .attacker-score .ensures,
+                          (
+                            x .next-access-set .ensures,
+                            (
+                              b .ask-bags .ensures .1,
+                              (lists .lists, (lists .security, (lists .recoverability, (lists .openings, (lists .lockouts, tt))))),
+                            ),
+                          ),
+                        ),
+                      ),
+                    ),
+                  ),
+                ),
+              ),
+            ),
+          ),
+        ),
+      );
       formed = findings .1 .1 .1;
+      bagAtMost = b .ask-bags .ensures .0;
       reading = sheet .0;
       asked = sheet .1 .0;
       portalScore = sheet .1 .1 .0;
       portalRisk = sheet .1 .1 .1;
-      forecast = n .forecast-base .ensures;
-      quick = asked .1 .1 .1;
-      cuts = k .smallest-cuts .ensures;
-      attackers = a .attacker-score .ensures;
-      next = x .next-access-set .ensures;
-      register = register-law;
-      pool = pool-meaning;
-      living = living-meaning;
-      bagAtMost = b .ask-bags .ensures .0;
-      bagScore = b .ask-bags .ensures .1;
+      papers = papers;
     }
 
 pub demand-two-spec : {M : Type 1} → statement M

@@ -39,8 +39,8 @@ use denote.Triple.Table.{entered, cited}
 use denote.Triple.Walked.{says, Stays, gave-slice, stay-none, stay-none-slice, walkOf, goes-gave-slice, goes-none, goes-none-slice, Walks, ends-at, walked, walk-meets}
 use denote.Exit.{yes}
 use Rattle.register.specs.Calls.{HandInCall}
-use Rattle.demands.specs.Register.{HandInDemands}
-use Rattle.demands.proofs.Register.{hand-in-demands}
+use Rattle.demands.specs.Calls.{SettledHandIn}
+use Rattle.demands.proofs.Calls.{settled-hand-in}
 use Rattle.records.specs.declared.Record.{Record}
 use Rattle.records.specs.declared.Registered.{Registered}
 use Rattle.setup.specs.declared.Setup.{Setup}
@@ -102,7 +102,7 @@ module _ {M : Type 1} (𝓤 : URA M) (H : Heap 𝓤) (A : Atoms 𝓤) (W : Given
   goes-pass : ent 𝓤 (sep 𝓤 (sep 𝓤 (sep 𝓤 (A .lft κ₀ q₀) (A .lft κ₁ q₁)) (sem 𝓤 H A Mut)) (sem 𝓤 H A Shr-handed)) (Pass 𝓤 H A mem run .pre to-pass)
   goes-pass = qed W ((((‵ (flft κ₀ q₀) ⊛ ‵ (flft κ₁ q₁)) ⊛ ‵ Mut) ⊛ ‵ Shr-handed) ∷ []) ∵ split ! $ split ! $ split ! $ nothing ! $ move ! (4 ∷ 0 ∷ []) $ fjoin ! $ owned ! bool (Is bool) (bool-makes 𝓤 H A W) loss _ refl $ fjoin ! $ owned ! u64 (Is u64) (uint-makes 𝓤 H A W w64) target _ (refl, target-fits) $ fjoin ! $ owned ! u64 (Is u64) (uint-makes 𝓤 H A W w64) student _ (refl, student-fits) $ fjoin ! $ owned ! G.the-row (Is G.the-row) (LL.makes G.the-type G′.the-plain 𝓤 H A) g _ g-is $ fjoin ! $ owned ! usize (Is usize) (uint-makes 𝓤 H A W w64) used _ (refl, used-fits) $ fjoin ! $ move ! (3 ∷ 0 ∷ []) $ fjoin ! $ nothing ! $ move ! (3 ∷ 0 ∷ []) $ join ! $ move ! (2 ∷ 0 ∷ []) $ join ! $ join ! $ frame ! $ done !
 
-  exits : (c : Registered) (w : Val) (zs : List Record) → HandInDemands g used student target loss (handed .now) c ys zs → length zs ≡ length ys
+  exits : (c : Registered) (w : Val) (zs : List Record) → SettledHandIn g used student target loss (handed .now) c ys zs × HandInCall g used student target loss (handed .now) c ys zs → length zs ≡ length ys
       → ent 𝓤 (sep 𝓤 (A .lft κ₀ q₀) (sep 𝓤 (A .lft κ₁ q₁) (sep 𝓤 (sem 𝓤 H A (finally T.the-row γ zs)) (sep 𝓤 (sem 𝓤 H A Shr-handed) (sem 𝓤 H A (N.the-row .own c (w ∷ []))))))) (Post w)
   exits c w zs e l =
       qed W (‵ (flft κ₀ q₀) ∷ ‵ (flft κ₁ q₁) ∷ ‵ (finally T.the-row γ zs) ∷ ‵ Shr-handed ∷ ‵ (N.the-row .own c (w ∷ [])) ∷ []) ∵
@@ -138,7 +138,7 @@ module _ {M : Type 1} (𝓤 : URA M) (H : Heap 𝓤) (A : Atoms 𝓤) (W : Given
         returns ! (look ! 25 refl) $ forget ! 25 refl $ forget ! 23 refl $ forget ! 21 refl $ forget ! 19 refl $ forget ! 17 refl $ forget ! 15 refl $ forget ! 13 refl $ forget ! 11 refl $ forget ! 9 refl $ forget ! 7 refl $
         move ! (25 ∷ 26 ∷ []) $ free1 ! $ move ! (23 ∷ 24 ∷ []) $ free1 ! $ move ! (21 ∷ 22 ∷ []) $ free1 ! $ move ! (19 ∷ 20 ∷ []) $ free1 ! $ move ! (17 ∷ 18 ∷ []) $ free1 ! $ move ! (15 ∷ 16 ∷ []) $ free1 ! $ move ! (13 ∷ 14 ∷ []) $ free1 ! $ move ! (11 ∷ 12 ∷ []) $ free1 ! $ move ! (9 ∷ 10 ∷ []) $ free1 ! $ move ! (7 ∷ 8 ∷ []) $ free1 ! $ free0 ! $
         move ! (1 ∷ []) $ split ! $ move ! (1 ∷ []) $ split ! $
-        keep ! (2 ∷ 0 ∷ 4 ∷ 6 ∷ 3 ∷ []) $ by ! (exits c w (zs .0) (hand-in-demands g used student target loss (handed .now) c ys (zs .0) e) l)))))))))))))))))
+        keep ! (2 ∷ 0 ∷ 4 ∷ 6 ∷ 3 ∷ []) $ by ! (exits c w (zs .0) (settled-hand-in g used student target loss (handed .now) c ys (zs .0) e, e) l)))))))))))))))))
 
 module _ {M : Type 1} (𝓤 : URA M) (H : Heap 𝓤) (A : Atoms 𝓤) (W : Given 𝓤 H A) (mem : Memory → SProp 𝓤) (run : Routine → Fun 𝓤) (𝓣 : Tables 𝓤 H)
     (known-pass : Triple 𝓤 (𝓣 .C #register·hand-in) (Pass 𝓤 H A mem run)) where

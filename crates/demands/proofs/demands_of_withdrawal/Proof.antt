@@ -38,8 +38,8 @@ use denote.Triple.Table.{entered, cited}
 use denote.Triple.Walked.{says, Stays, gave-slice, stay-none, walkOf, goes-gave-slice, goes-none, Walks, ends-at, walked, walk-meets}
 use denote.Exit.{yes}
 use Rattle.register.specs.Calls.{WithdrawCall}
-use Rattle.demands.specs.Register.{WithdrawDemands}
-use Rattle.demands.proofs.Register.{withdraw-demands}
+use Rattle.demands.specs.Calls.{SettledWithdrawal}
+use Rattle.demands.proofs.Calls.{settled-withdrawal}
 use Rattle.records.specs.declared.Record.{Record}
 use Rattle.records.specs.declared.Registered.{Registered}
 use Rattle.records.proofs.Record as T
@@ -92,7 +92,7 @@ module _ {M : Type 1} (𝓤 : URA M) (H : Heap 𝓤) (A : Atoms 𝓤) (W : Given
   goes-pass : ent 𝓤 (sep 𝓤 (A .lft κ₀ q₀) (sem 𝓤 H A Mut)) (Pass 𝓤 H A mem run .pre to-pass)
   goes-pass = qed W ((‵ (flft κ₀ q₀) ⊛ ‵ Mut) ∷ []) ∵ split ! $ nothing ! $ owned ! u64 (Is u64) (uint-makes 𝓤 H A W w64) student _ (refl, student-fits) $ fjoin ! $ owned ! usize (Is usize) (uint-makes 𝓤 H A W w64) used _ (refl, used-fits) $ fjoin ! $ move ! (2 ∷ 0 ∷ []) $ fjoin ! $ nothing ! $ move ! (2 ∷ 0 ∷ []) $ join ! $ join ! $ frame ! $ done !
 
-  exits : (c : Registered) (w : Val) (zs : List Record) → WithdrawDemands used student c ys zs → length zs ≡ length ys
+  exits : (c : Registered) (w : Val) (zs : List Record) → SettledWithdrawal used student c ys zs × WithdrawCall used student c ys zs → length zs ≡ length ys
       → ent 𝓤 (sep 𝓤 (A .lft κ₀ q₀) (sep 𝓤 (sem 𝓤 H A (finally T.the-row γ zs)) (sem 𝓤 H A (N.the-row .own c (w ∷ []))))) (Post w)
   exits c w zs e l =
       qed W (‵ (flft κ₀ q₀) ∷ ‵ (finally T.the-row γ zs) ∷ ‵ (N.the-row .own c (w ∷ [])) ∷ []) ∵
@@ -122,7 +122,7 @@ module _ {M : Type 1} (𝓤 : URA M) (H : Heap 𝓤) (A : Atoms 𝓤) (W : Given
         returns ! (look ! 16 refl) $ forget ! 16 refl $ forget ! 14 refl $ forget ! 12 refl $ forget ! 10 refl $ forget ! 8 refl $ forget ! 6 refl $
         move ! (16 ∷ 17 ∷ []) $ free1 ! $ move ! (14 ∷ 15 ∷ []) $ free1 ! $ move ! (12 ∷ 13 ∷ []) $ free1 ! $ move ! (10 ∷ 11 ∷ []) $ free1 ! $ move ! (8 ∷ 9 ∷ []) $ free1 ! $ move ! (6 ∷ 7 ∷ []) $ free1 ! $ free0 ! $
         move ! (1 ∷ []) $ split ! $
-        keep ! (0 ∷ 3 ∷ 2 ∷ []) $ by ! (exits c w (zs .0) (withdraw-demands used student c ys (zs .0) e) l)))))))))))))
+        keep ! (0 ∷ 3 ∷ 2 ∷ []) $ by ! (exits c w (zs .0) (settled-withdrawal used student c ys (zs .0) e, e) l)))))))))))))
 
 module _ {M : Type 1} (𝓤 : URA M) (H : Heap 𝓤) (A : Atoms 𝓤) (W : Given 𝓤 H A) (mem : Memory → SProp 𝓤) (run : Routine → Fun 𝓤) (𝓣 : Tables 𝓤 H)
     (known-pass : Triple 𝓤 (𝓣 .C #register·withdraw) (Pass 𝓤 H A mem run)) where

@@ -5,7 +5,7 @@ use crate::grid::{micros, ratio, with_commas, Grid};
 use crate::kinds::{Kind, CHOSEN, ROOM};
 use crate::targets::{at_most, largest, smallest, Target};
 use crate::timing::in_turn;
-use crate::twin::{self, members, Setup, Sums, VERTICES, WORDS};
+use crate::twin::{self, members, Setup, Sums, VERTICES};
 use crate::{proved, Rounds};
 use product::BLANK;
 use std::hint::black_box;
@@ -54,11 +54,8 @@ fn twin_score(setup: &Setup, target: usize, lent: &mut Lent) -> usize {
         value => value,
     });
     let mut kept = [0; SETS];
-    let count = {
-        let mut table = [[0; WORDS]; VERTICES];
-        twin::fill::<false>(&setup.graph, chosen, false, &mut table);
-        twin::write_sets(&twin::minimal_members(&table[target]), MASKS, &mut kept)
-    };
+    let family = twin::family::<false>(&setup.graph, chosen, false, target);
+    let count = twin::write_sets(&twin::minimal_members(&family, chosen), MASKS, &mut kept);
     let mut thresholds = [0; CHOSEN];
     members(chosen).zip(&mut thresholds).for_each(|(v, place)| *place = values[v]);
     let keys = |thresholds: &[u64]| {

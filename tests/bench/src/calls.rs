@@ -96,7 +96,7 @@ pub fn one_target(kinds: &[Kind], rounds: &Rounds, targets: &mut Vec<Target>) ->
     ));
     let lean = against_twin("the same, proved / lean twin (not asked for)", &ratios[1]);
     targets.push(lean.because(
-        "The lean twin's two shortcuts make the difference: compare the twin, which takes the proved \
+        "The lean twin's shortcut makes the difference: compare the twin, which takes the proved \
          code's steps.",
     ));
     grid

@@ -40,7 +40,8 @@ ones, and 256 edges where the kind allows it.
 - chain with vertex order, against it: links behind the initial vertices, each needing earlier ones.
 - self-loops: each vertex needs itself in one colour, and there are random edges.
 - all recovery: a random sheet on which every edge is for recovery.
-- worst found: of 2,000 sheets tried, the one on which the tables settle last.
+- worst found: of 2,000 sheets tried, the one on which the tables settle last; worst before blocks: the one
+  that the same search found while a table was made as a whole.
 - antichain of 3,432: a target that any 7 of the 14 initial vertices open, the longest list there is;
   and 28 such targets, with rows of 28 MB.
 
@@ -87,8 +88,8 @@ fn opening() -> String {
          said otherwise. a / b tells how many times b's time a takes.\n\n\
          - Proved: the Rattle code, by the library that `make lib` makes or as the program `report`.\n\
          - Twin: the same algorithm in plain Rust, step by step (`tests/bench/src/twin.rs`).\n\
-         - Lean twin: with two shortcuts besides. The vertices that need another are found once and\n  \
-           not at each growth, and vertices that need nothing are never looked at.\n\
+         - Lean twin: with a shortcut besides. A vertex that is in all lanes of a block is not looked\n  \
+           at again.\n\
          - Brute force: a closure for each subset, by passes over all vertices\n  \
            (`tests/bench/src/plain.rs`).\n\
          - All were compared with the proved calls' answers before anything was timed.\n\

@@ -7,7 +7,7 @@ use crate::grid::{micros, ratio, Grid};
 use crate::kinds::{Kind, ROOM};
 use crate::targets::{at_most, smallest, Target};
 use crate::timing::in_turn;
-use crate::twin::{fill, members, minimal_members, write_sets, Graph, VERTICES, WORDS};
+use crate::twin::{family, members, minimal_members, write_sets, Graph, VERTICES};
 use crate::Rounds;
 use std::hint::black_box;
 
@@ -89,9 +89,8 @@ fn by_list(words: &[u64], target: usize, kinds: &[u8], sets: &mut [u64]) -> Resu
     let setup = Whole::asked(words).ok_or(12u64)?;
     questions(&setup, target, kinds)?;
     let initial = setup.chosen(START);
-    let mut table = [[0; WORDS]; VERTICES];
-    fill::<false>(&setup.graph, initial, false, &mut table);
-    let count = write_sets(&minimal_members(&table[target]), initial, sets);
+    let openings = family::<false>(&setup.graph, initial, false, target);
+    let count = write_sets(&minimal_members(&openings, initial), initial, sets);
     let kind_of = |set: u64| {
         let larger = |part: fn(u8) -> u8| members(set).map(|v| part(kinds[v])).max().unwrap_or(0);
         3 * larger(|kind| kind / 3) + larger(|kind| kind % 3)

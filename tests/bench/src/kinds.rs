@@ -99,6 +99,7 @@ pub fn all() -> Vec<Kind> {
     ];
     let mut kinds: Vec<Kind> =
         drafts.iter().map(|(name, draft)| Kind::new(name, draft.text())).collect();
+    kinds.push(Kind::new("worst before blocks", WORST_BEFORE_BLOCKS.to_vec()));
     let mut antichain = at_least(7, CHOSEN);
     antichain.all_accounts();
     kinds.push(Kind::new("antichain of 3,432", antichain.text()));
@@ -220,6 +221,10 @@ fn worst_found() -> Draft {
     }
     worst
 }
+
+/// The worst sheet that the same search found while a table was made as a whole, kept so that runs can
+/// be compared.
+const WORST_BEFORE_BLOCKS: &[u8] = include_bytes!("worst_before_blocks.sheet");
 
 /// How many sheets the search tries.
 const SEARCHED: usize = 2000;

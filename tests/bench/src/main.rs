@@ -35,6 +35,7 @@ mod register;
 mod targets;
 mod timing;
 mod twin;
+mod typical;
 mod whole;
 
 use programs::Programs;
@@ -81,6 +82,8 @@ fn main() -> ExitCode {
     match words[..] {
         [] => run(&FULL, ""),
         ["quick"] => run(&QUICK, "build/bench"),
+        ["typical"] => print_typical(),
+        ["typical", call] => typical::make_once(call),
         ["marking"] => print_marking(),
         ["rows"] => print_rows(),
         ["reports"] => print_reports(),
@@ -95,7 +98,7 @@ fn main() -> ExitCode {
         ["bags"] => print_bags(),
         ["pool"] => print_pools(),
         _ => {
-            eprintln!("usage: bench [quick | marking | rows | reports | forecast | next | living | closing | opens | cuts | intruders | register | bags | pool]");
+            eprintln!("usage: bench [quick | typical [CALL] | marking | rows | reports | forecast | next | living | closing | opens | cuts | intruders | register | bags | pool]");
             return ExitCode::from(2);
         }
     }
@@ -137,6 +140,8 @@ fn run(rounds: &Rounds, folder: &str) {
     let clingo = clingo::opening_lists(&kinds, &programs, rounds, &mut targets);
     clingo.into_iter().for_each(&mut show);
     show(programs::case_study(&root, &programs, rounds));
+    show(typical::calls());
+    show(typical::class());
     let series = [calls::by_starts(rounds), calls::by_edges(rounds)];
     show(calls::series_grid("The first chart's numbers", "initial and losable", &series[0]));
     show(calls::series_grid("The second chart's numbers", "edges", &series[1]));
@@ -156,6 +161,10 @@ fn antichain(kinds: &[kinds::Kind]) -> &kinds::Kind {
 
 fn named<'a>(kinds: &'a [kinds::Kind], name: &str) -> &'a kinds::Kind {
     kinds.iter().find(|kind| kind.name == name).expect("a kind has that name")
+}
+
+fn print_typical() {
+    println!("{}\n{}", typical::calls().text(), typical::class().text());
 }
 
 fn print_rows() {

@@ -2,7 +2,7 @@
 //! shuffled before: a sort is a mere pass over a list that rises or falls.
 
 use crate::grid::{micros, ratio, with_commas, Grid};
-use crate::kinds::{tables, Kind};
+use crate::kinds::Kind;
 use crate::targets::{largest, Target};
 use crate::timing::in_turn;
 use crate::twin::{self, members, Family};
@@ -30,10 +30,8 @@ struct Asked<'a> {
 impl Asked<'_> {
     fn new(kind: &Kind) -> Asked<'_> {
         let chosen = kind.setup.chosen(false);
-        let mut tables = tables();
-        twin::fill::<false>(&kind.setup.graph, chosen, false, &mut tables[0]);
-        let opening = tables[0][kind.target];
-        let minimal = twin::minimal_members(&opening);
+        let opening = twin::family::<false>(&kind.setup.graph, chosen, false, kind.target);
+        let minimal = twin::minimal_members(&opening, chosen);
         let mut right = vec![0; 3432];
         let n = twin::write_sets(&minimal, chosen, &mut right);
         right.truncate(n);

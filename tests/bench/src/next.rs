@@ -6,7 +6,7 @@ use crate::grid::{micros, ratio, with_commas, Grid};
 use crate::kinds::{Kind, ROOM};
 use crate::targets::{largest, Target};
 use crate::timing::in_turn;
-use crate::twin::{fill, layer, members, minimal_members, Family, VERTICES, WORDS};
+use crate::twin::{family, layer, members, minimal_members, Family, WORDS};
 use crate::{proved, Rounds};
 use std::hint::black_box;
 
@@ -49,9 +49,8 @@ fn twin_next(words: &[u64], target: usize, last: u64) -> Result<[u64; 2], u64> {
     if last & !initial != 0 {
         return Err(21);
     }
-    let mut table = [[0; WORDS]; VERTICES];
-    fill::<false>(&setup.graph, initial, false, &mut table);
-    let base = minimal_members(&table[target]);
+    let openings = family::<false>(&setup.graph, initial, false, target);
+    let base = minimal_members(&openings, initial);
     let bit = |(k, v): (usize, usize)| (last >> v & 1) << k;
     let mask = members(initial).enumerate().map(bit).sum::<u64>() as usize;
     let next = next_member(&base, mask);

@@ -1,12 +1,12 @@
 //! The twin: the algorithm of the proved code in plain Rust. All subsets of the chosen vertices are
 //! taken at once: bit i of word b of a vertex's family tells whether the subset with the mask
-//! b * 64 + i has it. The parts are those of the crates tables, lanes, words, families, sums,
+//! b * 64 + i has it. A table is made in blocks of 1,024 masks, each from a settled block with a bit
+//! fewer. The parts are those of the crates tables, lanes, family_words, families, sums,
 //! family_lists and least_sums; no question is asked of the setup.
 //!
-//! The twin takes the steps of the proved code one by one. The lean twin (`LEAN`) takes two
-//! shortcuts besides: the vertices that need another are found once and not at each growth, and
-//! vertices that need nothing are never looked at. Its inner functions are inlined always, as the
-//! proved code's are: that is the faster way.
+//! The twin takes the steps of the proved code one by one. The lean twin (`LEAN`) takes a shortcut
+//! besides: a vertex that is in all lanes of a block is not looked at again. Its inner functions are
+//! inlined always, as the proved code's are: that is the faster way.
 
 pub use crate::ready::members;
 
@@ -19,9 +19,17 @@ pub const NEVER: u64 = 1 << 62;
 /// What stands for a blank value among a setup's words.
 const BLANK: u64 = u64::MAX;
 const COLOURS: usize = 8;
+/// The words of a family in one block: 2^10 masks.
+const PART: usize = 16;
+/// The bits of a mask that tell its lane within a block.
+const BLOCK_BITS: usize = 10;
 
 /// A family of masks.
 pub type Family = [u64; WORDS];
+/// Its part in one block.
+type Part = [u64; PART];
+/// A part for each vertex.
+type Block = [Part; VERTICES];
 /// A family for each vertex.
 pub type Table = [Family; VERTICES];
 /// The needed vertices of one vertex, by colours.
@@ -76,26 +84,26 @@ impl Setup {
     }
 }
 
-fn and_in(family: &mut Family, other: &Family) {
-    family.iter_mut().zip(other).for_each(|(word, more)| *word &= more);
+fn and_in(part: &mut Part, other: &Part) {
+    part.iter_mut().zip(other).for_each(|(word, more)| *word &= more);
 }
 
-fn or_in(family: &mut Family, other: &Family) {
-    family.iter_mut().zip(other).for_each(|(word, more)| *word |= more);
+fn or_in(part: &mut Part, other: &Part) {
+    part.iter_mut().zip(other).for_each(|(word, more)| *word |= more);
 }
 
-/// The family gains what the other has. Was something new?
-fn join(family: &mut Family, other: &Family) -> bool {
+/// The part gains what the other has. Was something new?
+fn join(part: &mut Part, other: &Part) -> bool {
     let mut fresh = 0;
-    for (word, &more) in family.iter_mut().zip(other) {
+    for (word, &more) in part.iter_mut().zip(other) {
         fresh |= more & !*word;
         *word |= more;
     }
     fresh != 0
 }
 
-/// The masks that have the bit k.
-fn masks_with(k: usize) -> Family {
+/// The masks of the first block that have the bit k.
+fn masks_with(k: usize) -> Part {
     const WITHIN: [u64; 6] = [
         0xAAAA_AAAA_AAAA_AAAA,
         0xCCCC_CCCC_CCCC_CCCC,
@@ -105,7 +113,7 @@ fn masks_with(k: usize) -> Family {
         0xFFFF_FFFF_0000_0000,
     ];
     if k < 6 {
-        return [WITHIN[k]; WORDS];
+        return [WITHIN[k]; PART];
     }
     std::array::from_fn(|b| if b >> (k - 6) & 1 == 1 { u64::MAX } else { 0 })
 }
@@ -113,16 +121,16 @@ fn masks_with(k: usize) -> Family {
 /// The masks of sets that have the whole row or, with loss, some vertex of it, joined to `out` or,
 /// with loss, kept in it. An empty row is no colour.
 #[inline(always)]
-fn take_colour(table: &Table, row: u64, loss: bool, out: &mut Family) {
+fn take_colour(block: &Block, row: u64, loss: bool, out: &mut Part) {
     if row == 0 {
         return;
     }
-    let mut part = table[row.trailing_zeros() as usize];
+    let mut part = block[row.trailing_zeros() as usize];
     for v in members(row & (row - 1)) {
         if loss {
-            or_in(&mut part, &table[v]);
+            or_in(&mut part, &block[v]);
         } else {
-            and_in(&mut part, &table[v]);
+            and_in(&mut part, &block[v]);
         }
     }
     if loss {
@@ -132,15 +140,15 @@ fn take_colour(table: &Table, row: u64, loss: bool, out: &mut Family) {
     }
 }
 
-/// Adds the vertex in each mask that admits it. Was one new?
+/// Adds the vertex in each lane that admits it. Was one new?
 #[inline(always)]
-fn step(table: &mut Table, v: usize, rows: &Rows, loss: bool) -> bool {
+fn step(block: &mut Block, v: usize, rows: &Rows, loss: bool) -> bool {
     let coloured = needed(rows) != 0;
-    let mut gains = [if loss && coloured { u64::MAX } else { 0 }; WORDS];
+    let mut gains = [if loss && coloured { u64::MAX } else { 0 }; PART];
     for &row in rows {
-        take_colour(table, row, loss, &mut gains);
+        take_colour(block, row, loss, &mut gains);
     }
-    join(&mut table[v], &gains)
+    join(&mut block[v], &gains)
 }
 
 /// All vertices that some colour needs.
@@ -148,49 +156,102 @@ fn needed(rows: &Rows) -> u64 {
     rows.iter().fold(0, |all, row| all | row)
 }
 
-/// The vertices that need v.
-fn users(needs: &[u64; VERTICES], v: usize) -> u64 {
-    needs.iter().enumerate().fold(0, |users, (u, needed)| users | (needed >> v & 1) << u)
-}
-
-/// Those of each vertex.
-fn all_users(needs: &[u64; VERTICES]) -> [u64; VERTICES] {
+/// The vertices that need each vertex.
+fn all_users(graph: &Graph) -> [u64; VERTICES] {
     let mut all = [0; VERTICES];
-    for (u, &needed) in needs.iter().enumerate() {
-        members(needed).for_each(|v| all[v] |= 1 << u);
+    for (u, rows) in graph.iter().enumerate() {
+        members(needed(rows)).for_each(|v| all[v] |= 1 << u);
     }
     all
 }
 
-/// The vertices that need some vertex.
-fn coloured(needs: &[u64; VERTICES]) -> u64 {
-    needs.iter().enumerate().fold(0, |set, (v, &needed)| set | u64::from(needed != 0) << v)
-}
-
-/// Fills the table: which vertices are opened by which mask's set or, with loss, lost by its loss.
-/// A vertex is looked at again when one that it needs has grown; they take turns. Gives the number
-/// of looks.
+/// Each lane grows to what it opens or, with loss, takes away. At the beginning only the vertices of
+/// `todo` can be new; a vertex is looked at again when one that it needs has grown, in sweeps up and
+/// down. Gives the number of looks.
 #[inline(always)]
-pub fn fill<const LEAN: bool>(graph: &Graph, chosen: u64, loss: bool, table: &mut Table) -> usize {
-    table.iter_mut().for_each(|family| *family = [0; WORDS]);
-    for (k, v) in members(chosen).enumerate() {
-        table[v] = masks_with(k);
-    }
-    let needs = graph.map(|rows| needed(&rows));
-    let known = if LEAN { all_users(&needs) } else { [0; VERTICES] };
-    let mut todo = if LEAN { coloured(&needs) } else { u64::MAX };
-    let (mut after, mut looks) = (u64::MAX, 0);
+fn settle<const LEAN: bool>(
+    graph: &Graph,
+    users: &[u64; VERTICES],
+    loss: bool,
+    mut todo: u64,
+    block: &mut Block,
+) -> usize {
+    let (mut after, mut up, mut looks) = (u64::MAX, true, 0);
     while todo != 0 {
+        up ^= todo & after == 0;
         let later = if todo & after == 0 { todo } else { todo & after };
-        let v = later.trailing_zeros() as usize;
+        let v = if up { later.trailing_zeros() } else { 63 - later.leading_zeros() } as usize;
         todo &= !(1 << v);
-        after = 0xFFFF_FFFF_FFFF_FFFE << v;
+        let below = (1 << v) - 1;
+        after = if up { !below } else { below };
+        if LEAN && block[v] == [u64::MAX; PART] {
+            continue;
+        }
         looks += 1;
-        if step(table, v, &graph[v], loss) {
-            todo |= if LEAN { known[v] } else { users(&needs, v) };
+        if step(block, v, &graph[v], loss) {
+            todo |= users[v];
         }
     }
     looks
+}
+
+/// The block of the masks below 1,024, and the number of looks.
+#[inline(always)]
+fn first_block<const LEAN: bool>(
+    graph: &Graph,
+    users: &[u64; VERTICES],
+    chosen: u64,
+    loss: bool,
+) -> (Block, usize) {
+    let mut block = [[0; PART]; VERTICES];
+    for (k, v) in members(chosen).enumerate() {
+        block[v] = masks_with(k);
+    }
+    let first = members(chosen).fold(0, |set, v| set | users[v]);
+    let looks = settle::<LEAN>(graph, users, loss, first, &mut block);
+    (block, looks)
+}
+
+/// Fills the table: which vertices are opened by which mask's set or, with loss, lost by its loss.
+/// Block b goes on from the block whose number is b without its lowest bit. Gives the number of
+/// looks.
+#[inline(always)]
+pub fn fill<const LEAN: bool>(graph: &Graph, chosen: u64, loss: bool, table: &mut Table) -> usize {
+    let users = all_users(graph);
+    let (mut block, mut looks) = first_block::<LEAN>(graph, &users, chosen, loss);
+    for b in 0..WORDS / PART {
+        if b > 0 {
+            let from = (b & (b - 1)) * PART;
+            for (part, family) in block.iter_mut().zip(table.iter()) {
+                part.copy_from_slice(&family[from..from + PART]);
+            }
+            if let Some(v) = members(chosen).nth(BLOCK_BITS + b.trailing_zeros() as usize) {
+                block[v] = [u64::MAX; PART];
+                looks += settle::<LEAN>(graph, &users, loss, users[v], &mut block);
+            }
+        }
+        for (part, family) in block.iter().zip(table.iter_mut()) {
+            family[b * PART..][..PART].copy_from_slice(part);
+        }
+    }
+    looks
+}
+
+/// The family of one target; where at most ten vertices are chosen, by one block alone.
+#[inline(always)]
+pub fn family<const LEAN: bool>(graph: &Graph, chosen: u64, loss: bool, target: usize) -> Family {
+    if chosen.count_ones() as usize <= BLOCK_BITS {
+        let (block, _) = first_block::<LEAN>(graph, &all_users(graph), chosen, loss);
+        return std::array::from_fn(|b| block[target][b % PART]);
+    }
+    by_table::<LEAN>(graph, chosen, loss, target)
+}
+
+#[inline(never)]
+fn by_table<const LEAN: bool>(graph: &Graph, chosen: u64, loss: bool, target: usize) -> Family {
+    let mut table = [[0; WORDS]; VERTICES];
+    fill::<LEAN>(graph, chosen, loss, &mut table);
+    table[target]
 }
 
 /// The members in word b of which none has a member one bit smaller.
@@ -206,9 +267,14 @@ fn least_word(family: &Family, b: usize) -> u64 {
     x & !smaller.fold(within, |all, word| all | word)
 }
 
-/// The minimal members of a monotone family.
-pub fn minimal_members(family: &Family) -> Family {
-    std::array::from_fn(|b| least_word(family, b))
+/// The minimal members of a monotone family, which are in the words of the chosen vertices' masks.
+pub fn minimal_members(family: &Family, chosen: u64) -> Family {
+    let mut minimal = [0; WORDS];
+    let words = 1 << chosen.count_ones().saturating_sub(6);
+    for (b, word) in minimal[..words].iter_mut().enumerate() {
+        *word = least_word(family, b);
+    }
+    minimal
 }
 
 /// Keeps a monotone family's minimal members alone. A word is judged by words of smaller numbers, so
@@ -310,16 +376,15 @@ pub fn set_of(chosen: u64, mask: u64) -> u64 {
     members(chosen).enumerate().fold(0, |set, (bit, v)| set + ((mask >> bit & 1) << v))
 }
 
-/// Both lists of a target in one lent list, and their lengths. One table is alive at a time.
+/// Both lists of a target in one lent list, and their lengths.
 pub fn both_bases<const LEAN: bool>(
     setup: &Setup,
     target: usize,
     out: &mut [u64],
 ) -> (usize, usize) {
     let base = |loss: bool| {
-        let mut table = [[0; WORDS]; VERTICES];
-        fill::<LEAN>(&setup.graph, setup.chosen(loss), loss, &mut table);
-        minimal_members(&table[target])
+        let chosen = setup.chosen(loss);
+        minimal_members(&family::<LEAN>(&setup.graph, chosen, loss, target), chosen)
     };
     let (opening, lockout) = (base(false), base(true));
     let first = write_sets(&opening, setup.chosen(false), out);
@@ -330,9 +395,7 @@ pub fn both_bases<const LEAN: bool>(
 /// The smallest cut sets of a target. All masks are complemented and turned round: what is not in
 /// the family of the sets that open the target, with all other bits.
 pub fn cuts(setup: &Setup, target: usize, out: &mut [u64]) -> usize {
-    let mut table = [[0; WORDS]; VERTICES];
-    fill::<false>(&setup.graph, setup.chosen(false), false, &mut table);
-    let opening = &table[target];
+    let opening = family::<false>(&setup.graph, setup.chosen(false), false, target);
     let mut family = std::array::from_fn(|b| !opening[WORDS - 1 - b].reverse_bits());
     keep_minimal(&mut family);
     write_sets(&family, setup.chosen(false), out)

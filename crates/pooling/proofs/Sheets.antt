@@ -20,7 +20,7 @@ use Rattle.sheet_format.proofs.Rows.{itemLine, edgeLine}
 use Rattle.sheet_format.proofs.Documents.{docLines}
 use Rattle.sheet_format.proofs.Meaning.{render-lines, accepted-of-valid}
 use Rattle.sheet_format.proofs.Stated.{stands-below, at-place, stated-by-rows, take-more}
-use Rattle.sheet_names.proofs.Starts.{lines-behind}
+use Rattle.sheet_lines.proofs.Starts.{lines-behind}
 use Rattle.pool_items.specs.Inner.Keys.{HasLines}
 use Rattle.pool_items.specs.Inner.Items.{PlacesRise, ItemRowsAt}
 use Rattle.pool_items.proofs.Lines.{start-more}

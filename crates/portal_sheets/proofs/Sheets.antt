@@ -10,8 +10,8 @@ use lib.ListN.{length, drop, length-drop}
 use lib.Seq.{sets-eq, length-take-le}
 use Rattle.sheet_format.specs.declared.Reading.{Reading}
 use Rattle.sheet_format.specs.Read.{readSheet}
-use Rattle.sheet_names.specs.declared.Span.{Span}
-use Rattle.sheet_names.specs.Inner.Span.{spanOf}
+use Rattle.sheet_lines.specs.declared.names.Span.{Span}
+use Rattle.sheet_lines.specs.Inner.Span.{spanOf}
 use Rattle.sheet.proofs.Names.{item-there, row-there, span-inside, span-name, span-start}
 use Rattle.questions.specs.Asks.{Asks}
 use Rattle.questions.specs.Contract.{gives, ends, turnsAway, Fulfils, OneAnswer}

@@ -96,7 +96,7 @@ pub extern "C" fn portal_name(sheet: &[u8], item: u64) -> NameResult
             length: 0,
         };
     }
-    let span = sheet_names::name_span(sheet, item as usize);
+    let span = sheet_lines::names::name_span(sheet, item as usize);
     let start = span.from as u64;
     let end = span.to as u64;
     NameResult {

@@ -26,9 +26,9 @@ use Rattle.sheet_format.proofs.Meaning.{render-lines, accepted-of-valid, valid-
 use Rattle.sheet_format.proofs.Stated.{stands-below}
 use Rattle.sheet_fields.specs.Inner.Parts.{until}
 use Rattle.sheet_fields.proofs.Cutting.{until-le, first-field}
-use Rattle.sheet_names.specs.declared.Span.{Span}
-use Rattle.sheet_names.specs.Inner.Span.{spanOf}
-use Rattle.sheet_names.proofs.Starts.{field-length, row-inside}
+use Rattle.sheet_lines.specs.declared.names.Span.{Span}
+use Rattle.sheet_lines.specs.Inner.Span.{spanOf}
+use Rattle.sheet_lines.proofs.Starts.{field-length, row-inside}
 
 -- ---- is there such an item?
 

@@ -109,7 +109,7 @@ pub fn name_of(sheet: &[u8], item: usize) -> &[u8]
     if count <= item {
         return &sheet[..0];
     }
-    let span = sheet_names::name_span(sheet, item);
+    let span = sheet_lines::names::name_span(sheet, item);
     let from = span.from;
     let to = span.to;
     &sheet[from..to]

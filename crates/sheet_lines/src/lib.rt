@@ -1,4 +1,7 @@
-// The lines of a sheet: the test of the whole text, and the headers.
+// The lines of a sheet: the test of the whole text, and the headers; in `names`, where an item's name
+// stands.
+pub mod names;
+
 ghost use mathlib.Core.Path.{_≡_};
 ghost use Rattle.sheet_format.specs.Text.{sameText};
 ghost use Rattle.sheet_format.specs.Rows.{firstHeader, secondHeader};

@@ -5,7 +5,7 @@ use lib.ListN.{length}
 use Rattle.sheet_format.specs.Text.{linesOf, fieldsOf}
 use Rattle.sheet_format.specs.Questions.{field}
 use Rattle.sheet_format.specs.Names.{lineStart, rowOfItem}
-use Rattle.sheet_names.specs.declared.Span.{Span}
+use Rattle.sheet_lines.specs.declared.names.Span.{Span}
 
 -- From the start of the item's row, as long as its first field.
 unfoldable pub spanOf : List ℕ → ℕ → Span

@@ -4,7 +4,7 @@ ghost use mathlib.Core.Path.{_≡_};
 ghost use Prim.Native.Nat.{_≤_, _<_};
 ghost use Rattle.sheet_format.specs.Text.{linesOf};
 ghost use Rattle.sheet_format.specs.Names.{lineStart};
-ghost use Rattle.sheet_names.specs.Inner.Span.{spanOf};
+ghost use Rattle.sheet_lines.specs.Inner.Span.{spanOf};
 
 // The part of a sheet from `from` up to, not including, `to`.
 pub struct Span {

@@ -15,8 +15,8 @@ use Rattle.sheet_format.specs.Names.{lineStart, rowOfItem}
 use Rattle.sheet_fields.specs.Inner.Parts.{until}
 use Rattle.sheet_fields.proofs.Cutting.{until-le, first-field}
 use Rattle.sheet_fields.proofs.Lines.{lines-cons, line-at, lines-over}
-use Rattle.sheet_names.specs.declared.Span.{Span}
-use Rattle.sheet_names.specs.Inner.Span.{spanOf}
+use Rattle.sheet_lines.specs.declared.names.Span.{Span}
+use Rattle.sheet_lines.specs.Inner.Span.{spanOf}
 
 start-none : (k : ℕ) → lineStart [] k ≡ 0
 unfolding lineStart

@@ -7,9 +7,9 @@ use lib.ListN.{length, drop, length-drop}
 use Rattle.sheet_format.specs.Text.{linesOf}
 use Rattle.sheet_format.specs.Names.{lineStart}
 use Rattle.sheet_fields.proofs.Cutting.{until-le}
-use Rattle.sheet_names.proofs.Starts.{start-first, start-over, start-next}
-use Rattle.sheet_names.proofs.line_start.Statement.{statement}
-use Rattle.sheet_names.proofs.line_start.Tie as tie
+use Rattle.sheet_lines.proofs.Starts.{start-first, start-over, start-next}
+use Rattle.sheet_lines.proofs.names.line_start.Statement.{statement}
+use Rattle.sheet_lines.proofs.names.line_start.Tie as tie
 
 -- Line k begins where the line k - i of the text from `at` on does.
 abbrev Inv-loop : tie.InvT-loop

@@ -4,10 +4,10 @@ use native.Mathlib.Numerals.{add-one}
 use native.Mathlib.Omega.{arith}
 use lib.ListN.{length, take, drop, length-drop, length-take}
 use Rattle.sheet_fields.proofs.Cutting.{until-le}
-use Rattle.sheet_names.proofs.Starts.{span-over, span-inside}
+use Rattle.sheet_lines.proofs.Starts.{span-over, span-inside}
 use borrow.Author.Needs.{needs}
-use Rattle.sheet_names.proofs.name_span.Statement.{statement}
-use Rattle.sheet_names.proofs.name_span.Tie as tie
+use Rattle.sheet_lines.proofs.names.name_span.Statement.{statement}
+use Rattle.sheet_lines.proofs.names.name_span.Tie as tie
 
 -- the row ends within the sheet
 line-end : (c : tie.After-find) → c .find .result ≤ length (c .before .before .before .before .args .s .now)

@@ -37,13 +37,13 @@ abbrev pub KindOpens : Graph → List ℕ → ℕ → ℕ → ℕ → Type 0
 KindOpens g kinds initial target t = HasAccess g (OfKind kinds initial t) target
 
 -- The kind j settles the kind t: it gets in and is at most t, or it does not and t is at most it.
-abbrev pub Settles : ℕ → ℕ → ℕ → ℕ → Type 0
-Settles able unable j t = (Member able j × BothAtMost j t) ⊎ (Member unable j × BothAtMost t j)
+abbrev pub SettlesKind : ℕ → ℕ → ℕ → ℕ → Type 0
+SettlesKind able unable j t = (Member able j × BothAtMost j t) ⊎ (Member unable j × BothAtMost t j)
 
 -- Some kind settles the kind t.
 pub record KindSettled (able unable t : ℕ) : Type 0 where
   pub attacker : ℕ
-  pub settles : Settles able unable attacker t
+  pub settles : SettlesKind able unable attacker t
 
 -- Of the six kinds in the set, some is below k.
 pub record SomeWeaker (set k : ℕ) : Type 0 where

@@ -8,7 +8,7 @@ ghost use Rattle.derivations.specs.Access.{HasAccess};
 ghost use Rattle.successors.specs.Inner.{Successors};
 ghost use Rattle.questions.specs.Contract.{ends, Fulfils};
 ghost use Rattle.attackers.specs.Answers.{attackerReply, attackerCall};
-ghost use Rattle.attackers.specs.Inner.{BothAtMost, BothWeaker, FitOver, HeldBy, Settles, KindSettled, SomeWeaker, LowestKinds, LowestOpen};
+ghost use Rattle.attackers.specs.Inner.{BothAtMost, BothWeaker, FitOver, HeldBy, SettlesKind, KindSettled, SomeWeaker, LowestKinds, LowestOpen};
 use setup::Graph;
 use setup::Setup;
 use vertex_set::VertexSet;
@@ -118,7 +118,7 @@ fn reaches(graph: Graph, list: &[u64], set: VertexSet, target: usize) -> bool
 // Does the kind j, if it was tried, settle the kind t? Whoever is above a kind that gets in gets
 // in too; below a kind that does not, nobody does.
 fn settles(able: VertexSet, unable: VertexSet, j: usize, t: usize) -> bool
-    ensures { λ r. ⌜ Decides (Settles (able .0) (unable .0) j t) r ⌝ }
+    ensures { λ r. ⌜ Decides (SettlesKind (able .0) (unable .0) j t) r ⌝ }
 {
     if able.has(j) {
         if at_most(j, t) {

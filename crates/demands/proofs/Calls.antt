@@ -17,7 +17,7 @@ use Rattle.questions.proofs.Asks.{positive, turned, settled-asks}
 use Rattle.questions.proofs.Contract.{settled}
 use Rattle.findings.proofs.Unique.{decided-once}
 use Rattle.living.specs.declared.Redrawing.{Redrawing}
-use Rattle.living.specs.Calls.{Call, TakeIn, TakeOut, AddEdge, RemoveEdge, drawingOf, after, questionsOf, back, Done, CallOf}
+use Rattle.living.specs.Calls.{Call, TakeIn, TakeOut, AddEdge, RemoveEdge, drawingOf, after, asksOf, back, Done, CallOf}
 use Rattle.living.proofs.Unique.{redrawn-unique}
 use Rattle.records.specs.declared.Record.{Record}
 use Rattle.records.specs.declared.Registered.{Registered}
@@ -58,7 +58,7 @@ reached s b d = decide-iff (question-12 s) d
 
 -- ---- a setup that lives
 
-pub living-numbered : (c : Call) (s : Setup) → positive (questionsOf c s) ≡ true
+pub living-numbered : (c : Call) (s : Setup) → positive (asksOf c s) ≡ true
 living-numbered (TakeIn v) s = refl
 living-numbered (TakeOut v) s = refl
 living-numbered (AddEdge f v c m) s = refl
@@ -66,7 +66,7 @@ living-numbered (RemoveEdge f v c) s = refl
 
 pub settled-living : (c : Call) (s : Setup) (r : Redrawing) → CallOf c s r → SettledLiving c s r
 settled-living c s r =
-    settled-asks (λ x. x .number) (back s) (λ q. refl) (questionsOf c s) (Done c s) (map (λ q. q .number) (questionsOf c s)) (living-numbered c s) (λ q l. l) r
+    settled-asks (λ x. x .number) (back s) (λ q. refl) (asksOf c s) (Done c s) (map (λ q. q .number) (asksOf c s)) (living-numbered c s) (λ q l. l) r
     (λ d. inl (d .numbered))
     (λ p d e i. record { number = (d .numbered ∙ sym (e .numbered)) i; setup = redrawn-unique s (after c (drawingOf s)) (p .setup) (r .setup) (d .redrawn) (e .redrawn) i })
 

@@ -21,7 +21,7 @@ use Rattle.cut_sets.specs.Answers.{cutsReply}
 use Rattle.attackers.specs.Answers.{attackerReply}
 use Rattle.multiset_scores.specs.Answers.{bagsReply}
 use Rattle.living.specs.declared.Redrawing.{Redrawing}
-use Rattle.living.specs.Calls.{Call, questionsOf, back, CallOf}
+use Rattle.living.specs.Calls.{Call, asksOf, back, CallOf}
 use Rattle.records.specs.declared.Record.{Record}
 use Rattle.records.specs.declared.Registered.{Registered}
 use Rattle.records.specs.Records.{withSlice, handsBack}
@@ -82,7 +82,7 @@ pub record SettledYesNo (P : Type 0) (answer : Bool) : Type 0 where
 
 -- Demand 1 of such a call, by the numbers of its questions.
 abbrev pub SettledLiving : Call → Setup → Redrawing → Type 0
-SettledLiving c s = Settled (λ r. r .number) (back s) (map (λ q. q .number) (questionsOf c s)) (CallOf c s)
+SettledLiving c s = Settled (λ r. r .number) (back s) (map (λ q. q .number) (asksOf c s)) (CallOf c s)
 
 -- ---- the class register: a refusal changes no record and no count
 

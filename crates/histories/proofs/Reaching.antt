@@ -23,7 +23,7 @@ use Rattle.reference.specs.Closures.{closureOf}
 use Rattle.reference.proofs.Graphs.{own-graph}
 use Rattle.reference.proofs.Closures.{closure-of}
 use Rattle.questions.proofs.Asks.{ask-all}
-use Rattle.living.specs.Calls.{Call, TakeIn, questionsOf, back, Done, CallOf}
+use Rattle.living.specs.Calls.{Call, TakeIn, asksOf, back, Done, CallOf}
 use Rattle.sheet_format.proofs.Question12.{question-12-sheets, yielded-formed}
 use Rattle.histories.specs.Histories.{Reached, Question12}
 use Rattle.histories.proofs.Runs.{still-formed, ran-more}
@@ -87,7 +87,7 @@ module _ (s : Setup) (w : WellFormed s) where
   -- one held vertex more
   takes : (k : ℕ) → suc k ≤ 64 → Member (s .held .0) k → CallOf (TakeIn k) (withHeld s (lower k)) (record { number = 0; setup = withHeld s (lower (suc k)) })
   takes k l m =
-      ask-all (back (withHeld s (lower k))) (Done (TakeIn k) (withHeld s (lower k))) (questionsOf (TakeIn k) (withHeld s (lower k)))
+      ask-all (back (withHeld s (lower k))) (Done (TakeIn k) (withHeld s (lower k))) (asksOf (TakeIn k) (withHeld s (lower k)))
       (record { number = 0; setup = withHeld s (lower (suc k)) }) (part-formed k (omega arith), (w .holds .each k m, tt))
       (record {
         numbered = refl;

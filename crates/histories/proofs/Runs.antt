@@ -17,7 +17,7 @@ use Rattle.questions.specs.Asks.{Question, Asks}
 use Rattle.questions.specs.Questions.{asks12}
 use Rattle.questions.proofs.Asks.{first-no}
 use Rattle.formed.specs.WellFormed.{WellFormed}
-use Rattle.living.specs.Calls.{Call, TakeIn, TakeOut, AddEdge, RemoveEdge, questionsOf, back, Done, CallOf, Drawing, drawingOf, after, Redrawn}
+use Rattle.living.specs.Calls.{Call, TakeIn, TakeOut, AddEdge, RemoveEdge, asksOf, back, Done, CallOf, Drawing, drawingOf, after, Redrawn}
 use Rattle.living.specs.declared.Redrawing.{Redrawing}
 use Rattle.living.proofs.Unique.{itself}
 use Rattle.sheet_format.specs.declared.Reading.{Reading}
@@ -88,7 +88,7 @@ still-formed (c ∷ calls) (n ∷ numbers) s t w e =
 empty-unformed : (s : Setup) → s ≡ noItems → WellFormed s → ⊥
 empty-unformed s e w = let k = ap (λ (x : Setup). x .count) e in let l = w .some in omega (arith, k, l)
 
-first-twelve : (c : Call) (s : Setup) → (rest : List Question) × (questionsOf c s ≡ asks12 s ∷ rest)
+first-twelve : (c : Call) (s : Setup) → (rest : List Question) × (asksOf c s ≡ asks12 s ∷ rest)
 first-twelve (TakeIn v) s = (_, refl)
 first-twelve (TakeOut v) s = (_, refl)
 first-twelve (AddEdge f v c m) s = (_, refl)

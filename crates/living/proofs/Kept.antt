@@ -19,7 +19,7 @@ use Rattle.setup.specs.Inner.{graphWithRow}
 use Rattle.setup.proofs.Graphs.{graph-same}
 use Rattle.setup.proofs.OneRow.{row-count}
 use Rattle.formed.specs.WellFormed.{WellFormed}
-use Rattle.living.specs.Calls.{Call, TakeIn, TakeOut, AddEdge, RemoveEdge, Drawing, drawingOf, after, Redrawn, questionsOf, back, Done, CallOf}
+use Rattle.living.specs.Calls.{Call, TakeIn, TakeOut, AddEdge, RemoveEdge, Drawing, drawingOf, after, Redrawn, asksOf, back, Done, CallOf}
 use Rattle.living.specs.declared.Redrawing.{Redrawing}
 use Rattle.questions.specs.Questions.{asks12}
 use Rattle.questions.proofs.Asks.{AllYes, positive, not-zero, first-no, asks-either}
@@ -153,13 +153,13 @@ pub record Stayed (s : Setup) (r : Redrawing) : Type 0 where
   pub number : r .number ≡ 0 → ⊥
   pub same : r .setup ≡ s
 
-well-kept : (c : Call) (s t : Setup) → AllYes (questionsOf c s) → Redrawn s (after c (drawingOf s)) t → WellFormed t
+well-kept : (c : Call) (s t : Setup) → AllYes (asksOf c s) → Redrawn s (after c (drawingOf s)) t → WellFormed t
 well-kept (TakeIn v) s t y = in-kept s t (y .0) v (y .1 .0)
 well-kept (TakeOut v) s t y = out-kept s t (y .0) v
 well-kept (AddEdge f v c m) s t y = add-kept s t (y .0) f v c (record { from = y .1 .0; to = y .1 .1 .0; colour = y .1 .1 .1 .0 }) m (y .1 .1 .1 .1 .1 .0)
 well-kept (RemoveEdge f v c) s t y = remove-kept s t (y .0) f v c (record { from = y .1 .0; to = y .1 .1 .0; colour = y .1 .1 .1 .0 }) (y .1 .1 .1 .1 .0)
 
-numbered : (c : Call) (s : Setup) → positive (questionsOf c s) ≡ true
+numbered : (c : Call) (s : Setup) → positive (asksOf c s) ≡ true
 numbered (TakeIn v) s = refl
 numbered (TakeOut v) s = refl
 numbered (AddEdge f v c m) s = refl
@@ -169,10 +169,10 @@ pub step : (c : Call) (s : Setup) (r : Redrawing) → CallOf c s r → Took c s 
 step c s r a =
     ⊎-elim (λ h. inl (record { number = h .1 .numbered; redrawn = h .1 .redrawn; formed = well-kept c s (r .setup) (h .0) (h .1 .redrawn) }))
     (λ h. inr (record {
-      number = λ z. not-zero (questionsOf c s) (h .0) (numbered c s) (h .1) (sym (ap (λ (x : Redrawing). x .number) (h .2)) ∙ z);
+      number = λ z. not-zero (asksOf c s) (h .0) (numbered c s) (h .1) (sym (ap (λ (x : Redrawing). x .number) (h .2)) ∙ z);
       same = ap (λ (x : Redrawing). x .setup) (h .2);
     }))
-    (asks-either (back s) (Done c s) (questionsOf c s) r a)
+    (asks-either (back s) (Done c s) (asksOf c s) r a)
 
 -- ---- a call on a malformed setup
 

@@ -9,7 +9,7 @@ ghost use mathlib.Core.Path.{_≡_};
 ghost use Prim.Native.Nat.{_≤_};
 ghost use Rattle.vertex_set.specs.Set.{Decides};
 ghost use Rattle.setup.specs.Setup.{Edge, edgeCount};
-ghost use Rattle.questions.specs.Inner.{FirstNo};
+ghost use Rattle.questions.specs.Inner.{FirstRefusal};
 ghost use Rattle.living.specs.Calls.{TakeIn, TakeOut, AddEdge, RemoveEdge, CallOf};
 ghost use Rattle.living.specs.Inner.{LetGo, RowPlace, EdgePlace, WithHeld, Drawn, placeQuestions, RowsWithEdge, RowsWithoutEdge, RowsMarked, EdgeAdded, EdgeRemoved};
 use setup::Graph;
@@ -102,7 +102,7 @@ pub fn take_out(s: Setup, v: usize) -> Redrawing
 // Questions 12, 13 of both ends, and 18, which come first where an edge is named: the number of the
 // first no, and 0 where there is none. `formed` is the answer to question 12.
 fn ask_place(formed: bool, count: usize, from: usize, to: usize, colour: usize) -> u64
-    ensures { λ r. ⌜ FirstNo (placeQuestions formed count from to colour) r ⌝ }
+    ensures { λ r. ⌜ FirstRefusal (placeQuestions formed count from to colour) r ⌝ }
 {
     if formed {
         if count <= from {

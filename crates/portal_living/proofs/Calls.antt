@@ -18,7 +18,7 @@ use Rattle.questions.specs.Contract.{Outcome, ends, turnsAway, Room, Answers, F
 use Rattle.questions.proofs.Asks.{AllYes, numbersOf, positive, not-zero, ask-all, asks-either}
 use Rattle.questions.proofs.Contract.{given, answers-of}
 use Rattle.living.specs.declared.Redrawing.{Redrawing}
-use Rattle.living.specs.Calls.{Call, TakeIn, TakeOut, AddEdge, RemoveEdge, drawingOf, after, Redrawn, questionsOf, back, Done, CallOf}
+use Rattle.living.specs.Calls.{Call, TakeIn, TakeOut, AddEdge, RemoveEdge, drawingOf, after, Redrawn, asksOf, back, Done, CallOf}
 use Rattle.living.proofs.Unique.{redrawn-unique, nothing-changes}
 use Rattle.living.proofs.Kept.{step}
 use Rattle.portal_words.specs.Words.{setupWords, setupIn, wordsOf}
@@ -53,13 +53,13 @@ module _ {O P : Type 0} (refusal : ℕ → O) (refusal′ : ℕ → P) (Ends : O
   asks-map (q ∷ qs) o p f g a =
       ⊎-elim (λ h. inl (h .0, g (q .number) (inl refl) (h .1))) (λ h. inr (h .0, asks-map qs o p (λ y. f (h .0, y)) (λ n l. g n (inr l)) (h .1))) a
 
-numbered : (c : Call) (s : Setup) → positive (questionsOf c s) ≡ true
+numbered : (c : Call) (s : Setup) → positive (asksOf c s) ≡ true
 numbered (TakeIn v) s = refl
 numbered (TakeOut v) s = refl
 numbered (AddEdge f v c m) s = refl
 numbered (RemoveEdge f v c) s = refl
 
-formed-first : (c : Call) (s : Setup) → AllYes (questionsOf c s) → WellFormed s
+formed-first : (c : Call) (s : Setup) → AllYes (asksOf c s) → WellFormed s
 formed-first (TakeIn v) s y = y .0
 formed-first (TakeOut v) s y = y .0
 formed-first (AddEdge f v c m) s y = y .0
@@ -69,7 +69,7 @@ formed-first (RemoveEdge f v c) s y = y .0
 
 -- where a call is accepted there is room
 module _ (c : Call) (entry : List ℕ) where
-  room-of : (t : Setup) → AllYes (questionsOf c (setupIn entry)) → Redrawn (setupIn entry) (after c (drawingOf (setupIn entry))) t
+  room-of : (t : Setup) → AllYes (asksOf c (setupIn entry)) → Redrawn (setupIn entry) (after c (drawingOf (setupIn entry))) t
       → Room (entry ∷ []) (wordsOf t ∷ [])
   room-of t y r =
       let l = words-long t (r .shaped) in
@@ -80,21 +80,21 @@ module _ (c : Call) (entry : List ℕ) where
   has-room s e r a =
       record {
         accepted = λ z. ⊎-elim
-            (λ h. formed-says entry (formed-first c (setupIn entry) (subst (λ (x : Setup). AllYes (questionsOf c x)) e (h .0))) .long)
-            (λ h. absurd (not-zero (questionsOf c s) (h .0) (numbered c s) (h .1) (sym (ap (λ (x : Redrawing). x .number) (h .2)) ∙ z)))
-            (asks-either (back s) (Done c s) (questionsOf c s) r a);
+            (λ h. formed-says entry (formed-first c (setupIn entry) (subst (λ (x : Setup). AllYes (asksOf c x)) e (h .0))) .long)
+            (λ h. absurd (not-zero (asksOf c s) (h .0) (numbered c s) (h .1) (sym (ap (λ (x : Redrawing). x .number) (h .2)) ∙ z)))
+            (asks-either (back s) (Done c s) (asksOf c s) r a);
       }
 
   call-fulfilled : (r : Redrawing) (exit : List ℕ) → CallOf c (setupIn entry) r → PutBack r entry exit
       → Fulfils (livingCall c entry) (ends (record { number = r .number; values = [] }) (exit ∷ []))
   unfolding Fulfils
   call-fulfilled r exit a b =
-      asks-map (back (setupIn entry)) (turnsAway (entry ∷ [])) (Done c (setupIn entry)) (Answers (livingCall c entry)) (questionsOf c (setupIn entry)) r
+      asks-map (back (setupIn entry)) (turnsAway (entry ∷ [])) (Done c (setupIn entry)) (Answers (livingCall c entry)) (asksOf c (setupIn entry)) r
       (ends (record { number = r .number; values = [] }) (exit ∷ []))
       (λ y d. given (livingCall c entry) (r .setup) (d .redrawn) (room-of (r .setup) y (d .redrawn)) (ends (record { number = r .number; values = [] }) (exit ∷ []))
       (λ i. ends (record { number = d .numbered i; values = [] }) (b .accepted (d .numbered) i ∷ [])))
       (λ q l e. let n : r .number ≡ q = ap (λ (x : Redrawing). x .number) e in
-      let same = b .refused (λ z. not-zero (questionsOf c (setupIn entry)) q (numbered c (setupIn entry)) l (sym n ∙ z)) in
+      let same = b .refused (λ z. not-zero (asksOf c (setupIn entry)) q (numbered c (setupIn entry)) l (sym n ∙ z)) in
       λ i. ends (record { number = n i; values = [] }) (same i ∷ []))
       a
 
@@ -110,14 +110,14 @@ module _ (c : Call) (entry : List ℕ) where
       }
 
   -- and back: the words say what the call answered
-  said : (number : ℕ) (exit : List ℕ) (t : Setup) → AllYes (questionsOf c (setupIn entry)) → Redrawn (setupIn entry) (after c (drawingOf (setupIn entry))) t
+  said : (number : ℕ) (exit : List ℕ) (t : Setup) → AllYes (asksOf c (setupIn entry)) → Redrawn (setupIn entry) (after c (drawingOf (setupIn entry))) t
       → exit ≡ written (wordsOf t) entry → setupIn exit ≡ t
   said number exit t y r e =
       ⊎-elim (λ k. ap setupIn e ∙ well-formed-back t (k .formed) (drop (length (wordsOf t)) entry)) (λ k. absurd (k .number refl))
       (step c (setupIn entry) (record { number = 0; setup = t })
-      (ask-all (back (setupIn entry)) (Done c (setupIn entry)) (questionsOf c (setupIn entry)) (record { number = 0; setup = t }) y (record { numbered = refl; redrawn = r })))
+      (ask-all (back (setupIn entry)) (Done c (setupIn entry)) (asksOf c (setupIn entry)) (record { number = 0; setup = t }) y (record { numbered = refl; redrawn = r })))
 
-  pub done-of : (number : ℕ) (values : List ℕ) (exit : List ℕ) → AllYes (questionsOf c (setupIn entry))
+  pub done-of : (number : ℕ) (values : List ℕ) (exit : List ℕ) → AllYes (asksOf c (setupIn entry))
       → Answers (livingCall c entry) (ends (record { number = number; values = values }) (exit ∷ [])) → Done c (setupIn entry) (record { number = number; setup = setupIn exit })
   unfolding Asks
   done-of number values exit y a =
@@ -132,7 +132,7 @@ module _ (c : Call) (entry : List ℕ) where
   pub call-of : (number : ℕ) (exit : List ℕ) → Redrew c number entry exit → CallOf c (setupIn entry) (record { number = number; setup = setupIn exit })
   unfolding Fulfils
   call-of number exit t =
-      asks-map (turnsAway (entry ∷ [])) (back (setupIn entry)) (Answers (livingCall c entry)) (Done c (setupIn entry)) (questionsOf c (setupIn entry))
+      asks-map (turnsAway (entry ∷ [])) (back (setupIn entry)) (Answers (livingCall c entry)) (Done c (setupIn entry)) (asksOf c (setupIn entry))
       (ends (record { number = number; values = t .values }) (exit ∷ [])) (record { number = number; setup = setupIn exit })
       (λ y a. done-of number (t .values) exit y a)
       (λ q l e. λ i. record { number = ap (λ (o : Outcome). o .reply .number) e i; setup = setupIn (ap (λ (o : Outcome). getD (o .lent) 0 []) e i) })
@@ -153,14 +153,14 @@ same-words entry w =
     ∙ ap (λ (l : List ℕ). l ++ drop setupWords entry) (sym (words-are entry says)) ∙ take-append-drop setupWords entry
 
 -- an accepted call that leaves the setup as it was
-unchanged : (c : Call) (number : ℕ) (entry exit : List ℕ) → AllYes (questionsOf c (setupIn entry)) → Redrew c number entry exit
+unchanged : (c : Call) (number : ℕ) (entry exit : List ℕ) → AllYes (asksOf c (setupIn entry)) → Redrew c number entry exit
     → ((r : Redrawing) → CallOf c (setupIn entry) r → r ≡ back (setupIn entry) 0) → (number ≡ 0) × (exit ≡ entry)
 unfolding Asks
 unchanged c number entry exit y t same =
     let a = answers-of (livingCall c entry) (ends (record { number = number; values = t .values }) (exit ∷ [])) (t .call) y in
     let s = setupIn entry in
     let is : a .answer ≡ s = ap (λ (r : Redrawing). r .setup) (same (record { number = 0; setup = a .answer })
-    (ask-all (back s) (Done c s) (questionsOf c s) (record { number = 0; setup = a .answer }) y (record { numbered = refl; redrawn = a .right }))) in
+    (ask-all (back s) (Done c s) (asksOf c s) (record { number = 0; setup = a .answer }) y (record { numbered = refl; redrawn = a .right }))) in
     ⊎-elim (λ h. absurd (h .0 (room-of c entry (a .answer) y (a .right))))
     (λ h. (
       ap (λ (o : Outcome). o .reply .number) (h .1),

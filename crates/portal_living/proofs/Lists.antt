@@ -16,7 +16,7 @@ use Rattle.questions.specs.Contract.{Outcome, ends, turnsAway, Answers, Fulfils
 use Rattle.questions.proofs.Asks.{AllYes, asks-either}
 use Rattle.derivations.specs.Access.{AccessFrom}
 use Rattle.living.specs.declared.Redrawing.{Redrawing}
-use Rattle.living.specs.Calls.{Call, Drawing, drawingOf, Redrawn, questionsOf}
+use Rattle.living.specs.Calls.{Call, Drawing, drawingOf, Redrawn, asksOf}
 use Rattle.living.proofs.Kept.{step, refused-malformed}
 use Rattle.sheet_format.specs.declared.Reading.{Reading}
 use Rattle.sheet_format.specs.Read.{readSheet}
@@ -40,7 +40,7 @@ either c number entry exit t =
     (λ h. let d = done-of c entry number (t .values) exit (h .0) (h .1) in
     ⊎-elim (λ k. inl (k .formed)) (λ k. absurd (k .number (d .numbered))) (step c (setupIn entry) (record { number = number; setup = setupIn exit }) (call-of c entry number exit t)))
     (λ h. inr (ap (λ (o : Outcome). getD (o .lent) 0 []) (h .2)))
-    (asks-either (turnsAway (entry ∷ [])) (Answers (livingCall c entry)) (questionsOf c (setupIn entry)) (ends (record { number = number; values = t .values }) (exit ∷ [])) (t .call))
+    (asks-either (turnsAway (entry ∷ [])) (Answers (livingCall c entry)) (asksOf c (setupIn entry)) (ends (record { number = number; values = t .values }) (exit ∷ [])) (t .call))
 
 -- ---- lists of calls
 

@@ -10,7 +10,7 @@ use Rattle.formed.specs.WellFormed.{WellFormed}
 use Rattle.questions.specs.Contract.{Contract}
 use Rattle.questions.specs.Told.{Told}
 use Rattle.derivations.specs.Access.{AccessFrom}
-use Rattle.living.specs.Calls.{Call, TakeIn, TakeOut, Drawing, drawingOf, after, Redrawn, questionsOf}
+use Rattle.living.specs.Calls.{Call, TakeIn, TakeOut, Drawing, drawingOf, after, Redrawn, asksOf}
 use Rattle.sheet_format.specs.Read.{readSheet}
 use Rattle.histories.specs.Histories.{leftBy}
 use Rattle.portal_words.specs.Words.{setupWords, heldPlace, openedPlace, wordAt, setupIn, wordsOf}
@@ -22,7 +22,7 @@ abbrev pub livingCall : Call → List ℕ → Contract
 livingCall c words =
     record {
       lent = words ∷ [];
-      questions = questionsOf c (setupIn words);
+      questions = asksOf c (setupIn words);
       Answer = Setup;
       Right = Redrawn (setupIn words) (after c (drawingOf (setupIn words)));
       values = λ t. [];

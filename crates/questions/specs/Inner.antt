@@ -9,8 +9,8 @@ use Rattle.questions.specs.Asks.{Question, Asks}
 use Rattle.questions.specs.Contract.{Reply}
 
 -- r is the number of the first question that is answered no, and 0 where there is none.
-abbrev pub FirstNo : List Question → ℕ → Type 0
-FirstNo questions = Asks (λ q. q) questions (λ r. r ≡ 0)
+abbrev pub FirstRefusal : List Question → ℕ → Type 0
+FirstRefusal questions = Asks (λ q. q) questions (λ r. r ≡ 0)
 
 -- Question 12, where b is the answer to it.
 abbrev pub answered12 : Bool → Question

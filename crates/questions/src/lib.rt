@@ -3,7 +3,7 @@
 // 11 KB: so `formed` is the answer to question 12, and `count` is the setup's.
 ghost use mathlib.Core.List.{[], _∷_};
 ghost use Rattle.vertex_set.specs.Set.{Decides};
-ghost use Rattle.questions.specs.Inner.{FirstNo, answered12, below13, inside14};
+ghost use Rattle.questions.specs.Inner.{FirstRefusal, answered12, below13, inside14};
 use vertex_set::VertexSet;
 
 // The numbers for no, each the papers' own (document 01, "Questions, and the number for no";
@@ -68,7 +68,7 @@ pub const NO_RECORD: u64 = 27;
 
 // Questions 12 and 13.
 pub fn ask_target(formed: bool, count: usize, target: usize) -> u64
-    ensures { λ r. ⌜ FirstNo (answered12 formed ∷ below13 count target ∷ []) r ⌝ }
+    ensures { λ r. ⌜ FirstRefusal (answered12 formed ∷ below13 count target ∷ []) r ⌝ }
 {
     if formed {
         if target < count {
@@ -89,7 +89,7 @@ fn is_inside(count: usize, set: VertexSet) -> bool
 
 // Questions 12 and 14.
 pub fn ask_set(formed: bool, count: usize, set: VertexSet) -> u64
-    ensures { λ r. ⌜ FirstNo (answered12 formed ∷ inside14 count (set .0) ∷ []) r ⌝ }
+    ensures { λ r. ⌜ FirstRefusal (answered12 formed ∷ inside14 count (set .0) ∷ []) r ⌝ }
 {
     if formed {
         if is_inside(count, set) {
@@ -102,7 +102,7 @@ pub fn ask_set(formed: bool, count: usize, set: VertexSet) -> u64
 
 // Questions 12, 13 and 14.
 pub fn ask_way(formed: bool, count: usize, target: usize, set: VertexSet) -> u64
-    ensures { λ r. ⌜ FirstNo (answered12 formed ∷ below13 count target ∷ inside14 count (set .0) ∷ []) r ⌝ }
+    ensures { λ r. ⌜ FirstRefusal (answered12 formed ∷ below13 count target ∷ inside14 count (set .0) ∷ []) r ⌝ }
 {
     let asked = ask_target(formed, count, target);
     if asked != 0 {

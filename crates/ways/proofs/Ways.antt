@@ -29,7 +29,7 @@ use Rattle.derivations.proofs.Way.{way-same, way-unique, lowest-unique}
 use Rattle.successors.specs.Inner.{LowestOf, Successors}
 use Rattle.closures.specs.Inner.{LowestColour}
 use Rattle.closures.proofs.Passes.{falls-next, falls-left}
-use Rattle.ways.specs.Inner.{Searching, SearchBegun, Looked, Added, WayFollowed, Room, Written}
+use Rattle.ways.specs.Inner.{Searching, SearchBegun, Looked, Added, WayFollowed, WayRoom, Written}
 use Rattle.ways.proofs.Searches.{none-ready}
 
 -- ---- the lowest step
@@ -260,13 +260,13 @@ pub record Writing (g : Graph) (target s now i : ℕ) (entry cur entry′ cur′
   pub first : cur ≡ written (map (λ e. e .vertex) done) entry
   pub second : cur′ ≡ written (map (λ e. e .colour) done) entry′
 
-pub writing-none : (g : Graph) (target s : ℕ) (entry entry′ : List ℕ) → Room g target s entry entry′ → Writing g target s s 0 entry entry entry′ entry′
+pub writing-none : (g : Graph) (target s : ℕ) (entry entry′ : List ℕ) → WayRoom g target s entry entry′ → Writing g target s s 0 entry entry entry′ entry′
 writing-none g target s entry entry′ r =
     record { done = []; todo = r .steps; whole = r .way; onward = r .way; counted = refl; room = r .first; room′ = r .second; first = refl; second = refl }
 
 -- the set may be written in another way
-pub written-now : (g : Graph) (target s t : ℕ) (entry entry′ : List ℕ) → t ≡ s → Room g target s entry entry′ → Writing g target t t 0 entry entry entry′ entry′
-written-now g target s t entry entry′ e r = writing-none g target t entry entry′ (subst (λ (x : ℕ). Room g target x entry entry′) (sym e) r)
+pub written-now : (g : Graph) (target s t : ℕ) (entry entry′ : List ℕ) → t ≡ s → WayRoom g target s entry entry′ → Writing g target t t 0 entry entry entry′ entry′
+written-now g target s t entry entry′ e r = writing-none g target t entry entry′ (subst (λ (x : ℕ). WayRoom g target x entry entry′) (sym e) r)
 
 pub written-from : (g : Graph) (target s t : ℕ) (entry exit entry′ exit′ : List ℕ) → s ≡ t → Written g target s entry exit entry′ exit′ → Written g target t entry exit entry′ exit′
 written-from g target s t entry exit entry′ exit′ e = subst (λ (x : ℕ). Written g target x entry exit entry′ exit′) e

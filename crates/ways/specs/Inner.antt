@@ -54,7 +54,7 @@ pub record WayFollowed (g : Graph) (target s : ℕ) (found : Bool) (count held :
   pub no : found ≡ false → (HasAccess g (Member s) target → ⊥) × AccessFrom g s held
 
 -- There is a way in, and both lists have room for it.
-pub record Room (g : Graph) (target s : ℕ) (entry entry′ : List ℕ) : Type 0 where
+pub record WayRoom (g : Graph) (target s : ℕ) (entry entry′ : List ℕ) : Type 0 where
   pub steps : List Step
   pub way : Way g target (Member s) steps
   pub first : length steps ≤ length entry

@@ -2,7 +2,7 @@
 ghost use mathlib.Core.Path.{_≡_};
 ghost use lib.ListN.{length};
 ghost use Rattle.successors.specs.Inner.{VertexOf};
-ghost use Rattle.ways.specs.Inner.{SearchBegun, Looked, Added, WayFollowed, Room, Written};
+ghost use Rattle.ways.specs.Inner.{SearchBegun, Looked, Added, WayFollowed, WayRoom, Written};
 use setup::Graph;
 use setup::Rows;
 use vertex_set::VertexSet;
@@ -129,7 +129,7 @@ pub fn write_way(
     vertices: &mut [u8],
     colours: &mut [u8],
 )
-    requires { ⌜ Room graph target (set .0) (now vertices) (now colours) ⌝ }
+    requires { ⌜ WayRoom graph target (set .0) (now vertices) (now colours) ⌝ }
     ensures { λ _. ⌜ Written graph target (set .0) (now (vertices .entry)) (now (vertices .exit)) (now (colours .entry)) (now (colours .exit)) ⌝ }
 {
     if set.has(target) {

@@ -20,7 +20,7 @@ use Rattle.setup.specs.Inner.{graphWithRow}
 use Rattle.formed.specs.WellFormed.{WellFormed}
 use Rattle.questions.specs.Asks.{Asks}
 use Rattle.questions.proofs.Asks.{AllYes, ask-all}
-use Rattle.living.specs.Calls.{Call, TakeIn, TakeOut, AddEdge, RemoveEdge, drawingOf, after, Redrawn, questionsOf, back, Done, CallOf}
+use Rattle.living.specs.Calls.{Call, TakeIn, TakeOut, AddEdge, RemoveEdge, drawingOf, after, Redrawn, asksOf, back, Done, CallOf}
 use Rattle.living.specs.Inner.{RowPlace, EdgeMore, EdgeLess, Placed}
 use Rattle.living.proofs.Drawing.{let-go-other, row-place, more-shaped, more-edges, less-shaped, less-edges, add-redrawn, remove-redrawn}
 use Rattle.living.proofs.Kept.{step}
@@ -50,8 +50,8 @@ draws s g r =
     }
 
 -- an accepted call: a yes to each question, and the setup that it leaves
-taken : (c : Call) (s t : Setup) → AllYes (questionsOf c s) → Redrawn s (after c (drawingOf s)) t → CallOf c s (back t 0)
-taken c s t y r = ask-all (back s) (Done c s) (questionsOf c s) (back t 0) y (record { numbered = refl; redrawn = r })
+taken : (c : Call) (s t : Setup) → AllYes (asksOf c s) → Redrawn s (after c (drawingOf s)) t → CallOf c s (back t 0)
+taken c s t y r = ask-all (back s) (Done c s) (asksOf c s) (back t 0) y (record { numbered = refl; redrawn = r })
 
 formed-after : (c : Call) (s t : Setup) → CallOf c s (back t 0) → WellFormed t
 formed-after c s t a = ⊎-elim (λ k. k .formed) (λ k. absurd (k .number refl)) (step c s (back t 0) a)

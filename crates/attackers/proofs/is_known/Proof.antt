@@ -2,7 +2,7 @@ use native.Mathlib.Omega.{arith}
 use Prim.Native.Nat.{ℕ, _-_, _≤_, _<_}
 use mathlib.Core.Logic.{⊎-elim}
 use Rattle.vertex_set.proofs.Decisions.{decide-yes, decide-no}
-use Rattle.attackers.specs.Inner.{Settles}
+use Rattle.attackers.specs.Inner.{SettlesKind}
 use Rattle.attackers.proofs.Scans.{none-more}
 use borrow.Author.Needs.{needs}
 use Rattle.attackers.proofs.is_known.Statement.{statement}
@@ -10,7 +10,7 @@ use Rattle.attackers.proofs.is_known.Tie as tie
 
 -- No kind below j settles t.
 abbrev Inv-loop : tie.InvT-loop
-Inv-loop able unable t j₀ j = (j ≤ 6) × ((i : ℕ) → i < j → Settles (able .0) (unable .0) i t → ⊥)
+Inv-loop able unable t j₀ j = (j ≤ 6) × ((i : ℕ) → i < j → SettlesKind (able .0) (unable .0) i t → ⊥)
 
 abbrev μ-loop : tie.MeasureT-loop
 μ-loop able unable t j₀ j = 6 - j
@@ -37,7 +37,7 @@ loop-again c =
     let t = c .before in
     let l = t .before .before in
     let a = l .before .args in
-    (omega arith, none-more (λ (i : ℕ). Settles (a .able .0) (a .unable .0) i (a .t)) (l .loop .j) (l .loop .inv .1) (t .settles .ensures .no (c .if1 .left)))
+    (omega arith, none-more (λ (i : ℕ). SettlesKind (a .able .0) (a .unable .0) i (a .t)) (l .loop .j) (l .loop .inv .1) (t .settles .ensures .no (c .if1 .left)))
 
 returns-2 : tie.Need-returns-2 Inv-loop μ-loop
 returns-2 c =

@@ -1,6 +1,6 @@
 use borrow.Author.Needs.{needs}
 use native.Mathlib.Nat.{lt-of-lt-of-le}
-use Rattle.living.specs.Calls.{TakeIn, questionsOf, back, Done}
+use Rattle.living.specs.Calls.{TakeIn, asksOf, back, Done}
 use Rattle.questions.proofs.Asks.{ask-first, ask-all}
 use Rattle.questions.proofs.Questions.{target-asked, target-yes}
 use Rattle.living.proofs.Drawing.{in-redrawn}
@@ -18,7 +18,7 @@ returns c =
     let k = c .before in
     let f = k .before in
     let a = f .before .args in
-    ask-first (back (a .s)) (Done (TakeIn (a .v)) (a .s)) (questionsOf (TakeIn (a .v)) (a .s)) _ (target-asked (a .s) _ (f .well-formed .ensures) (a .v) _ (k .ask-target .ensures)) (c .if1 .taken)
+    ask-first (back (a .s)) (Done (TakeIn (a .v)) (a .s)) (asksOf (TakeIn (a .v)) (a .s)) _ (target-asked (a .s) _ (f .well-formed .ensures) (a .v) _ (k .ask-target .ensures)) (c .if1 .taken)
 
 insert-requires : tie.Need-insert-requires
 insert-requires c κs = search needs
@@ -39,7 +39,7 @@ returns-2 c =
     let a = f .before .args in
     let y = target-yes (a .s) _ (f .well-formed .ensures) (a .v) _ (k .ask-target .ensures) (e .if1 .left) in
     let w = y .0 in
-    ask-all (back (a .s)) (Done (TakeIn (a .v)) (a .s)) (questionsOf (TakeIn (a .v)) (a .s)) _ y (record {
+    ask-all (back (a .s)) (Done (TakeIn (a .v)) (a .s)) (asksOf (TakeIn (a .v)) (a .s)) _ y (record {
       numbered = c .hold .ensures .0;
       redrawn =
           (in-redrawn (a .s) (c .hold .result .setup) (a .v) (h .insert .result .0) (o .insert2 .result .0) w (lt-of-lt-of-le (y .1 .0) (w .most))

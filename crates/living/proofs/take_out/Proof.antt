@@ -1,5 +1,5 @@
 use borrow.Author.Needs.{needs}
-use Rattle.living.specs.Calls.{TakeOut, questionsOf, back, Done}
+use Rattle.living.specs.Calls.{TakeOut, asksOf, back, Done}
 use Rattle.questions.proofs.Asks.{ask-first, ask-all}
 use Rattle.questions.proofs.Questions.{target-asked, target-yes}
 use Rattle.living.proofs.Drawing.{out-redrawn}
@@ -17,7 +17,7 @@ returns c =
     let k = c .before in
     let f = k .before in
     let a = f .before .args in
-    ask-first (back (a .s)) (Done (TakeOut (a .v)) (a .s)) (questionsOf (TakeOut (a .v)) (a .s)) _ (target-asked (a .s) _ (f .well-formed .ensures) (a .v) _ (k .ask-target .ensures)) (c .if1 .taken)
+    ask-first (back (a .s)) (Done (TakeOut (a .v)) (a .s)) (asksOf (TakeOut (a .v)) (a .s)) _ (target-asked (a .s) _ (f .well-formed .ensures) (a .v) _ (k .ask-target .ensures)) (c .if1 .taken)
 
 let-go-requires : tie.Need-let-go-requires
 let-go-requires c κs = search needs
@@ -34,7 +34,7 @@ returns-2 c =
     let a = f .before .args in
     let y = target-yes (a .s) _ (f .well-formed .ensures) (a .v) _ (k .ask-target .ensures) (e .if1 .left) in
     let w = y .0 in
-    ask-all (back (a .s)) (Done (TakeOut (a .v)) (a .s)) (questionsOf (TakeOut (a .v)) (a .s)) _ y (record {
+    ask-all (back (a .s)) (Done (TakeOut (a .v)) (a .s)) (asksOf (TakeOut (a .v)) (a .s)) _ y (record {
       numbered = c .hold .ensures .0;
       redrawn =
           (out-redrawn (a .s) (c .hold .result .setup) (a .v) (h .let-go .result .0) w (h .let-go .ensures) (c .hold .ensures .1));

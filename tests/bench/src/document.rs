@@ -3,17 +3,15 @@
 use crate::calls::{Series, EDGE_STEPS, STARTS};
 use crate::chart::{Chart, Line};
 use crate::grid::Grid;
+use crate::targets::{self, Target};
 use std::path::Path;
 use std::process::Command;
 use std::time::{SystemTime, UNIX_EPOCH};
 
 /// What the benchmark does not measure, said in the output and in the document.
 pub const NOT_MEASURED: &str = "\
-## Not measured
-
-- All lists of a sheet by the proved code within one process: no call gives them.
-- Stack use, which records/stack.md has by call.
-- The gate, whose time by crate is in records/gate-times.txt.
+- Not measured: real labs, of which there is no collection; all lists of a sheet within one process, which
+  no call gives. Stack use is in records/stack.md, the gate's time in records/gate-times.txt.
 ";
 
 /// How the record begins.
@@ -21,18 +19,14 @@ const TABLES: &str = "\
 # Performance: the tables
 
 Written by `make bench` in the run of which docs/PERFORMANCE.md tells: what is timed, on which sheets
-and on which machine, and which targets are met. The part \"Trials\" at the end is written by hand, and
-a run keeps it.
-";
+and on which machine. The part \"Trials\" at the end is written by hand, and a run keeps it.
 
-/// Where the part of the record begins that is written by hand.
-const TRIALS: &str = "\n## Trials\n";
+- Twin: the same algorithm in plain Rust, step by step (`tests/bench/src/twin.rs`).
+- Lean twin: with a shortcut besides. A vertex that is in all lanes of a block is not looked at again.
+- Brute force: a closure for each subset, by passes over all vertices (`tests/bench/src/plain.rs`).
+- All were compared with the proved calls' answers before anything was timed.
 
-/// The kinds of sheets, for the document.
-const SHEETS: &str = "
-## Sheets
-
-All have 64 vertices (63 in the first antichain), all of them accounts, 14 initial and 14 losable
+The sheets have 64 vertices (63 in the first antichain), all of them accounts, 14 initial and 14 losable
 ones, and 256 edges where the kind allows it.
 
 - random: edges with any ends in three colours, a sixth of them recovery.
@@ -40,18 +34,37 @@ ones, and 256 edges where the kind allows it.
 - chain with vertex order, against it: links behind the initial vertices, each needing earlier ones.
 - self-loops: each vertex needs itself in one colour, and there are random edges.
 - all recovery: a random sheet on which every edge is for recovery.
-- worst found: of 2,000 sheets tried, the one on which the tables settle last; worst before blocks: the one
-  that the same search found while a table was made as a whole.
+- worst found: of 2,000 sheets tried, the one on which the tables settle last; worst before blocks: the
+  one that the same search found while a table was made as a whole.
 - antichain of 3,432: a target that any 7 of the 14 initial vertices open, the longest list there is;
   and 28 such targets, with rows of 28 MB.
 
-## Charts
+";
 
-Both lists of one target, each point the mean over five random sheets. A table always has all 2^14
-masks; with fewer initial vertices less can be opened, and the tables settle sooner. The numbers are the
-last two tables of the record.
+/// Where the part of the record begins that is written by hand.
+const TRIALS: &str = "\n## Trials\n";
 
-![Time against initial vertices](performance-starts.svg)
+/// The calls of the document's first table.
+const CALLS: [&str; 8] = [
+    "check",
+    "score",
+    "lists",
+    "cut_sets",
+    "next_opening",
+    "bag_score",
+    "mark_openings",
+    "backdoor",
+];
+
+/// What makes a call longer, for the document.
+const GROWTH: &str = "\
+## How cost grows
+
+Both lists of one target on random sheets of 64 items, each point the mean over five. With at most ten
+starting items a call works out one block of 1,024 subsets; each further item doubles the blocks. Edges
+make a block settle later. The numbers are the last two tables of the record.
+
+![Time against starting items](performance-starts.svg)
 
 ![Time against edges](performance-edges.svg)
 
@@ -59,7 +72,7 @@ last two tables of the record.
 
 /// Writes the document, its charts and the record to the folders docs and records of `folder`. What is
 /// kept of the record is that of the repository at `root`.
-pub fn write(root: &Path, folder: &Path, verdicts: &str, grids: &[Grid], series: &[Series; 2]) {
+pub fn write(root: &Path, folder: &Path, targets: &[Target], grids: &[Grid], series: &[Series; 2]) {
     let put = |name: &str, text: String| {
         let path = folder.join(name);
         let made = std::fs::create_dir_all(path.parent().expect("a file stands in a folder"));
@@ -68,12 +81,49 @@ pub fn write(root: &Path, folder: &Path, verdicts: &str, grids: &[Grid], series:
     };
     put("docs/performance-starts.svg", starts_chart(&series[0]));
     put("docs/performance-edges.svg", edges_chart(&series[1]));
-    put("docs/PERFORMANCE.md", opening() + verdicts.trim_end() + "\n" + SHEETS + NOT_MEASURED);
+    put("docs/PERFORMANCE.md", page(targets, grids));
     let before = std::fs::read_to_string(root.join("records/performance.md")).unwrap_or_default();
-    let mut tables = TABLES.to_string();
+    let mut tables = TABLES.to_string() + &targets::grid(targets).text();
     grids.iter().for_each(|grid| tables += &format!("\n{}", grid.text()));
     put("records/performance.md", tables + before.find(TRIALS).map_or("", |at| &before[at..]));
 }
+
+/// The document: one page.
+fn page(targets: &[Target], grids: &[Grid]) -> String {
+    let titled = |title: &str| {
+        let found = grids.iter().find(|grid| grid.is(title));
+        found.unwrap_or_else(|| panic!("no table is called \"{title}\""))
+    };
+    let typical = titled("A typical lab, by call").cut("A typical lab", &CALLS, &[0, 1, 2]);
+    let class = titled("A class").cut("An afternoon with a class", &[], &[0, 1, 2, 3, 4]);
+    let worst = titled("Both lists of one target").cut("The worst", &WORST, &[0, 1, 2, 3]);
+    [
+        opening(),
+        typical.narrow(),
+        "\n".into(),
+        class.narrow(),
+        "\nEvery student hands in both lists of every account of every lab.\n\n".into(),
+        GROWTH.into(),
+        worst.narrow(),
+        WORST_SAID.into(),
+        targets::others(targets).narrow(),
+        "\n## Missed or unknown\n\n".into(),
+        targets::reasons(targets),
+        NOT_MEASURED.into(),
+    ]
+    .concat()
+}
+
+/// The sheets on which both lists take longest, and the longest lists.
+const WORST: [&str; 6] =
+    ["worst found", "worst before blocks", "all recovery", "rings", "random", "antichain of 3,432"];
+
+const WORST_SAID: &str = "
+Full sheets: 64 items, 14 of them starting. Worst found is the worst of 2,000 sheets that a search tried,
+moving edges while the tables settled later; a longer search finds worse ones. The kinds are said in the
+record.
+
+";
 
 /// What was run, where and when.
 fn opening() -> String {
@@ -82,20 +132,11 @@ fn opening() -> String {
     let date = today();
     format!(
         "# Performance\n\n\
-         Written by `make bench`, with all tables in [records/performance.md](../records/performance.md).\n\
-         Everything is measured side by side in one run, with release builds. Calls are timed by the\n\
-         clock, programs by their processor time (user and system); each time is a median, unless it is\n\
-         said otherwise. a / b tells how many times b's time a takes.\n\n\
-         - Proved: the Rattle code, by the library that `make lib` makes or as the program `report`.\n\
-         - Twin: the same algorithm in plain Rust, step by step (`tests/bench/src/twin.rs`).\n\
-         - Lean twin: with a shortcut besides. A vertex that is in all lanes of a block is not looked\n  \
-           at again.\n\
-         - Brute force: a closure for each subset, by passes over all vertices\n  \
-           (`tests/bench/src/plain.rs`).\n\
-         - All were compared with the proved calls' answers before anything was timed.\n\
+         How long does a call take on my sheet, and what makes it longer? Written by `make bench`; all tables\n\
+         are in [records/performance.md](../records/performance.md). Calls are timed by the clock, programs by\n\
+         their processor time, side by side in one run; a / b tells how many times b's time a takes.\n\n\
          - Machine: {machine}.\n\
-         - Rust: {compiler}, -O3, no overflow checks, for the baseline of the machine's family.\n\
-         - Date: {date}.\n\n"
+         - Rust: {compiler}. Date: {date}.\n\n"
     )
 }
 

@@ -32,6 +32,21 @@ impl Grid {
         self.rows.push(cells);
     }
 
+    /// Whether it is the table with that title.
+    pub fn is(&self, title: &str) -> bool {
+        self.title == title
+    }
+
+    /// Some rows, by their first cells, and some columns of it, with another title and no notes. No
+    /// names: all rows.
+    pub fn cut(&self, title: &str, names: &[&str], columns: &[usize]) -> Grid {
+        let kept = |row: &&Vec<String>| names.is_empty() || names.contains(&row[0].as_str());
+        let body = self.rows[1..].iter().filter(kept);
+        let chosen = |row: &Vec<String>| columns.iter().map(|&at| row[at].clone()).collect();
+        let rows = self.rows[..1].iter().chain(body).map(chosen).collect();
+        Grid { title: title.to_string(), notes: Vec::new(), rows, words: self.words }
+    }
+
     /// The table as it is printed, and as it stands in the record.
     pub fn text(&self) -> String {
         let width = |column: usize| self.rows.iter().map(|row| row[column].chars().count()).max();

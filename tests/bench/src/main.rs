@@ -150,8 +150,7 @@ fn run(rounds: &Rounds, folder: &str) {
     println!("{}\n{reasons}", verdicts.text());
     println!("{}", document::NOT_MEASURED);
     println!("bench: {} seconds", start.elapsed().as_secs());
-    let verdicts = format!("{}\n{reasons}", verdicts.narrow());
-    document::write(&root, &root.join(folder), &verdicts, &grids, &series);
+    document::write(&root, &root.join(folder), &targets, &grids, &series);
 }
 
 /// The sheet on which sets are marked.

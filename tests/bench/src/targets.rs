@@ -47,6 +47,28 @@ pub fn grid(targets: &[Target]) -> Grid {
     grid
 }
 
+/// Those that tell how the proved code stands against others.
+pub fn others(targets: &[Target]) -> Grid {
+    let chosen: Vec<&Target> =
+        targets.iter().filter(|target| OTHERS.contains(&target.what)).collect();
+    let mut grid = Grid::of_words("Against others", &["what", "target", "seen"]);
+    for target in chosen {
+        grid.row(vec![target.what.into(), target.bound.clone(), target.seen.clone()]);
+    }
+    grid
+}
+
+/// What these targets are about.
+const OTHERS: [&str; 7] = [
+    "one target's opening list, clingo / proved",
+    "the same, brute force / proved program, rows below 1 MB",
+    "both lists of one target, proved / twin",
+    "all tables and scores of a sheet, `report` / program with the twin",
+    "`report` / rows by bytes (the faster way), most rows",
+    "cut sets from the opening list by Berge's method / proved",
+    "marking a million sets / sorting them",
+];
+
 /// The reasons of the targets that are missed.
 pub fn reasons(targets: &[Target]) -> String {
     let missed = targets.iter().filter(|target| target.met == Some(false));

@@ -1,4 +1,4 @@
--- What the calls on a setup have in common: question 14, and how a lent list ends that is written to.
+-- What the calls on a setup have in common: question 14, and how a lent list ends.
 use mathlib.Core.List.{List, _++_}
 use Prim.Native.Nat.{ℕ, _<_}
 use lib.ListN.{length, drop}

@@ -1,4 +1,3 @@
-pub mod Asking
 pub mod Edges
 pub mod Facts
 pub mod Holding

@@ -8,7 +8,6 @@ pub mod Places
 pub mod Sets
 pub mod Shifts
 pub mod Sorted
-pub mod Stable
 pub mod Subsets
 pub mod Sums
 pub mod Taking

@@ -47,7 +47,9 @@ fn family_by_block(graph: Graph, chosen: VertexSet, loss: bool, target: usize, o
     }
 }
 
-// The family of the sets of chosen vertices from which the target has a derivation.
+// The family of the sets of chosen vertices from which the target has a derivation. The table is
+// asked for in two places: the compiler then leaves it out of this function's frame, and with at
+// most ten chosen vertices a call needs no stack for it.
 pub fn family_of(graph: Graph, chosen: VertexSet, loss: bool, target: usize, out: &mut [u64])
     requires { ⌜ (target < 64) × (length (now out) ≡ familyWords) ⌝ }
     ensures { λ _. ⌜ (length (now (out .exit)) ≡ familyWords) × FamilyOfVertex (ruleOf loss graph) (chosen .0) target (now (out .exit)) ⌝ }
@@ -56,7 +58,11 @@ pub fn family_of(graph: Graph, chosen: VertexSet, loss: bool, target: usize, out
         family_by_block(graph, chosen, loss, target, out);
         return;
     }
-    family_by_table(graph, chosen, loss, target, out);
+    if loss {
+        family_by_table(graph, chosen, true, target, out);
+        return;
+    }
+    family_by_table(graph, chosen, false, target, out);
 }
 
 // The start values of all vertices, or for a loss the loss values; 0 for a blank.

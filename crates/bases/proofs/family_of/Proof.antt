@@ -25,7 +25,16 @@ same-length-2 : tie.Need-same-length-2
 same-length-2 c = search needs
 
 returns-2 : tie.Need-returns-2
-returns-2 c = search needs
+returns-2 c = let f = c .before .before in rw (f .before .before .if2 .taken) (f .family-by-table .ensures)
+
+family-by-table-requires-2 : tie.Need-family-by-table-requires-2
+family-by-table-requires-2 c κs = search needs
+
+same-length-3 : tie.Need-same-length-3
+same-length-3 c = search needs
+
+returns-3 : tie.Need-returns-3
+returns-3 c = let f = c .before .before in rw (f .before .before .if2 .left) (f .family-by-table2 .ensures)
 
 pub family-of-spec : {M : Type 1} → statement M
 family-of-spec =
@@ -37,4 +46,7 @@ family-of-spec =
     returns
     family-by-table-requires
     same-length-2
-    returns-2)
+    returns-2
+    family-by-table-requires-2
+    same-length-3
+    returns-3)

@@ -46,6 +46,8 @@ stop() {
     exit "$1"
 }
 
+# Where there is no standard input, an empty one: a job in the background is handed what is there.
+{ true <&0; } 2> /dev/null || exec 0< /dev/null
 setsid "$@" <&0 9>&- &
 group=$!
 trap 'stop 130' INT

@@ -1495,19 +1495,6 @@ def BagScoreAtMost(s, l, k):
     )
 
 
-def BagsSound(asked):
-    return all(
-        implies(
-            lambda: WellFormed(s)
-            and MultisetScore(s, a, l)
-            and MultisetScore(s, b, k)
-            and all(implies(lambda: TargetSet(False, s, s.graph, b, x), lambda: TargetSet(False, s, s.graph, a, x)) for x in world.sets),
-            lambda: BagScoreAtMost(s, l, k),
-        )
-        for s, a, b, l, k in asked
-    )
-
-
 # ---- multiset_scores/Answers
 
 
@@ -1630,13 +1617,12 @@ def OneBase(loss, s, g, target):
     )
 
 
-# ---- soundness/Schemes: a scheme has the lists of values, and the scores, that the statements are asked of
+# ---- soundness/Schemes: a scheme has the lists of values that condition (2) is asked of
 
 
 class Scheme:
-    def __init__(self, ValueAtMost, evalSet, ScoreAtMost, Combines, lists=(), scores=()):
-        self.ValueAtMost, self.evalSet, self.ScoreAtMost, self.Combines = ValueAtMost, evalSet, ScoreAtMost, Combines
-        self.lists, self.scores = lists, scores
+    def __init__(self, AtMost, evalSet, combine, lists=()):
+        self.AtMost, self.evalSet, self.combine, self.lists = AtMost, evalSet, combine, lists
 
 
 def Among(l, x):
@@ -1649,15 +1635,11 @@ def EachAbove(AtMost, k, l):
     return all(implies(lambda: Among(k, d), lambda: any(Among(l, u) and AtMost(u, d) for u in k + l)) for d in k + l)
 
 
-def scheme(AtMost, evalSet, combine, lists=(), scores=()):
-    return Scheme(ValueAtMost=AtMost, evalSet=evalSet, ScoreAtMost=AtMost, Combines=lambda l, r: r == combine(l), lists=lists, scores=scores)
-
-
 def GrowsWithSets(k, loss, s):
     return all(
         implies(
             lambda: ChosenOnly(loss, s, x) and ChosenOnly(loss, s, y) and Within(x, y),
-            lambda: k.ValueAtMost(k.evalSet(x), k.evalSet(y)),
+            lambda: k.AtMost(k.evalSet(x), k.evalSet(y)),
         )
         for x in world.sets
         for y in world.sets
@@ -1665,28 +1647,20 @@ def GrowsWithSets(k, loss, s):
 
 
 def GrowsWithValues(k):
-    return all(
-        implies(lambda: k.Combines(S, p) and k.Combines(T, q) and EachAbove(k.ValueAtMost, T, S), lambda: k.ScoreAtMost(p, q))
-        for S in k.lists
-        for T in k.lists
-        for p in k.scores
-        for q in k.scores
-    )
+    return all(implies(lambda: EachAbove(k.AtMost, T, S), lambda: k.AtMost(k.combine(S), k.combine(T))) for S in k.lists for T in k.lists)
+
+
+def scoreBy(k, base):
+    return k.combine([k.evalSet(x) for x in base])
 
 
 def Sound(k, loss, s, g, asked):
     return all(
         implies(
-            lambda: Base(loss, s, g, a, baseA)
-            and Base(loss, s, g, b, baseB)
-            and k.Combines([k.evalSet(x) for x in baseA], p)
-            and k.Combines([k.evalSet(x) for x in baseB], q)
-            and BaseAtMost(loss, s, g, a, b),
-            lambda: k.ScoreAtMost(p, q),
+            lambda: Base(loss, s, g, a, baseA) and Base(loss, s, g, b, baseB) and BaseAtMost(loss, s, g, a, b),
+            lambda: k.AtMost(scoreBy(k, baseA), scoreBy(k, baseB)),
         )
         for a, b, baseA, baseB in asked
-        for p in k.scores
-        for q in k.scores
     )
 
 
@@ -1703,20 +1677,24 @@ def leastValue(l):
     return min(l[0], leastValue(l[1:]))
 
 
-def sumThenLeast(loss, s, lists=(), scores=()):
-    return scheme(lambda a, b: a <= b, lambda x: sumOf(loss, s, x), leastValue, lists, scores)
+def sumThenLeast(loss, s, lists=()):
+    return Scheme(AtMost=lambda a, b: a <= b, evalSet=lambda x: sumOf(loss, s, x), combine=leastValue, lists=lists)
 
 
 def ScoreIsLeast(asked):
     return all(
-        implies(lambda: Base(loss, s, g, target, l) and Score(loss, s, g, target, r), lambda: r == leastValue([sumOf(loss, s, x) for x in l]))
+        implies(lambda: Base(loss, s, g, target, l) and Score(loss, s, g, target, r), lambda: r == scoreBy(sumThenLeast(loss, s), l))
         for loss, s, g, target, r, l in asked
     )
 
 
-def SumMeetsBoth(loss, s, lists, scores):
-    k = sumThenLeast(loss, s, lists, scores)
+def SumMeetsBoth(loss, s, lists):
+    k = sumThenLeast(loss, s, lists)
     return GrowsWithSets(k, loss, s) and GrowsWithValues(k)
+
+
+def SumThenLeastSound(loss, s, g, asked):
+    return Sound(sumThenLeast(loss, s), loss, s, g, asked)
 
 
 def ScoresSound(asked):
@@ -1729,7 +1707,7 @@ def ScoresSound(asked):
 def MultisetsSound(asked):
     return all(
         implies(
-            lambda: WellFormed(s) and MultisetScore(s, a, l) and MultisetScore(s, b, k) and BaseAtMost(False, s, s.graph, a, b),
+            lambda: MultisetScore(s, a, l) and MultisetScore(s, b, k) and BaseAtMost(False, s, s.graph, a, b),
             lambda: BagScoreAtMost(s, l, k),
         )
         for s, a, b, l, k in asked

@@ -780,7 +780,6 @@ def of_bag_scores(D):
         ("forecast enough for bags", lambda: D.ForecastEnough([(bags, t, 31, 10, [4, 3])]), True),
         ("score at most: more bags", lambda: D.BagScoreAtMost(bags, [4, 3], [16]), True),
         ("not score at most: none", lambda: D.BagScoreAtMost(bags, [], [16]), False),
-        ("sound", lambda: D.BagsSound([(bags, t, b, [4, 3], [x]) for b, x in ((2, 4), (3, 8), (4, 16), (0, 1))]), True),
         ("call: bags of t", lambda: call(0, [2], lent, rows + [9], room, [1, 2, 7]), True),
         ("not call: lengths of the other", lambda: call(0, [2], lent, rows + [9], room, [2, 1, 7]), False),
         ("call: bags, 15 by the places", lambda: call(15, [], short, short, room, room), True),
@@ -807,10 +806,10 @@ def of_soundness(D):
     asked = [(False, bench, G, a, b) for a in (MAIL, ORDER) for b in (MAIL, ORDER)]
     bases = {MAIL: [2], ORDER: [2, 5]}
     lists = [[], [1], [4], [1, 4], [2]]
-    sums = lambda: D.sumThenLeast(False, bench, lists, (0, 1, 2, 4, D.never))
+    sums = lambda: D.sumThenLeast(False, bench, lists)
     # values of sets that fall as the set grows, and a score that is the largest value
-    falls = lambda: D.scheme(lambda a, b: a <= b, lambda x: 9 - D.sumOf(False, bench, x), D.leastValue, lists, (0, 4, 5, 8, 9))
-    most = lambda: D.scheme(lambda a, b: a <= b, lambda x: D.sumOf(False, bench, x), lambda l: max(l, default=0), lists, (0, 1, 2, 4))
+    falls = lambda: D.Scheme(lambda a, b: a <= b, lambda x: 9 - D.sumOf(False, bench, x), D.leastValue, lists)
+    most = lambda: D.Scheme(lambda a, b: a <= b, lambda x: D.sumOf(False, bench, x), lambda l: max(l, default=0), lists)
     both = [(a, b, bases[a], bases[b]) for a in (MAIL, ORDER) for b in (MAIL, ORDER)]
     risks = {MAIL: 1, ORDER: 3}
     held = lambda s: lambda i: D.Member(s, i)
@@ -855,7 +854,9 @@ def of_soundness(D):
         ("least value of none", lambda: D.leastValue([]) == D.never, True),
         ("sums of start values, and of loss values", lambda: [D.sumThenLeast(loss, bench).evalSet(3) for loss in (False, True)] == [2, 3], True),
         ("score is least", lambda: D.ScoreIsLeast([(False, bench, G, ORDER, 1, [2, 5]), (True, bench, G, ORDER, 3, [3, 6]), (False, bench, G, 5, D.never, [])]), True),
-        ("sum meets both", lambda: D.SumMeetsBoth(False, bench, lists, (1, 2, 4, D.never)), True),
+        ("sum meets both", lambda: D.SumMeetsBoth(False, bench, lists), True),
+        ("sum then least sound", lambda: D.SumThenLeastSound(False, bench, G, both), True),
+        ("score by: order", lambda: D.scoreBy(sums(), [2, 5]) == 1, True),
         ("scores sound", lambda: D.ScoresSound([(True, bench, G, a, b, risks[a], risks[b]) for a in risks for b in risks]), True),
         ("kinds sound by bases", lambda: D.AttackersSound(bench, APART, ORDER, MAIL, 20, 4), True),
         ("a colour: mail's first", lambda: D.HasColour(G, MAIL, 0), True),

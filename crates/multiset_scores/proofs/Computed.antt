@@ -114,7 +114,7 @@ module _ (s : Setup) where
       (λ y. not-iff (MultisetLe s x y) (isAtMost s x y) (decide-at-most s x y)) (λ y. or-of (MultisetLe s x y) (isAtMost s x y) (decide-at-most s x y))
       (none-at-most s acc x t)))
 
-  lowest-front : (l p acc : List ℕ) → Front (MultisetLe s) p acc → Ordered (p ++ l) → Front (MultisetLe s) (p ++ l) (lowestOf s acc l)
+  pub lowest-front : (l p acc : List ℕ) → Front (MultisetLe s) p acc → Ordered (p ++ l) → Front (MultisetLe s) (p ++ l) (lowestOf s acc l)
   unfolding lowestOf
   lowest-front [] p acc f o = subst (λ (q : List ℕ). Front (MultisetLe s) q acc) (sym (append-nil p)) f
   lowest-front (x ∷ l) p acc f o =
@@ -122,7 +122,7 @@ module _ (s : Setup) where
       subst (λ (q : List ℕ). Front (MultisetLe s) q (lowestOf s (cond (someAtMost s acc x) acc (only (λ (y : ℕ). not (isAtMost s x y)) acc ++ (x ∷ []))) l)) e
       (lowest-front l (p ++ (x ∷ [])) _ (one-more p acc x f (before-rest p x l o)) (subst Ordered (sym e) o))
 
-  front-none : Front (MultisetLe s) [] []
+  pub front-none : Front (MultisetLe s) [] []
   front-none = record { of = λ x h. h; least = λ x y h. absurd h; cover = λ y h. absurd h; ordered = tt }
 
   module _ (target : ℕ) (w : WellFormed s) where

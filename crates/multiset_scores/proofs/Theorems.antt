@@ -23,7 +23,7 @@ use Rattle.reference.proofs.Bases.{minimal-within, own-base}
 use Rattle.multisets.specs.Multisets.{Pairing}
 use Rattle.multisets.proofs.Meaning.{transitive, same-turned}
 use Rattle.multisets.proofs.Sets.{values-within, length-over}
-use Rattle.multiset_scores.specs.Scores.{multisetOf, MultisetScore, FirstInScore, Covered, EachListed, BagsApart, AreBags, PlacesEach, NoLonger, LongestScore, ForecastEnough, BagsSound}
+use Rattle.multiset_scores.specs.Scores.{multisetOf, MultisetScore, FirstInScore, Covered, EachListed, BagsApart, AreBags, PlacesEach, NoLonger, LongestScore, ForecastEnough}
 use Rattle.multiset_scores.proofs.Scores.{places-long}
 use Rattle.multiset_scores.proofs.Computed.{scoreOf, score-of, front-of}
 
@@ -83,6 +83,3 @@ forecast-enough s target counted n l w h f =
     let k = no-longer s target l _ h b in
     let m = f .enough _ b in
     omega arith
-
-pub sound : BagsSound
-sound s a b l k w p q opens y j = covered s a l w p y (opens y (q .sound y j .score .is .is))

@@ -81,9 +81,3 @@ ForecastEnough = (s : Setup) (target counted n : ℕ) (l : List ℕ) → WellFor
 -- One score is at most another: for each multiset of the other it has one that is at most that (document 003, definition 12).
 abbrev pub BagScoreAtMost : Setup → List ℕ → List ℕ → Type 0
 BagScoreAtMost s l k = (y : ℕ) → Listed k y → (x : ℕ) × Listed l x × Pairing (multisetOf s x) (multisetOf s y)
-
--- The scores are sound (document 003, definition 10 and theorem 4): where every set of initial vertices that opens b opens a, the score of a is at
--- most that of b.
-abbrev pub BagsSound : Type 0
-BagsSound = (s : Setup) (a b : ℕ) (l k : List ℕ) → WellFormed s → MultisetScore s a l → MultisetScore s b k
-    → ((x : ℕ) → TargetSet false s (s .graph) b x → TargetSet false s (s .graph) a x) → BagScoreAtMost s l k

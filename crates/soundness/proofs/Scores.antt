@@ -1,23 +1,30 @@
--- Theorem 3 is an instance of theorem 2; theorems 4 and 5 are those of the crates that define these scores.
+-- Theorem 3 is an instance of theorem 2. Theorem 4 follows from the lowest sets of the base, theorem 5 from the crate that defines kinds.
 -- Assumes nothing.
-use mathlib.Core.Path.{_≡_, refl, sym, subst}
+use mathlib.Core.Path.{_≡_, refl, subst}
 use mathlib.Core.Bool.{false}
 use mathlib.Core.List.{List, [], _∷_, map}
 use mathlib.Core.Logic.{_⊎_, inl, inr, ⊎-elim}
 use Prim.Native.Nat.{ℕ, _≤_, _<_}
 use native.Mathlib.Nat.{le-trans}
 use native.Mathlib.Omega.{arith}
-use Rattle.vertex_set.specs.Set.{Member}
 use Rattle.vertex_set.specs.Order.{Listed}
 use Rattle.vertex_set.proofs.Cases.{less-or}
+use Rattle.vertex_set.proofs.Lists.{exactly-unique}
 use Rattle.vertex_set.proofs.Sums.{sum-over-within}
 use Rattle.scores.specs.Never.{never}
+use Rattle.setup.specs.declared.Setup.{Setup}
+use Rattle.bases.specs.Base.{MinimalSet}
 use Rattle.bases.specs.Score.{pointsAt, sumOf, LeastOver}
 use Rattle.bases.proofs.Scores.{score-base}
-use Rattle.multiset_scores.proofs.Theorems as bags
+use Rattle.multisets.specs.Multisets.{Pairing}
+use Rattle.multisets.proofs.Meaning.{transitive}
+use Rattle.multisets.proofs.Sets.{values-within}
+use Rattle.multiset_scores.specs.Scores.{multisetOf, FirstInScore, MultisetScore}
+use Rattle.multiset_scores.proofs.Scores.{score-of-front}
+use Rattle.multiset_scores.proofs.Computed.{lowestOf, lowest-front, front-none}
 use Rattle.attackers.proofs.Scores as kinds-of
 use Rattle.soundness.specs.Schemes.{Among}
-use Rattle.soundness.specs.Scores.{leastValue, sumThenLeast, ScoreIsLeast, SumMeetsBoth, ScoresSound, MultisetsSound, AttackersSound}
+use Rattle.soundness.specs.Scores.{leastValue, sumThenLeast, ScoreIsLeast, SumMeetsBoth, SumThenLeastSound, ScoresSound, MultisetsSound, AttackersSound}
 use Rattle.soundness.proofs.Secure.{minimal-within, target-sets-compared}
 use Rattle.soundness.proofs.Bases.{one-base}
 use Rattle.soundness.proofs.Schemes.{among-map, among-of, conditions-suffice}
@@ -41,11 +48,7 @@ least-above (y ∷ l) r n h = let a = h y (inl refl) in let b = least-above l r 
 pub sum-meets-both : SumMeetsBoth
 sum-meets-both loss s = (
   record { each = λ x y cx cy w. sum-over-within (pointsAt loss s) x y w },
-  record {
-    each = λ S T p q makesP makesQ h.
-        let least = least-above T (leastValue S) (least-never S) (λ t m. let u = h t m in le-trans (least-each S (u .0) (u .1)) (u .2)) in
-        omega arith;
-  },
+  record { each = λ S T h. least-above T (leastValue S) (least-never S) (λ t m. let u = h t m in le-trans (least-each S (u .0) (u .1)) (u .2)) },
 )
 
 -- ---- theorem 3
@@ -72,19 +75,39 @@ least-over-list sum l r h = same (least-above (map sum l) r top (λ d m. low d (
 pub score-is-least : ScoreIsLeast
 score-is-least loss s g target r l b q = least-over-list (sumOf loss s) l r (score-base loss s g target r l b (minimal-within loss s g target) .to q)
 
+pub sum-then-least-sound : SumThenLeastSound
+sum-then-least-sound loss s g = let both = sum-meets-both loss s in conditions-suffice (sumThenLeast loss s) loss s g (both .0) (both .1)
+
 pub scores-sound : ScoresSound
 scores-sound loss s g a b p q sp sq h =
-    let both = sum-meets-both loss s in
     let baseA = one-base loss s g a in
     let baseB = one-base loss s g b in
-    conditions-suffice (sumThenLeast loss s) loss s g (both .0) (both .1) .each a b (baseA .0) (baseB .0) p q (baseA .1) (baseB .1)
-    (score-is-least loss s g a p (baseA .0) (baseA .1) sp) (score-is-least loss s g b q (baseB .0) (baseB .1) sq) h
+    let e = score-is-least loss s g a p (baseA .0) (baseA .1) sp in
+    let f = score-is-least loss s g b q (baseB .0) (baseB .1) sq in
+    let m = sum-then-least-sound loss s g .each a b (baseA .0) (baseB .0) (baseA .1) (baseB .1) h in
+    omega arith
 
--- ---- theorems 4 and 5
+-- ---- theorem 4
 
--- Both were proved where their scores are: for each set of the base of b a score of a that is no higher. Their hypothesis is definition 9.
+-- for each set of the base the score has one whose multiset is at most that of the set
+bag-below : (s : Setup) (target : ℕ) (l : List ℕ) → MultisetScore s target l → (y : ℕ) → MinimalSet false s (s .graph) target y
+    → (x : ℕ) × Listed l x × Pairing (multisetOf s x) (multisetOf s y)
+bag-below s target l h y m =
+    let b = one-base false s (s .graph) target in
+    let f = lowest-front s (b .0) [] [] (front-none s) (b .1 .ordered) in
+    let e = exactly-unique (FirstInScore s target) (lowestOf s [] (b .0)) l (score-of-front s target (b .0) (lowestOf s [] (b .0)) (b .1) f) h in
+    let c = f .cover y (b .1 .whole y m) in
+    (c .0, subst (λ (k : List ℕ). Listed k (c .0)) e (c .1), c .2)
+
 pub multisets-sound : MultisetsSound
-multisets-sound s a b l k w p q h = bags.sound s a b l k w p q (target-sets-compared false s (s .graph) a b .from h)
+multisets-sound s a b l k p q h y j =
+    let t = q .sound y j .score .is .is in
+    let z = minimal-within false s (s .graph) a y (record { chosen = t .chosen; derives = h .each y (t .chosen) (t .derives) }) in
+    let c = bag-below s a l p (z .0) (z .2) in
+    (c .0, c .1, transitive (multisetOf s (c .0)) (multisetOf s (z .0)) (multisetOf s y) (c .2) (values-within (pointsAt false s) (z .0) y (z .1)))
 
+-- ---- theorem 5
+
+-- It was proved where the score is: for each kind of b's score one of a's that is at most it. Its hypothesis is definition 9.
 pub attackers-sound : AttackersSound
 attackers-sound s kinds a b p q w fit hp hq h = kinds-of.sound s kinds a b p q w fit hp hq (target-sets-compared false s (s .graph) a b .from h)

@@ -1,10 +1,6 @@
 -- `portal_sheets::portal_write_sheet` meets its contract: the setup that the words say is saved.
-use mathlib.Core.Path.{subst}
-use mathlib.Core.List.{[], _∷_}
-use Rattle.setup.specs.declared.Setup.{Setup}
-use Rattle.questions.specs.Told.{Told}
-use Rattle.save_format.specs.Call.{saveCall}
 use borrow.Author.Needs.{needs}
+use Rattle.portal_sheets.proofs.Saving.{saved-on}
 use Rattle.portal_sheets.proofs.portal_write_sheet.Statement.{statement}
 use Rattle.portal_sheets.proofs.portal_write_sheet.Tie as tie
 
@@ -18,10 +14,7 @@ same-length : tie.Need-same-length
 same-length c = search needs
 
 returns : tie.Need-returns
-returns c =
-    let w = c .before .before in
-    subst (λ (s : Setup). Told (saveCall _ s _) (w .write-sheet .result .number) (w .write-sheet .result .length ∷ []) (_ ∷ [])) (w .before .before .setup-in .ensures)
-    (w .write-sheet .ensures)
+returns c = let w = c .before .before in saved-on _ _ _ _ _ _ _ (w .before .before .setup-in .ensures) (w .write-sheet .ensures)
 
 pub portal-write-sheet-spec : {M : Type 1} → statement M
 portal-write-sheet-spec = tie.close (tie.spec setup-in-requires write-sheet-requires same-length returns)

@@ -587,8 +587,8 @@ static void try_write_sheet(void)
         "mailpw mail 0 0\nordpw order 0 0\ntoken order 0 0\ntoken order 7 1\n";
     const uint8_t *sheet = (const uint8_t *)SHEET;
     size_t n = sizeof SHEET - 1, m = sizeof redrawn - 1;
-    static uint64_t drawing[WORDS], again[WORDS];
-    static uint8_t out[PORTAL_SAVE_BYTES];
+    uint64_t drawing[WORDS], again[WORDS];
+    uint8_t out[PORTAL_SAVE_BYTES];
     memset(out, '#', sizeof out);
     struct portal_write_sheet_result r = portal_write_sheet(sheet, n, setup, WORDS, out, sizeof out);
     expect("saved", r.number, 0);

@@ -22,7 +22,7 @@ Made = namedtuple("Made", "call answer exit")
 
 Credential, Account = "Credential", "Account"
 
-# ---- bounds: setup/Bounds, scores/Never, antichains/Antichains, multisets/Multisets, portal_setup/Words
+# ---- bounds: setup/Bounds, scores/Never, antichains/Antichains, multisets/Multisets, portal_words/Words
 
 mostItems = 64
 mostName = 16

@@ -40,9 +40,8 @@ FIRST = {
     "report_text": ["report-"],
     "report_facts": ["rest-of-"],
     "report_writer": ["rest-of-"],
-    "portal_setup": ["words-"],
-    "portal_results": ["told-"],
-    "portal_reading": ["told-"],
+    "portal_words": ["words-"],
+    "portal_sheets": ["told-"],
 }
 
 

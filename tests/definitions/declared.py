@@ -53,8 +53,9 @@ def looked_for(block):
 
 # Files that stand on those of the scratch crate.
 ABOVE = """
-quick_yes/Agrees answers/Demand3 sheet_format/Meaning histories/Histories histories/NoHeed portal/Portal demands/OneAnswer demands/Outcomes demands/Sheets demands/Register demands/Living demands/Pools demands/Demands reference/Meaning soundness/Closures soundness/Secure soundness/Schemes soundness/Scores soundness/Horn
-report_text/Meaning written/Rows report_writer/Inner/Steps report_writer/Whole portal_closures/Check portal_living/Living demands/OneResult
+quick_yes/Agrees answers/Demand3 sheet_format/Meaning histories/Histories histories/Requests histories/NoHeed portal/Portal
+save_format/Rows save_format/Call save_format/Meaning reference/Meaning soundness/Closures soundness/Secure soundness/Schemes soundness/Scores soundness/Horn
+report_text/Meaning written/Rows report_writer/Inner/Steps report_writer/Whole portal_sets/Check portal_living/Living demands/Sheets demands/Calls demands/Demands
 """.split()
 # What Whole cites of the report's steps, with the same type and nothing known: no alteration is about it, and what it says need not be believed.
 AT = """-- What is known at a place of the report: nothing, here.

@@ -215,6 +215,7 @@ TakeOut = namedtuple("TakeOut", "v")
 AddEdge = namedtuple("AddEdge", "source to colour mark")
 RemoveEdge = namedtuple("RemoveEdge", "source to colour")
 Drawing = namedtuple("Drawing", "Edges Marks Held")
+Redrawing = namedtuple("Redrawing", "number setup")
 
 
 def drawingOf(s):
@@ -260,113 +261,68 @@ def Redrawn(s, d, t):
     return count and vertices and shaped and edges_ and marks and held and opened
 
 
-def Back(q, s, number, t):
-    numbered = number == q
-    untouched = t == s
-    return numbered and untouched
+def asks18(c):
+    return Question(18, lambda: c <= highestColour)
 
 
-def Done(call, s, number, t):
-    numbered = number == 0
-    redrawn = Redrawn(s, after(call, drawingOf(s)), t)
+def asks19(s, f, v, c):
+    return Question(19, lambda: not Edge(s.graph, f, v, c))
+
+
+def asks20(s, f, v, c):
+    return Question(20, lambda: Edge(s.graph, f, v, c))
+
+
+def asks7(s):
+    return Question(7, lambda: edgeCount(s.graph) < mostEdges)
+
+
+def asksOf(call, s):
+    if isinstance(call, TakeIn):
+        return [asks12(s), asks13(s, call.v)]
+    if isinstance(call, TakeOut):
+        return [asks12(s), asks13(s, call.v)]
+    f, v, c = call.source, call.to, call.colour
+    if isinstance(call, AddEdge):
+        return [asks12(s), asks13(s, f), asks13(s, v), asks18(c), asks19(s, f, v, c), asks7(s)]
+    return [asks12(s), asks13(s, f), asks13(s, v), asks18(c), asks20(s, f, v, c)]
+
+
+def back(s, q):
+    return Redrawing(q, s)
+
+
+def Done(call, s, r):
+    numbered = r.number == 0
+    redrawn = numbered and Redrawn(s, after(call, drawingOf(s)), r.setup)
     return numbered and redrawn
 
 
-def HoldCall(call, v, s, number, t):
-    malformed = implies(lambda: not WellFormed(s), lambda: Back(12, s, number, t))
-    noVertex = implies(lambda: WellFormed(s) and s.count <= v, lambda: Back(13, s, number, t))
-    done = implies(lambda: WellFormed(s) and v < s.count, lambda: Done(call, s, number, t))
-    return malformed and noVertex and done
-
-
-def Placed(s, f, v, c):
-    source = f < s.count
-    to = v < s.count
-    colour = c <= highestColour
-    return source and to and colour
-
-
-def AddCall(f, v, c, m, s, number, t):
-    malformed = implies(lambda: not WellFormed(s), lambda: Back(12, s, number, t))
-    noVertex = implies(lambda: WellFormed(s) and (s.count <= f or s.count <= v), lambda: Back(13, s, number, t))
-    noColour = implies(lambda: WellFormed(s) and f < s.count and v < s.count and highestColour < c, lambda: Back(18, s, number, t))
-    placed = lambda: WellFormed(s) and Placed(s, f, v, c)
-    there = implies(lambda: placed() and Edge(s.graph, f, v, c), lambda: Back(19, s, number, t))
-    full = implies(lambda: placed() and not Edge(s.graph, f, v, c) and mostEdges <= edgeCount(s.graph), lambda: Back(7, s, number, t))
-    done = implies(
-        lambda: placed() and not Edge(s.graph, f, v, c) and edgeCount(s.graph) < mostEdges, lambda: Done(AddEdge(f, v, c, m), s, number, t)
-    )
-    return malformed and noVertex and noColour and there and full and done
-
-
-def RemoveCall(f, v, c, s, number, t):
-    malformed = implies(lambda: not WellFormed(s), lambda: Back(12, s, number, t))
-    noVertex = implies(lambda: WellFormed(s) and (s.count <= f or s.count <= v), lambda: Back(13, s, number, t))
-    noColour = implies(lambda: WellFormed(s) and f < s.count and v < s.count and highestColour < c, lambda: Back(18, s, number, t))
-    placed = lambda: WellFormed(s) and Placed(s, f, v, c)
-    missing = implies(lambda: placed() and not Edge(s.graph, f, v, c), lambda: Back(20, s, number, t))
-    done = implies(lambda: placed() and Edge(s.graph, f, v, c), lambda: Done(RemoveEdge(f, v, c), s, number, t))
-    return malformed and noVertex and noColour and missing and done
-
-
-def CallOf(call, s, number, t):
-    if isinstance(call, TakeIn):
-        return HoldCall(TakeIn(call.v), call.v, s, number, t)
-    if isinstance(call, TakeOut):
-        return HoldCall(TakeOut(call.v), call.v, s, number, t)
-    if isinstance(call, AddEdge):
-        return AddCall(call.source, call.to, call.colour, call.mark, s, number, t)
-    return RemoveCall(call.source, call.to, call.colour, s, number, t)
+def CallOf(call, s, r):
+    return Asks(lambda q: back(s, q), asksOf(call, s), lambda p: Done(call, s, p), r)
 
 
 def OneLivingAnswer(call, s, answers):
-    return all(
-        implies(lambda: CallOf(call, s, n, t) and CallOf(call, s, n_, t_), lambda: n == n_ and t == t_) for n, t in answers for n_, t_ in answers
-    )
+    return all(implies(lambda: CallOf(call, s, r) and CallOf(call, s, r_), lambda: r == r_) for r in answers for r_ in answers)
 
 
 def NothingChanges(setups, answers):
     takeIn = all(
-        implies(lambda: WellFormed(s) and Member(s.held, v) and CallOf(TakeIn(v), s, n, t), lambda: n == 0 and t == s)
+        implies(lambda: WellFormed(s) and Member(s.held, v) and CallOf(TakeIn(v), s, r), lambda: r == back(s, 0))
         for s in setups
         for v in world.vertices
-        for n, t in answers
+        for r in answers
     )
     takeOut = all(
-        implies(lambda: WellFormed(s) and v < s.count and not Member(s.held, v) and CallOf(TakeOut(v), s, n, t), lambda: n == 0 and t == s)
+        implies(lambda: WellFormed(s) and v < s.count and not Member(s.held, v) and CallOf(TakeOut(v), s, r), lambda: r == back(s, 0))
         for s in setups
         for v in world.vertices
-        for n, t in answers
+        for r in answers
     )
     return takeIn and takeOut
 
 
 # ---- setup/Calls
-
-
-def Refuses(q, number, values):
-    numbered = number == q
-    empty = values == []
-    return numbered and empty
-
-
-def Same(n, n_, v, v_):
-    number = n == n_
-    values = v == v_
-    return number and values
-
-
-def SameList(n, n_, v, v_, x, x_):
-    answer = Same(n, n_, v, v_)
-    list_ = x == x_
-    return answer and list_
-
-
-def SameLists(n, n_, v, v_, x, x_, y, y_):
-    answer = Same(n, n_, v, v_)
-    first = x == x_
-    second = y == y_
-    return answer and first and second
 
 
 def Inside(s, set_):
@@ -377,16 +333,154 @@ def written(xs, entry):
     return xs + entry[len(xs):]
 
 
-def Untouched(entry, exit, entry_, exit_):
-    first = exit == entry
-    second = exit_ == entry_
-    return first and second
+# ---- questions/Asks: a question has its number, and a function that answers it
+
+Question = namedtuple("Question", "number Yes")
 
 
-def ListWritten(xs, answer, number, values, entry, exit):
-    room = implies(lambda: len(xs) <= len(entry), lambda: number == 0 and values == answer and exit == written(xs, entry))
-    short = implies(lambda: len(entry) < len(xs), lambda: Refuses(15, number, values) and exit == entry)
-    return room and short
+def Asks(refusal, questions, Ends, o):
+    if not questions:
+        return Ends(o)
+    q = questions[0]
+    return (not q.Yes() and o == refusal(q.number)) or (q.Yes() and Asks(refusal, questions[1:], Ends, o))
+
+
+def TurnedAway(number, refusal, numbers, o):
+    listed = Listed(numbers, number(o))
+    some = number(o) != 0
+    is_ = o == refusal(number(o))
+    return listed and some and is_
+
+
+def Settled(number, refusal, numbers, Call, o, among):
+    """`among` are the outcomes that are looked at, here and wherever demand 1 is said."""
+    outcome = number(o) == 0 or TurnedAway(number, refusal, numbers, o)
+    only = all(implies(lambda: Call(p), lambda: p == o) for p in among)
+    return outcome and only
+
+
+# ---- questions/Contract
+
+Reply = namedtuple("Reply", "number values")
+Outcome = namedtuple("Outcome", "reply lent")
+
+
+def gives(values):
+    return Reply(0, values)
+
+
+def refuses(q):
+    return Reply(q, [])
+
+
+def ends(reply, lent):
+    return Outcome(reply, lent)
+
+
+def turnsAway(lent, q):
+    return ends(refuses(q), lent)
+
+
+def allWritten(lent, writes):
+    if not lent:
+        return []
+    if not writes:
+        return lent
+    return [written(writes[0], lent[0])] + allWritten(lent[1:], writes[1:])
+
+
+def Room(lent, writes):
+    if not lent or not writes:
+        return True
+    return len(writes[0]) <= len(lent[0]) and Room(lent[1:], writes[1:])
+
+
+def asks15(lent, writes):
+    return Question(15, lambda: Room(lent, writes))
+
+
+class Contract:
+    """The lent lists, the questions, the answers among which a right one is looked for, when one is right, its values, and what it writes."""
+
+    def __init__(self, lent, questions, among, Right, values, writes):
+        self.lent, self.questions, self.among, self.Right, self.values, self.writes = lent, questions, among, Right, values, writes
+
+
+def telling(questions, among, Right, values):
+    return Contract(lent=[], questions=questions, among=among, Right=Right, values=values, writes=lambda a: [])
+
+
+def Answers(c, o):
+    told = lambda a: Asks(
+        lambda q: turnsAway(c.lent, q),
+        [asks15(c.lent, c.writes(a))],
+        lambda p: p == ends(gives(c.values(a)), allWritten(c.lent, c.writes(a))),
+        o,
+    )
+    return any(told(answer) and c.Right(answer) for answer in c.among)
+
+
+def Fulfils(c, o):
+    return Asks(lambda q: turnsAway(c.lent, q), c.questions, lambda p: Answers(c, p), o)
+
+
+def roomNumber(lent):
+    return [15] if lent else []
+
+
+def numbers(c):
+    return [q.number for q in c.questions] + roomNumber(c.lent)
+
+
+def Settles(c, o, among):
+    return Settled(lambda p: p.reply.number, lambda q: turnsAway(c.lent, q), numbers(c), lambda p: Fulfils(c, p), o, among)
+
+
+def OneAnswer(c):
+    right = [a for a in c.among if c.Right(a)]
+    return all(a == b for a in right for b in right)
+
+
+# ---- questions/Questions
+
+
+def asks12(s):
+    return Question(12, lambda: WellFormed(s))
+
+
+def asks13(s, v):
+    return Question(13, lambda: v < s.count)
+
+
+def asks14(s, set_):
+    return Question(14, lambda: Inside(s, set_))
+
+
+# ---- questions/Told: the values are looked for in front of the fields
+
+
+def Told(c, number, fields, lent):
+    return any(
+        fields == values + [0] * unused and Fulfils(c, ends(Reply(number, values), lent))
+        for unused in range(len(fields) + 1)
+        for values in [fields[: len(fields) - unused]]
+    )
+
+
+def ToldNo(c, number, fields, lent):
+    listed = Listed(numbers(c), number)
+    some = number != 0
+    zeros = fields == [0] * len(fields)
+    kept = lent == c.lent
+    return listed and some and zeros and kept
+
+
+def SettledTold(c, number, fields, lent, results):
+    outcome = number == 0 or ToldNo(c, number, fields, lent)
+    only = all(
+        implies(lambda: len(f) == len(fields) and Told(c, n, f, l), lambda: n == number and f == fields and l == lent) for n, f, l in results
+    )
+    return outcome and only
 
 
 # ---- derivations/Derivation: what is held is a predicate, as there
@@ -656,75 +750,82 @@ def Full(repeated, shut, loose, missing):
 # ---- access/Answers
 
 
-def Counted(s, set_, r, n):
-    passes = Passes(access(s.graph), n, set_, r)
-    most = n <= countOutside(s.count, set_) + 1
-    once = implies(lambda: AccessFrom(s.graph, set_, set_), lambda: n == 1)
-    return passes and most and once
+CountedClosure = namedtuple("CountedClosure", "set passes")
 
 
-def ClosureCall(s, set_, number, values):
-    malformed = implies(lambda: not WellFormed(s), lambda: Refuses(12, number, values))
-    outside = implies(lambda: WellFormed(s) and not Inside(s, set_), lambda: Refuses(14, number, values))
-    answers = implies(
-        lambda: WellFormed(s) and Inside(s, set_),
-        lambda: any(
-            number == 0 and values == [r, n] and AccessFrom(s.graph, set_, r) and Counted(s, set_, r, n)
-            for r in world.sets
-            for n in range(len(world.vertices) + 2)
-        ),
+def closureReply(a):
+    if a[0] == "Opened":
+        return gives([a[1], a[2]])
+    return refuses(a[1])
+
+
+def IsClosure(s, set_, a):
+    opened = AccessFrom(s.graph, set_, a.set)
+    passes = opened and Passes(access(s.graph), a.passes, set_, a.set)
+    most = a.passes <= countOutside(s.count, set_) + 1
+    once = implies(lambda: AccessFrom(s.graph, set_, set_), lambda: a.passes == 1)
+    return opened and passes and most and once
+
+
+def closureCall(s, set_):
+    among = [CountedClosure(r, n) for r in world.sets for n in range(len(world.vertices) + 2)]
+    return telling([asks12(s), asks14(s, set_)], among, lambda a: IsClosure(s, set_, a), lambda a: [a.set, a.passes])
+
+
+def lostReply(a):
+    if a[0] == "Lost":
+        return gives([a[1]])
+    return refuses(a[1])
+
+
+def lostCall(s, set_):
+    return telling([asks12(s), asks14(s, set_)], world.sets, lambda r: LockoutFrom(s.graph, set_, r), lambda r: [r])
+
+
+def wayReply(a):
+    if a[0] == "Steps":
+        return gives([1, a[1]])
+    if a[0] == "Shut":
+        return gives([0])
+    return refuses(a[1])
+
+
+# A way in is a list of steps; that there is none is another answer.
+Shut = "Shut"
+
+
+def IsWayIn(g, target, set_, d):
+    if d == Shut:
+        return not HasAccess(g, lambda i: Member(set_, i), target)
+    return Way(g, target, lambda i: Member(set_, i), d)
+
+
+def wayValues(d):
+    if d == Shut:
+        return [0]
+    return [1, len(d)]
+
+
+def wayWrites(d):
+    if d == Shut:
+        return []
+    return [[e.vertex for e in d], [e.colour for e in d]]
+
+
+def wayCall(s, target, set_, vertices, colours):
+    return Contract(
+        lent=[vertices, colours],
+        questions=[asks12(s), asks13(s, target), asks14(s, set_)],
+        among=[Shut] + ways(s.graph, target, set_),
+        Right=lambda d: IsWayIn(s.graph, target, set_, d),
+        values=wayValues,
+        writes=wayWrites,
     )
-    return malformed and outside and answers
-
-
-def LostCall(s, set_, number, values):
-    malformed = implies(lambda: not WellFormed(s), lambda: Refuses(12, number, values))
-    outside = implies(lambda: WellFormed(s) and not Inside(s, set_), lambda: Refuses(14, number, values))
-    answers = implies(
-        lambda: WellFormed(s) and Inside(s, set_),
-        lambda: any(number == 0 and values == [r] and LockoutFrom(s.graph, set_, r) for r in world.sets),
-    )
-    return malformed and outside and answers
-
-
-def WayWritten(d, number, values, entry, exit, entry_, exit_):
-    room = implies(
-        lambda: len(d) <= len(entry) and len(d) <= len(entry_),
-        lambda: number == 0
-        and values == [1, len(d)]
-        and exit == written([e.vertex for e in d], entry)
-        and exit_ == written([e.colour for e in d], entry_),
-    )
-    short = implies(
-        lambda: len(entry) < len(d) or len(entry_) < len(d), lambda: Refuses(15, number, values) and Untouched(entry, exit, entry_, exit_)
-    )
-    return room and short
 
 
 def ways(g, target, set_):
     """The lists of steps among which a way is looked for: those that access derivations are made of."""
     return lists_of_steps(access(g), lambda i: Member(set_, i))
-
-
-def WayCall(s, target, set_, number, values, entry, exit, entry_, exit_):
-    held = lambda i: Member(set_, i)
-    asked = lambda: WellFormed(s) and target < s.count and Inside(s, set_)
-    malformed = implies(lambda: not WellFormed(s), lambda: Refuses(12, number, values) and Untouched(entry, exit, entry_, exit_))
-    noTarget = implies(lambda: WellFormed(s) and s.count <= target, lambda: Refuses(13, number, values) and Untouched(entry, exit, entry_, exit_))
-    outside = implies(
-        lambda: WellFormed(s) and target < s.count and not Inside(s, set_),
-        lambda: Refuses(14, number, values) and Untouched(entry, exit, entry_, exit_),
-    )
-    shut = implies(
-        lambda: asked() and not HasAccess(s.graph, held, target), lambda: number == 0 and values == [0] and Untouched(entry, exit, entry_, exit_)
-    )
-    found = implies(
-        lambda: asked() and HasAccess(s.graph, held, target),
-        lambda: any(
-            Way(s.graph, target, held, d) and WayWritten(d, number, values, entry, exit, entry_, exit_) for d in ways(s.graph, target, set_)
-        ),
-    )
-    return malformed and noTarget and outside and shut and found
 
 
 # ---- quick_yes/Answers
@@ -738,97 +839,128 @@ def HeldAtStop(g, target, set_, r):
     )
 
 
-def QuickCall(s, target, set_, number, values):
-    held = lambda i: Member(set_, i)
-    asked = lambda: WellFormed(s) and target < s.count and Inside(s, set_)
-    malformed = implies(lambda: not WellFormed(s), lambda: Refuses(12, number, values))
-    noTarget = implies(lambda: WellFormed(s) and s.count <= target, lambda: Refuses(13, number, values))
-    outside = implies(lambda: WellFormed(s) and target < s.count and not Inside(s, set_), lambda: Refuses(14, number, values))
-    yes = implies(
-        lambda: asked() and HasAccess(s.graph, held, target),
-        lambda: any(number == 0 and values == [1, r] and HeldAtStop(s.graph, target, set_, r) for r in world.sets),
-    )
-    no = implies(
-        lambda: asked() and not HasAccess(s.graph, held, target),
-        lambda: any(number == 0 and values == [0, r] and AccessFrom(s.graph, set_, r) for r in world.sets),
-    )
-    return malformed and noTarget and outside and yes and no
+Quick = namedtuple("Quick", "opens held")
 
 
-def OneQuickAnswer(s, target, set_, answers):
-    return all(
-        implies(lambda: QuickCall(s, target, set_, n, v) and QuickCall(s, target, set_, n_, v_), lambda: Same(n, n_, v, v_))
-        for n, v in answers
-        for n_, v_ in answers
+def quickReply(a):
+    if a[0] == "Yes":
+        return gives([1, a[1]])
+    if a[0] == "No":
+        return gives([0, a[1]])
+    return refuses(a[1])
+
+
+def IsQuick(g, target, set_, opens, r):
+    if opens:
+        return HeldAtStop(g, target, set_, r)
+    return not HasAccess(g, lambda i: Member(set_, i), target) and AccessFrom(g, set_, r)
+
+
+def quickValues(opens, r):
+    if opens:
+        return [1, r]
+    return [0, r]
+
+
+def quickCall(s, target, set_):
+    return telling(
+        [asks12(s), asks13(s, target), asks14(s, set_)],
+        [Quick(opens, r) for opens in (True, False) for r in world.sets],
+        lambda a: IsQuick(s.graph, target, set_, a.opens, a.held),
+        lambda a: quickValues(a.opens, a.held),
     )
 
 
 # ---- quick_yes/Agrees
 
 
-def QuickAgrees(s, target, set_, quick, closures):
-    """`quick` and `closures` are the answers to the two calls that are looked at."""
-    both = lambda y, h, r, n: QuickCall(s, target, set_, 0, [y, h]) and ClosureCall(s, set_, 0, [r, n])
-    values = [(*v, *w) for m, v in quick if m == 0 and len(v) == 2 for n, w in closures if n == 0 and len(w) == 2]
-    yes = all(implies(lambda: both(y, h, r, n), lambda: Iff(y == 1, Member(r, target))) for y, h, r, n in values)
-    no = all(implies(lambda: both(y, h, r, n), lambda: Iff(y == 0, not Member(r, target))) for y, h, r, n in values)
-    within = all(implies(lambda: both(y, h, r, n), lambda: Within(h, r)) for y, h, r, n in values)
-    whole = all(implies(lambda: y == 0 and both(y, h, r, n), lambda: h == r) for y, h, r, n in values)
+def QuickAgrees(s, target, set_, outcomes):
+    """`outcomes` are those of the two calls that are looked at."""
+    quick, closure = quickCall(s, target, set_), closureCall(s, set_)
+    right = [(a, b) for a in quick.among if quick.Right(a) for b in closure.among if closure.Right(b)]
+    yes = all(Decides(Member(b.set, target), a.opens) for a, b in right)
+    within = all(Within(a.held, b.set) for a, b in right)
+    whole = all(implies(lambda: a.opens == False, lambda: a.held == b.set) for a, b in right)
     answered = all(
-        implies(lambda: target < s.count and QuickCall(s, target, set_, m, v) and ClosureCall(s, set_, n, w), lambda: m == n)
-        for m, v in quick
-        for n, w in closures
+        implies(lambda: target < s.count and Fulfils(quick, o) and Fulfils(closure, p), lambda: o.reply.number == p.reply.number)
+        for o in outcomes
+        for p in outcomes
     )
-    return yes and no and within and whole and answered
+    return yes and within and whole and answered
 
 
 # ---- answers/Answers
 
 
-def BasesWritten(opening, lock, number, values, entry, exit):
-    return ListWritten(opening + lock, [len(opening), len(lock)], number, values, entry, exit)
+Bases = namedtuple("Bases", "opening lockout")
+Marks = namedtuple("Marks", "right repeated shut loose missing")
 
 
-def BasesCall(s, target, number, values, entry, exit):
-    malformed = implies(lambda: not WellFormed(s), lambda: Refuses(12, number, values) and exit == entry)
-    noTarget = implies(lambda: WellFormed(s) and s.count <= target, lambda: Refuses(13, number, values) and exit == entry)
-    answers = implies(
-        lambda: WellFormed(s) and target < s.count,
-        lambda: any(
-            Base(False, s, s.graph, target, opening)
-            and Base(True, s, s.graph, target, lock)
-            and BasesWritten(opening, lock, number, values, entry, exit)
-            for opening in world.lists
-            for lock in world.lists
-        ),
+def basesReply(a):
+    if a[0] == "Counts":
+        return gives([a[1], a[2]])
+    return refuses(a[1])
+
+
+def AreBases(s, target, b):
+    isOpening = Base(False, s, s.graph, target, b.opening)
+    isLockout = isOpening and Base(True, s, s.graph, target, b.lockout)
+    return isOpening and isLockout
+
+
+def basesCall(s, target, list_):
+    return Contract(
+        lent=[list_],
+        questions=[asks12(s), asks13(s, target)],
+        among=[Bases(opening, lock) for opening in world.lists for lock in world.lists],
+        Right=lambda b: AreBases(s, target, b),
+        values=lambda b: [len(b.opening), len(b.lockout)],
+        writes=lambda b: [b.opening + b.lockout],
     )
-    return malformed and noTarget and answers
 
 
-def ScoreCall(loss, s, target, number, values):
-    malformed = implies(lambda: not WellFormed(s), lambda: Refuses(12, number, values))
-    noTarget = implies(lambda: WellFormed(s) and s.count <= target, lambda: Refuses(13, number, values))
-    answers = implies(
-        lambda: WellFormed(s) and target < s.count,
-        lambda: number == 0
-        and len(values) == 1
-        and Score(loss, s, s.graph, target, values[0])
-        and all(implies(lambda: Base(loss, s, s.graph, target, l), lambda: ScoreOver(loss, s, l, values[0])) for l in world.lists),
+def scoreReply(a):
+    if a[0] == "Score":
+        return gives([a[1]])
+    return refuses(a[1])
+
+
+def riskReply(a):
+    if a[0] == "Risk":
+        return gives([a[1]])
+    return refuses(a[1])
+
+
+def IsScore(loss, s, target, r):
+    all_ = Score(loss, s, s.graph, target, r)
+    base = all(implies(lambda: Base(loss, s, s.graph, target, l), lambda: ScoreOver(loss, s, l, r)) for l in world.lists)
+    return all_ and base
+
+
+def scoreCall(loss, s, target):
+    among = sorted({*scores(s, loss), *range(8), never + 1})
+    return telling([asks12(s), asks13(s, target)], among, lambda r: IsScore(loss, s, target, r), lambda r: [r])
+
+
+def marksReply(a):
+    if a[0] == "Marked":
+        return gives([a[1].right, a[1].repeated, a[1].shut, a[1].loose, a[1].missing])
+    return refuses(a[1])
+
+
+def AreMarks(loss, s, target, handed, m):
+    counts = Counts(loss, s, s.graph, target, handed, m.right, m.repeated, m.shut, m.loose, m.missing)
+    full = Iff(Full(m.repeated, m.shut, m.loose, m.missing), IsBaseOnce(loss, s, s.graph, target, handed))
+    return counts and full
+
+
+def marksCall(loss, s, target, handed):
+    return telling(
+        [asks12(s), asks13(s, target)],
+        [Marks(*m) for m in itertools.product(range(4), repeat=5)],
+        lambda m: AreMarks(loss, s, target, handed, m),
+        lambda m: [m.right, m.repeated, m.shut, m.loose, m.missing],
     )
-    return malformed and noTarget and answers
-
-
-def MarksCall(loss, s, target, handed, number, values):
-    malformed = implies(lambda: not WellFormed(s), lambda: Refuses(12, number, values))
-    noTarget = implies(lambda: WellFormed(s) and s.count <= target, lambda: Refuses(13, number, values))
-    answers = implies(
-        lambda: WellFormed(s) and target < s.count,
-        lambda: number == 0
-        and len(values) == 5
-        and Counts(loss, s, s.graph, target, handed, *values)
-        and Iff(Full(*values[1:]), IsBaseOnce(loss, s, s.graph, target, handed)),
-    )
-    return malformed and noTarget and answers
 
 
 # ---- records/Records
@@ -848,45 +980,54 @@ def RecordOf(s, student, target, loss, handed, r):
     return cache[key]
 
 
+RegisterOutcome = namedtuple("RegisterOutcome", "answer slice")
+
+
+def withSlice(a, slice_):
+    return RegisterOutcome(a, slice_)
+
+
+def handsBack(used, slice_, q):
+    return withSlice(Registered(q, used), slice_)
+
+
+def keepsUsed(w, slice_):
+    return withSlice(Registered(0, len(w)), w + slice_[len(w):])
+
+
 # ---- register/Calls
 
 
-def CallRefused(q, used, a, entry, exit):
-    answer = a == Registered(q, used)
-    untouched = exit == entry
-    return answer and untouched
+def asks25(slice_, used):
+    return Question(25, lambda: used <= len(slice_))
 
 
-def RegisterLeft(w, a, entry, exit):
-    answer = a == Registered(0, len(w))
-    written = exit == w + entry[len(w):]
-    return answer and written
+def asks26(slice_, used, n):
+    return Question(26, lambda: hasThree(n, slice_[:used]) == True or used < len(slice_))
 
 
-def TakesRecord(n, used, a, entry, exit):
-    full = implies(lambda: hasThree(n, entry[:used]) == False and used == len(entry), lambda: CallRefused(26, used, a, entry, exit))
-    room = implies(lambda: hasThree(n, entry[:used]) == True or used < len(entry), lambda: RegisterLeft(withRecord(n, entry[:used]), a, entry, exit))
-    return full and room
+def asks27(slice_, used, student):
+    return Question(27, lambda: hasStudent(student, slice_[:used]) == True)
+
+
+def Enters(s, used, student, target, loss, handed, slice_, o):
+    return any(
+        RecordOf(s, student, target, loss, handed, row)
+        and Asks(lambda q: handsBack(used, slice_, q), [asks26(slice_, used, row)], lambda p: p == keepsUsed(withRecord(row, slice_[:used]), slice_), o)
+        for row in world.records
+    )
 
 
 def HandInCall(s, used, student, target, loss, handed, a, entry, exit):
-    overfull = implies(lambda: len(entry) < used, lambda: CallRefused(25, used, a, entry, exit))
-    malformed = implies(lambda: used <= len(entry) and not WellFormed(s), lambda: CallRefused(12, used, a, entry, exit))
-    noTarget = implies(lambda: used <= len(entry) and WellFormed(s) and s.count <= target, lambda: CallRefused(13, used, a, entry, exit))
-    answers = implies(
-        lambda: used <= len(entry) and WellFormed(s) and target < s.count,
-        lambda: any(RecordOf(s, student, target, loss, handed, n) and TakesRecord(n, used, a, entry, exit) for n in world.records),
-    )
-    return overfull and malformed and noTarget and answers
+    questions = [asks25(entry, used), asks12(s), asks13(s, target)]
+    enters = lambda o: Enters(s, used, student, target, loss, handed, entry, o)
+    return Asks(lambda q: handsBack(used, entry, q), questions, enters, withSlice(a, exit))
 
 
 def WithdrawCall(used, student, a, entry, exit):
-    overfull = implies(lambda: len(entry) < used, lambda: CallRefused(25, used, a, entry, exit))
-    none = implies(lambda: used <= len(entry) and hasStudent(student, entry[:used]) == False, lambda: CallRefused(27, used, a, entry, exit))
-    answers = implies(
-        lambda: used <= len(entry) and hasStudent(student, entry[:used]) == True, lambda: RegisterLeft(without(student, entry[:used]), a, entry, exit)
-    )
-    return overfull and none and answers
+    questions = [asks25(entry, used), asks27(entry, used, student)]
+    left = lambda p: p == keepsUsed(without(student, entry[:used]), entry)
+    return Asks(lambda q: handsBack(used, entry, q), questions, left, withSlice(a, exit))
 
 
 # ---- register/Afternoon
@@ -990,14 +1131,14 @@ def RegisterHolds(s, P, records):
     return times and whole
 
 
+def RegisterAfter(s, log, used, slice_):
+    holds = RegisterHolds(s, lambda t, x: Stands(log, t, x), slice_[:used])
+    count = len(slice_[:used]) == used
+    return holds and count
+
+
 def RegisterLaw(s, slice_, logs):
-    return all(
-        implies(
-            lambda: Afternoon(s, slice_, log),
-            lambda: RegisterHolds(s, lambda t, x: Stands(log, t, x), sliceAfter(slice_, log)[:usedAfter(log)]),
-        )
-        for log in logs
-    )
+    return all(implies(lambda: Afternoon(s, slice_, log), lambda: RegisterAfter(s, log, usedAfter(log), sliceAfter(slice_, log))) for log in logs)
 
 
 # ---- antichains/Antichains
@@ -1053,6 +1194,10 @@ def Forecast(s, target, counted, n):
         implies(lambda: Listed(l, x) and Member(x, v), lambda: Member(counted, v)) for l in bases for x in world.sets for v in world.vertices
     )
     return isCounted and ways and enough and among
+
+
+def Foretold(s, target, n):
+    return any(Forecast(s, target, counted, n) for counted in world.sets)
 
 
 def ForecastHolds(asked):
@@ -1166,25 +1311,23 @@ def KindsSound(s, kinds, a, b, p, q):
 # ---- attackers/Answers
 
 
-def AttackerCall(s, target, kinds, number, values):
-    malformed = implies(lambda: not WellFormed(s), lambda: Refuses(12, number, values))
-    noTarget = implies(lambda: WellFormed(s) and s.count <= target, lambda: Refuses(13, number, values))
-    there = lambda: WellFormed(s) and target < s.count
-    otherLength = implies(lambda: there() and len(kinds) != s.count, lambda: Refuses(16, number, values))
-    noKind = implies(lambda: there() and len(kinds) == s.count and not EntriesFit(s, kinds), lambda: Refuses(17, number, values))
-    answers = implies(
-        lambda: there() and len(kinds) == s.count and EntriesFit(s, kinds),
-        lambda: number == 0 and len(values) == 1 and AttackerScore(s, kinds, target, values[0]),
-    )
-    return malformed and noTarget and otherLength and noKind and answers
+def attackerReply(a):
+    if a[0] == "Attackers":
+        return gives([a[1]])
+    return refuses(a[1])
 
 
-def OneAttackerAnswer(s, target, kinds, answers):
-    return all(
-        implies(lambda: AttackerCall(s, target, kinds, n, v) and AttackerCall(s, target, kinds, n_, v_), lambda: Same(n, n_, v, v_))
-        for n, v in answers
-        for n_, v_ in answers
-    )
+def asks16(s, kinds):
+    return Question(16, lambda: len(kinds) == s.count)
+
+
+def asks17(s, kinds):
+    return Question(17, lambda: EntriesFit(s, kinds))
+
+
+def attackerCall(s, target, kinds):
+    questions = [asks12(s), asks13(s, target), asks16(s, kinds), asks17(s, kinds)]
+    return telling(questions, range(128), lambda r: AttackerScore(s, kinds, target, r), lambda r: [r])
 
 
 def AgreeAtInitial(s, kinds, kinds_):
@@ -1193,38 +1336,30 @@ def AgreeAtInitial(s, kinds, kinds_):
     return long and each
 
 
-def OthersUnread(s, target, lists, answers):
+def OthersUnread(s, target, lists, outcomes):
     return all(
         implies(
-            lambda: AgreeAtInitial(s, kinds, kinds_) and AttackerCall(s, target, kinds, n, v) and AttackerCall(s, target, kinds_, n_, v_),
-            lambda: Same(n, n_, v, v_),
+            lambda: AgreeAtInitial(s, kinds, kinds_) and Fulfils(attackerCall(s, target, kinds), o) and Fulfils(attackerCall(s, target, kinds_), p),
+            lambda: o == p,
         )
         for kinds in lists
         for kinds_ in lists
-        for n, v in answers
-        for n_, v_ in answers
+        for o in outcomes
+        for p in outcomes
     )
 
 
 # ---- forecasts/Answers
 
 
-def ForecastCall(s, target, number, values):
-    malformed = implies(lambda: not WellFormed(s), lambda: Refuses(12, number, values))
-    noTarget = implies(lambda: WellFormed(s) and s.count <= target, lambda: Refuses(13, number, values))
-    answers = implies(
-        lambda: WellFormed(s) and target < s.count,
-        lambda: number == 0 and len(values) == 1 and any(Forecast(s, target, counted, values[0]) for counted in world.sets),
-    )
-    return malformed and noTarget and answers
+def forecastReply(a):
+    if a[0] == "Sets":
+        return gives([a[1]])
+    return refuses(a[1])
 
 
-def OneForecastAnswer(s, target, answers):
-    return all(
-        implies(lambda: ForecastCall(s, target, n, v) and ForecastCall(s, target, n_, v_), lambda: Same(n, n_, v, v_))
-        for n, v in answers
-        for n_, v_ in answers
-    )
+def forecastCall(s, target):
+    return telling([asks12(s), asks13(s, target)], range(12), lambda n: Foretold(s, target, n), lambda n: [n])
 
 
 # ---- cut_sets/Cuts
@@ -1282,17 +1417,27 @@ def LongestCuts(asked):
 # ---- cut_sets/Answers
 
 
-def CutsCall(s, target, number, values, entry, exit):
-    malformed = implies(lambda: not WellFormed(s), lambda: Refuses(12, number, values) and exit == entry)
-    noTarget = implies(lambda: WellFormed(s) and s.count <= target, lambda: Refuses(13, number, values) and exit == entry)
-    answers = implies(
-        lambda: WellFormed(s) and target < s.count,
-        lambda: any(
-            ListWritten(cuts, [len(cuts)], number, values, entry, exit) and CutList(s, target, cuts) and Duality(s, target, cuts)
-            for cuts in world.lists
-        ),
+def cutsReply(a):
+    if a[0] == "Sets":
+        return gives([a[1]])
+    return refuses(a[1])
+
+
+def AreCuts(s, target, cuts):
+    list_ = CutList(s, target, cuts)
+    duality = list_ and Duality(s, target, cuts)
+    return list_ and duality
+
+
+def cutsCall(s, target, list_):
+    return Contract(
+        lent=[list_],
+        questions=[asks12(s), asks13(s, target)],
+        among=world.lists,
+        Right=lambda cuts: AreCuts(s, target, cuts),
+        values=lambda cuts: [len(cuts)],
+        writes=lambda cuts: [cuts],
     )
-    return malformed and noTarget and answers
 
 
 # ---- multisets/Multisets
@@ -1471,6 +1616,12 @@ def AreBags(asked):
     )
 
 
+def PlacesEach(asked):
+    return all(
+        implies(lambda: WellFormed(s) and MultisetScore(s, target, l), lambda: len(allPlaces(s, l)) == mostValues * len(l)) for s, target, l in asked
+    )
+
+
 def NoLonger(asked):
     return all(
         implies(lambda: MultisetScore(s, target, l) and Base(False, s, s.graph, target, base), lambda: len(l) <= len(base))
@@ -1498,40 +1649,22 @@ def BagScoreAtMost(s, l, k):
 # ---- multiset_scores/Answers
 
 
-def MultisetsWritten(s, l, number, values, places, places_, lengths, lengths_):
-    room = implies(
-        lambda: mostValues * len(l) <= len(places) and len(l) <= len(lengths),
-        lambda: number == 0 and values == [len(l)] and places_ == written(allPlaces(s, l), places) and lengths_ == written(allLengths(s, l), lengths),
-    )
-    short = implies(
-        lambda: len(places) < mostValues * len(l) or len(lengths) < len(l),
-        lambda: Refuses(15, number, values) and Untouched(places, places_, lengths, lengths_),
-    )
-    return room and short
+def bagsReply(a):
+    if a[0] == "Multisets":
+        return gives([a[1]])
+    return refuses(a[1])
 
 
-def MultisetsCall(s, target, number, values, places, places_, lengths, lengths_):
-    kept_ = lambda: Untouched(places, places_, lengths, lengths_)
-    malformed = implies(lambda: not WellFormed(s), lambda: Refuses(12, number, values) and kept_())
-    noTarget = implies(lambda: WellFormed(s) and s.count <= target, lambda: Refuses(13, number, values) and kept_())
-    answers = implies(
-        lambda: WellFormed(s) and target < s.count,
-        lambda: any(
-            MultisetsWritten(s, l, number, values, places, places_, lengths, lengths_) and MultisetScore(s, target, l) for l in world.lists
-        ),
+def bagsCall(s, target, places, lengths):
+    return Contract(
+        lent=[places, lengths],
+        questions=[asks12(s), asks13(s, target)],
+        among=world.lists,
+        Right=lambda l: MultisetScore(s, target, l),
+        values=lambda l: [len(l)],
+        writes=lambda l: [allPlaces(s, l), allLengths(s, l)],
     )
-    return malformed and noTarget and answers
 
-
-def OneMultisetsAnswer(s, target, a, b, answers):
-    return all(
-        implies(
-            lambda: MultisetsCall(s, target, n, v, a, x, b, y) and MultisetsCall(s, target, n_, v_, a, x_, b, y_),
-            lambda: SameLists(n, n_, v, v_, x, x_, y, y_),
-        )
-        for n, v, x, y in answers
-        for n_, v_, x_, y_ in answers
-    )
 
 # ---- soundness/Closures
 
@@ -1876,46 +2009,57 @@ def NoMore(s, target, last):
 # ---- next_sets/Answers
 
 
-def Shows(s, target, last, number, values):
-    return any(number == 0 and values == [1, x] and NextSet(s, target, last, x) for x in world.sets)
+def nextReply(a):
+    if a[0] == "Set":
+        return gives([1, a[1]])
+    if a[0] == "NoMoreSets":
+        return gives([0])
+    return refuses(a[1])
 
 
-def Ends(s, target, last, number, values):
-    return number == 0 and values == [0] and NoMore(s, target, last)
+def asks21(s, last):
+    return Question(21, lambda: OfInitial(s, last))
 
 
-def NextCall(s, target, last, number, values):
-    malformed = implies(lambda: not WellFormed(s), lambda: Refuses(12, number, values))
-    noTarget = implies(lambda: WellFormed(s) and s.count <= target, lambda: Refuses(13, number, values))
-    stranger = implies(lambda: WellFormed(s) and target < s.count and not OfInitial(s, last), lambda: Refuses(21, number, values))
-    answers = implies(
-        lambda: WellFormed(s) and target < s.count and OfInitial(s, last),
-        lambda: Shows(s, target, last, number, values) or Ends(s, target, last, number, values),
-    )
-    return malformed and noTarget and stranger and answers
+# What is answered: a set that is shown, or the end.
+Shown = namedtuple("Shown", "set")
+End = "End"
 
 
-def OneNextAnswer(s, target, last, answers):
-    return all(
-        implies(lambda: NextCall(s, target, last, n, v) and NextCall(s, target, last, n_, v_), lambda: Same(n, n_, v, v_))
-        for n, v in answers
-        for n_, v_ in answers
-    )
+def IsNext(s, target, last, a):
+    if a == End:
+        return NoMore(s, target, last)
+    return NextSet(s, target, last, a.set)
+
+
+def nextValues(a):
+    if a == End:
+        return [0]
+    return [1, a.set]
+
+
+def nextCall(s, target, last):
+    among = [End] + [Shown(x) for x in world.sets]
+    return telling([asks12(s), asks13(s, target), asks21(s, last)], among, lambda a: IsNext(s, target, last, a), nextValues)
 
 
 # ---- next_sets/Walks
 
 
+def Tells(s, target, last, a):
+    return Fulfils(nextCall(s, target, last), ends(gives(nextValues(a)), []))
+
+
 def Walk(s, target, last, l):
     if not l:
-        return NextCall(s, target, last, 0, [0])
-    return NextCall(s, target, last, 0, [1, l[0]]) and Walk(s, target, l[0], l[1:])
+        return Tells(s, target, last, End)
+    return Tells(s, target, last, Shown(l[0])) and Walk(s, target, l[0], l[1:])
 
 
-def Shown(target, last, moments, l):
+def Showing(target, last, moments, l):
     if not moments or not l:
         return not moments and not l
-    return NextCall(moments[0], target, last, 0, [1, l[0]]) and Shown(target, l[0], moments[1:], l[1:])
+    return Tells(moments[0], target, last, Shown(l[0])) and Showing(target, l[0], moments[1:], l[1:])
 
 
 def KeepInitial(initial, moments):
@@ -1932,12 +2076,12 @@ def WholeWalk(setups):
 
 
 def ShownRise(asked):
-    return all(implies(lambda: Shown(target, last, moments, l), lambda: Ordered([last] + l)) for target, last, moments, l in asked)
+    return all(implies(lambda: Showing(target, last, moments, l), lambda: Ordered([last] + l)) for target, last, moments, l in asked)
 
 
 def ShownEnd(initial, asked):
     return all(
-        implies(lambda: KeepInitial(initial, moments) and Shown(target, last, moments, l), lambda: len(l) <= 2 ** ones(initial))
+        implies(lambda: KeepInitial(initial, moments) and Showing(target, last, moments, l), lambda: len(l) <= 2 ** ones(initial))
         for target, last, moments, l in asked
     )
 
@@ -1946,19 +2090,19 @@ def DrawingAlone(s, t, asked):
     formed = WellFormed(s) and WellFormed(t)
     drawn = s.count == t.count and s.vertices == t.vertices and s.graph == t.graph
     return all(
-        implies(lambda: formed and drawn and NextCall(s, target, last, n, v), lambda: NextCall(t, target, last, n, v)) for target, last, n, v in asked
+        implies(lambda: formed and drawn and Fulfils(nextCall(s, target, last), o), lambda: Fulfils(nextCall(t, target, last), o)) for target, last, o in asked
     )
 
 
 # ---- answers/Demand3
 
 
-def Demand3(s, target, entry, exit, bases, lengths, score, scores, risk, risks, opened, openMarks, openCounts, locked, lockMarks, lockCounts):
-    lists = BasesCall(s, target, bases, lengths, entry, exit)
-    security = ScoreCall(False, s, target, score, scores)
-    recoverability = ScoreCall(True, s, target, risk, risks)
-    openings = MarksCall(False, s, target, opened, openMarks, openCounts)
-    lockouts = MarksCall(True, s, target, locked, lockMarks, lockCounts)
+def Demand3(s, target, list_, opened, locked, bases, score, risk, openMarks, lockMarks):
+    lists = Fulfils(basesCall(s, target, list_), bases)
+    security = Fulfils(scoreCall(False, s, target), score)
+    recoverability = Fulfils(scoreCall(True, s, target), risk)
+    openings = Fulfils(marksCall(False, s, target, opened), openMarks)
+    lockouts = Fulfils(marksCall(True, s, target, locked), lockMarks)
     return lists and security and recoverability and openings and lockouts
 
 
@@ -2204,13 +2348,20 @@ def Question12Sheets(setups, texts):
     return all(Iff(WellFormed(s) and s.held == 0, any(readSheet(text) == accepted(s) for text in texts)) for s in setups)
 
 
+# ---- sheet_format/Read
+
+
+def asksSheet(text):
+    return Question(readSheet(text).number, lambda: readSheet(text).number == 0)
+
+
 # ---- histories/Histories: the setups on the way are among those that are handed in, and so are texts, calls and numbers
 
 
 def Ran(s, calls, numbers, end, setups):
     if not calls or not numbers:
         return not calls and not numbers and s == end
-    return any(CallOf(calls[0], s, numbers[0], t) and Ran(t, calls[1:], numbers[1:], end, setups) for t in setups)
+    return any(CallOf(calls[0], s, Redrawing(numbers[0], t)) and Ran(t, calls[1:], numbers[1:], end, setups) for t in setups)
 
 
 def leftBy(calls, numbers, d):
@@ -2223,9 +2374,19 @@ def leftBy(calls, numbers, d):
 
 def OpenedAlways(runs, ends):
     return all(
-        implies(lambda: readSheet(text) == accepted(fresh) and Ran(fresh, calls, numbers, s, setups), lambda: Redrawn(fresh, leftBy(calls, numbers, drawingOf(fresh)), s))
+        implies(lambda: Ran(readSheet(text).setup, calls, numbers, s, setups), lambda: Redrawn(readSheet(text).setup, leftBy(calls, numbers, drawingOf(readSheet(text).setup)), s))
         for text, calls, numbers, setups in runs
-        for fresh in [readSheet(text).setup]
+        for s in ends
+    )
+
+
+def RefusedStays(runs, ends):
+    return all(
+        implies(
+            lambda: readSheet(text).number != 0 and Ran(readSheet(text).setup, calls, numbers, s, setups),
+            lambda: s == noItems and all(implies(lambda: Listed(numbers, n), lambda: n == 12) for n in range(28)),
+        )
+        for text, calls, numbers, setups in runs
         for s in ends
     )
 
@@ -2242,6 +2403,42 @@ def Question12(setups, runs):
     return all(Iff(WellFormed(s), Reached(s, runs)) for s in setups)
 
 
+# ---- histories/Requests: a request is the name of its call, and what is handed in and lent
+
+
+def contractOf(request, s):
+    kind, *given_ = request
+    if kind == "Closure":
+        return closureCall(s, *given_)
+    if kind == "Lost":
+        return lostCall(s, *given_)
+    if kind == "WayTo":
+        return wayCall(s, *given_)
+    if kind == "QuickYes":
+        return quickCall(s, *given_)
+    if kind == "BothBases":
+        return basesCall(s, *given_)
+    if kind == "ScoreOf":
+        return scoreCall(given_[0], s, given_[1])
+    if kind == "MarksOf":
+        return marksCall(given_[0], s, given_[1], given_[2])
+    if kind == "Backdoor":
+        return backdoorCall(s, *given_)
+    if kind == "Idle":
+        return ineffectiveCall(s, *given_)
+    if kind == "OutOfRank":
+        return inconsistentCall(s, given_[0], given_[1])
+    if kind == "ForecastOf":
+        return forecastCall(s, *given_)
+    if kind == "Cuts":
+        return cutsCall(s, *given_)
+    if kind == "Attackers":
+        return attackerCall(s, *given_)
+    if kind == "NextSet":
+        return nextCall(s, given_[0], given_[1])
+    return bagsCall(s, *given_)
+
+
 # ---- histories/NoHeed: the calls' answers are among those that are handed in
 
 
@@ -2252,30 +2449,12 @@ def OnlyHolding(s, t):
     return first and second and drawn
 
 
-def SameAnswers(s, t, target, set_, among):
-    too = lambda Call, answers: all(implies(lambda: Call(s, *a), lambda: Call(t, *a)) for a in answers)
-    closure = too(lambda x, n, v: ClosureCall(x, set_, n, v), among)
-    lost = too(lambda x, n, v: LostCall(x, set_, n, v), among)
-    way = too(lambda x, n, v: WayCall(x, target, set_, n, v, [], [], [], []), among)
-    quick = too(lambda x, n, v: QuickCall(x, target, set_, n, v), among)
-    bases = too(lambda x, n, v: BasesCall(x, target, n, v, [], []), among)
-    score = all(too(lambda x, n, v: ScoreCall(loss, x, target, n, v), among) for loss in (False, True))
-    marks = all(too(lambda x, n, v: MarksCall(loss, x, target, [2], n, v), among) for loss in (False, True))
-    backdoor = too(lambda x, n, v: BackdoorCall(x, target, n, v), among)
-    idle = too(lambda x, n, v: IneffectiveCall(x, target, n, v), among)
-    pair = too(lambda x, n, v: InconsistentCall(x, target, 0, n, v), among)
-    forecast = too(lambda x, n, v: ForecastCall(x, target, n, v), among)
-    next_ = too(lambda x, n, v: NextCall(x, target, set_, n, v), among)
-    cuts = too(lambda x, n, v: CutsCall(x, target, n, v, [], []), among)
-    attackers = too(lambda x, n, v: AttackerCall(x, target, [0] * 5, n, v), among)
-    multisets = too(lambda x, n, v: MultisetsCall(x, target, n, v, [], [], [], []), among)
-    handIn = too(lambda x, n: HandInCall(x, 0, 7, target, False, [2], Registered(n, 0), [], []), [(12,), (13,), (26,)])
-    lists = way and quick and bases and score and marks and forecast and next_ and cuts and attackers and multisets and handIn
-    return closure and lost and lists and backdoor and idle and pair
-
-
-def NoHeed(setups, target, set_, among):
-    return all(implies(lambda: OnlyHolding(s, t), lambda: SameAnswers(s, t, target, set_, among)) for s in setups for t in setups)
+def NoHeed(setups, asked, handed):
+    """`asked` are requests, each with an outcome that is looked at, and `handed` are hand-ins."""
+    pairs = [(s, t) for s in setups for t in setups]
+    calls = all(implies(lambda: OnlyHolding(s, t) and Fulfils(contractOf(q, s), o), lambda: Fulfils(contractOf(q, t), o)) for s, t in pairs for q, o in asked)
+    handIn = all(implies(lambda: OnlyHolding(s, t) and HandInCall(s, *h), lambda: HandInCall(t, *h)) for s, t in pairs for h in handed)
+    return calls and handIn
 
 
 # ---- sheet_format/Names
@@ -2387,44 +2566,34 @@ def NoEasierRoute(s):
 # ---- findings/Answers
 
 
-def FindingCall(Finds, s, vertices, number, values):
-    malformed = implies(lambda: not WellFormed(s), lambda: Refuses(12, number, values))
-    noVertex = all(
-        implies(lambda: WellFormed(s) and Listed(vertices, v) and s.count <= v, lambda: Refuses(13, number, values)) for v in world.vertices
-    )
-    answers = implies(
-        lambda: WellFormed(s) and all(implies(lambda: Listed(vertices, v), lambda: v < s.count) for v in world.vertices),
-        lambda: any(number == 0 and values == [1 if b else 0] and Finds(b) for b in (False, True)),
-    )
-    return malformed and noVertex and answers
+def yesNo(b):
+    return 1 if b else 0
 
 
-def BackdoorCall(s, v, number, values):
-    return FindingCall(lambda b: FindsBackdoor(s, v, b), s, [v], number, values)
+def findingReply(a):
+    if a[0] == "Is":
+        return gives([yesNo(a[1])])
+    return refuses(a[1])
 
 
-def IneffectiveCall(s, v, number, values):
-    return FindingCall(lambda b: FindsIneffective(s, v, b), s, [v], number, values)
+def backdoorCall(s, v):
+    return telling([asks12(s), asks13(s, v)], (False, True), lambda b: FindsBackdoor(s, v, b), lambda b: [yesNo(b)])
 
 
-def InconsistentCall(s, v, w, number, values):
-    return FindingCall(lambda b: FindsInconsistent(s, v, w, b), s, [v, w], number, values)
+def ineffectiveCall(s, v):
+    return telling([asks12(s), asks13(s, v)], (False, True), lambda b: FindsIneffective(s, v, b), lambda b: [yesNo(b)])
+
+
+def inconsistentCall(s, v, w):
+    return telling([asks12(s), asks13(s, v), asks13(s, w)], (False, True), lambda b: FindsInconsistent(s, v, w, b), lambda b: [yesNo(b)])
 
 
 # ---- portal/Portal
 
 
 def PortalCall(loss, text, item, r):
-    refused_ = implies(lambda: readSheet(text).number != 0, lambda: r == never + readSheet(text).number)
-    noItem = implies(lambda: readSheet(text).number == 0 and readSheet(text).setup.count <= item, lambda: r == never + 13)
-    answers = implies(
-        lambda: readSheet(text).number == 0 and item < readSheet(text).setup.count, lambda: portal_score(loss, readSheet(text).setup, item, r)
-    )
-    return refused_ and noItem and answers
-
-
-def portal_score(loss, s, item, r):
-    return Score(loss, s, s.graph, item, r)
+    s = readSheet(text).setup
+    return Asks(lambda q: never + q, [asksSheet(text), asks13(s, item)], lambda p: Score(loss, s, s.graph, item, p), r)
 
 
 def Decoded(text, item, r):
@@ -2433,7 +2602,7 @@ def Decoded(text, item, r):
     return answer and refusal
 
 
-# ---- pool_format: rows are looked for among `docs`
+# ---- pool_format: rows are looked for among `docs`, here and wherever pooling is said
 
 
 def Agree(xs, ys):
@@ -2449,35 +2618,54 @@ def Fits(p):
     return most and starts and losses and many and colours
 
 
-def PoolRefused(q, sheet, line, r, entry, exit):
-    answer = r == Pooled(q, sheet, line, 0)
-    untouched = exit == entry
-    return answer and untouched
+def asks22(d, e):
+    return Question(22, lambda: Agree(d.items, e.items))
 
 
-def PoolWritten(text, r, entry, exit):
-    answer = r == Pooled(0, 0, 0, len(text))
-    written = exit == text + entry[len(text):]
-    return answer and written
+def asks23(d, e):
+    return Question(23, lambda: Fits(pooled(d, e)))
 
 
-def PoolsRows(d, e, r, entry, exit):
-    agree, fits, long = Agree(d.items, e.items), Fits(pooled(d, e)), len(render(pooled(d, e)))
-    disagree = implies(lambda: not agree, lambda: PoolRefused(22, 0, 0, r, entry, exit))
-    beyond = implies(lambda: agree and not fits, lambda: PoolRefused(23, 0, 0, r, entry, exit))
-    short = implies(lambda: agree and fits and len(entry) < long, lambda: PoolRefused(24, 0, 0, r, entry, exit))
-    room = implies(lambda: agree and fits and long <= len(entry), lambda: PoolWritten(render(pooled(d, e)), r, entry, exit))
-    return disagree and beyond and short and room
+def asks24(d, e, buffer):
+    return Question(24, lambda: len(render(pooled(d, e))) <= len(buffer))
+
+
+PoolOutcome = namedtuple("PoolOutcome", "answer buffer")
+
+
+def withBuffer(r, buffer):
+    return PoolOutcome(r, buffer)
+
+
+def poolRefusal(sheet, line, buffer, q):
+    return withBuffer(Pooled(q, sheet, line, 0), buffer)
+
+
+def poolsText(text, buffer):
+    return withBuffer(Pooled(0, 0, 0, len(text)), written(text, buffer))
+
+
+def PoolsRows(first, second, buffer, o, docs):
+    return any(
+        Valid(d)
+        and Valid(e)
+        and first == render(d)
+        and second == render(e)
+        and Asks(
+            lambda q: poolRefusal(0, 0, buffer, q),
+            [asks22(d, e), asks23(d, e), asks24(d, e, buffer)],
+            lambda p: p == poolsText(render(pooled(d, e)), buffer),
+            o,
+        )
+        for d in docs
+        for e in docs
+    )
 
 
 def PoolCall(first, second, r, entry, exit, docs):
-    one, two = readSheet(first), readSheet(second)
-    refused_ = implies(lambda: one.number != 0, lambda: PoolRefused(one.number, 1, one.line, r, entry, exit))
-    refusedSecond = implies(lambda: one.number == 0 and two.number != 0, lambda: PoolRefused(two.number, 2, two.line, r, entry, exit))
-    pools = all(
-        implies(lambda: Valid(d) and Valid(e) and first == render(d) and second == render(e), lambda: PoolsRows(d, e, r, entry, exit)) for d in docs for e in docs
-    )
-    return refused_ and refusedSecond and pools
+    rows = lambda o: PoolsRows(first, second, entry, o, docs)
+    then = lambda o: Asks(lambda q: poolRefusal(2, readSheet(second).line, entry, q), [asksSheet(second)], rows, o)
+    return Asks(lambda q: poolRefusal(1, readSheet(first).line, entry, q), [asksSheet(first)], then, withBuffer(r, exit))
 
 
 def RenamesLowest(es, fs, n, c):
@@ -2565,18 +2753,97 @@ def Pooling(asked, docs):
     return all(implies(lambda: IsPooled(a, b, t, docs), lambda: PoolingLaw(a, b, t)) for a, b, t in asked)
 
 
-def SamePool(r, r_, exit, exit_):
-    answer = r == r_
-    buffer = exit == exit_
-    return answer and buffer
-
-
 def PoolDetermined(a, b, entry, answers, docs):
     return all(
-        implies(lambda: PoolCall(a, b, r, entry, x, docs) and PoolCall(a, b, r_, entry, x_, docs), lambda: SamePool(r, r_, x, x_))
+        implies(lambda: PoolCall(a, b, r, entry, x, docs) and PoolCall(a, b, r_, entry, x_, docs), lambda: withBuffer(r, x) == withBuffer(r_, x_))
         for r, x in answers
         for r_, x_ in answers
     )
+
+
+# ---- save_format: rows are looked for among `docs`
+
+
+def unheld(s):
+    return Setup(count=s.count, vertices=s.vertices, graph=s.graph, recovery=s.recovery, held=0, opened=0)
+
+
+def orderOf(xs, e):
+    return (numberIn(xs, e.to) * 8 + e.colour) * 64 + numberIn(xs, e.source)
+
+
+def SavedRows(sheet, s, d):
+    valid = Valid(d)
+    states = setupOf(d) == unheld(s)
+    names = all(implies(lambda: StandsAt(d.items, i, x), lambda: x.name == nameOf(sheet, i)) for i in world.vertices for x in d.items)
+    rising = Apart(lambda x, y: orderOf(d.items, y) <= orderOf(d.items, x), d.edges)
+    return valid and states and names and rising
+
+
+def asksNames(sheet, s):
+    return Question(13, lambda: s.count <= readSheet(sheet).setup.count)
+
+
+def saveCall(sheet, s, out, docs):
+    return Contract(
+        lent=[out],
+        questions=[asksSheet(sheet), asks12(s), asksNames(sheet, s)],
+        among=docs,
+        Right=lambda d: SavedRows(sheet, s, d),
+        values=lambda d: [len(render(d))],
+        writes=lambda d: [render(d)],
+    )
+
+
+def SavedThere(sheets, setups, docs):
+    return all(
+        implies(
+            lambda: readSheet(sheet).number == 0 and WellFormed(s) and s.count <= readSheet(sheet).setup.count,
+            lambda: any(SavedRows(sheet, s, d) for d in docs),
+        )
+        for sheet in sheets
+        for s in setups
+    )
+
+
+def SavedUnique(sheets, setups, docs):
+    return all(
+        implies(lambda: SavedRows(sheet, s, d) and SavedRows(sheet, s, e), lambda: d == e) for sheet in sheets for s in setups for d in docs for e in docs
+    )
+
+
+saveBytes = 11626
+
+
+def IsSheetOf(sheet, s, t):
+    reads = readSheet(t) == accepted(unheld(s))
+    names = all(implies(lambda: i < s.count, lambda: nameOf(t, i) == nameOf(sheet, i)) for i in world.vertices)
+    short = len(t) <= saveBytes
+    return reads and names and short
+
+
+def SavedReads(sheets, setups, docs):
+    return all(implies(lambda: SavedRows(sheet, s, d), lambda: IsSheetOf(sheet, s, render(d))) for sheet in sheets for s in setups for d in docs)
+
+
+def SavedText(sheet, s, entry, results, docs):
+    return all(
+        implies(lambda: Told(saveCall(sheet, s, entry, docs), number, [size], [exit]) and number == 0, lambda: IsSheetOf(sheet, s, exit[:size]))
+        for number, size, exit in results
+    )
+
+
+def SavedBack(sheets, setups, docs):
+    return all(
+        implies(lambda: readSheet(sheet) == accepted(s) and SavedRows(sheet, s, d), lambda: readSheet(render(d)) == accepted(s))
+        for sheet in sheets
+        for s in setups
+        for d in docs
+    )
+
+
+def SavedAgain(sheets, setups, docs):
+    return all(implies(lambda: SavedRows(sheet, s, d), lambda: SavedRows(render(d), unheld(s), d)) for sheet in sheets for s in setups for d in docs)
 
 
 # ---- pool/Printed: the answers with their buffers are among those that are handed in
@@ -2594,233 +2861,6 @@ def Printed(first, second, printed, said, answers, docs):
         and implies(lambda: answer.number != 0, lambda: printed == [] and said == refusalLine(answer.sheet, answer.number, answer.line))
         for answer, entry, exit in answers
     )
-
-
-# ---- demands/Pools
-
-
-def PoolAnswered(first, second, r, entry, exit, docs):
-    number = r.number == 0
-    sheet = r.sheet == 0
-    line = r.line == 0
-    text = IsPooled(first, second, exit[:r.size], docs)
-    behind = exit[r.size:] == entry[r.size:]
-    return number and sheet and line and text and behind
-
-
-def PoolRefusal(r, entry, exit):
-    one = Listed(sheetNumbers, r.number) and (r.sheet == 1 or r.sheet == 2)
-    both = Listed([22, 23, 24], r.number) and r.sheet == 0 and r.line == 0
-    size = r.size == 0
-    buffer = exit == entry
-    return (one or both) and size and buffer
-
-
-def SettledPool(first, second, r, entry, exit, docs, answers):
-    outcome = PoolAnswered(first, second, r, entry, exit, docs) or PoolRefusal(r, entry, exit)
-    meets = PoolCall(first, second, r, entry, exit, docs)
-    only = all(implies(lambda: PoolCall(first, second, r_, entry, x_, docs), lambda: SamePool(r, r_, exit, x_)) for r_, x_ in answers)
-    return outcome and meets and only
-
-
-def SettledPools(first, second, entry, docs, answers):
-    return all(implies(lambda: PoolCall(first, second, r, entry, x, docs), lambda: SettledPool(first, second, r, entry, x, docs, answers)) for r, x in answers)
-
-
-def PoolMeaning(first, second, answers, docs, names, asked):
-    renaming = Renaming(docs, names)
-    valid = PooledValid(docs)
-    enough = AlwaysEnough(docs)
-    text = PooledText(first, second, answers, docs)
-    pooling = Pooling(asked, docs)
-    return renaming and valid and enough and text and pooling
-
-
-def PoolsAsStated(first, second, r, entry, exit, docs, names, asked):
-    call = PoolCall(first, second, r, entry, exit, docs)
-    meaning = PoolMeaning(first, second, [(r, entry, exit)], docs, names, asked)
-    return call and meaning
-
-
-# ---- demands/OneAnswer: of all pairs of the answers that are handed to them
-
-
-def OneClosureAnswer(s, set_, answers):
-    return all(
-        implies(lambda: ClosureCall(s, set_, n, v) and ClosureCall(s, set_, n_, v_), lambda: Same(n, n_, v, v_))
-        for n, v in answers
-        for n_, v_ in answers
-    )
-
-
-def OneLostAnswer(s, set_, answers):
-    return all(
-        implies(lambda: LostCall(s, set_, n, v) and LostCall(s, set_, n_, v_), lambda: Same(n, n_, v, v_))
-        for n, v in answers
-        for n_, v_ in answers
-    )
-
-
-def OneWayAnswer(s, target, set_, a, b, answers):
-    return all(
-        implies(
-            lambda: WayCall(s, target, set_, n, v, a, x, b, y) and WayCall(s, target, set_, n_, v_, a, x_, b, y_),
-            lambda: SameLists(n, n_, v, v_, x, x_, y, y_),
-        )
-        for n, v, x, y in answers
-        for n_, v_, x_, y_ in answers
-    )
-
-
-def OneBasesAnswer(s, target, a, answers):
-    return all(
-        implies(lambda: BasesCall(s, target, n, v, a, x) and BasesCall(s, target, n_, v_, a, x_), lambda: SameList(n, n_, v, v_, x, x_))
-        for n, v, x in answers
-        for n_, v_, x_ in answers
-    )
-
-
-def OneCutsAnswer(s, target, a, answers):
-    return all(
-        implies(lambda: CutsCall(s, target, n, v, a, x) and CutsCall(s, target, n_, v_, a, x_), lambda: SameList(n, n_, v, v_, x, x_))
-        for n, v, x in answers
-        for n_, v_, x_ in answers
-    )
-
-
-def OneScoreAnswer(loss, s, target, answers):
-    return all(
-        implies(lambda: ScoreCall(loss, s, target, n, v) and ScoreCall(loss, s, target, n_, v_), lambda: Same(n, n_, v, v_))
-        for n, v in answers
-        for n_, v_ in answers
-    )
-
-
-def OneMarksAnswer(loss, s, target, handed, answers):
-    return all(
-        implies(lambda: MarksCall(loss, s, target, handed, n, v) and MarksCall(loss, s, target, handed, n_, v_), lambda: Same(n, n_, v, v_))
-        for n, v in answers
-        for n_, v_ in answers
-    )
-
-
-# ---- demands/Outcomes: of the answers, texts and documents that are handed to them
-
-
-def Answered(number, values):
-    zero = number == 0
-    some = values != []
-    return zero and some
-
-
-def RefusedWith(numbers, number, values, entry, exit_):
-    listed = Listed(numbers, number)
-    none = values == []
-    kept = exit_ == entry
-    return listed and none and kept
-
-
-def Outcome(numbers, number, values, entry, exit_):
-    return Answered(number, values) or RefusedWith(numbers, number, values, entry, exit_)
-
-
-def Settled(numbers, Call, number, values, answers):
-    outcome = Outcome(numbers, number, values, [], [])
-    meets = Call(number, values)
-    only = all(implies(lambda: Call(n, v), lambda: Same(n, number, v, values)) for n, v in answers)
-    return outcome and meets and only
-
-
-def SettledWay(s, target, set_, number, values, entry, exit, entry_, exit_, answers):
-    outcome = Outcome([12, 13, 14, 15], number, values, [entry, entry_], [exit, exit_])
-    meets = WayCall(s, target, set_, number, values, entry, exit, entry_, exit_)
-    only = all(
-        implies(lambda: WayCall(s, target, set_, n, v, entry, x, entry_, y), lambda: SameLists(n, number, v, values, x, exit, y, exit_))
-        for n, v, x, y in answers
-    )
-    return outcome and meets and only
-
-
-def SettledList(Call, number, values, entry, exit, answers):
-    outcome = Outcome([12, 13, 15], number, values, [entry], [exit])
-    meets = Call(number, values, exit)
-    only = all(implies(lambda: Call(n, v, x), lambda: SameList(n, number, v, values, x, exit)) for n, v, x in answers)
-    return outcome and meets and only
-
-
-def SettledQuestion12(s, answer, runs):
-    meets = Decides(Reached(s, runs), answer)
-    only = all(implies(lambda: Decides(Reached(s, runs), b), lambda: b == answer) for b in (True, False))
-    return meets and only
-
-
-def SettledBags(bag, above, answer):
-    meets = Decides(BagAtMost(bag, above), answer)
-    only = all(implies(lambda: Decides(BagAtMost(bag, above), b), lambda: b == answer) for b in (True, False))
-    return meets and only
-
-
-def SettledBagScore(s, target, number, values, parts, parts_, lengths, lengths_, answers):
-    outcome = Outcome([12, 13, 15], number, values, [parts, lengths], [parts_, lengths_])
-    meets = MultisetsCall(s, target, number, values, parts, parts_, lengths, lengths_)
-    only = all(
-        implies(lambda: MultisetsCall(s, target, n, v, parts, x, lengths, y), lambda: SameLists(n, number, v, values, x, parts_, y, lengths_))
-        for n, v, x, y in answers
-    )
-    return outcome and meets and only
-
-
-# ---- demands/Living
-
-
-def refusals(call):
-    if isinstance(call, (TakeIn, TakeOut)):
-        return [12, 13]
-    if isinstance(call, AddEdge):
-        return [12, 13, 18, 19, 7]
-    return [12, 13, 18, 20]
-
-
-def RefusedBack(call, s, number, t):
-    listed = Listed(refusals(call), number)
-    kept = t == s
-    return listed and kept
-
-
-def SettledCall(call, s, number, t, answers):
-    outcome = number == 0 or RefusedBack(call, s, number, t)
-    meets = CallOf(call, s, number, t)
-    only = all(implies(lambda: CallOf(call, s, n, u), lambda: n == number and u == t) for n, u in answers)
-    return outcome and meets and only
-
-
-def SettledCalls(call, s, answers):
-    return all(implies(lambda: CallOf(call, s, number, t), lambda: SettledCall(call, s, number, t, answers)) for number, t in answers)
-
-
-def LivingMeaning(texts, runs, ends, changes, setups, target, set_, among):
-    fresh = FreshHoldsNothing(texts)
-    opened = OpenedAlways(runs, ends)
-    nothing = NothingChanges(setups, changes)
-    reached = Question12(ends, runs)
-    unheeded = NoHeed(setups, target, set_, among)
-    return fresh and opened and nothing and reached and unheeded
-
-
-def LivingDemand1(s, item, source, to, colour, mark, r, answers):
-    takenIn = SettledCall(TakeIn(item), s, *r[0], answers)
-    takenOut = SettledCall(TakeOut(item), s, *r[1], answers)
-    added = SettledCall(AddEdge(source, to, colour, mark), s, *r[2], answers)
-    removed = SettledCall(RemoveEdge(source, to, colour), s, *r[3], answers)
-    return takenIn and takenOut and added and removed
-
-
-def LivingDemand2(s, item, source, to, colour, mark, r):
-    takenIn = CallOf(TakeIn(item), s, *r[0])
-    takenOut = CallOf(TakeOut(item), s, *r[1])
-    added = CallOf(AddEdge(source, to, colour, mark), s, *r[2])
-    removed = CallOf(RemoveEdge(source, to, colour), s, *r[3])
-    return takenIn and takenOut and added and removed
 
 
 # ---- demands/Sheets
@@ -2844,9 +2884,8 @@ def Reads(text, r, docs):
 
 def SettledReading(text, r, docs, readings):
     outcome = (r.number == 0 and r.line == 0) or (Listed(sheetNumbers, r.number) and r.setup == noItems)
-    meets = Reads(text, r, docs)
     only = all(implies(lambda: Reads(text, p, docs), lambda: p == r) for p in readings)
-    return outcome and meets and only
+    return outcome and only
 
 
 def Named(text, item, sheet, part, at, docs):
@@ -2864,140 +2903,199 @@ def Named(text, item, sheet, part, at, docs):
 
 def SettledName(text, item, sheet, part, at, docs, parts):
     outcome = part != [] or (part == [] and at == sheet)
-    meets = Named(text, item, sheet, part, at, docs)
     only = all(implies(lambda: Named(text, item, sheet, p, a, docs), lambda: p == part and a == at) for p, a in parts)
-    return outcome and meets and only
+    return outcome and only
 
 
 def SettledPortal(loss, text, item, r, numbers):
     outcome = r <= never or any(Listed([13] + sheetNumbers, q) and r == never + q for q in range(16))
-    meets = PortalCall(loss, text, item, r)
     only = all(implies(lambda: PortalCall(loss, text, item, q), lambda: q == r) for q in numbers)
-    return outcome and meets and only
+    return outcome and only
 
 
-# ---- demands/Register
+# ---- demands/Calls: `among` are the outcomes that are looked at
 
 
-def CallTurned(numbers, used, a, entry, exit):
-    listed = Listed(numbers, a.number)
-    count = a.used == used
-    kept = exit == entry
-    return listed and count and kept
+def Every(P, l):
+    if not l:
+        return True
+    return P(l[0]) and Every(P, l[1:])
 
 
-def SameCall(a, b, exit, other):
-    answer = a == b
-    slice_ = exit == other
-    return answer and slice_
+MadeCall = namedtuple("MadeCall", "request outcome")
 
 
-def SettledRegister(numbers, Call, used, a, entry, exit, answers):
-    outcome = a.number == 0 or CallTurned(numbers, used, a, entry, exit)
-    meets = Call(a, exit)
-    only = all(implies(lambda: Call(b, other), lambda: SameCall(b, a, other, exit)) for b, other in answers)
-    return outcome and meets and only
+def made(q, reply, lent):
+    return MadeCall(q, ends(reply, lent))
 
 
-def HandInDemands(s, used, student, target, loss, handed, a, entry, exit, answers):
-    call = lambda b, other: HandInCall(s, used, student, target, loss, handed, b, entry, other)
-    one = SettledRegister([25, 12, 13, 26], call, used, a, entry, exit, answers)
-    two = HandInCall(s, used, student, target, loss, handed, a, entry, exit)
-    return one and two
+# What the calls of demand 3 answer, and those of `demand_two`.
+AllAnswers = namedtuple("AllAnswers", "bases score risk openings lockouts")
+TwoAnswers = namedtuple("TwoAnswers", "closure lost way quick backdoor idle pair forecast cuts attackers next bags lists formed compared reading score risk")
 
 
-def WithdrawDemands(used, student, a, entry, exit, answers):
-    one = SettledRegister([25, 27], lambda b, other: WithdrawCall(used, student, b, entry, other), used, a, entry, exit, answers)
-    two = WithdrawCall(used, student, a, entry, exit)
-    return one and two
+def threeMade(target, list_, list2, opened, locked, r):
+    return [
+        made(("BothBases", target, list_), basesReply(r.bases), [list2]),
+        made(("ScoreOf", False, target), scoreReply(r.score), []),
+        made(("ScoreOf", True, target), riskReply(r.risk), []),
+        made(("MarksOf", False, target, opened), marksReply(r.openings), []),
+        made(("MarksOf", True, target, locked), marksReply(r.lockouts), []),
+    ]
 
 
-def OneHandInAnswer(asked, entry, answers):
-    met = [(a, exit) for a, exit in answers if HandInCall(*asked, a, entry, exit)]
-    return all(SameCall(a, b, exit, other) for a, exit in met for b, other in met)
+def allMade(set_, target, other, opened, locked, kinds, vertices, vertices2, colours, colours2, list_, list2, harden, harden2, places, places2, lengths, lengths2, r):
+    return [
+        made(("Closure", set_), closureReply(r.closure), []),
+        made(("Lost", set_), lostReply(r.lost), []),
+        made(("WayTo", target, set_, vertices, colours), wayReply(r.way), [vertices2, colours2]),
+        made(("QuickYes", target, set_), quickReply(r.quick), []),
+        made(("Backdoor", target), findingReply(r.backdoor), []),
+        made(("Idle", target), findingReply(r.idle), []),
+        made(("OutOfRank", target, other), findingReply(r.pair), []),
+        made(("ForecastOf", target), forecastReply(r.forecast), []),
+        made(("Cuts", target, harden), cutsReply(r.cuts), [harden2]),
+        made(("Attackers", target, kinds), attackerReply(r.attackers), []),
+        made(("NextSet", target, set_), nextReply(r.next), []),
+        made(("Bags", target, places, lengths), bagsReply(r.bags), [places2, lengths2]),
+        *threeMade(target, list_, list2, opened, locked, r.lists),
+    ]
 
 
-def OneWithdrawAnswer(asked, entry, answers):
-    met = [(a, exit) for a, exit in answers if WithdrawCall(*asked, a, entry, exit)]
-    return all(SameCall(a, b, exit, other) for a, exit in met for b, other in met)
+def SettledOn(s, m, among):
+    return Settles(contractOf(m.request, s), m.outcome, among)
 
 
-def SettledHandIns(asked, entry, answers):
-    return all(implies(lambda: HandInCall(*asked, a, entry, exit), lambda: HandInDemands(*asked, a, entry, exit, answers)) for a, exit in answers)
+def FulfilledOn(s, m):
+    return Fulfils(contractOf(m.request, s), m.outcome)
 
 
-def SettledWithdrawals(asked, entry, answers):
-    return all(implies(lambda: WithdrawCall(*asked, a, entry, exit), lambda: WithdrawDemands(*asked, a, entry, exit, answers)) for a, exit in answers)
+def SettledYesNo(P, answer):
+    meets = Decides(P, answer)
+    only = all(implies(lambda: Decides(P, b), lambda: b == answer) for b in (True, False))
+    return meets and only
 
 
-# ---- demands/Demands: each call's answer in `r` is its number and its values; `among` has the other answers, texts and rows that are looked at
+def SettledLiving(call, s, r, among):
+    return Settled(lambda p: p.number, lambda q: back(s, q), [q.number for q in asksOf(call, s)], lambda p: CallOf(call, s, p), r, among)
 
 
-def Demand1(text, item, s, set_, target, other, opened, locked, kinds, vertices, vertices_, colours, colours_, list_, exit, harden, harden_, parts, parts_, lengths, lengths_, r, among):
-    both = among.answers
-    closure = Settled([12, 14], lambda n, v: ClosureCall(s, set_, n, v), *r.closure, both)
-    lost = Settled([12, 14], lambda n, v: LostCall(s, set_, n, v), *r.lost, both)
-    way = SettledWay(s, target, set_, *r.way, vertices, vertices_, colours, colours_, among.ways)
-    bases = SettledList(lambda n, v, x: BasesCall(s, target, n, v, list_, x), *r.bases, list_, exit, among.lists)
-    score = Settled([12, 13], lambda n, v: ScoreCall(False, s, target, n, v), *r.score, both)
-    risk = Settled([12, 13], lambda n, v: ScoreCall(True, s, target, n, v), *r.risk, both)
-    openings = Settled([12, 13], lambda n, v: MarksCall(False, s, target, opened, n, v), *r.openings, both)
-    lockouts = Settled([12, 13], lambda n, v: MarksCall(True, s, target, locked, n, v), *r.lockouts, both)
-    backdoor = Settled([12, 13], lambda n, v: BackdoorCall(s, target, n, v), *r.backdoor, both)
-    idle = Settled([12, 13], lambda n, v: IneffectiveCall(s, target, n, v), *r.idle, both)
-    pair = Settled([12, 13], lambda n, v: InconsistentCall(s, target, other, n, v), *r.pair, both)
-    formed = SettledQuestion12(s, r.formed, among.texts)
-    reading = SettledReading(text, r.reading, among.docs, among.readings)
-    portalScore = SettledPortal(False, text, item, r.portalScore, among.numbers)
-    portalRisk = SettledPortal(True, text, item, r.portalRisk, among.numbers)
-    attackers = Settled([12, 13, 16, 17], lambda n, v: AttackerCall(s, target, kinds, n, v), *r.attackers, both)
-    forecast = Settled([12, 13], lambda n, v: ForecastCall(s, target, n, v), *r.forecast, both)
-    quick = Settled([12, 13, 14], lambda n, v: QuickCall(s, target, set_, n, v), *r.quick, both)
-    cuts = SettledList(lambda n, v, x: CutsCall(s, target, n, v, harden, x), *r.cuts, harden, harden_, among.cuts)
-    next_ = Settled([12, 13, 21], lambda n, v: NextCall(s, target, set_, n, v), *r.next, both)
-    handIn = SettledHandIns(*among.handIns)
-    withdraw = SettledWithdrawals(*among.withdrawals)
-    pool = SettledPools(*among.pools)
-    living = SettledCalls(*among.calls)
-    bagAtMost = SettledBags(opened, locked, r.bagAtMost)
-    bagScore = SettledBagScore(s, target, *r.bagScore, parts, parts_, lengths, lengths_, among.bags)
-    sets = closure and lost and way and quick
-    lists = bases and score and risk and openings and lockouts
-    ahead = forecast and next_ and bagAtMost and bagScore
-    return sets and lists and backdoor and idle and pair and formed and reading and portalScore and portalRisk and ahead and cuts and attackers and handIn and withdraw and pool and living
+def SettledHandIn(s, used, student, target, loss, handed, a, entry, exit, among):
+    call = lambda o: HandInCall(s, used, student, target, loss, handed, o.answer, entry, o.slice)
+    return Settled(lambda o: o.answer.number, lambda q: handsBack(used, entry, q), [25, 12, 13, 26], call, withSlice(a, exit), among)
 
 
-def Demand2(text, item, s, set_, target, other, opened, locked, kinds, vertices, vertices_, colours, colours_, list_, exit, harden, harden_, parts, parts_, lengths, lengths_, r, among):
-    closure = ClosureCall(s, set_, *r.closure)
-    lost = LostCall(s, set_, *r.lost)
-    way = WayCall(s, target, set_, *r.way, vertices, vertices_, colours, colours_)
-    bases = BasesCall(s, target, *r.bases, list_, exit)
-    score = ScoreCall(False, s, target, *r.score)
-    risk = ScoreCall(True, s, target, *r.risk)
-    openings = MarksCall(False, s, target, opened, *r.openings)
-    lockouts = MarksCall(True, s, target, locked, *r.lockouts)
-    backdoor = BackdoorCall(s, target, *r.backdoor)
-    idle = IneffectiveCall(s, target, *r.idle)
-    pair = InconsistentCall(s, target, other, *r.pair)
-    formed = Decides(Reached(s, among.texts), r.formed)
+def SettledWithdrawal(used, student, a, entry, exit, among):
+    call = lambda o: WithdrawCall(used, student, o.answer, entry, o.slice)
+    return Settled(lambda o: o.answer.number, lambda q: handsBack(used, entry, q), [25, 27], call, withSlice(a, exit), among)
+
+
+def PoolAnswered(first, second, r, entry, exit, docs):
+    told = r == Pooled(number=0, sheet=0, line=0, size=r.size)
+    text = IsPooled(first, second, exit[: r.size], docs)
+    behind = exit[r.size :] == entry[r.size :]
+    return told and text and behind
+
+
+def PoolRefusal(r, entry, exit):
+    one = Listed(sheetNumbers, r.number) and Listed([1, 2], r.sheet)
+    both = Listed([22, 23, 24], r.number) and r.sheet == 0 and r.line == 0
+    size = r.size == 0
+    buffer = exit == entry
+    return (one or both) and size and buffer
+
+
+def SettledPool(first, second, r, entry, exit, docs, among):
+    outcome = PoolAnswered(first, second, r, entry, exit, docs) or PoolRefusal(r, entry, exit)
+    only = all(implies(lambda: PoolCall(first, second, r_, entry, x_, docs), lambda: withBuffer(r_, x_) == withBuffer(r, exit)) for r_, x_ in among)
+    return outcome and only
+
+
+# ---- demands/Demands: `among` has, field by field, the inputs and outcomes that are looked at
+
+
+def SettledForC(among):
+    told = lambda c, results: all(implies(lambda: Told(c, *x), lambda: SettledTold(c, *x, results)) for x in results)
+    asks = lambda words, r: Asks(lambda q: q, [asksReached(setupIn(words), among.runs)], lambda n: n == 0, r)
+    calls = all(told(contractOf(q, s), results) for q, s, results in among.told)
+    living = all(told(livingCall(call, words, setups), results) for call, words, setups, results in among.lived)
+    name = all(told(nameCall(text, item), results) for text, item, results in among.names)
+    check = all(
+        implies(lambda: asks(words, r), lambda: Settled(lambda n: n, lambda q: q, [12], lambda n: asks(words, n), r, range(16)))
+        for words in among.words
+        for r in range(16)
+    )
+    reading = all(
+        implies(lambda: ReadingCall(text, n, l, entry, x) and ReadingCall(text, n_, l_, entry, x_), lambda: n == n_ and l == l_ and x == x_)
+        for text, entry, results in among.readings
+        for n, l, x in results
+        for n_, l_, x_ in results
+    )
+    return calls and living and name and check and reading
+
+
+def Demand1(text, item, s, calls, opened, locked, r, among):
+    onSetup = Every(lambda m: SettledOn(s, m, among.outcomes), calls)
+    formed = SettledYesNo(Reached(s, among.runs), r.formed)
+    bagAtMost = SettledYesNo(BagAtMost(opened, locked), r.compared)
+    reading = SettledReading(text, r.reading, among.docs, among.read)
+    portalScore = SettledPortal(False, text, item, r.score, among.numbers)
+    portalRisk = SettledPortal(True, text, item, r.risk, among.numbers)
+    handIn = all(implies(lambda: HandInCall(*asked, o.answer, entry, o.slice), lambda: SettledHandIn(*asked, o.answer, entry, o.slice, those)) for asked, entry, those in among.handIns for o in those)
+    withdraw = all(implies(lambda: WithdrawCall(*asked, o.answer, entry, o.slice), lambda: SettledWithdrawal(*asked, o.answer, entry, o.slice, those)) for asked, entry, those in among.withdrawals for o in those)
+    pool = all(implies(lambda: PoolCall(a, b, p, entry, x, docs), lambda: SettledPool(a, b, p, entry, x, docs, those)) for a, b, entry, docs, those in among.pools for p, x in those)
+    living = all(implies(lambda: CallOf(call, t, p), lambda: SettledLiving(call, t, p, those)) for call, t, those in among.livings for p in those)
+    forC = SettledForC(among)
+    return onSetup and formed and bagAtMost and reading and portalScore and portalRisk and handIn and withdraw and pool and living and forC
+
+
+def Papers(among):
+    """What each sentence is asked of stands in `among.papers`, by its name."""
+    asked = among.papers
+    report = WholeReport(*asked.report)
+    quick = all(QuickAgrees(*x) for x in asked.quick)
+    routes = all(
+        implies(lambda: WithoutRecovery(s, g) and HasAccess(g, lambda i: Member(x, i), v), lambda: HasAccess(s.graph, lambda i: Member(x, i), v))
+        for s, g in asked.routes
+        for x in world.sets
+        for v in world.vertices
+    )
+    scores_ = all(implies(lambda: Compared(False, s, v, r, r_), lambda: r <= r_) for s, v, r, r_ in asked.scores)
+    prints = all(UnmixedPrints(sheet) for sheet in asked.prints)
+    sums = SumsHold(asked.sums)
+    fresh = FreshHoldsNothing(asked.fresh)
+    opened = OpenedAlways(*asked.opened)
+    stays = RefusedStays(*asked.stays)
+    words = LivesInWords(asked.words)
+    nothing = NothingChanges(*asked.nothing)
+    reached = Question12(*asked.reached)
+    unheeded = NoHeed(*asked.unheeded)
+    walk = WholeWalk(asked.walk)
+    renaming = Renaming(*asked.renaming)
+    valid = PooledValid(asked.valid)
+    enough = AlwaysEnough(asked.enough)
+    text = PooledText(*asked.text)
+    pooling = Pooling(*asked.pooling)
+    register = RegisterLaw(*asked.register)
+    point3 = routes and scores_ and prints
+    point8 = fresh and opened and stays and words and nothing and reached and unheeded
+    point11 = renaming and valid and enough and text and pooling
+    return report and quick and point3 and sums and point8 and walk and point11 and register
+
+
+def Demand2(text, item, s, calls, opened, locked, r, among):
+    onSetup = Every(lambda m: FulfilledOn(s, m), calls)
+    formed = Decides(Reached(s, among.runs), r.formed)
+    bagAtMost = Decides(BagAtMost(opened, locked), r.compared)
     reading = Reads(text, r.reading, among.docs)
     asked = r.reading == readSheet(text)
-    portalScore = PortalCall(False, text, item, r.portalScore)
-    portalRisk = PortalCall(True, text, item, r.portalRisk)
-    attackers = AttackerCall(s, target, kinds, *r.attackers)
-    forecast = ForecastCall(s, target, *r.forecast)
-    quick = QuickCall(s, target, set_, *r.quick)
-    cuts = CutsCall(s, target, *r.cuts, harden, harden_)
-    next_ = NextCall(s, target, set_, *r.next)
-    register = RegisterLaw(*among.afternoons)
-    pool = PoolMeaning(*among.meaning)
-    living = LivingMeaning(*among.living)
-    bagAtMost = Decides(BagAtMost(opened, locked), r.bagAtMost)
-    bagScore = MultisetsCall(s, target, *r.bagScore, parts, parts_, lengths, lengths_)
-    sets = closure and lost and way and quick
-    lists = bases and score and risk and openings and lockouts
-    ahead = forecast and next_ and bagAtMost and bagScore
-    return sets and lists and backdoor and idle and pair and formed and reading and asked and portalScore and portalRisk and ahead and cuts and attackers and register and pool and living
+    portalScore = PortalCall(False, text, item, r.score)
+    portalRisk = PortalCall(True, text, item, r.risk)
+    return onSetup and formed and bagAtMost and reading and asked and portalScore and portalRisk and Papers(among)
+
+
+def Demand3Reached(s, target, calls, runs):
+    return implies(lambda: Reached(s, runs) and target < s.count, lambda: Every(lambda m: Answers(contractOf(m.request, s), m.outcome), calls))
 
 
 # ---- reference/Meaning
@@ -3122,14 +3220,56 @@ def WholeReport(rest, report, here, cursors, lists_of_parts):
     )
 
 
-# ---- portal_results/Told: `candidates` are the lists of values among which the answer's are looked for
+# ---- portal_words/Words: which words say a setup; how they say it, and are made, is computed
+
+heldPlace = 1281
+
+openedPlace = 1282
 
 
-def Told(Call, number, fields, candidates):
-    return any(Call(number, values) and fields == filled(len(fields), values) for values in candidates)
+def wordAt(words, i):
+    return getD(words, i, 0)
 
 
-# ---- portal_reading/Reading
+def SaysSetup(words):
+    long = setupWords <= len(words)
+    kinds = all(implies(lambda: v < 64, lambda: wordAt(words, 1 + 4 * v) <= 1) for v in range(66))
+    return long and kinds
+
+
+def kindsSaid(n, words):
+    if n == 0:
+        return True
+    return wordAt(words, 1 + 4 * (n - 1)) <= 1 and kindsSaid(n - 1, words)
+
+
+def saysSetup(words):
+    return setupWords <= len(words) and kindsSaid(64, words)
+
+
+def spelt(words):
+    return Setup(
+        count=wordAt(words, 0),
+        vertices=tuple(vertexIn(words, v) for v in range(64)),
+        graph=graphIn(words, 257),
+        recovery=graphIn(words, 769),
+        held=wordAt(words, heldPlace),
+        opened=wordAt(words, openedPlace),
+    )
+
+
+def setupIn(words):
+    return spelt(words) if saysSetup(words) else noItems
+
+
+def Strict(lists, setups, rests):
+    says = all(implies(lambda: SaysSetup(words), lambda: words[:setupWords] == wordsOf(setupIn(words))) for words in lists)
+    none = all(implies(lambda: not SaysSetup(words), lambda: setupIn(words) == noItems) for words in lists)
+    back_ = all(implies(lambda: WellFormed(s), lambda: setupIn(wordsOf(s) + rest) == s) for s in setups for rest in rests)
+    return says and none and back_
+
+
+# ---- portal_sheets/Reading
 
 
 def ReadingCall(text, number, line, entry, exit):
@@ -3142,17 +3282,22 @@ def ReadingCall(text, number, line, entry, exit):
     return refused_ and short and accepted_ and lined and room and untouched
 
 
-def NameCall(text, item, number, start, size):
-    refused_ = implies(lambda: readSheet(text).number != 0, lambda: number == readSheet(text).number)
-    noItem = implies(lambda: readSheet(text).number == 0 and readSheet(text).setup.count <= item, lambda: number == 13)
-    accepted_ = implies(lambda: readSheet(text).number == 0 and item < readSheet(text).setup.count, lambda: number == 0)
-    begins = start == nameStart(text, item)
-    long = size == len(nameOf(text, item))
-    bytes_ = text[start:][:size] == nameOf(text, item)
-    return refused_ and noItem and accepted_ and begins and long and bytes_
+NamePart = namedtuple("NamePart", "start size")
 
 
-def SaysSetup(texts, numbers, lines, entry, exits):
+def HoldsName(text, item, p):
+    begins = p.start == nameStart(text, item)
+    long = p.size == len(nameOf(text, item))
+    bytes_ = text[p.start :][: p.size] == nameOf(text, item)
+    return begins and long and bytes_
+
+
+def nameCall(text, item):
+    among = [NamePart(start, size) for start in range(len(text) + 1) for size in range(mostName + 2)]
+    return telling([asksSheet(text), asks13(readSheet(text).setup, item)], among, lambda p: HoldsName(text, item, p), lambda p: [p.start, p.size])
+
+
+def ReadBack(texts, numbers, lines, entry, exits):
     return all(
         implies(lambda: ReadingCall(text, number, line, entry, exit) and setupWords <= len(entry), lambda: setupIn(exit) == readSheet(text).setup)
         for text in texts
@@ -3162,137 +3307,72 @@ def SaysSetup(texts, numbers, lines, entry, exits):
     )
 
 
-# ---- portal_closures/Check
+# ---- portal_sets/Check
 
 
-def CheckCall(s, r):
-    yes = implies(lambda: WellFormed(s), lambda: r == 0)
-    no = implies(lambda: not WellFormed(s), lambda: r == 12)
-    return yes and no
+def asksReached(s, runs):
+    return Question(12, lambda: Reached(s, runs))
 
 
-# ---- portal_living/Living: the setups that a call may answer are among those that are handed in
+# ---- portal_living/Living: the setups that a call may answer, and the words on the way, are among those that are handed in
 
 
-def PutBack(n, t, number, entry, exit):
-    refused_ = implies(lambda: n != 0, lambda: number == n and exit == entry)
-    short = implies(lambda: n == 0 and len(entry) < setupWords, lambda: number == 15 and exit == entry)
-    room = implies(lambda: n == 0 and setupWords <= len(entry), lambda: number == 0 and exit == written(wordsOf(t), entry))
-    return refused_ and short and room
-
-
-def LivingCall(call, number, entry, exit, answers):
-    return any(CallOf(call, setupIn(entry), n, t) and PutBack(n, t, number, entry, exit) for n, t in answers)
-
-
-def SaysRedrawn(calls, entry, exits, answers):
-    return all(
-        implies(lambda: LivingCall(call, 0, entry, exit, answers), lambda: CallOf(call, setupIn(entry), 0, setupIn(exit))) for call in calls for exit in exits
+def livingCall(call, words, setups):
+    return Contract(
+        lent=[words],
+        questions=asksOf(call, setupIn(words)),
+        among=setups,
+        Right=lambda t: Redrawn(setupIn(words), after(call, drawingOf(setupIn(words))), t),
+        values=lambda t: [],
+        writes=lambda t: [wordsOf(t)],
     )
 
 
-def OneLivingResult(calls, entry, results, answers):
-    return all(
-        implies(lambda: LivingCall(call, n, entry, x, answers) and LivingCall(call, n_, entry, x_, answers), lambda: n == n_ and x == x_)
-        for call in calls
-        for n, x in results
-        for n_, x_ in results
+def Redrew(call, number, entry, exit, setups):
+    return Told(livingCall(call, entry, setups), number, [], [exit])
+
+
+def NoWordChanges(asked, setups):
+    takeIn = all(
+        implies(lambda: WellFormed(setupIn(entry)) and Member(setupIn(entry).held, v) and Redrew(TakeIn(v), number, entry, exit, setups), lambda: number == 0 and exit == entry)
+        for v, number, entry, exit in asked
     )
-
-
-# ---- demands/OneResult: of all pairs of the results that are handed to them
-
-
-def OneResult(Call, results, candidates):
-    return all(
-        implies(lambda: len(f) == len(f_) and Told(Call, n, f, candidates) and Told(Call, n_, f_, candidates), lambda: Same(n, n_, f, f_))
-        for n, f in results
-        for n_, f_ in results
-    )
-
-
-def OneResultOnSetups(words, set_, target, other, sets, kinds, a, b, numbers, results, values, ways, lists, cut_lists, entry, registers, bag_lists, redrawn, setups):
-    s = setupIn(words)
-    check = all(implies(lambda: CheckCall(s, r) and CheckCall(s, r_), lambda: r == r_) for r in numbers for r_ in numbers)
-    closure = OneResult(lambda n, v: ClosureCall(s, set_, n, v), results, values)
-    lost = OneResult(lambda n, v: LostCall(s, set_, n, v), results, values)
-    wayIn = all(
+    takeOut = all(
         implies(
-            lambda: len(f) == len(f_)
-            and Told(lambda n, v: WayCall(s, target, set_, n, v, a, x, a, y), n, f, values)
-            and Told(lambda n, v: WayCall(s, target, set_, n, v, a, x_, a, y_), n_, f_, values),
-            lambda: SameLists(n, n_, f, f_, x, x_, y, y_),
+            lambda: WellFormed(setupIn(entry)) and v < setupIn(entry).count and not Member(setupIn(entry).held, v) and Redrew(TakeOut(v), number, entry, exit, setups),
+            lambda: number == 0 and exit == entry,
         )
-        for n, f, x, y in ways
-        for n_, f_, x_, y_ in ways
+        for v, number, entry, exit in asked
     )
-    lists_ = all(
-        implies(
-            lambda: len(f) == len(f_)
-            and Told(lambda n, v: BasesCall(s, target, n, v, b, x), n, f, values)
-            and Told(lambda n, v: BasesCall(s, target, n, v, b, x_), n_, f_, values),
-            lambda: SameList(n, n_, f, f_, x, x_),
-        )
-        for n, f, x in lists
-        for n_, f_, x_ in lists
-    )
-    score = OneResult(lambda n, v: ScoreCall(False, s, target, n, v), results, values)
-    risk = OneResult(lambda n, v: ScoreCall(True, s, target, n, v), results, values)
-    openings = OneResult(lambda n, v: MarksCall(False, s, target, sets, n, v), results, values)
-    lockouts = OneResult(lambda n, v: MarksCall(True, s, target, sets, n, v), results, values)
-    backdoor = OneResult(lambda n, v: BackdoorCall(s, target, n, v), results, values)
-    idle = OneResult(lambda n, v: IneffectiveCall(s, target, n, v), results, values)
-    outOfRank = OneResult(lambda n, v: InconsistentCall(s, target, other, n, v), results, values)
-    forecast = OneResult(lambda n, v: ForecastCall(s, target, n, v), results, values)
-    opens = OneResult(lambda n, v: QuickCall(s, target, set_, n, v), results, values)
-    cuts = all(
-        implies(
-            lambda: len(f) == len(f_)
-            and Told(lambda n, v: CutsCall(s, target, n, v, a, x), n, f, values)
-            and Told(lambda n, v: CutsCall(s, target, n, v, a, x_), n_, f_, values),
-            lambda: SameList(n, n_, f, f_, x, x_),
-        )
-        for n, f, x in cut_lists
-        for n_, f_, x_ in cut_lists
-    )
-    attackers = OneResult(lambda n, v: AttackerCall(s, target, kinds, n, v), results, values)
-    next_ = OneResult(lambda n, v: NextCall(s, target, set_, n, v), results, values)
-    met = [(c, x) for c, x in registers if HandInCall(s, 1, 7, target, False, sets, c, entry, x)]
-    handIn = all(SameCall(c, d, x, y) for c, x in met for d, y in met)
-    bags = all(
-        implies(
-            lambda: len(f) == len(f_)
-            and Told(lambda n, v: MultisetsCall(s, target, n, v, [9] * 14, x, [9], y), n, f, values)
-            and Told(lambda n, v: MultisetsCall(s, target, n, v, [9] * 14, x_, [9], y_), n_, f_, values),
-            lambda: SameLists(n, n_, f, f_, x, x_, y, y_),
-        )
-        for n, f, x, y in bag_lists
-        for n_, f_, x_, y_ in bag_lists
-    )
-    living = all(
-        implies(lambda: LivingCall(c, n, words, x, setups) and LivingCall(c, n_, words, x_, setups), lambda: n == n_ and x == x_)
-        for c in [TakeIn(target)]
-        for n, x in redrawn
-        for n_, x_ in redrawn
-    )
-    told = (check, closure, lost, wayIn, lists_, score, risk, openings, lockouts, backdoor, idle, outOfRank, forecast, opens, cuts, attackers, next_, handIn, bags)
-    return all(told) and living
+    return takeIn and takeOut
 
 
-def OneResultOnSheets(text, item, entry, readings, parts, second, lent, pools, docs):
-    reading = all(
-        implies(lambda: ReadingCall(text, n, l, entry, x) and ReadingCall(text, n_, l_, entry, x_), lambda: n == n_ and l == l_ and x == x_)
-        for n, l, x in readings
-        for n_, l_, x_ in readings
+def MadeOn(entry, calls, numbers, exit, lists, setups):
+    if not calls or not numbers:
+        return not calls and not numbers and entry == exit
+    return any(Redrew(calls[0], numbers[0], entry, words, setups) and MadeOn(words, calls[1:], numbers[1:], exit, lists, setups) for words in lists)
+
+
+def Shows(s, d, words):
+    redrawn = Redrawn(s, d, setupIn(words))
+    held = all(Iff(Member(wordAt(words, heldPlace), v), d.Held(v)) for v in world.vertices)
+    opened = AccessFrom(setupIn(words).graph, wordAt(words, heldPlace), wordAt(words, openedPlace))
+    return redrawn and held and opened
+
+
+def LivesInWords(asked):
+    shows = all(
+        implies(
+            lambda: ReadingCall(text, number, line, entry, fresh) and setupWords <= len(entry) and MadeOn(fresh, calls, numbers, words, lists, setups),
+            lambda: Shows(readSheet(text).setup, leftBy(calls, numbers, drawingOf(readSheet(text).setup)), words),
+        )
+        for text, number, line, entry, fresh, calls, numbers, words, lists, setups in asked
     )
-    name = all(
-        implies(lambda: NameCall(text, item, n, p, k) and NameCall(text, item, n_, p_, k_), lambda: n == n_ and p == p_ and k == k_)
-        for n, p, k in parts
-        for n_, p_, k_ in parts
+    refused_ = all(
+        implies(
+            lambda: ReadingCall(text, number, line, entry, fresh) and number != 0 and MadeOn(fresh, calls, numbers, words, lists, setups),
+            lambda: words == fresh and all(implies(lambda: Listed(numbers, n), lambda: n == 12) for n in range(28)),
+        )
+        for text, number, line, entry, fresh, calls, numbers, words, lists, setups in asked
     )
-    pool = all(
-        implies(lambda: PoolCall(text, second, r, lent, x, docs) and PoolCall(text, second, r_, lent, x_, docs), lambda: SamePool(r, r_, x, x_))
-        for r, x in pools
-        for r_, x_ in pools
-    )
-    return reading and name and pool
+    return shows and refused_

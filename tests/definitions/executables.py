@@ -22,7 +22,7 @@ Made = namedtuple("Made", "call answer exit")
 
 Credential, Account = "Credential", "Account"
 
-# ---- bounds: setup/Bounds, scores/Never, antichains/Antichains, multisets/Multisets, portal_setup/Words
+# ---- bounds: setup/Bounds, scores/Never, antichains/Antichains, multisets/Multisets, portal_words/Words
 
 mostItems = 64
 mostName = 16
@@ -611,7 +611,7 @@ def reportBy(less, sheet):
     return reportWith(back, idle, sheet)
 
 
-# ---- portal_setup: a setup as plain numbers
+# ---- portal_words: a setup as plain numbers
 
 
 def wordsOf(s):
@@ -625,17 +625,12 @@ def wordsOf(s):
     return [s.count] + vertices + rows + [s.held, s.opened]
 
 
-def setupIn(words):
+def vertexIn(words, v):
     blank = 2**64 - 1
     word = lambda i: getD(words, i, 0)
     value = lambda n: None if n == blank else n
-    place = lambda v: Vertex(Credential if word(1 + 4 * v) == 0 else Account, value(word(2 + 4 * v)), value(word(3 + 4 * v)), word(4 + 4 * v))
-    graph = lambda at: Graph(tuple(Rows(tuple(word(at + 8 * v + c) for c in range(8))) for v in range(64)))
-    return Setup(word(0), tuple(place(v) for v in range(64)), graph(257), graph(769), word(1281), word(1282))
+    return Vertex(Credential if word(1 + 4 * v) == 0 else Account, value(word(2 + 4 * v)), value(word(3 + 4 * v)), word(4 + 4 * v))
 
 
-# ---- portal_results: an answer's values as the fields of a struct
-
-
-def filled(n, v):
-    return v[:n] + [0] * (n - len(v))
+def graphIn(words, at):
+    return Graph(tuple(Rows(tuple(getD(words, at + 8 * v + c, 0) for c in range(8))) for v in range(64)))

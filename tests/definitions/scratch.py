@@ -15,7 +15,7 @@ FILES = """
 vertex_set/Set vertex_set/Order
 setup/Bounds setup/Setup setup/Calls
 derivations/Derivation derivations/Access derivations/Lockout derivations/Both derivations/Passes derivations/Way
-formed/WellFormed living/Calls
+formed/WellFormed questions/Asks questions/Contract questions/Questions questions/Told living/Calls
 scores/Never bases/Base bases/Score bases/Marks
 access/Answers quick_yes/Answers answers/Answers
 antichains/Antichains forecasts/Forecast forecasts/Answers cut_sets/Cuts cut_sets/Answers
@@ -29,7 +29,7 @@ findings/Findings findings/Answers
 reference/Tests reference/Closures reference/Bases
 report_text/Rows report_text/Report report_text/Unmixed
 report_facts/Texts report_writer/Rest
-portal_setup/Words portal_results/Told portal_reading/Reading
+portal_words/Words portal_sheets/Reading
 worked_examples/Sheets worked_examples/Table
 """.split()
 

@@ -172,7 +172,7 @@ static inline const char *portal_refusal_text(uint64_t number)
 #define PORTAL_MAX_SHEET 16384
 #define PORTAL_MAX_NAME 16
 /* Bytes that are always enough for a pooled sheet. */
-#define PORTAL_POOL_BYTES 12526
+#define PORTAL_POOL_BYTES 11626
 /* Bytes that are always enough for a saved sheet. */
 #define PORTAL_SAVE_BYTES 11626
 #define PORTAL_MAX_VALUE UINT64_C(4000000000)

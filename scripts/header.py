@@ -148,12 +148,10 @@ faults += ["PORTAL_MAX_VALUE is another number"] * (macro(header, "PORTAL_MAX_VA
 faults += ["man/report.1 has another largest value"] * (f"0 to {largest:,}" not in read("man/report.1"))
 never = constant(read("crates/scores/src/lib.rt"), "NEVER")
 faults += ["PORTAL_NEVER is another number"] * (macro(header, "PORTAL_NEVER") != f"(UINT64_C(1) << {never.bit_length() - 1})" or never.bit_count() != 1)
-enough = re.search(r"^poolBytes = (\d+)$", read("crates/pool_format/specs/Meaning.antt"), re.M).group(1)
-faults += ["PORTAL_POOL_BYTES is another number"] * (macro(header, "PORTAL_POOL_BYTES") != enough)
-faults += ["tests/product has another number of bytes for a pooled sheet"] * (str(constant(read("tests/product/src/lib.rs"), "POOL_BYTES")) != enough)
-longest = re.search(r"^saveBytes = (\d+)$", read("crates/save_format/specs/Meaning.antt"), re.M).group(1)
-faults += ["PORTAL_SAVE_BYTES is another number"] * (macro(header, "PORTAL_SAVE_BYTES") != longest)
-faults += ["tests/product has another number of bytes for a saved sheet"] * (str(constant(read("tests/product/src/lib.rs"), "SAVE_BYTES")) != longest)
+longest = re.search(r"^longestSheet = (\d+)$", read("crates/sheet_format/specs/Meaning.antt"), re.M).group(1)
+for name in ("POOL_BYTES", "SAVE_BYTES"):
+    faults += [f"PORTAL_{name} is another number"] * (macro(header, f"PORTAL_{name}") != longest)
+    faults += [f"tests/product has another number as {name}"] * (str(constant(read("tests/product/src/lib.rs"), name)) != longest)
 # The opened set is the last word.
 stated = re.search(r"^setupWords = (\d+)$", read("crates/portal_words/specs/Words.antt"), re.M).group(1)
 lengths = {macro(header, "PORTAL_SETUP_WORDS"), str(opened + 1), stated}

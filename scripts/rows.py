@@ -4,9 +4,10 @@
 The crates of the program `report` that write rows, and all crates below them, have no byte array: none that a function makes, no field, no
 constant and no answer. The program has two, named below. Of the kit they use what is named below, and nothing else. So there is no byte array
 to build a row in, or its digits, names and sums, and to copy them from. Byte strings are no such place: they are constants, and rows have
-their fixed words from them. Arrays of words and of structs are not looked at: that none of them holds a row's bytes is read. Nor is pooling,
-which writes a sheet and no report. The exit status is 1 where something of this does not hold. `rows.py FOLDER` looks at another copy of the
-repository.
+their fixed words from them. Where rows are written, arrays of words and of structs are named below too, by function, so that no row is packed
+into words; and no function reads from the bytes that are lent to it for writing, so that no row is built behind its place and moved. Pooling is
+not looked at, which writes a sheet and no report. The exit status is 1 where something of this does not hold. `rows.py FOLDER` looks at another
+copy of the repository.
 """
 import re
 import sys
@@ -20,6 +21,18 @@ WHOLE = "report"
 GROUND = {"writing", "streams"}
 # The byte arrays that there are, by crate, function and name: what is read, and the bytes that go out. Each is made once.
 OWN = {("report", "main", "sheet"), ("report", "print_report", "out")}
+# The arrays of words and of structs that functions make where rows are written, by crate, function and name (empty where it has none): tables,
+# lists and figures, and no bytes. Each is made once.
+PERMITTED = {
+    ("report", "print_report", "opening"),
+    ("report", "print_report", "lockout"),
+    ("report", "print_report", "list"),
+    ("report_facts", "ranks_of", "r"),
+    ("report_facts", "below_all", "r"),
+    ("report_facts", "name_places", "from"),
+    ("report_facts", "name_places", "to"),
+    *(("report_writer", "no_facts", field) for field in ("starts", "losses", "scores", "risks", "below", "from", "to")),
+}
 # What is used of the kit, always by its whole path, and of it what gives a byte array.
 KIT = {"io::large_buffer", "os::fail", "os::errno", "libc::EINTR", "libc::read", "libc::write"}
 BUFFERS = {"io::large_buffer"}
@@ -91,7 +104,17 @@ CHANGES = [
     ("report", "fn print_report() {", "use io;\nfn print_report() {", 1),
     ("report", "fn print_report() {", 'fn print_report() {\n    let line = os::path::ended(b"row");', 1),
     ("streams", "libc::write(1, b)", "io::write_all(1, b)", 1),
+    ("report_rows", "{\n", "{\n    let mut words = [0u64; 40];\n", 1),
+    ("report_rows", "{\n", "{\n    let row = Row { words: [0; 40] };\n", 1),
+    ("ground", "    n", "    let mut words = [0u64; 40]; n", 0),
+    ("report_rows", "ground::least(1) as u8", "out[9]", 1),
+    ("report_rows", "{\n", "{\n    let free = out;\n", 1),
+    ("report_rows", "{\n", "{\n    shown(&out[9..]);\n", 1),
+    ("writing", "out[at] = b;", "if out[at] == b { out[at] = b; }", 1),
+    ("writing", "out[at] = b;", "out[at] = out[at + 1];", 1),
 ]
+# What each crate of that program depends on.
+TRIED = {crate: set(used.split()) for crate, (used, _) in PROGRAM.items()}
 
 
 def read_map(root):
@@ -160,18 +183,65 @@ def element(text):
     return text
 
 
-def arrays(head, body, constants):
-    """Yields the place and the name of each byte array that a body makes; the name is empty where it has none."""
+def made(body):
+    """Yields the place, the text before it, the first element and the field of each array that a body makes; no field where it is none of a struct."""
     for found in re.finditer(r"\[", body):
         before, first = body[: found.start()].rstrip(), element(body[found.end() :])
         word = re.search(r"(\w*)$", before).group(1)
         index = word and word not in ("return", "in", "mut", "else", "match", "if", "while") or before.endswith((")", "]"))
+        field = re.search(r"[{,]\s*(\w+)\s*:$", before)
+        # The type of a variable, and that of an array's elements, make none.
+        if not index and not re.search(r"\blet\s+(?:mut\s+)?\w+\s*:\s*\[*$", before) and not re.fullmatch(r"[ui]\d+|[ui]size|bool", first.strip()):
+            yield found.start(), before, first, field.group(1) if field else ""
+
+
+def arrays(head, body, constants):
+    """Yields the place and the name of each byte array that a body makes; the name is empty where it has none."""
+    for place, before, first, field in made(body):
         # A field of a struct has its type where the struct is declared.
-        field = re.search(r"[{,]\s*\w+\s*:$", before)
-        if not index and not field and is_byte(first, head, body, constants):
-            yield found.start(), name_of(before)
+        if not field and is_byte(first, head, body, constants):
+            yield place, name_of(before)
     for found in re.finditer("|".join([COPIED.pattern, *map(re.escape, sorted(BUFFERS))]), body):
         yield found.start(), name_of(body[: found.start()].rstrip())
+
+
+def lent_for_writing(head):
+    """The parameters that are bytes lent for writing."""
+    return re.findall(r"\b(\w+)\s*:\s*&\s*mut\s*\[\s*u8\s*\]", head)
+
+
+def calls(body):
+    """Yields the name, the place of its bracket, and the arguments with their places, of each call in a body."""
+    for found in re.finditer(r"((?:\w+::)*[a-z_]\w*)\(", body):
+        depth, at, start, args = 0, found.end(), found.end(), []
+        while at < len(body) and depth >= 0:
+            if depth == 0 and body[at] in ",)":
+                args.append((start, body[start:at].strip()))
+                start = at + 1
+            depth += (body[at] in "([{") - (body[at] in ")]}")
+            at += 1
+        yield found.group(1), args
+
+
+def lends_on(body, name, signatures):
+    """The places at which these bytes are handed on to a function that is lent them for writing too."""
+    whole = re.compile(rf"{name}|&mut {name}\[.*\]", re.S)
+    for called, args in calls(body):
+        kinds = signatures.get(called.split("::")[-1], set())
+        for at, (start, arg) in enumerate(args):
+            if whole.fullmatch(arg) and (called == "libc::read" or kinds and all(len(k) > at and "&mut [u8]" in k[at] for k in kinds)):
+                yield start + body[start:].index(name)
+
+
+def reads_back(head, body, signatures):
+    """Yields the place of each use of bytes lent for writing that is no write, no length and no lending on."""
+    for name in lent_for_writing(head):
+        fine = set(lends_on(body, name, signatures))
+        for found in re.finditer(rf"\b{name}\b", body):
+            behind = body[found.end() :]
+            stored = re.match(r"\[[^\[\]]*(?:\[[^\]]*\][^\[\]]*)*\]\s*=(?!=)", behind)
+            if not stored and not behind.startswith(".len()") and found.start() not in fine:
+                yield found.start()
 
 
 def name_of(before):
@@ -196,8 +266,8 @@ def line_faults(lines, kit):
                 yield number, f"{whole}, of which it is not known what it gives"
 
 
-def faults_of(crate, text, kit, constants, seen):
-    """The faults of a source without comments; the program's own arrays go to `seen`."""
+def faults_of(crate, text, kit, constants, seen, signatures):
+    """The faults of a source without comments; the arrays that are named above go to `seen`. Where rows are written `signatures` are known."""
     lines = text.split("\n")
     yield from line_faults(lines, kit)
     for start, _, name, head, _ in functions(lines):
@@ -208,10 +278,37 @@ def faults_of(crate, text, kit, constants, seen):
             last += 1
         body = "{" + "\n".join(lines[first - 1 : last]).partition("{")[2]
         clean = re.sub(r"\s*(requires|ensures)\b.*", "", head)
-        for place, own in arrays(clean, body, constants):
+        bytes_at = dict(arrays(clean, body, constants))
+        for place, own in bytes_at.items():
             seen[crate, name, own] += 1
             if (crate, name, own) not in OWN:
                 yield first + body.count("\n", 0, place), f"{name} makes a byte array"
+        if signatures:
+            yield from row_faults(crate, name, clean, body, seen, signatures, first, bytes_at)
+
+
+def row_faults(crate, name, head, body, seen, signatures, first, bytes_at):
+    """The faults of a function where rows are written: another array, or bytes that are read where they are lent for writing."""
+    for place, before, _, field in made(body):
+        own = crate, name, field or name_of(before)
+        if place in bytes_at:
+            continue
+        seen[own] += 1
+        if own not in PERMITTED:
+            yield first + body.count("\n", 0, place), f"{name} makes an array that is not named"
+    for place in reads_back(head, body, signatures):
+        yield first + body.count("\n", 0, place), f"{name} reads from bytes that are lent for writing"
+
+
+def signatures_of(texts):
+    """Of each function's name the kinds of its parameters, one tuple for each function of that name."""
+    found = {}
+    for text in texts:
+        for _, _, name, head, _ in functions(text.split("\n")):
+            inside = re.sub(r"\s+", " ", head.partition("(")[2].partition(")")[0])
+            kinds = tuple(part.partition(":")[2].strip() for part in inside.split(",") if part.strip())
+            found.setdefault(name, set()).add(kinds)
+    return found
 
 
 def below(crates, needs):
@@ -234,11 +331,13 @@ def check(needs, sources):
     for _, _, text in looked_at:
         for name, kind in re.findall(r"\bconst (\w+)\s*:\s*([^=]+?)\s*=", text):
             constants.setdefault(name, set()).add(kind)
+    signatures = signatures_of(text for _, _, text in looked_at)
     for crate, path, text in looked_at:
-        faults += [f"{path}:{line}: {fault}" for line, fault in faults_of(crate, text, kit, constants, seen)]
-    for crate, name, own in sorted(OWN):
+        found = faults_of(crate, text, kit, constants, seen, signatures if crate in writers else None)
+        faults += [f"{path}:{line}: {fault}" for line, fault in found]
+    for crate, name, own in sorted(OWN | {named for named in PERMITTED if named[0] in needs and needs is not TRIED}):
         if seen[crate, name, own] != 1:
-            faults.append(f"{crate}: {name} makes the byte array {own} {seen[crate, name, own]} times and not once")
+            faults.append(f"{crate}: {name} makes the array {own} {seen[crate, name, own]} times and not once")
     faults += [f"{crate}: no such crate" for crate in sorted({WHOLE, *GROUND} - set(needs))]
     return writers, looked_in - writers, faults
 
@@ -251,10 +350,9 @@ def trials():
         found = len(list(arrays(head, plain(body), constants)))
         if found != many:
             yield f"{body} makes {found} byte arrays and not {many}, says the check"
-    needs = {crate: set(used.split()) for crate, (used, _) in PROGRAM.items()}
     for crate, old, new, many in [("report", "out", "out", 0), *CHANGES]:
         sources = {name: {name: text.replace(old, new, 1) if name == crate else text} for name, (_, text) in PROGRAM.items()}
-        found = check(needs, sources)[2]
+        found = check(TRIED, sources)[2]
         if len(found) != many or old not in PROGRAM[crate][1]:
             yield f"{crate} with {new!r} for {old!r} has {len(found)} faults and not {many}, says the check"
 

@@ -26,6 +26,7 @@ echo "test: proofs, must-fail edits and programs"
 RT_JOBS=${RT_JOBS:-$jobs} rt ci 2>&1 | tee "$log"
 verdict=$(tail -n 1 "$log")
 [[ $verdict =~ ^[0-9]+\ passed,\ 0\ failed$ ]] || { echo "test: rt ci did not pass" >&2; exit 1; }
+python3 scripts/refusals.py
 
 # These come after `rt ci`, which removes target/: they use what it has built.
 echo "test: the portal's library, from C"

@@ -25,6 +25,11 @@ pub ways-most : (n : ℕ) → n < 15 → choose n (n / 2) ≤ 3432
 unfolding choose
 ways-most n l = leb-true (choose n (n / 2)) 3432 (all-at (λ (m : ℕ). leb (choose m (m / 2)) 3432) 15 refl n l)
 
+-- and none is 0
+pub ways-some : (n : ℕ) → n < 15 → 1 ≤ choose n (n / 2)
+unfolding choose
+ways-some n l = leb-true 1 (choose n (n / 2)) (all-at (λ (m : ℕ). leb 1 (choose m (m / 2))) 15 refl n l)
+
 pub half-at-bounds : HalfAtBounds
 unfolding choose
 half-at-bounds = record { none = refl; fourteen = refl }

@@ -3,14 +3,15 @@
 use mathlib.Core.Path.{_≡_, refl, ap, subst}
 use mathlib.Core.List.{List}
 use mathlib.Core.Logic.{⊎-elim}
-use Prim.Native.Nat.{ℕ, zero, suc, _≤_, _<_}
+use Prim.Native.Nat.{ℕ, zero, suc, _^_, _≤_, _<_}
 use native.Mathlib.Omega.{arith}
 use lib.ListN.{getD}
 use Rattle.vertex_set.specs.Set.{Member}
 use Rattle.vertex_set.proofs.Cases.{same-or}
 use Rattle.vertex_set.proofs.Digits.{digit, digit-lt}
-use Rattle.vertex_set.proofs.Sets.{member-or, not-member}
-use Rattle.attackers.specs.Attackers.{location, skill, KindAtMost, largestBelow, largestOver, attackerOf}
+use Rattle.vertex_set.proofs.Sets.{member-or, not-member, member-below}
+use Rattle.attackers.proofs.Table.{at-most-trans}
+use Rattle.attackers.specs.Attackers.{location, skill, KindAtMost, largestBelow, largestOver, attackerOf, KindOfSet}
 
 -- ---- the largest value of a set
 
@@ -86,3 +87,10 @@ module _ (kinds : List ℕ) (x : ℕ) where
       let p = parts .0 in
       let q = parts .1 in
       record { locations = omega arith; skills = omega arith }
+
+pub kind-of-set : KindOfSet
+kind-of-set kinds x t l =
+    record {
+      to = λ h v m. at-most-trans (getD kinds v 0) (attackerOf kinds x) t (each-at-most kinds x (λ i k. member-below 64 x i l k) v m) h;
+      from = λ h. least-attacker kinds x t h;
+    }

@@ -81,6 +81,10 @@ pub record EntriesFit (s : Setup) (kinds : List ℕ) : Type 0 where
 
 -- ---- theorems
 
+-- The kind of a set of vertices below 64 is the least that is at least that of each of them: it is at most t exactly where the kind of each is.
+abbrev pub KindOfSet : Type 0
+KindOfSet = (kinds : List ℕ) (x t : ℕ) → x < 2 ^ 64 → Iff (KindAtMost (attackerOf kinds x) t) ((v : ℕ) → Member x v → KindAtMost (getD kinds v 0) t)
+
 -- A score has none but the six kinds, and so is below 64.
 abbrev pub SixKinds : Type 0
 SixKinds = (s : Setup) (kinds : List ℕ) (target r : ℕ) → WellFormed s → EntriesFit s kinds → AttackerScore s kinds target r → r < 64

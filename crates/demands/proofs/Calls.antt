@@ -13,12 +13,13 @@ use Rattle.vertex_set.proofs.Decisions.{decide-iff}
 use Rattle.setup.specs.declared.Setup.{Setup}
 use Rattle.formed.specs.WellFormed.{WellFormed}
 use Rattle.questions.specs.Asks.{TurnedAway}
-use Rattle.questions.proofs.Asks.{positive, turned, settled-asks}
+use Rattle.questions.proofs.Asks.{all-numbered, turned, settled-asks}
 use Rattle.questions.proofs.Contract.{settled}
 use Rattle.findings.proofs.Unique.{decided-once}
 use Rattle.living.specs.declared.Redrawing.{Redrawing}
 use Rattle.living.specs.Calls.{Call, TakeIn, TakeOut, AddEdge, RemoveEdge, drawingOf, after, asksOf, back, Done, CallOf}
 use Rattle.living.proofs.Unique.{redrawn-unique}
+use Rattle.living.proofs.Kept.{living-numbered}
 use Rattle.records.specs.declared.Record.{Record}
 use Rattle.records.specs.declared.Registered.{Registered}
 use Rattle.records.specs.Records.{RegisterOutcome, withSlice, handsBack}
@@ -58,15 +59,9 @@ reached s b d = decide-iff (question-12 s) d
 
 -- ---- a setup that lives
 
-pub living-numbered : (c : Call) (s : Setup) → positive (asksOf c s) ≡ true
-living-numbered (TakeIn v) s = refl
-living-numbered (TakeOut v) s = refl
-living-numbered (AddEdge f v c m) s = refl
-living-numbered (RemoveEdge f v c) s = refl
-
 pub settled-living : (c : Call) (s : Setup) (r : Redrawing) → CallOf c s r → SettledLiving c s r
 settled-living c s r =
-    settled-asks (λ x. x .number) (back s) (λ q. refl) (asksOf c s) (Done c s) (map (λ q. q .number) (asksOf c s)) (living-numbered c s) (λ q l. l) r
+    settled-asks (λ x. x .number) (back s) (λ q. refl) (asksOf c s) (Done c s) (map (λ q. q .number) (asksOf c s)) (all-numbered (asksOf c s) (living-numbered c s)) (λ q l. l) r
     (λ d. inl (d .numbered))
     (λ p d e i. record { number = (d .numbered ∙ sym (e .numbered)) i; setup = redrawn-unique s (after c (drawingOf s)) (p .setup) (r .setup) (d .redrawn) (e .redrawn) i })
 

@@ -26,6 +26,7 @@ use Rattle.histories.specs.Histories.{Reached}
 use Rattle.histories.proofs.Runs.{opened-always, refused-stays}
 use Rattle.histories.proofs.Reaching.{question-12}
 use Rattle.histories.proofs.Heed.{no-heed}
+use Rattle.histories.proofs.Drawings.{drawing-saved}
 use Rattle.portal_living.proofs.Lists.{lives-in-words}
 use Rattle.answers.specs.Demand3.{Demand3}
 use Rattle.answers.specs.declared.AllAnswers.{AllAnswers}
@@ -53,6 +54,7 @@ papers =
       nothing = nothing-changes;
       reached = question-12;
       unheeded = no-heed;
+      saved = drawing-saved;
       walk = whole-walk;
       renaming = renaming;
       valid = pooled-valid;

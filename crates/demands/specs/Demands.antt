@@ -32,6 +32,7 @@ use Rattle.report_text.specs.Unmixed.{UnmixedPrints}
 use Rattle.report_writer.specs.Whole.{WholeReport}
 use Rattle.histories.specs.Histories.{Reached, OpenedAlways, RefusedStays, Question12}
 use Rattle.histories.specs.NoHeed.{NoHeed}
+use Rattle.histories.specs.Drawings.{DrawingSaved}
 use Rattle.histories.specs.Requests.{Request, contractOf}
 use Rattle.portal_words.specs.Words.{setupIn}
 use Rattle.portal_sheets.specs.Reading.{ReadingCall, nameCall}
@@ -98,9 +99,11 @@ pub record Papers : Type 0 where
   pub reached : Question12
   -- no other call heeds what is held
   pub unheeded : NoHeed
+  -- what is saved after any list of calls is the drawing that the accepted ones left, and reads as it
+  pub saved : DrawingSaved
   -- 9: with no change in between, the sets shown up to "no more" are the whole list
   pub walk : WholeWalk
-  -- 11: colours are renamed to the lowest free one; the pooled rows are a sheet's, for which 12,526 bytes are always enough; what stands in the buffer is the
+  -- 11: colours are renamed to the lowest free one; the pooled rows are a sheet's, for which 11,626 bytes are always enough; what stands in the buffer is the
   -- pooled sheet; it has the items of both, and what opened a target in either opens it there
   pub renaming : Renaming
   pub valid : PooledValid

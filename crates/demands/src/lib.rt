@@ -6,6 +6,7 @@ ghost use mathlib.Core.Bool.{true, false};
 ghost use mathlib.Core.List.{[], _∷_};
 ghost use Rattle.vertex_set.specs.Set.{Decides};
 ghost use Rattle.questions.specs.Contract.{ends, Fulfils};
+ghost use Rattle.questions.specs.Told.{Told, SettledTold};
 ghost use Rattle.access.specs.Answers.{closureReply, closureCall, lostReply, lostCall, wayReply, wayCall};
 ghost use Rattle.quick_yes.specs.Answers.{quickReply, quickCall};
 ghost use Rattle.multisets.specs.Multisets.{BagAtMost};
@@ -14,6 +15,7 @@ ghost use Rattle.findings.specs.Answers.{findingReply, backdoorCall, ineffectiv
 ghost use Rattle.living.specs.Calls.{TakeIn, TakeOut, AddEdge, RemoveEdge, CallOf};
 ghost use Rattle.register.specs.Calls.{HandInCall, WithdrawCall};
 ghost use Rattle.pool_format.specs.Call.{PoolCall};
+ghost use Rattle.save_format.specs.Call.{saveCall};
 ghost use Rattle.sheet_format.specs.Read.{readSheet};
 ghost use Rattle.portal.specs.Portal.{PortalCall};
 ghost use Rattle.histories.specs.Histories.{Reached};
@@ -35,6 +37,7 @@ use pool_format::Pooled;
 use quick_yes::QuickAnswer;
 use records::Record;
 use records::Registered;
+use save_format::Saved;
 use setup::Setup;
 use sheet_format::Reading;
 use vertex_set::VertexSet;
@@ -322,4 +325,12 @@ pub fn demands_of_pool(first: &[u8], second: &[u8], out: &mut [u8]) -> Pooled
     ensures two { λ r. ⌜ PoolCall (now (first .entry)) (now (second .entry)) r (now (out .entry)) (now (out .exit)) ⌝ }
 {
     pooling::pool_sheets(first, second, out)
+}
+
+// Both demands of saving, whose input is a sheet and a setup.
+pub fn demands_of_saving(sheet: &[u8], s: Setup, out: &mut [u8]) -> Saved
+    ensures one { λ r. ⌜ SettledTold (saveCall (now (sheet .entry)) s (now (out .entry))) (r .number) (r .length ∷ []) (now (out .exit) ∷ []) ⌝ }
+    ensures two { λ r. ⌜ Told (saveCall (now (sheet .entry)) s (now (out .entry))) (r .number) (r .length ∷ []) (now (out .exit) ∷ []) ⌝ }
+{
+    saving::write_sheet(sheet, s, out)
 }

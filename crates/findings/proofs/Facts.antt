@@ -20,7 +20,7 @@ use Rattle.questions.specs.Asks.{Question}
 use Rattle.questions.specs.Contract.{Outcome, gives, ends, telling, Fulfils}
 use Rattle.questions.specs.Questions.{asks12, asks13}
 use Rattle.questions.proofs.Asks.{AllYes}
-use Rattle.questions.proofs.Contract.{given-of}
+use Rattle.questions.proofs.Contract.{answers-of, answer-told}
 use Rattle.findings.specs.Answers.{yesNo, backdoorCall, ineffectiveCall, inconsistentCall}
 use Rattle.findings.proofs.Alike.{score-alike, recovery-alike}
 use Rattle.findings.proofs.Unique.{decided-once, backdoor-decides, ineffective-decides, inconsistent-decides}
@@ -79,7 +79,7 @@ module _ (s : Setup) (v : ℕ) (b : Bool) where
 says : (questions : List Question) (Finds : Bool → Type 0) (b : Bool) → ((b′ : Bool) → Finds b′ → b′ ≡ b) → AllYes questions → (o : Outcome)
     → Fulfils (telling questions Finds (λ b. yesNo b ∷ [])) o → Says b o
 says questions Finds b only all o c =
-    let a = given-of (telling questions Finds (λ b. yesNo b ∷ [])) o c all (λ b h. tt) in
+    let a = answer-told questions Finds (λ b. yesNo b ∷ []) o (answers-of (telling questions Finds (λ b. yesNo b ∷ [])) o c all) in
     a .2 ∙ ap (λ (x : Bool). ends (gives (yesNo x ∷ [])) []) (only (a .0) (a .1))
 
 module _ (s : Setup) (v : ℕ) (w : WellFormed s) (below : v < s .count) (o : Outcome) where

@@ -282,6 +282,9 @@ module _ (s : Setup) (h o : VertexSet) (w : WellFormed s) (u : WellFormed (holdi
       (λ l r. exactly-same (FirstInScore s target) (FirstInScore (holding s h o) target) l
       (λ q. record { to = first-in-score s h o target q; from = first-in-score (holding s h o) (s .held) (s .opened) target q }) r)
       (λ l i. places-too s h o l i ∷ allLengths s l ∷ []) p
+  heedless (requests.Save sheet out) p =
+      fulfils-alike _ _ _ _ _ _ _ _ _ (refl, iff-refl, (refl, formed-too s h o w u, (refl, iff-refl, tt)))
+      (λ d r. record { valid = r .valid; states = r .states; names = r .names; rising = r .rising }) (λ a. refl) p
 
 -- ---- a hand-in
 

@@ -2,3 +2,4 @@ pub mod Runs
 pub mod Reaching
 pub mod Heed
 pub mod Once
+pub mod Drawings

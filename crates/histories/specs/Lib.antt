@@ -1,3 +1,4 @@
 pub mod Histories
 pub mod Requests
 pub mod NoHeed
+pub mod Drawings

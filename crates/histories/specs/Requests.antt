@@ -13,6 +13,7 @@ use Rattle.findings.specs.Answers.{backdoorCall, ineffectiveCall, inconsistentC
 use Rattle.cut_sets.specs.Answers.{cutsCall}
 use Rattle.attackers.specs.Answers.{attackerCall}
 use Rattle.multiset_scores.specs.Answers.{bagsCall}
+use Rattle.save_format.specs.Call.{saveCall}
 
 -- The calls on a setup, each with what is handed in and lent to it.
 pub data Request : Type 0 where
@@ -32,6 +33,8 @@ pub data Request : Type 0 where
   Attackers : (target : ℕ) → (kinds : List ℕ) → Request
   NextSet : (target last : ℕ) → Request
   Bags : (target : ℕ) → (places lengths : List ℕ) → Request
+  -- the setup's sheet, under the names of this one
+  Save : (sheet out : List ℕ) → Request
 
 -- The contract of each of them.
 abbrev pub contractOf : Request → Setup → Contract
@@ -50,3 +53,4 @@ contractOf (Cuts target list) s = cutsCall s target list
 contractOf (Attackers target kinds) s = attackerCall s target kinds
 contractOf (NextSet target last) s = nextCall s target last
 contractOf (Bags target places lengths) s = bagsCall s target places lengths
+contractOf (Save sheet out) s = saveCall sheet s out

@@ -159,17 +159,18 @@ well-kept (TakeOut v) s t y = out-kept s t (y .0) v
 well-kept (AddEdge f v c m) s t y = add-kept s t (y .0) f v c (record { from = y .1 .0; to = y .1 .1 .0; colour = y .1 .1 .1 .0 }) m (y .1 .1 .1 .1 .1 .0)
 well-kept (RemoveEdge f v c) s t y = remove-kept s t (y .0) f v c (record { from = y .1 .0; to = y .1 .1 .0; colour = y .1 .1 .1 .0 }) (y .1 .1 .1 .1 .0)
 
-numbered : (c : Call) (s : Setup) → positive (asksOf c s) ≡ true
-numbered (TakeIn v) s = refl
-numbered (TakeOut v) s = refl
-numbered (AddEdge f v c m) s = refl
-numbered (RemoveEdge f v c) s = refl
+-- no question has the number 0
+pub living-numbered : (c : Call) (s : Setup) → positive (asksOf c s) ≡ true
+living-numbered (TakeIn v) s = refl
+living-numbered (TakeOut v) s = refl
+living-numbered (AddEdge f v c m) s = refl
+living-numbered (RemoveEdge f v c) s = refl
 
 pub step : (c : Call) (s : Setup) (r : Redrawing) → CallOf c s r → Took c s r ⊎ Stayed s r
 step c s r a =
     ⊎-elim (λ h. inl (record { number = h .1 .numbered; redrawn = h .1 .redrawn; formed = well-kept c s (r .setup) (h .0) (h .1 .redrawn) }))
     (λ h. inr (record {
-      number = λ z. not-zero (asksOf c s) (h .0) (numbered c s) (h .1) (sym (ap (λ (x : Redrawing). x .number) (h .2)) ∙ z);
+      number = λ z. not-zero (asksOf c s) (h .0) (living-numbered c s) (h .1) (sym (ap (λ (x : Redrawing). x .number) (h .2)) ∙ z);
       same = ap (λ (x : Redrawing). x .setup) (h .2);
     }))
     (asks-either (back s) (Done c s) (asksOf c s) r a)

@@ -19,10 +19,9 @@ use Rattle.sheet_format.proofs.Meaning.{number-most}
 use Rattle.sheet_format.proofs.Numbers.{decimal-length}
 use Rattle.writing.specs.Inner.{ended}
 use Rattle.pool_format.specs.declared.Pooled.{Pooled}
-use Rattle.pool_format.specs.Rows.{pooled}
 use Rattle.pool_format.specs.Call.{PoolOutcome, withBuffer, PoolCall}
-use Rattle.pool_format.specs.Meaning.{poolBytes, IsPooled}
-use Rattle.pool_format.proofs.PooledRows.{pooled-valid}
+use Rattle.pool_format.specs.Meaning.{IsPooled}
+use Rattle.sheet_format.specs.Meaning.{longestSheet}
 use Rattle.pool_format.proofs.Meaning.{always-enough, PoolComes, of-first, of-second, of-both, of-short, of-text, pool-comes, pooled-text}
 use Rattle.pool.specs.Printed.{refusalLine, Printed}
 
@@ -61,13 +60,11 @@ row-taken entry row exit r w = let e : r ≡ length row = omega (arith, w .many)
 
 -- ---- what the call answers
 
-module _ (a b : List ℕ) (r : Pooled) (entry exit : List ℕ) (c : PoolCall a b r entry exit) (h : poolBytes ≤ length entry) where
+module _ (a b : List ℕ) (r : Pooled) (entry exit : List ℕ) (c : PoolCall a b r entry exit) (h : longestSheet ≤ length entry) where
   -- every pooled sheet has room
   enough : (t : List ℕ) → IsPooled a b t → length t ≤ length entry
   enough t p =
-      let v = pooled-valid (p .first) (p .second) (p .validFirst) (p .validSecond) (p .agree) (p .fits) in
-      let m = always-enough (pooled (p .first) (p .second)) v in
-      let e = ap length (p .text) in
+      let m = always-enough a b t p in
       omega arith
 
   few : (q : ℕ) → Listed (22 ∷ 23 ∷ []) q → q ≡ 24 → ⊥

@@ -9,13 +9,13 @@ ghost use Prim.Native.Nat.{_≤_};
 ghost use lib.ListN.{length, take};
 ghost use Rattle.io.specs.Counts.{Counts};
 ghost use Rattle.written.specs.Rows.{RowWritten};
-ghost use Rattle.pool_format.specs.Meaning.{poolBytes};
+ghost use Rattle.sheet_format.specs.Meaning.{longestSheet};
 ghost use Rattle.streams.specs.Inner.Streams.{ReadInto};
 ghost use Rattle.pool.specs.Inner.{lineBytes};
 ghost use Rattle.pool.specs.Printed.{refusalLine, Printed};
 
 // No pooled sheet has more bytes.
-const ROOM: usize = 12526;
+const ROOM: usize = 11626;
 
 // No line of a refusal has more bytes.
 const LINE: usize = 77;
@@ -42,7 +42,7 @@ fn put_refusal(sheet: u64, number: u64, line: u64, out: &mut [u8]) -> usize
 
 // Pools two texts: the sheet, or the line of a refusal.
 fn tell(first: &[u8], second: &[u8], out: &mut [u8], line: &mut [u8]) -> Told
-    requires { ⌜ poolBytes ≤ length (now out) ⌝ }
+    requires { ⌜ longestSheet ≤ length (now out) ⌝ }
     requires { ⌜ lineBytes ≤ length (now line) ⌝ }
     ensures { λ r. ⌜ Printed (now (first .entry)) (now (second .entry)) (take (r .printed) (now (out .exit))) (take (r .said) (now (line .exit))) ⌝ }
     ensures { λ r. ⌜ Counts (r .printed) (now (out .exit)) ⌝ }

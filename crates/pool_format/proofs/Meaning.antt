@@ -7,9 +7,12 @@ use Prim.Native.Nat.{ℕ, _≤_}
 use native.Mathlib.Omega.{arith}
 use lib.ListN.{length, take, drop}
 use lib.Seq.{take-append-seam}
+use Rattle.vertex_set.specs.Set.{Member}
 use Rattle.vertex_set.specs.Order.{Listed}
 use Rattle.questions.specs.Asks.{Asks}
 use Rattle.questions.proofs.Asks.{asks-once, asks-either}
+use Rattle.derivations.proofs.Closures.{opens-more}
+use Rattle.quick_yes.proofs.Agrees.{yes-derives, derives-yes}
 use Rattle.sheet_format.specs.declared.Reading.{Reading}
 use Rattle.sheet_format.specs.Rows.{EdgeRow, Doc, Valid, render, setupOf}
 use Rattle.sheet_format.specs.Read.{readSheet, asksSheet}
@@ -18,17 +21,12 @@ use Rattle.sheet_format.proofs.Question12Lists.{In}
 use Rattle.pool_format.specs.declared.Pooled.{Pooled}
 use Rattle.pool_format.specs.Rows.{Agree, remaining, recoloured, pooled, Fits}
 use Rattle.pool_format.specs.Call.{asks22, asks23, asks24, PoolOutcome, withBuffer, poolRefusal, poolsText, PoolsRows, PoolCall}
-use Rattle.pool_format.specs.Meaning.{AlwaysEnough, IsPooled, PooledText, KeepsItems, KeepsOpening, Pooling, PoolDetermined}
+use Rattle.pool_format.specs.Meaning.{AlwaysEnough, IsPooled, PooledText, ByName, KeepsItems, KeepsOpening, KeepsOpeningSet, KeepsYes, Pooling, PoolDetermined}
 use Rattle.pool_format.proofs.Colours.{uses-of}
 use Rattle.pool_format.proofs.Recolouring.{known-first, known-second, pooledColour, re-from, re-to, re-colour, colour-once, colour-new}
-use Rattle.pool_format.proofs.Lengths.{rows-short}
+use Rattle.sheet_format.proofs.Lengths.{longest-sheet}
 use Rattle.pool_format.proofs.PooledRows.{in-image, image-of, pooled-valid}
 use Rattle.pool_format.proofs.Opening.{Carries, keeps-items, keeps-opening}
-
--- ---- how long it is
-
-pub always-enough : AlwaysEnough
-always-enough d v = rows-short d (v .items) (v .edges) (v .most) (v .many)
 
 -- ---- what opens
 
@@ -75,19 +73,42 @@ module _ (d e : Doc) (v : Valid d) (w : Valid e) where
             (List·Memᴰ·append-cases (d .edges) k);
       }
 
+-- ---- how long it is
+
+pub always-enough : AlwaysEnough
+always-enough a b t h =
+    rw (h .text) (longest-sheet (pooled (h .first) (h .second)) (pooled-valid (h .first) (h .second) (h .validFirst) (h .validSecond) (h .agree) (h .fits)))
+
+-- ---- the same of sets as numbers, and as the quick yes tells it
+
+keeps-set : (s t : List ℕ) → KeepsOpening s t → KeepsOpeningSet s t
+keeps-set s t k set x i j same named d =
+    opens-more (readSheet t .setup .graph) (ByName s t (Member set)) (Member x) (λ v b. named v .from b) j (k set i j same d)
+
+keeps-yes : (s t : List ℕ) → KeepsOpening s t → KeepsYes s t
+keeps-yes s t k set x i j same named a b q r e =
+    derives-yes (readSheet t .setup .graph) j x (b .opens) (b .held) r
+    (keeps-set s t k set x i j same named (yes-derives (readSheet s .setup .graph) i set (a .opens) (a .held) q e))
+
 pub pooling : Pooling
 pooling a b t h =
     let p = pooled (h .first) (h .second) in
     let v = pooled-valid (h .first) (h .second) (h .validFirst) (h .validSecond) (h .agree) (h .fits) in
     let one = carries-first (h .first) (h .second) (h .validFirst) (h .validSecond) in
     let two = carries-second (h .first) (h .second) (h .validFirst) (h .validSecond) in
+    let opens = keeps-opening (h .first) p (h .validFirst) v one in
+    let opensToo = keeps-opening (h .second) p (h .validSecond) v two in
     rw (h .isFirst, h .isSecond, h .text)
     (record {
       accepted = ap (λ (r : Reading). r .number) (accepted-of-valid p v);
       itemsOfFirst = keeps-items (h .first) p (h .validFirst) v one;
       itemsOfSecond = keeps-items (h .second) p (h .validSecond) v two;
-      opensAsFirst = keeps-opening (h .first) p (h .validFirst) v one;
-      opensAsSecond = keeps-opening (h .second) p (h .validSecond) v two;
+      opensAsFirst = opens;
+      opensAsSecond = opensToo;
+      setAsFirst = keeps-set (render (h .first)) (render p) opens;
+      setAsSecond = keeps-set (render (h .second)) (render p) opensToo;
+      yesAsFirst = keeps-yes (render (h .first)) (render p) opens;
+      yesAsSecond = keeps-yes (render (h .second)) (render p) opensToo;
     })
 
 -- ---- one answer to every input

@@ -17,7 +17,7 @@ use Rattle.pool_format.specs.Rows.{remaining, recoloured, pooled}
 use Rattle.pool_format.specs.Meaning.{PooledValid}
 use Rattle.pool_format.proofs.Colours.{uses-of}
 use Rattle.pool_format.proofs.Recolouring.{in-remaining, apart-remaining, known-first, known-second, re-from, re-to, re-colour, pooledColour, colour-once, colour-new}
-use Rattle.pool_format.proofs.Lengths.{rows-short}
+use Rattle.sheet_format.proofs.Lengths.{rows-short}
 
 -- ---- lists of images
 
@@ -114,7 +114,7 @@ unfolding pooled
 pooled-valid d e v w agree fits =
     let edges = edges-valid d e v w (fits .colours) in
     let items = items-valid d e v w in
-    let short = rows-short (pooled d e) items edges (fits .most) (fits .many) in
+    let short = rows-short (pooled d e) items edges (fits .most) (fits .starts) (fits .losses) (fits .many) in
     let some = v .some in
     record {
       some = let l = length-append (d .items) (remaining (d .items) (e .items)) in omega arith;

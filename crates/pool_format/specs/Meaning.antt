@@ -5,13 +5,15 @@ use mathlib.Core.Bool.{true}
 use mathlib.Core.Logic.{_⊎_}
 use Prim.Native.Nat.{ℕ, _≤_, _<_}
 use lib.ListN.{length, take}
-use Rattle.vertex_set.specs.Set.{Member}
+use Rattle.vertex_set.specs.Set.{Member, Iff}
 use Rattle.setup.specs.Bounds.{highestColour}
 use Rattle.derivations.specs.Derivation.{Vertices}
 use Rattle.derivations.specs.Access.{HasAccess}
 use Rattle.sheet_format.specs.Rows.{EdgeRow, Doc, Valid, render}
 use Rattle.sheet_format.specs.Read.{readSheet}
 use Rattle.sheet_format.specs.Names.{hasItem, nameOf}
+use Rattle.sheet_format.specs.Meaning.{longestSheet}
+use Rattle.quick_yes.specs.Answers.{Quick, quickCall}
 use Rattle.pool_format.specs.declared.Pooled.{Pooled}
 use Rattle.pool_format.specs.Rows.{Agree, usesColour, newColour, pooled, Fits}
 use Rattle.pool_format.specs.Call.{withBuffer, PoolCall}
@@ -36,14 +38,6 @@ Renaming = (d e : Doc) → Valid d → Valid e → (n : List ℕ) (c : ℕ) → 
 abbrev pub PooledValid : Type 0
 PooledValid = (d e : Doc) → Valid d → Valid e → Agree (d .items) (e .items) → Fits (pooled d e) → Valid (pooled d e)
 
--- The size of a buffer that is long enough for every pooled sheet.
-abbrev pub poolBytes : ℕ
-poolBytes = 12526
-
--- No sheet has more than 12,526 bytes, and so no pooled one.
-abbrev pub AlwaysEnough : Type 0
-AlwaysEnough = (d : Doc) → Valid d → length (render d) ≤ poolBytes
-
 -- t is the pooled sheet of a and b.
 pub record IsPooled (a b t : List ℕ) : Type 0 where
   pub first : Doc
@@ -55,6 +49,10 @@ pub record IsPooled (a b t : List ℕ) : Type 0 where
   pub agree : Agree (first .items) (second .items)
   pub fits : Fits (pooled first second)
   pub text : t ≡ render (pooled first second)
+
+-- A buffer of as many bytes as the longest sheet has is always enough.
+abbrev pub AlwaysEnough : Type 0
+AlwaysEnough = (a b t : List ℕ) → IsPooled a b t → length t ≤ longestSheet
 
 -- Where the call's number is 0, the first bytes of the buffer, as many as it tells, are the pooled sheet.
 abbrev pub PooledText : Type 0
@@ -77,6 +75,20 @@ abbrev pub KeepsOpening : List ℕ → List ℕ → Type 0
 KeepsOpening s t = (set i j : ℕ) → SameItem s t i j
     → HasAccess (readSheet s .setup .graph) (Member set) i → HasAccess (readSheet t .setup .graph) (ByName s t (Member set)) j
 
+-- x has exactly the items of t with the names of items in the set of s.
+abbrev pub SetByName : List ℕ → List ℕ → ℕ → ℕ → Type 0
+SetByName s t set x = (j : ℕ) → Iff (Member x j) (ByName s t (Member set) j)
+
+-- The same of sets as numbers: where `set` opens a target in s, the set of the items of t with these names opens it in t.
+abbrev pub KeepsOpeningSet : List ℕ → List ℕ → Type 0
+KeepsOpeningSet s t = (set x i j : ℕ) → SameItem s t i j → SetByName s t set x
+    → HasAccess (readSheet s .setup .graph) (Member set) i → HasAccess (readSheet t .setup .graph) (Member x) j
+
+-- And as the quick yes tells it: where a right answer in s is yes, every right answer in t is.
+abbrev pub KeepsYes : List ℕ → List ℕ → Type 0
+KeepsYes s t = (set x i j : ℕ) → SameItem s t i j → SetByName s t set x
+    → (a b : Quick) → quickCall (readSheet s .setup) i set .Right a → quickCall (readSheet t .setup) j x .Right b → a .opens ≡ true → b .opens ≡ true
+
 -- Each item of s is one of t.
 abbrev pub KeepsItems : List ℕ → List ℕ → Type 0
 KeepsItems s t = (i : ℕ) → hasItem s i ≡ true → (j : ℕ) × SameItem s t i j
@@ -88,6 +100,10 @@ pub record PoolingLaw (a b t : List ℕ) : Type 0 where
   pub itemsOfSecond : KeepsItems b t
   pub opensAsFirst : KeepsOpening a t
   pub opensAsSecond : KeepsOpening b t
+  pub setAsFirst : KeepsOpeningSet a t
+  pub setAsSecond : KeepsOpeningSet b t
+  pub yesAsFirst : KeepsYes a t
+  pub yesAsSecond : KeepsYes b t
 
 -- The law of pooling holds of every pooled sheet: it has the items of both, and opens by name what either opened.
 abbrev pub Pooling : Type 0

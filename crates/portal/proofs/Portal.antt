@@ -90,7 +90,7 @@ module _ (loss : Bool) (text : List ℕ) (item : ℕ) (rd : Reading) (e : rd ≡
       asked h =
           ⊎-elim (λ n. absurd (n .0 whole))
           (λ y. asks-retold (turnsAway []) (λ q. never + q) (Answers (scoreCall loss s item)) (Score loss s (s .graph) item) (asks13 s item ∷ []) (ends reply []) r
-          (λ q l z. c .refusal q (ap (λ (o : Outcome). o .reply) z)) scored (y .1)) h
+          (λ q l z. c .refusal q (ap (λ (o : Outcome). o .reply) z)) (λ k. scored) (y .1)) h
 
     pub portal-answers : rd .number ≡ 0 → Told (rd .setup) → (r : ℕ) → Coded reply r → PortalCall loss text item r
     unfolding Asks

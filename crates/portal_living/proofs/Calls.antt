@@ -15,12 +15,12 @@ use Rattle.setup.specs.Calls.{written}
 use Rattle.formed.specs.WellFormed.{WellFormed}
 use Rattle.questions.specs.Asks.{Question, Asks}
 use Rattle.questions.specs.Contract.{Outcome, ends, turnsAway, Room, Answers, Fulfils, OneAnswer}
-use Rattle.questions.proofs.Asks.{AllYes, numbersOf, positive, not-zero, ask-all, asks-either}
+use Rattle.questions.proofs.Asks.{AllYes, not-zero, ask-all, asks-either, asks-retold}
 use Rattle.questions.proofs.Contract.{given, answers-of}
 use Rattle.living.specs.declared.Redrawing.{Redrawing}
 use Rattle.living.specs.Calls.{Call, TakeIn, TakeOut, AddEdge, RemoveEdge, drawingOf, after, Redrawn, asksOf, back, Done, CallOf}
 use Rattle.living.proofs.Unique.{redrawn-unique, nothing-changes}
-use Rattle.living.proofs.Kept.{step}
+use Rattle.living.proofs.Kept.{living-numbered, step}
 use Rattle.portal_words.specs.Words.{setupWords, setupIn, wordsOf}
 use Rattle.portal_words.specs.Inner.{WroteAll}
 use Rattle.portal_words.proofs.Saying.{words-long}
@@ -42,22 +42,6 @@ put-room r entry exit next z l w =
       refused = λ d. absurd (d z);
       accepted = λ e. w .wrote .exit ∙ sets-eq xs entry 0 (omega arith) ∙ ap (λ (m : ℕ). xs ++ drop m entry) (zero-add (length xs));
     }
-
--- ---- questions with another refusal and another end
-
-module _ {O P : Type 0} (refusal : ℕ → O) (refusal′ : ℕ → P) (Ends : O → Type 0) (Ends′ : P → Type 0) where
-  asks-map : (qs : List Question) (o : O) (p : P) → (AllYes qs → Ends o → Ends′ p) → ((q : ℕ) → Listed (numbersOf qs) q → o ≡ refusal q → p ≡ refusal′ q)
-      → Asks refusal qs Ends o → Asks refusal′ qs Ends′ p
-  unfolding Asks
-  asks-map [] o p f g a = f tt a
-  asks-map (q ∷ qs) o p f g a =
-      ⊎-elim (λ h. inl (h .0, g (q .number) (inl refl) (h .1))) (λ h. inr (h .0, asks-map qs o p (λ y. f (h .0, y)) (λ n l. g n (inr l)) (h .1))) a
-
-numbered : (c : Call) (s : Setup) → positive (asksOf c s) ≡ true
-numbered (TakeIn v) s = refl
-numbered (TakeOut v) s = refl
-numbered (AddEdge f v c m) s = refl
-numbered (RemoveEdge f v c) s = refl
 
 formed-first : (c : Call) (s : Setup) → AllYes (asksOf c s) → WellFormed s
 formed-first (TakeIn v) s y = y .0
@@ -81,7 +65,7 @@ module _ (c : Call) (entry : List ℕ) where
       record {
         accepted = λ z. ⊎-elim
             (λ h. formed-says entry (formed-first c (setupIn entry) (subst (λ (x : Setup). AllYes (asksOf c x)) e (h .0))) .long)
-            (λ h. absurd (not-zero (asksOf c s) (h .0) (numbered c s) (h .1) (sym (ap (λ (x : Redrawing). x .number) (h .2)) ∙ z)))
+            (λ h. absurd (not-zero (asksOf c s) (h .0) (living-numbered c s) (h .1) (sym (ap (λ (x : Redrawing). x .number) (h .2)) ∙ z)))
             (asks-either (back s) (Done c s) (asksOf c s) r a);
       }
 
@@ -89,13 +73,13 @@ module _ (c : Call) (entry : List ℕ) where
       → Fulfils (livingCall c entry) (ends (record { number = r .number; values = [] }) (exit ∷ []))
   unfolding Fulfils
   call-fulfilled r exit a b =
-      asks-map (back (setupIn entry)) (turnsAway (entry ∷ [])) (Done c (setupIn entry)) (Answers (livingCall c entry)) (asksOf c (setupIn entry)) r
+      asks-retold (back (setupIn entry)) (turnsAway (entry ∷ [])) (Done c (setupIn entry)) (Answers (livingCall c entry)) (asksOf c (setupIn entry)) r
       (ends (record { number = r .number; values = [] }) (exit ∷ []))
+      (λ q l e. let n : r .number ≡ q = ap (λ (x : Redrawing). x .number) e in
+      let same = b .refused (λ z. not-zero (asksOf c (setupIn entry)) q (living-numbered c (setupIn entry)) l (sym n ∙ z)) in
+      λ i. ends (record { number = n i; values = [] }) (same i ∷ []))
       (λ y d. given (livingCall c entry) (r .setup) (d .redrawn) (room-of (r .setup) y (d .redrawn)) (ends (record { number = r .number; values = [] }) (exit ∷ []))
       (λ i. ends (record { number = d .numbered i; values = [] }) (b .accepted (d .numbered) i ∷ [])))
-      (λ q l e. let n : r .number ≡ q = ap (λ (x : Redrawing). x .number) e in
-      let same = b .refused (λ z. not-zero (asksOf c (setupIn entry)) q (numbered c (setupIn entry)) l (sym n ∙ z)) in
-      λ i. ends (record { number = n i; values = [] }) (same i ∷ []))
       a
 
   pub living-told : (s : Setup) → s ≡ setupIn entry → (r : Redrawing) (number : ℕ) (exit : List ℕ) → CallOf c s r → (number ≡ r .number) × PutBack r entry exit
@@ -132,10 +116,10 @@ module _ (c : Call) (entry : List ℕ) where
   pub call-of : (number : ℕ) (exit : List ℕ) → Redrew c number entry exit → CallOf c (setupIn entry) (record { number = number; setup = setupIn exit })
   unfolding Fulfils
   call-of number exit t =
-      asks-map (turnsAway (entry ∷ [])) (back (setupIn entry)) (Answers (livingCall c entry)) (Done c (setupIn entry)) (asksOf c (setupIn entry))
+      asks-retold (turnsAway (entry ∷ [])) (back (setupIn entry)) (Answers (livingCall c entry)) (Done c (setupIn entry)) (asksOf c (setupIn entry))
       (ends (record { number = number; values = t .values }) (exit ∷ [])) (record { number = number; setup = setupIn exit })
-      (λ y a. done-of number (t .values) exit y a)
       (λ q l e. λ i. record { number = ap (λ (o : Outcome). o .reply .number) e i; setup = setupIn (ap (λ (o : Outcome). getD (o .lent) 0 []) e i) })
+      (λ y a. done-of number (t .values) exit y a)
       (t .call)
 
 -- ---- one result

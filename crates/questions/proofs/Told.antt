@@ -2,7 +2,6 @@
 -- Assumes nothing.
 use mathlib.Core.Path.{_≡_, refl, sym, ap, subst, _∙_}
 use mathlib.Core.List.{List, _++_}
-use mathlib.Core.Bool.{true}
 use mathlib.Core.Logic.{inl, inr, ⊎-elim}
 use Prim.Native.Nat.{ℕ, _+_}
 use native.Mathlib.Omega.{arith}
@@ -12,7 +11,7 @@ use Rattle.questions.specs.Contract.{Reply, Outcome, ends, turnsAway, Co
 use Rattle.questions.specs.Told.{Told, ToldNo, SettledTold}
 use Rattle.questions.specs.Asks.{TurnedAway}
 use Rattle.questions.specs.Inner.{InStruct}
-use Rattle.questions.proofs.Asks.{positive}
+use Rattle.questions.proofs.Asks.{Numbered}
 use Rattle.questions.proofs.Contract.{fulfils-once, settled}
 
 -- as many fields behind the same values
@@ -50,10 +49,10 @@ module _ (c : Contract) (one : OneAnswer c) (n : ℕ) (f : List ℕ) (l : List (
         kept = ap (λ (o : Outcome). o .lent) (h .is);
       }
 
-  pub settled-told : positive (c .questions) ≡ true → SettledTold c n f l
-  settled-told pos =
+  pub settled-told : Numbered (c .questions) → SettledTold c n f l
+  settled-told all =
       record {
-        outcome = ⊎-elim (λ z. inl z) (λ h. inr (told-no h)) (settled c pos one (ends (record { number = n; values = t .values }) l) (t .call) .outcome);
+        outcome = ⊎-elim (λ z. inl z) (λ h. inr (told-no h)) (settled c all one (ends (record { number = n; values = t .values }) l) (t .call) .outcome);
         only = one-result;
       }
 

@@ -57,7 +57,7 @@ module _ (s : Setup) (student target : ℕ) (loss : Bool) (handed : List ℕ) wh
         asked = asks-retold (turnsAway []) (λ q. q) (Answers (marksCall loss s target handed))
             (λ r. (r ≡ 0) × RecordOf s student target loss handed (taskOf student target loss answer .row)) (asks12 s ∷ asks13 s target ∷ [])
             (ends (marksReply answer) []) (taskOf student target loss answer .refused) (λ q l. refused answer q)
-            (λ a. let t = answer-told (asks12 s ∷ asks13 s target ∷ []) (AreMarks loss s target handed) values (ends (marksReply answer) []) a in
+            (λ y a. let t = answer-told (asks12 s ∷ asks13 s target ∷ []) (AreMarks loss s target handed) values (ends (marksReply answer) []) a in
             laid answer (t .0) (t .1) (t .2)) c;
       }
 

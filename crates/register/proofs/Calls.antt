@@ -111,7 +111,7 @@ hands-in s used student target loss handed t a ys zs m h = ⊎-elim early asked 
     asked l =
         ask-yes (handsBack used ys) (Enters s used student target loss handed ys) (asks25 ys used) (asks12 s ∷ asks13 s target ∷ []) o l
         (asks-retold (λ q. q) (handsBack used ys) (λ r. (r ≡ 0) × RecordOf s student target loss handed (t .row)) (Enters s used student target loss handed ys)
-        (asks12 s ∷ asks13 s target ∷ []) (t .refused) o refused laid (m .asked))
+        (asks12 s ∷ asks13 s target ∷ []) (t .refused) o refused (λ y. laid) (m .asked))
       where
         refused : (q : ℕ) → Listed (12 ∷ 13 ∷ []) q → t .refused ≡ q → o ≡ handsBack used ys q
         refused q i e =

@@ -7,7 +7,7 @@ use mathlib.Core.Logic.{inl, inr, ⊎-elim}
 use Prim.Native.Nat.{ℕ, _+_, _*_, _^_, _≤_, _<_}
 use native.Mathlib.Omega.{arith}
 use lib.ListN.{length, getD, take, drop, set, length-append, length-drop, length-set, List·getD-eq-default}
-use lib.Seq.{length-take-le, take-append-seam, take-at, drop-at, getD-take, getD-drop, getD-set-same, getD-set-other, ext-getD}
+use lib.Seq.{length-take-le, take-append-seam, drop-append-seam, take-at, drop-at, getD-take, getD-drop, getD-set-same, getD-set-other, ext-getD}
 use borrow.Rule.Slice.PartMut.{putMid}
 use Rattle.vertex_set.proofs.Cases.{same-or, less-or}
 use Rattle.vertex_set.proofs.Sets.{one-set}
@@ -127,11 +127,13 @@ writable w chosen target k out e words c =
 
 -- and what is written is the base
 pub listing : (w : List ℕ) (chosen target k : ℕ) (entry exit : List ℕ) (r : ℕ) → k ≡ 256 → chosen < 2 ^ 64 → CanRead w chosen target entry
-    → length exit ≡ length entry → WroteSets chosen (take k (drop (target * 256) w)) entry r exit → Listing w chosen target r exit
+    → length exit ≡ length entry → WroteSets chosen (take k (drop (target * 256) w)) entry r exit → Listing w chosen target entry r exit
 listing w chosen target k entry exit r e fits c kept h =
     record {
       room = kept ∙ c .room;
       count = let l = ap length (h .wrote) ∙ length-append (h .list) (drop (length (h .list)) entry) in omega (arith, h .count, kept, c .room);
+      behind = ap (λ (n : ℕ). drop n exit) (h .count) ∙ ap (drop (length (h .list))) (h .wrote) ∙ drop-append-seam (h .list) (drop (length (h .list)) entry)
+          ∙ ap (λ (n : ℕ). drop n entry) (sym (h .count));
       each = λ loss s g formed ch t.
           let b = t .each target (c .vertex) in
           subst (Base loss s g target) (sym front)

@@ -23,7 +23,7 @@ pub const LIST_ROOM: usize = families::MASKS;
 // the answer.
 pub fn list_from(w: &[u64], chosen: VertexSet, target: usize, out: &mut [u64]) -> usize
     requires { ⌜ CanRead (now w) (chosen .0) target (now out) ⌝ }
-    ensures { λ r. ⌜ Listing (now (w .entry)) (chosen .0) target r (now (out .exit)) ⌝ }
+    ensures { λ r. ⌜ Listing (now (w .entry)) (chosen .0) target (now (out .entry)) r (now (out .exit)) ⌝ }
 {
     let from = target * WORDS;
     family_lists::write_sets(&w[from..from + WORDS], chosen, out)

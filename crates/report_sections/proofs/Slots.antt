@@ -34,28 +34,31 @@ pub slot-none : (s : Setup) (k : ℕ) → isAccount s (k / 2) ≡ false → [] �
 unfolding slotList
 slot-none s k a = rw a refl
 
-module _ (k accounts initial losable : ℕ) (opening lockout : List ℕ) (r : ℕ) (list : List ℕ) where
-  pub loaded-lockout : Member accounts (k / 2) → slotLoss k ≡ true → Listing lockout losable (k / 2) r list → Loaded k accounts initial losable opening lockout r list
+module _ (k accounts initial losable : ℕ) (opening lockout entry : List ℕ) (r : ℕ) (list : List ℕ) where
+  pub loaded-lockout : Member accounts (k / 2) → slotLoss k ≡ true → Listing lockout losable (k / 2) entry r list → Loaded k accounts initial losable opening lockout entry r list
   loaded-lockout m e h =
       record {
         each = λ s wf ci cl ti tl a. slot-full s k (take r list) true wf e (a .to m) (h .each true s (s .graph) wf cl tl);
         most = h .count;
         room = h .room;
+        behind = h .behind;
       }
 
-  pub loaded-opening : Member accounts (k / 2) → slotLoss k ≡ false → Listing opening initial (k / 2) r list → Loaded k accounts initial losable opening lockout r list
+  pub loaded-opening : Member accounts (k / 2) → slotLoss k ≡ false → Listing opening initial (k / 2) entry r list → Loaded k accounts initial losable opening lockout entry r list
   loaded-opening m e h =
       record {
         each = λ s wf ci cl ti tl a. slot-full s k (take r list) false wf e (a .to m) (h .each false s (s .graph) wf ci ti);
         most = h .count;
         room = h .room;
+        behind = h .behind;
       }
 
 pub loaded-none : (k accounts initial losable : ℕ) (opening lockout list : List ℕ) → (Member accounts (k / 2) → ⊥) → length list ≡ 16384
-    → Loaded k accounts initial losable opening lockout 0 list
+    → Loaded k accounts initial losable opening lockout list 0 list
 loaded-none k accounts initial losable opening lockout list n room =
     record {
       each = λ s wf ci cl ti tl a. slot-none s k (byTest (isAccount s (k / 2)) (λ e. absurd (n (a .from e))) (λ e. e));
       most = omega arith;
       room = room;
+      behind = refl;
     }

@@ -65,7 +65,7 @@ pub fn load(
     list: &mut [u64],
 ) -> usize
     requires { ⌜ CanLoad k (initial .0) (losable .0) (now opening) (now lockout) (now list) ⌝ }
-    ensures { λ r. ⌜ Loaded k (accounts .0) (initial .0) (losable .0) (now (opening .entry)) (now (lockout .entry)) r (now (list .exit)) ⌝ }
+    ensures { λ r. ⌜ Loaded k (accounts .0) (initial .0) (losable .0) (now (opening .entry)) (now (lockout .entry)) (now (list .entry)) r (now (list .exit)) ⌝ }
 {
     let v = k / 2;
     if accounts.has(v) {

@@ -2,24 +2,48 @@
 -- Assumes nothing.
 use mathlib.Core.Path.{_≡_, refl, _∙_}
 use mathlib.Core.List.{List}
-use Prim.Native.Nat.{ℕ, _+_, _≤_, _<_}
+use Prim.Native.Nat.{ℕ, zero, suc, _+_, _≤_, _<_}
+use native.Mathlib.Nat.{zero-add, add-zero}
 use native.Mathlib.Omega.{arith}
 use lib.ListN.{length}
 use Rattle.setup.specs.declared.Setup.{Setup}
+use Rattle.setup.specs.Calls.{written}
 use Rattle.sheet_format.specs.Names.{nameOf}
 use Rattle.report_facts.specs.declared.Facts.{Facts}
+use Rattle.report_facts.specs.Texts.{slotList}
 use Rattle.report_facts.specs.Inner.Parts.{Part}
 use Rattle.report_facts.proofs.Parts.{part-none, part-then, part-length}
 use Rattle.report_writer.specs.declared.steps.Cursor.{Cursor}
 use Rattle.report_writer.specs.declared.steps.Cursor.the-variants as cursor
 use Rattle.report_writer.specs.declared.steps.Step.{Step}
 use Rattle.report_writer.specs.Rest.{restOf}
-use Rattle.report_writer.specs.Inner.Steps.{KnownAt, CanStep, stepsLeft, StepTaken}
+use Rattle.report_writer.specs.Inner.Steps.{KnownAt, CanStep, stepsLeft, loadedFrom, loadedBefore, ListsLoaded, StepTaken}
+
+-- ---- lists that are loaded, and more of them
+
+loaded-on : (s : Setup) (k m n : ℕ) (list : List ℕ) → loadedFrom s (k + m) n (loadedFrom s k m list) ≡ loadedFrom s k (m + n) list
+loaded-on s k zero n list = rw (zero-add n, add-zero k) refl
+loaded-on s k (suc m) n list =
+    let e : k + suc m ≡ suc k + m = omega arith in
+    let q : suc m + n ≡ suc (m + n) = omega arith in
+    rw (e, q) (loaded-on s (suc k) m n (written (slotList s k) list))
+
+lists-then : (s : Setup) (count : ℕ) (b c d : Cursor) (list list′ list″ : List ℕ) → ListsLoaded s count b c list list′ → ListsLoaded s count c d list′ list″
+    → ListsLoaded s count b d list list″
+lists-then s count b c d list list′ list″ x y =
+    let e = x .between in
+    let g = y .between in
+    record {
+      many = x .many + y .many;
+      between = omega arith;
+      list = y .list ∙ rw (e, x .list) (loaded-on s (loadedBefore count b) (x .many) (y .many) list);
+    }
 
 -- Steps were taken from the place c₀ to the place c.
 pub record Filling (sheet : List ℕ) (f : Facts) (opening lockout list₀ : List ℕ) (c₀ : Cursor) (out₀ : List ℕ) (at₀ : ℕ) (list out : List ℕ) (c : Cursor) (at : ℕ) : Type 0 where
   pub part : (s : Setup) → KnownAt sheet s f opening lockout list₀ c₀ → Part out₀ at₀ (restOf (nameOf sheet) s c₀) (restOf (nameOf sheet) s c) out at
   pub here : (s : Setup) → KnownAt sheet s f opening lockout list₀ c₀ → KnownAt sheet s f opening lockout list c
+  pub lists : (s : Setup) → KnownAt sheet s f opening lockout list₀ c₀ → ListsLoaded s (f .count) c₀ c list₀ list
   pub going : CanStep sheet f opening lockout list c
   pub inside : at ≤ length out
   pub less : stepsLeft (f .count) c ≤ stepsLeft (f .count) c₀
@@ -32,6 +56,7 @@ module _ (sheet : List ℕ) (f : Facts) (opening lockout list₀ : List ℕ) (c�
       record {
         part = λ s a. part-none out₀ at₀ _ h;
         here = λ s a. a;
+        lists = λ s a. record { many = 0; between = omega arith; list = refl };
         going = g;
         inside = h;
         less = omega arith;
@@ -49,6 +74,7 @@ module _ (sheet : List ℕ) (f : Facts) (opening lockout list₀ : List ℕ) (c�
       record {
         part = λ s a. part-then out₀ at₀ _ _ out at (w .part s a) _ exit (r .at) (v .part s (w .here s a));
         here = λ s a. v .here s (w .here s a);
+        lists = λ s a. lists-then s (f .count) c₀ c (r .cursor) list₀ list list′ (w .lists s a) (v .lists s (w .here s a));
         going = record { setup = w .going .setup; here = v .here (w .going .setup) (w .going .here) };
         inside = p .inside;
         less = omega arith;
@@ -73,6 +99,7 @@ went-filling sheet f opening lockout list c entry at list₀ out₀ first list�
     record {
       part = λ s a. part-then entry at _ _ out₀ (first .at) (w .part s a) _ out next (v .part s (w .here s a));
       here = λ s a. v .here s (w .here s a);
+      lists = λ s a. lists-then s (f .count) c (first .cursor) d list list₀ list′ (w .lists s a) (v .lists s (w .here s a));
       less = λ z. let l = w .less z in let m = v .less in omega arith;
     }
 

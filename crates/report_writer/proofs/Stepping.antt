@@ -7,10 +7,12 @@ use mathlib.Core.Logic.{⊎-elim}
 use Prim.Native.Nat.{ℕ, suc, _+_, _*_, _/_, _≤_, _<_}
 use native.Mathlib.Numerals.{add-one}
 use native.Mathlib.Omega.{arith}
-use lib.ListN.{length, take, length-take}
+use lib.ListN.{length, take, drop, length-take, take-append-drop}
+use lib.Seq.{length-take-le}
 use Rattle.vertex_set.specs.Set.{Decides}
 use Rattle.vertex_set.proofs.Cases.{less-or, false-true}
 use Rattle.setup.specs.declared.Setup.{Setup}
+use Rattle.setup.specs.Calls.{written}
 use Rattle.bases.proofs.Formed.{few}
 use Rattle.written.specs.Inner.{Wrote}
 use Rattle.written.specs.Rows.{RowWritten}
@@ -30,7 +32,7 @@ use Rattle.report_writer.specs.declared.steps.Cursor.{Cursor}
 use Rattle.report_writer.specs.declared.steps.Cursor.the-variants as cursor
 use Rattle.report_writer.specs.declared.steps.Step.{Step}
 use Rattle.report_writer.specs.Rest.{rowsFrom, listsFrom, scoresFrom, pairsFrom, restOf}
-use Rattle.report_writer.specs.Inner.Steps.{ListAt, ListPut, KnownAt, CanStep, stepsLeft, StepTaken, CanPutSection, SectionPut, ScoresPut, PairsPut}
+use Rattle.report_writer.specs.Inner.Steps.{ListAt, ListPut, KnownAt, CanStep, stepsLeft, loadedBefore, ListsLoaded, StepTaken, CanPutSection, SectionPut, ScoresPut, PairsPut}
 use Rattle.report_writer.proofs.Rest.{start-next, list-next, lists-end, rows-end, score-next, scores-end, pairs-next, pairs-end}
 
 -- ---- at which place a step is taken
@@ -59,9 +61,9 @@ can-load sheet s f opening lockout list k h t l room =
       locks = t .locks;
     }
 
-loaded-here : (sheet : List ℕ) (s : Setup) (f : Facts) (opening lockout : List ℕ) (k m : ℕ) (list : List ℕ) → FactsOf sheet s f → TablesOf s f opening lockout → k < 2 * s .count
-    → Loaded k (f .accounts .0) (f .initial .0) (f .losable .0) opening lockout m list → ListAt sheet s f list k 0 m
-loaded-here sheet s f opening lockout k m list h t l d =
+loaded-here : (sheet : List ℕ) (s : Setup) (f : Facts) (opening lockout entry : List ℕ) (k m : ℕ) (list : List ℕ) → FactsOf sheet s f → TablesOf s f opening lockout → k < 2 * s .count
+    → Loaded k (f .accounts .0) (f .initial .0) (f .losable .0) opening lockout entry m list → ListAt sheet s f list k 0 m
+loaded-here sheet s f opening lockout entry k m list h t l d =
     record {
       facts = h;
       number = l;
@@ -70,6 +72,22 @@ loaded-here sheet s f opening lockout k m list h t l d =
       room = d .room;
       here = d .each s (h .formed) (h .initial) (h .losable) (t .opens) (t .locks) (h .accounts (k / 2) (omega arith));
     }
+
+-- what is loaded stands in front, and what was behind it stays
+loaded-is : (sheet : List ℕ) (s : Setup) (f : Facts) (opening lockout entry : List ℕ) (k m : ℕ) (list : List ℕ) → FactsOf sheet s f → TablesOf s f opening lockout → k < 2 * s .count
+    → Loaded k (f .accounts .0) (f .initial .0) (f .losable .0) opening lockout entry m list → list ≡ written (slotList s k) entry
+loaded-is sheet s f opening lockout entry k m list h t l d =
+    let a = loaded-here sheet s f opening lockout entry k m list h t l d in
+    let n : m ≡ length (slotList s k) = let e = length-take-le m list (let p = d .most in let q = d .room in omega arith) in sym e ∙ ap length (a .here) in
+    sym (take-append-drop m list) ∙ ap (λ (x : List ℕ). x ++ drop m list) (a .here) ∙ ap (λ (x : List ℕ). slotList s k ++ x) (d .behind ∙ ap (λ (j : ℕ). drop j entry) n)
+
+-- a step that loads no list, and one that loads one
+none-loaded : (s : Setup) (count : ℕ) (c d : Cursor) (list : List ℕ) → loadedBefore count d ≡ loadedBefore count c → ListsLoaded s count c d list list
+none-loaded s count c d list e = record { many = 0; between = omega arith; list = refl }
+
+one-loaded : (s : Setup) (count : ℕ) (c d : Cursor) (k : ℕ) (entry exit : List ℕ) → loadedBefore count c ≡ k → loadedBefore count d ≡ suc k → exit ≡ written (slotList s k) entry
+    → ListsLoaded s count c d entry exit
+one-loaded s count c d k entry exit e n h = record { many = 1; between = omega arith; list = rw e h }
 
 -- where all rows of a list stand, the next list follows
 list-done : (name : ℕ → List ℕ) (s : Setup) (list : List ℕ) (k i n : ℕ) → i ≤ n → n ≤ i → n ≤ 16384 → length list ≡ 16384 → take n list ≡ slotList s k
@@ -85,6 +103,7 @@ module _ (sheet : List ℕ) (f : Facts) (opening lockout list : List ℕ) (k i n
         here = λ s a.
             let h = a .0 in
             (record { facts = h .facts; number = h .number; next = w .most; most = h .most; room = h .room; here = h .here }, a .1);
+        lists = λ s a. none-loaded s (f .count) _ _ list refl;
         less = λ z. let m = w .more l in let p = w .most in omega arith;
       }
 
@@ -95,7 +114,7 @@ module _ (sheet : List ℕ) (f : Facts) (opening lockout list : List ℕ) (k i n
       can-load sheet (g .setup) f opening lockout list (k + 1) (h .facts) (g .here .1) (omega arith) (h .room)
 
   pub next-step : (m : ℕ) (list′ : List ℕ) → n ≤ i → k + 1 < 2 * f .count → at + 4096 ≤ length entry
-      → Loaded (k + 1) (f .accounts .0) (f .initial .0) (f .losable .0) opening lockout m list′
+      → Loaded (k + 1) (f .accounts .0) (f .initial .0) (f .losable .0) opening lockout list m list′
       → StepTaken sheet f opening lockout list (cursor.Lists k i n) entry at list′ entry (record { cursor = cursor.Lists (k + 1) 0 m; at = at })
   next-step m list′ b l room d =
       record {
@@ -107,7 +126,12 @@ module _ (sheet : List ℕ) (f : Facts) (opening lockout list : List ℕ) (k i n
         here = λ s a.
             let h = a .0 in
             let e = h .facts .isCount in
-            (loaded-here sheet s f opening lockout (k + 1) m list′ (h .facts) (a .1) (omega arith) d, a .1);
+            (loaded-here sheet s f opening lockout list (k + 1) m list′ (h .facts) (a .1) (omega arith) d, a .1);
+        lists = λ s a.
+            let h = a .0 in
+            let e = h .facts .isCount in
+            one-loaded s (f .count) (cursor.Lists k i n) (cursor.Lists (k + 1) 0 m) (k + 1) list list′ (sym (add-one k)) refl
+            (loaded-is sheet s f opening lockout list (k + 1) m list′ (h .facts) (a .1) (omega arith) d);
         less = λ z. let q = d .most in omega arith;
       }
 
@@ -124,6 +148,10 @@ module _ (sheet : List ℕ) (f : Facts) (opening lockout list : List ℕ) (k i n
             let q = list-done (nameOf sheet) s list k i n (h .next) b (h .most) (h .room) (h .here) ∙ ap (listsFrom (nameOf sheet) s) v ∙ lists-end (nameOf sheet) s in
             part-one entry at _ text _ exit r (q ∙ ap (λ y. y ++ scoresFrom (nameOf sheet) s 0) (sym t)) w (wrote-inside entry at text exit r w room);
         here = λ s a. (a .0 .facts, omega arith);
+        lists = λ s a.
+            let e = a .0 .facts .isCount in
+            let u = a .0 .number in
+            none-loaded s (f .count) (cursor.Lists k i n) (cursor.Scores 0) list (omega arith);
         less = λ z.
             let h = g .here .0 in
             let e = h .facts .isCount in
@@ -190,9 +218,10 @@ module _ (sheet : List ℕ) (f : Facts) (opening lockout list : List ℕ) (v : �
       → ((s : Setup) → KnownAt sheet s f opening lockout list here → FactsOf sheet s f × (v ≤ s .count))
       → ((s : Setup) → FactsOf sheet s f → v < s .count → KnownAt sheet s f opening lockout list next)
       → ((s : Setup) → FactsOf sheet s f → KnownAt sheet s f opening lockout list behind)
+      → loadedBefore (f .count) next ≡ loadedBefore (f .count) here → loadedBefore (f .count) behind ≡ loadedBefore (f .count) here
       → (v < f .count → stepsLeft (f .count) next < stepsLeft (f .count) here) → (f .count ≤ v → stepsLeft (f .count) behind < stepsLeft (f .count) here)
       → SectionPut here next behind sheet f v entry at exit r → StepTaken sheet f opening lockout list here entry at list exit r
-  section-went here next behind known goes ends down away w =
+  section-went here next behind known goes ends same still down away w =
       record {
         part = λ s a. let k = known s a in w .part s (k .0) (k .1);
         here = λ s a.
@@ -202,6 +231,9 @@ module _ (sheet : List ℕ) (f : Facts) (opening lockout list : List ℕ) (v : �
             (λ b. subst (KnownAt sheet s f opening lockout list) (sym (w .more b)) (goes s (k .0) (omega arith)))
             (λ b. subst (KnownAt sheet s f opening lockout list) (sym (w .last b)) (ends s (k .0)))
             (less-or v (f .count));
+        lists = λ s a.
+            ⊎-elim (λ b. none-loaded s (f .count) here (r .cursor) list (ap (loadedBefore (f .count)) (w .more b) ∙ same))
+            (λ b. none-loaded s (f .count) here (r .cursor) list (ap (loadedBefore (f .count)) (w .last b) ∙ still)) (less-or v (f .count));
         less = λ z. ⊎-elim (λ b. rw (w .more b) (down b)) (λ b. rw (w .last b) (away b)) (less-or v (f .count));
       }
 
@@ -210,12 +242,12 @@ module _ (sheet : List ℕ) (f : Facts) (opening lockout list : List ℕ) (v : �
   scores-went g =
       let e = g .here .0 .isCount in
       let m = g .here .0 .formed .most in
-      section-went (cursor.Scores v) (cursor.Scores (v + 1)) (cursor.Pairs 0) (λ s a. a) (λ s h b. (h, omega arith)) (λ s h. (h, omega arith))
+      section-went (cursor.Scores v) (cursor.Scores (v + 1)) (cursor.Pairs 0) (λ s a. a) (λ s h b. (h, omega arith)) (λ s h. (h, omega arith)) refl refl
       (λ b. omega arith) (λ b. omega arith)
 
   pub pairs-went : PairsPut sheet f v entry at exit r → StepTaken sheet f opening lockout list (cursor.Pairs v) entry at list exit r
   pairs-went =
-      section-went (cursor.Pairs v) (cursor.Pairs (v + 1)) cursor.End (λ s a. a) (λ s h b. (h, omega arith)) (λ s h. tt) (λ b. omega arith) (λ b. omega arith)
+      section-went (cursor.Pairs v) (cursor.Pairs (v + 1)) cursor.End (λ s a. a) (λ s h b. (h, omega arith)) (λ s h. tt) refl refl (λ b. omega arith) (λ b. omega arith)
 
 pub section-scores : (sheet : List ℕ) (f : Facts) (opening lockout list : List ℕ) (v : ℕ) (out : List ℕ) (at : ℕ)
     → CanStep sheet f opening lockout list (cursor.Scores v) → at + 4096 ≤ length out → CanPutSection sheet f v out at
@@ -235,7 +267,7 @@ module _ (sheet : List ℕ) (f : Facts) (opening lockout list : List ℕ) (entry
       can-load sheet (g .setup) f opening lockout list 0 h (g .here .1) (omega arith) (g .here .2)
 
   pub start-step : (text exit : List ℕ) (r m : ℕ) (list′ : List ℕ) → text ≡ listHeader → at + length text ≤ length entry → Wrote entry at text exit r
-      → Loaded 0 (f .accounts .0) (f .initial .0) (f .losable .0) opening lockout m list′
+      → Loaded 0 (f .accounts .0) (f .initial .0) (f .losable .0) opening lockout list m list′
       → StepTaken sheet f opening lockout list cursor.Start entry at list′ exit (record { cursor = cursor.Lists 0 0 m; at = r })
   start-step text exit r m list′ t room w d =
       record {
@@ -244,7 +276,10 @@ module _ (sheet : List ℕ) (f : Facts) (opening lockout list : List ℕ) (entry
             part-one entry at _ text _ exit r
             (start-next (nameOf sheet) s ∙ ap (λ y. listHeader ++ y) (list-next (nameOf sheet) s 0 (omega arith)) ∙ ap (λ y. y ++ rowsFrom (nameOf sheet) s 0 0) (sym t)) w
             (wrote-inside entry at text exit r w room);
-        here = λ s a. let z = a .0 .formed .some in (loaded-here sheet s f opening lockout 0 m list′ (a .0) (a .1) (omega arith) d, a .1);
+        here = λ s a. let z = a .0 .formed .some in (loaded-here sheet s f opening lockout list 0 m list′ (a .0) (a .1) (omega arith) d, a .1);
+        lists = λ s a.
+            let z = a .0 .formed .some in
+            one-loaded s (f .count) cursor.Start (cursor.Lists 0 0 m) 0 list list′ refl refl (loaded-is sheet s f opening lockout list 0 m list′ (a .0) (a .1) (omega arith) d);
         less = λ z. let q = d .most in omega arith;
       }
 
@@ -259,11 +294,13 @@ module _ (sheet : List ℕ) (f : Facts) (opening lockout list : List ℕ) (entry
       record {
         part = λ s a. part-one entry at _ (refusedRow number line) [] exit r (sym (append-nil (refusedRow number line))) v (wrote-inside entry at _ exit r v room);
         here = λ s a. tt;
+        lists = λ s a. none-loaded s (f .count) (cursor.Refused number line) cursor.End list refl;
         less = λ z. omega arith;
       }
 
   pub end-step : at + 4096 ≤ length entry → StepTaken sheet f opening lockout list cursor.End entry at list entry (record { cursor = cursor.End; at = at })
-  end-step room = record { part = λ s a. part-none entry at [] (omega arith); here = λ s a. tt; less = λ z. absurd (omega arith) }
+  end-step room =
+      record { part = λ s a. part-none entry at [] (omega arith); here = λ s a. tt; lists = λ s a. none-loaded s (f .count) cursor.End cursor.End list refl; less = λ z. absurd (omega arith) }
 
 -- ---- is something left?
 

@@ -24,7 +24,7 @@ use Rattle.sheet_format.specs.Meaning.{Accepted, Refused}
 use Rattle.sheet_format.proofs.Question12Lists.{of-each}
 use Rattle.sheet_format.proofs.Stated.{at-place, stands-below, stands-in, stands-number, name-in}
 use Rattle.sheet_format.proofs.Meaning.{accepted-of-valid, valid-of-accepted, accepted-or-refused}
-use Rattle.sheet_format.proofs.Lengths.{rows-short}
+use Rattle.sheet_format.proofs.Lengths.{longest-sheet}
 use Rattle.sheet_format.proofs.SetupRows.{Names, docOf, item-name, setup-of-doc, valid-doc}
 use Rattle.sheet_format.proofs.Question12.{yielded-unheld}
 use Rattle.sheet.proofs.Names.{names-of-rows}
@@ -101,7 +101,7 @@ saved-reads sheet s d a =
           let c = count-is sheet s d a in
           let x = at-place (d .items) i (omega arith) in
           sym (own-name d (a .valid) i (x .0) (x .1) (omega arith)) ∙ a .names i (x .0) (x .1);
-      short = let v = a .valid in rows-short d (v .items) (v .edges) (v .most) (v .starts) (v .losses) (v .many);
+      short = longest-sheet d (a .valid);
     }
 
 -- what was read holds nothing

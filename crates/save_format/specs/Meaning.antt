@@ -9,6 +9,7 @@ use Rattle.questions.specs.Told.{Told}
 use Rattle.sheet_format.specs.Rows.{Doc, render}
 use Rattle.sheet_format.specs.Read.{readSheet, accepted}
 use Rattle.sheet_format.specs.Names.{nameOf}
+use Rattle.sheet_format.specs.Meaning.{longestSheet}
 use Rattle.save_format.specs.Rows.{unheld, SavedRows}
 use Rattle.save_format.specs.Call.{saveCall}
 
@@ -20,16 +21,11 @@ SavedThere = (sheet : List ℕ) (s : Setup) → readSheet sheet .number ≡ 0 �
 abbrev pub SavedUnique : Type 0
 SavedUnique = (sheet : List ℕ) (s : Setup) (d e : Doc) → SavedRows sheet s d → SavedRows sheet s e → d ≡ e
 
--- The size of a buffer that is long enough for every setup: 64 items with names of 16 bytes, 14 of them with start and loss of ten digits, and 256
--- edges have no shorter sheet.
-abbrev pub saveBytes : ℕ
-saveBytes = 11626
-
 -- t is a sheet of the setup s: reading it yields s with nothing held, and its items have the names of the first sheet's.
 pub record IsSheetOf (sheet : List ℕ) (s : Setup) (t : List ℕ) : Type 0 where
   pub reads : readSheet t ≡ accepted (unheld s)
   pub names : (i : ℕ) → i < s .count → nameOf t i ≡ nameOf sheet i
-  pub short : length t ≤ saveBytes
+  pub short : length t ≤ longestSheet
 
 -- The written form of the rows is a sheet of the setup.
 abbrev pub SavedReads : Type 0

@@ -136,7 +136,7 @@ module _ (sheet : List ℕ) (s : Setup) (r : Saved) (entry exit : List ℕ) wher
             record {
               items = record { few = w .most; lines = omega arith; items = λ i l. item-there sheet i (readSheet sheet) refl zero-is (omega arith) };
               ends = w .ends;
-              short = subst (λ (t : List ℕ). length t ≤ 11626) (text-is (nameOf sheet) s) (saved-reads sheet s (docOf (nameOf sheet) s) (saved-doc sheet s zero-is w enough) .short);
+              short = subst (λ (t : List ℕ). length t ≤ longestSheet) (text-is (nameOf sheet) s) (saved-reads sheet s (docOf (nameOf sheet) s) (saved-doc sheet s zero-is w enough) .short);
             }
 
         -- the rows, once there is an end for their text

@@ -10,14 +10,14 @@ use Rattle.setup.specs.Calls.{written}
 use Rattle.sheet_format.specs.Names.{nameOf}
 use Rattle.report_facts.specs.Inner.Places.{HasItems}
 use Rattle.save_format.specs.declared.Saved.{Saved}
-use Rattle.save_format.specs.Meaning.{saveBytes}
+use Rattle.sheet_format.specs.Meaning.{longestSheet}
 use Rattle.save_format.specs.Inner.{savedText}
 
 -- The sheet has a name for each item of the setup, edges run between items, and the text is not too long.
 pub record CanSave (sheet : List ℕ) (s : Setup) : Type 0 where
   pub items : HasItems sheet (s .count)
   pub ends : (f v c : ℕ) → Edge (s .graph) f v c → (f < s .count) × (v < s .count)
-  pub short : length (savedText (nameOf sheet) s) ≤ saveBytes
+  pub short : length (savedText (nameOf sheet) s) ≤ longestSheet
 
 -- The text stands in the first places of the buffer; or it has no room there, and the buffer is as it was.
 abbrev pub HandsOut : List ℕ → Saved → List ℕ → List ℕ → Type 0

@@ -26,6 +26,14 @@ AcceptedOfValid = (d : Doc) → Valid d → readSheet (render d) ≡ accepted (s
 abbrev pub ValidOfAccepted : Type 0
 ValidOfAccepted = (s : List ℕ) (st : Setup) → readSheet s ≡ accepted st → (d : Doc) × Valid d × (s ≡ render d) × (st ≡ setupOf d)
 
+-- The bytes of the longest sheet: 64 items with names of 16 bytes, 14 of them with a start and a loss of ten digits, and 256 edges.
+abbrev pub longestSheet : ℕ
+longestSheet = 11626
+
+-- No sheet is longer.
+abbrev pub LongestSheet : Type 0
+LongestSheet = (d : Doc) → Valid d → length (render d) ≤ longestSheet
+
 -- ---- what a refusal says
 
 -- Where the reading of the lines begins.

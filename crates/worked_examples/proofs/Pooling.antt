@@ -31,7 +31,7 @@ use Rattle.reference.proofs.Meaning.{meaning}
 use Rattle.pool_format.specs.Rows.{Agree, remaining, usesColour, lowestFree, isTaken, newColour, recoloured, pooled, Fits}
 use Rattle.pool_format.specs.Call.{asks22, asks23, asks24, poolRefusal, poolsText, PoolsRows}
 use Rattle.pool_format.specs.Meaning.{SameItem}
-use Rattle.pool_format.proofs.Lengths.{rows-short}
+use Rattle.sheet_format.proofs.Lengths.{rows-short}
 use Rattle.pool_format.proofs.PooledRows.{pooled-valid}
 use Rattle.worked_examples.specs.Sheets.{linesText}
 use Rattle.worked_examples.specs.Pooling.{firstLab, secondLab, bothLabs, otherLab, Storeroom, Disagree, LossNotKept}
@@ -101,7 +101,7 @@ valid-first =
         tt,
       ),
     ) in
-    let short = rows-short first items edges (omega arith) (omega arith) in
+    let short = rows-short first items edges (omega arith) (omega arith) (omega arith) (omega arith) in
     record {
       some = omega arith;
       most = omega arith;
@@ -138,7 +138,7 @@ valid-second =
         ),
       ),
     ) in
-    let short = rows-short second items edges (omega arith) (omega arith) in
+    let short = rows-short second items edges (omega arith) (omega arith) (omega arith) (omega arith) in
     record {
       some = omega arith;
       most = omega arith;
@@ -156,7 +156,7 @@ valid-other : Valid other
 unfolding isName all isNameByte isDigit startCount lossCount
 valid-other =
     let items : Each ValidItem (other .items) = (record { name = refl; start = tt; loss = tt; rank = omega arith }, tt) in
-    let short = rows-short other items tt (omega arith) (omega arith) in
+    let short = rows-short other items tt (omega arith) (omega arith) (omega arith) (omega arith) in
     record {
       some = omega arith;
       most = omega arith;

@@ -30,7 +30,7 @@ pub const BLANK: u64 = u64::MAX;
 /// "Never": the score of an item that no set opens, the risk of one that no loss shuts.
 pub const NEVER: u64 = 1 << 62;
 /// Bytes that are always enough for a pooled sheet.
-pub const POOL_BYTES: usize = 12_526;
+pub const POOL_BYTES: usize = 11_626;
 /// Bytes that are always enough for a saved sheet: no sheet has more.
 pub const SAVE_BYTES: usize = 11_626;
 /// The version of the header that this crate was written for.

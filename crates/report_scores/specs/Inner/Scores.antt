@@ -60,10 +60,11 @@ pub record CanRead (w : List ℕ) (chosen target : ℕ) (out : List ℕ) : Type 
   pub graph : Graph
   pub table : BaseTable (ruleOf loss graph) chosen w
 
--- The first r places of out are the target's base, whatever setup and graph w is the table of bases of.
-pub record Listing (w : List ℕ) (chosen target r : ℕ) (out : List ℕ) : Type 0 where
+-- The first r places of out are the target's base, whatever setup and graph w is the table of bases of; the places behind them are as they were.
+pub record Listing (w : List ℕ) (chosen target : ℕ) (entry : List ℕ) (r : ℕ) (out : List ℕ) : Type 0 where
   pub room : length out ≡ listRoom
   pub count : r ≤ listRoom
+  pub behind : drop r out ≡ drop r entry
   pub each : (loss : Bool) (s : Setup) (g : Graph) → WellFormed s → ChosenSet loss s chosen → BaseTable (ruleOf loss g) chosen w
       → Base loss s g target (take r out)
 

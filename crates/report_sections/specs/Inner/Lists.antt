@@ -63,9 +63,10 @@ pub record CanLoad (k initial losable : ℕ) (opening lockout list : List ℕ) :
   pub opens : BaseTable (ruleOf false graph) initial opening
   pub locks : BaseTable (ruleOf true graph) losable lockout
 
--- The list with number k of whatever setup the tables and accounts are of.
-pub record Loaded (k accounts initial losable : ℕ) (opening lockout : List ℕ) (r : ℕ) (list : List ℕ) : Type 0 where
+-- The list with number k of whatever setup the tables and accounts are of; the places behind it are as they were.
+pub record Loaded (k accounts initial losable : ℕ) (opening lockout entry : List ℕ) (r : ℕ) (list : List ℕ) : Type 0 where
   pub each : (s : Setup) → WellFormed s → ChosenSet false s initial → ChosenSet true s losable → BaseTable (ruleOf false (s .graph)) initial opening
       → BaseTable (ruleOf true (s .graph)) losable lockout → Iff (Member accounts (k / 2)) (isAccount s (k / 2) ≡ true) → take r list ≡ slotList s k
   pub most : r ≤ listRoom
   pub room : length list ≡ listRoom
+  pub behind : drop r list ≡ drop r entry

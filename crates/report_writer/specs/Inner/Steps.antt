@@ -2,9 +2,10 @@
 use mathlib.Core.Path.{_≡_}
 use mathlib.Core.Bool.{Bool}
 use mathlib.Core.List.{List}
-use Prim.Native.Nat.{ℕ, _+_, _-_, _*_, _^_, _≤_, _<_}
+use Prim.Native.Nat.{ℕ, zero, suc, _+_, _-_, _*_, _^_, _≤_, _<_}
 use lib.ListN.{length, take}
 use Rattle.setup.specs.declared.Setup.{Setup}
+use Rattle.setup.specs.Calls.{written}
 use Rattle.bases.specs.Inner.Readers.{Values}
 use Rattle.sheet_format.specs.Names.{nameOf}
 use Rattle.report_scores.specs.Inner.Scores.{listRoom}
@@ -61,11 +62,32 @@ stepsLeft count (cursor.Pairs v) = count - v + 1
 stepsLeft count (cursor.Refused number line) = 1
 stepsLeft count cursor.End = 0
 
+-- The lists with the numbers from k on, n of them, written one after the other to the front of a list.
+abbrev pub loadedFrom : Setup → ℕ → ℕ → List ℕ → List ℕ
+loadedFrom s k zero list = list
+loadedFrom s k (suc n) list = loadedFrom s (suc k) n (written (slotList s k) list)
+
+-- How many lists were loaded when the report comes to a place.
+abbrev pub loadedBefore : ℕ → Cursor → ℕ
+loadedBefore count cursor.Start = 0
+loadedBefore count (cursor.Lists k i n) = suc k
+loadedBefore count (cursor.Scores v) = 2 * count
+loadedBefore count (cursor.Pairs v) = 2 * count
+loadedBefore count (cursor.Refused number line) = 2 * count
+loadedBefore count cursor.End = 2 * count
+
+-- Between two places just the lists that come between them were loaded, and no other place of the lent list changed.
+pub record ListsLoaded (s : Setup) (count : ℕ) (c d : Cursor) (entry exit : List ℕ) : Type 0 where
+  pub many : ℕ
+  pub between : loadedBefore count d ≡ loadedBefore count c + many
+  pub list : exit ≡ loadedFrom s (loadedBefore count c) many entry
+
 -- A step was taken, or several: a part of what was left of the report at c stands from `at` on, written as a row is, and the rest is what is left
 -- at the new cursor.
 pub record StepTaken (sheet : List ℕ) (f : Facts) (opening lockout list : List ℕ) (c : Cursor) (entry : List ℕ) (at : ℕ) (list′ exit : List ℕ) (r : Step) : Type 0 where
   pub part : (s : Setup) → KnownAt sheet s f opening lockout list c → Part entry at (restOf (nameOf sheet) s c) (restOf (nameOf sheet) s (r .cursor)) exit (r .at)
   pub here : (s : Setup) → KnownAt sheet s f opening lockout list c → KnownAt sheet s f opening lockout list′ (r .cursor)
+  pub lists : (s : Setup) → KnownAt sheet s f opening lockout list c → ListsLoaded s (f .count) c (r .cursor) list list′
   pub less : 0 < stepsLeft (f .count) c → stepsLeft (f .count) (r .cursor) < stepsLeft (f .count) c
 
 -- What the steps of the last two sections ask for.

@@ -13,7 +13,7 @@ same-length : tie.Need-same-length
 same-length c = search needs
 
 returns : tie.Need-returns
-returns c = loaded-lockout _ _ _ _ _ _ _ _ (c .before .before .before .before .before .before .has .ensures .yes (c .before .before .before .before .before .if1 .taken)) (slot-lockout _ (c .before .before .before .before .if2 .taken)) (c .before .before .list-from .ensures)
+returns c = loaded-lockout _ _ _ _ _ _ _ _ _ (c .before .before .before .before .before .before .has .ensures .yes (c .before .before .before .before .before .if1 .taken)) (slot-lockout _ (c .before .before .before .before .if2 .taken)) (c .before .before .list-from .ensures)
 
 list-from-requires-2 : tie.Need-list-from-requires-2
 list-from-requires-2 c κs = search needs
@@ -22,7 +22,7 @@ same-length-2 : tie.Need-same-length-2
 same-length-2 c = search needs
 
 returns-2 : tie.Need-returns-2
-returns-2 c = loaded-opening _ _ _ _ _ _ _ _ (c .before .before .before .before .before .before .has .ensures .yes (c .before .before .before .before .before .if1 .taken)) (slot-opening _ (c .before .before .before .before .if2 .left)) (c .before .before .list-from2 .ensures)
+returns-2 c = loaded-opening _ _ _ _ _ _ _ _ _ (c .before .before .before .before .before .before .has .ensures .yes (c .before .before .before .before .before .if1 .taken)) (slot-opening _ (c .before .before .before .before .if2 .left)) (c .before .before .list-from2 .ensures)
 
 returns-3 : tie.Need-returns-3
 returns-3 c = loaded-none _ _ _ _ _ _ _ (c .before .has .ensures .no (c .if1 .left)) (search needs)

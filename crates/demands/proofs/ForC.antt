@@ -34,7 +34,7 @@ use Rattle.living.proofs.Kept.{living-numbered}
 checked : (words : List ℕ) (r : ℕ) → Asks (λ q. q) (asksReached (setupIn words) ∷ []) (λ n. n ≡ 0) r
     → Settled (λ n. n) (λ q. q) (12 ∷ []) (Asks (λ q. q) (asksReached (setupIn words) ∷ []) (λ n. n ≡ 0)) r
 checked words r =
-    settled-asks (λ n. n) (λ q. q) (λ q. refl) (asksReached (setupIn words) ∷ []) (λ n. n ≡ 0) (12 ∷ []) (all-numbered _ refl) (λ q l. l) r (λ e. inl e) (λ p d e. d ∙ sym e)
+    settled-asks (λ n. n) (λ q. q) (λ q. refl) (asksReached (setupIn words) ∷ []) (λ n. n ≡ 0) (12 ∷ []) (all-numbered (asksReached (setupIn words) ∷ []) refl) (λ q l. l) r (λ e. inl e) (λ p d e. d ∙ sym e)
 
 one-reading : (text : List ℕ) (n n′ l l′ : ℕ) (entry exit exit′ : List ℕ) → ReadingCall text n l entry exit → ReadingCall text n′ l′ entry exit′
     → (n ≡ n′) × (l ≡ l′) × (exit ≡ exit′)
@@ -50,7 +50,7 @@ pub settled-for-c : SettledForC
 settled-for-c =
     record {
       calls = λ q s n f l t. settled-told (contractOf q s) (one-answer q s) n f l t (numbered q s);
-      living = λ c words n f l t. settled-told (livingCall c words) (one-redrawn c words) n f l t (all-numbered _ (living-numbered c (setupIn words)));
+      living = λ c words n f l t. settled-told (livingCall c words) (one-redrawn c words) n f l t (all-numbered (livingCall c words .questions) (living-numbered c (setupIn words)));
       name = λ text item n f l t. settled-told (nameCall text item) (one-name text item) n f l t (λ z. z, all-numbered (asks13 (readSheet text .setup) item ∷ []) refl);
       check = checked;
       reading = one-reading;

@@ -1,11 +1,12 @@
 -- Each contract leaves one answer, and so each call has one outcome.
 -- Assumes nothing.
 use mathlib.Core.Path.{_≡_, refl}
+use mathlib.Core.Bool.{true}
 use mathlib.Core.List.{[], _∷_}
 use Rattle.setup.specs.declared.Setup.{Setup}
 use Rattle.questions.specs.Contract.{OneAnswer}
 use Rattle.questions.specs.Questions.{asks12}
-use Rattle.questions.proofs.Asks.{Numbered, all-numbered}
+use Rattle.questions.proofs.Asks.{positive, Numbered, all-numbered}
 use Rattle.access.proofs.Unique.{one-closure, one-lost, one-way}
 use Rattle.quick_yes.proofs.Unique.{one-quick}
 use Rattle.answers.proofs.Unique.{one-bases, one-score, one-marks}
@@ -37,21 +38,24 @@ one-answer (NextSet target last) s = one-next s target last
 one-answer (Bags target places lengths) s = one-bags s target places lengths
 one-answer (Save sheet out) s = saved-unique sheet s
 
+by-numbers : (q : Request) (s : Setup) → positive (contractOf q s .questions) ≡ true → Numbered (contractOf q s .questions)
+by-numbers q s p = all-numbered (contractOf q s .questions) p
+
 -- no refusal has the number 0; a sheet's own number is 0 where it is accepted
 pub numbered : (q : Request) (s : Setup) → Numbered (contractOf q s .questions)
-numbered (Closure set) s = all-numbered _ refl
-numbered (Lost set) s = all-numbered _ refl
-numbered (WayTo target set vertices colours) s = all-numbered _ refl
-numbered (QuickYes target set) s = all-numbered _ refl
-numbered (BothBases target list) s = all-numbered _ refl
-numbered (ScoreOf loss target) s = all-numbered _ refl
-numbered (MarksOf loss target handed) s = all-numbered _ refl
-numbered (Backdoor item) s = all-numbered _ refl
-numbered (Idle item) s = all-numbered _ refl
-numbered (OutOfRank above below) s = all-numbered _ refl
-numbered (ForecastOf target) s = all-numbered _ refl
-numbered (Cuts target list) s = all-numbered _ refl
-numbered (Attackers target kinds) s = all-numbered _ refl
-numbered (NextSet target last) s = all-numbered _ refl
-numbered (Bags target places lengths) s = all-numbered _ refl
+numbered (Closure set) s = by-numbers (Closure set) s refl
+numbered (Lost set) s = by-numbers (Lost set) s refl
+numbered (WayTo target set vertices colours) s = by-numbers (WayTo target set vertices colours) s refl
+numbered (QuickYes target set) s = by-numbers (QuickYes target set) s refl
+numbered (BothBases target list) s = by-numbers (BothBases target list) s refl
+numbered (ScoreOf loss target) s = by-numbers (ScoreOf loss target) s refl
+numbered (MarksOf loss target handed) s = by-numbers (MarksOf loss target handed) s refl
+numbered (Backdoor item) s = by-numbers (Backdoor item) s refl
+numbered (Idle item) s = by-numbers (Idle item) s refl
+numbered (OutOfRank above below) s = by-numbers (OutOfRank above below) s refl
+numbered (ForecastOf target) s = by-numbers (ForecastOf target) s refl
+numbered (Cuts target list) s = by-numbers (Cuts target list) s refl
+numbered (Attackers target kinds) s = by-numbers (Attackers target kinds) s refl
+numbered (NextSet target last) s = by-numbers (NextSet target last) s refl
+numbered (Bags target places lengths) s = by-numbers (Bags target places lengths) s refl
 numbered (Save sheet out) s = (λ z. z, all-numbered (asks12 s ∷ asksNames sheet s ∷ []) refl)

@@ -1,8 +1,10 @@
 -- At the first place the whole report is left, and the parts that are written from there on are the whole of it.
 -- Assumes nothing.
-use mathlib.Core.Path.{_≡_, refl, sym, ap, _∙_}
+use mathlib.Core.Path.{_≡_, refl, sym, ap, subst, _∙_}
 use mathlib.Core.List.{List, [], _∷_, _++_}
-use Prim.Native.Nat.{ℕ, _^_, _<_}
+use Prim.Native.Nat.{ℕ, _+_, _^_, _<_}
+use native.Mathlib.Omega.{arith}
+use lib.ListN.{length, take, drop}
 use borrow.Author.Tests.{ne-eqb, eq-eqb}
 use Rattle.setup.specs.declared.Setup.{Setup}
 use Rattle.sheet_format.specs.declared.Reading.{Reading}
@@ -14,7 +16,8 @@ use Rattle.report_facts.specs.Inner.Facts.{FactsOf, TablesOf}
 use Rattle.report_writer.specs.declared.steps.Cursor.{Cursor}
 use Rattle.report_writer.specs.declared.steps.Cursor.the-variants as cursor
 use Rattle.report_writer.specs.Rest.{restOf}
-use Rattle.report_writer.specs.Whole.{Begun, PartsToEnd, inOne, WholeReport}
+use Rattle.report_writer.specs.Whole.{Begun, Filled, Fills, inOne, WholeReport}
+use Rattle.report_writer.specs.Inner.Steps.{KnownAt}
 
 module _ (sheet : List ℕ) (r : Reading) (e : r ≡ readSheet sheet) (f : Facts) (opening lockout : List ℕ) where
   pub begun-refused : (r .number ≡ 0 → ⊥) → r .number < 2 ^ 64 → r .line < 2 ^ 64
@@ -37,9 +40,29 @@ module _ (sheet : List ℕ) (r : Reading) (e : r ≡ readSheet sheet) (f : Facts
         here = λ list l. rw (← e) (h, t, l);
       }
 
-run-rest : (name : ℕ → List ℕ) (s : Setup) (c : Cursor) (parts : List (List ℕ)) → PartsToEnd name s c parts → inOne parts ≡ restOf name s c
-run-rest name s c [] e = sym (ap (restOf name s) e)
-run-rest name s c (p ∷ ps) r = ap (λ t. p ++ t) (run-rest name s (r .0) ps (r .2)) ∙ sym (r .1)
+-- ---- what is left before a call is what it leaves in front, and what is left after it
+
+front : (p exit part : List ℕ) (at : ℕ) → at ≡ 0 + length part → take (length part) (drop 0 exit) ≡ part → p ≡ take at exit → p ≡ part
+front p exit part at e s b = let n : at ≡ length part = omega (arith, e) in b ∙ ap (λ (n : ℕ). take n exit) n ∙ s
+
+module _ (sheet : List ℕ) (s : Setup) (f : Facts) (opening lockout list : List ℕ) (c : Cursor) (p list′ : List ℕ) (d : Cursor) (k : KnownAt sheet s f opening lockout list c)
+    (w : Filled sheet f opening lockout list c p list′ d) where
+  pub filled-rest : restOf (nameOf sheet) s c ≡ p ++ restOf (nameOf sheet) s d
+  filled-rest =
+      let q = w .taken .part s k in
+      q .split ∙ ap (λ (x : List ℕ). x ++ restOf (nameOf sheet) s (w .step .cursor)) (sym (front p (w .exit) (q .part) (w .step .at) (q .wrote .many) (q .wrote .stands) (w .bytes)))
+      ∙ ap (λ (x : Cursor). p ++ restOf (nameOf sheet) s x) (w .goesOn)
+
+  filled-known : KnownAt sheet s f opening lockout list′ d
+  filled-known = subst (KnownAt sheet s f opening lockout list′) (w .goesOn) (w .taken .here s k)
+
+fills-rest : (sheet : List ℕ) (s : Setup) (f : Facts) (opening lockout list : List ℕ) (c : Cursor) (ps : List (List ℕ)) → KnownAt sheet s f opening lockout list c
+    → Fills sheet f opening lockout list c ps → inOne ps ≡ restOf (nameOf sheet) s c
+fills-rest sheet s f opening lockout list c [] k e = sym (ap (restOf (nameOf sheet) s) e)
+fills-rest sheet s f opening lockout list c (p ∷ ps) k w =
+    ap (λ (t : List ℕ). p ++ t) (fills-rest sheet s f opening lockout (w .0) (w .1) ps (filled-known sheet s f opening lockout list c p (w .0) (w .1) k (w .2)) (w .3))
+    ∙ sym (filled-rest sheet s f opening lockout list c p (w .0) (w .1) k (w .2))
 
 pub whole-report : WholeReport
-whole-report sheet r opening₀ lockout₀ opening lockout b parts run = run-rest (nameOf sheet) (readSheet sheet .setup) (r .cursor) parts run ∙ b .whole
+whole-report sheet r opening₀ lockout₀ opening lockout list b l parts w =
+    fills-rest sheet (readSheet sheet .setup) (r .facts) opening lockout list (r .cursor) parts (b .here list l) w ∙ b .whole

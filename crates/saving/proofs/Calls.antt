@@ -26,6 +26,7 @@ use Rattle.sheet_format.proofs.Meaning.{render-lines}
 use Rattle.sheet.proofs.Names.{item-there}
 use Rattle.report_facts.specs.declared.names.Names.{Names}
 use Rattle.report_facts.specs.Inner.Places.{NamesPlaced}
+use Rattle.sheet_format.specs.Meaning.{longestSheet}
 use Rattle.save_format.specs.declared.Saved.{Saved}
 use Rattle.save_format.specs.Call.{saveCall}
 use Rattle.save_format.specs.Inner.{savedText}

@@ -4,11 +4,11 @@ use lib.Seq.{length-take-le}
 use borrow.Author.Needs.{needs}
 use Rattle.report_writer.specs.Inner.Steps.{stepsLeft}
 use Rattle.report_writer.proofs.Filling.{went-inside, left-some}
-use Rattle.report.proofs.Printing.{Printing, printing-begun, printing-more}
+use Rattle.report.proofs.Printing.{Printing, going, printing-begun, printing-more}
 use Rattle.report.proofs.print_report.Statement.{statement}
 use Rattle.report.proofs.print_report.Tie as tie
 
--- The report can go on at the cursor, and the tables, the list and the bytes that go out have their lengths.
+-- What was handed to `write` so far, followed by what is left at the cursor, is the report; the tables, the list and the bytes that go out have their lengths.
 abbrev Inv-loop : tie.InvT-loop
 Inv-loop sheet opening lockout list₀ out₀ facts cursor₀ t11 list out cursor = Printing sheet facts opening lockout list out cursor
 
@@ -48,15 +48,15 @@ slice-aggregate-fill-4 : tie.Need-slice-aggregate-fill-4 Inv-loop μ-loop
 slice-aggregate-fill-4 c = search needs
 
 fill-requires : tie.Need-fill-requires Inv-loop μ-loop
-fill-requires c κs = let l = c .before .before .before .before .before .before .loop .inv in (l .going, let o = l .longOut in omega arith)
+fill-requires c κs = let l = c .before .before .before .before .before .before .loop .inv in (going _ _ _ _ _ _ _ l, let o = l .longOut in omega arith)
 
 array-share-prefix-out : tie.Need-array-share-prefix-out Inv-loop μ-loop
-array-share-prefix-out c = let f = c .before .before in went-inside _ _ _ _ _ _ _ _ _ _ _ (f .before .before .before .before .before .before .before .loop .inv .going) (f .fill .ensures)
+array-share-prefix-out c = let f = c .before .before in went-inside _ _ _ _ _ _ _ _ _ _ _ (going _ _ _ _ _ _ _ (f .before .before .before .before .before .before .before .loop .inv)) (f .fill .ensures)
 
 slice-aggregate-write-whole : tie.Need-slice-aggregate-write-whole Inv-loop μ-loop
 slice-aggregate-write-whole c =
     let f = c .before .before .before in
-    sym (length-take-le _ _ (went-inside _ _ _ _ _ _ _ _ _ _ _ (f .before .before .before .before .before .before .before .loop .inv .going) (f .fill .ensures)))
+    sym (length-take-le _ _ (went-inside _ _ _ _ _ _ _ _ _ _ _ (going _ _ _ _ _ _ _ (f .before .before .before .before .before .before .before .loop .inv)) (f .fill .ensures)))
 
 write-whole-requires : tie.Need-write-whole-requires Inv-loop μ-loop
 write-whole-requires c κs = search needs

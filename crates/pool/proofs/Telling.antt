@@ -6,7 +6,7 @@ use mathlib.Core.Logic.{_⊎_, inl, inr, ⊎-elim}
 use Prim.Native.Nat.{ℕ, _+_, _^_, _≤_, _<_}
 use native.Mathlib.Omega.{arith}
 use lib.ListN.{length, take, drop, length-append, length-take, length-drop}
-use lib.Seq.{length-take-le}
+use lib.Seq.{length-take-le, drop-append-seam}
 use Rattle.io.specs.Counts.{Counts}
 use Rattle.written.specs.Inner.{Wrote}
 use Rattle.vertex_set.specs.Order.{Listed}
@@ -19,7 +19,7 @@ use Rattle.sheet_format.proofs.Meaning.{number-most}
 use Rattle.sheet_format.proofs.Numbers.{decimal-length}
 use Rattle.writing.specs.Inner.{ended}
 use Rattle.pool_format.specs.declared.Pooled.{Pooled}
-use Rattle.pool_format.specs.Call.{PoolOutcome, withBuffer, PoolCall}
+use Rattle.pool_format.specs.Call.{PoolOutcome, withBuffer, poolRefusal, PoolCall}
 use Rattle.pool_format.specs.Meaning.{IsPooled}
 use Rattle.sheet_format.specs.Meaning.{longestSheet}
 use Rattle.pool_format.proofs.Meaning.{always-enough, PoolComes, of-first, of-second, of-both, of-short, of-text, pool-comes, pooled-text}
@@ -57,6 +57,10 @@ row-counts entry row exit r w =
 
 pub row-taken : (entry row exit : List ℕ) (r : ℕ) → RowWritten entry 0 row exit r → take r exit ≡ row
 row-taken entry row exit r w = let e : r ≡ length row = omega (arith, w .many) in ap (λ n. take n exit) e ∙ w .stands
+
+-- behind a row at the start everything is as it was
+pub row-behind : (entry row exit : List ℕ) (r : ℕ) → RowWritten entry 0 row exit r → drop r exit ≡ drop r entry
+row-behind entry row exit r w = let e : r ≡ 0 + length row = w .many in rw e (w .others .1)
 
 -- ---- what the call answers
 
@@ -104,6 +108,32 @@ module _ (a b : List ℕ) (r : Pooled) (entry exit : List ℕ) (c : PoolCall a b
 
   pub sheet-counts : Counts (r .size) exit
   sheet-counts = counted (r .size) exit size-inside
+
+  -- behind the sheet the buffer is as it was, and a refusal leaves all of it
+  pub sheet-behind : drop (r .size) exit ≡ drop (r .size) entry
+  sheet-behind = by (pool-comes a b r entry exit c)
+    where
+      kept : (sheet line q : ℕ) → withBuffer r exit ≡ poolRefusal sheet line entry q → drop (r .size) exit ≡ drop (r .size) entry
+      kept sheet line q e = ap (λ (o : PoolOutcome). drop (r .size) (o .buffer)) e
+
+      by : PoolComes a b entry (withBuffer r exit) → drop (r .size) exit ≡ drop (r .size) entry
+      by (of-first n e) = kept _ _ _ e
+      by (of-second n e) = kept _ _ _ e
+      by (of-both q l e) = kept _ _ _ e
+      by (of-short t p n e) = kept _ _ _ e
+      by (of-text t p e) =
+          let size : r .size ≡ length t = ap (λ (o : PoolOutcome). o .answer .size) e in
+          ap (λ (o : PoolOutcome). drop (r .size) (o .buffer)) e ∙ rw size (drop-append-seam t (drop (length t) entry))
+
+  pub refused-behind : (r .number ≡ 0 → ⊥) → drop 0 exit ≡ drop 0 entry
+  refused-behind n = by (pool-comes a b r entry exit c)
+    where
+      by : PoolComes a b entry (withBuffer r exit) → drop 0 exit ≡ drop 0 entry
+      by (of-first m e) = ap (λ (o : PoolOutcome). o .buffer) e
+      by (of-second m e) = ap (λ (o : PoolOutcome). o .buffer) e
+      by (of-both q l e) = ap (λ (o : PoolOutcome). o .buffer) e
+      by (of-short t p m e) = ap (λ (o : PoolOutcome). o .buffer) e
+      by (of-text t p e) = absurd (n (number e))
 
   -- ---- what the program tells
 

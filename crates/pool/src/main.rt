@@ -5,8 +5,9 @@ use sheet::READ_ROOM;
 use sheet_fields::LF;
 use sheet_fields::SPACE;
 use streams::Input;
+ghost use mathlib.Core.Path.{_≡_};
 ghost use Prim.Native.Nat.{_≤_};
-ghost use lib.ListN.{length, take};
+ghost use lib.ListN.{length, take, drop};
 ghost use Rattle.io.specs.Counts.{Counts};
 ghost use Rattle.written.specs.Rows.{RowWritten};
 ghost use Rattle.sheet_format.specs.Meaning.{longestSheet};
@@ -40,13 +41,16 @@ fn put_refusal(sheet: u64, number: u64, line: u64, out: &mut [u8]) -> usize
     writing::put_number(line, LF, out, next)
 }
 
-// Pools two texts: the sheet, or the line of a refusal.
+// Pools two texts: the sheet, or the line of a refusal. The bytes behind what is told stay as they
+// were.
 fn tell(first: &[u8], second: &[u8], out: &mut [u8], line: &mut [u8]) -> Told
     requires { ⌜ longestSheet ≤ length (now out) ⌝ }
     requires { ⌜ lineBytes ≤ length (now line) ⌝ }
     ensures { λ r. ⌜ Printed (now (first .entry)) (now (second .entry)) (take (r .printed) (now (out .exit))) (take (r .said) (now (line .exit))) ⌝ }
     ensures { λ r. ⌜ Counts (r .printed) (now (out .exit)) ⌝ }
     ensures { λ r. ⌜ Counts (r .said) (now (line .exit)) ⌝ }
+    ensures { λ r. ⌜ drop (r .printed) (now (out .exit)) ≡ drop (r .printed) (now (out .entry)) ⌝ }
+    ensures { λ r. ⌜ drop (r .said) (now (line .exit)) ≡ drop (r .said) (now (line .entry)) ⌝ }
 {
     let answer = pooling::pool_sheets(first, second, out);
     let number = answer.number;

@@ -2,7 +2,7 @@
 use mathlib.Core.List.{[]}
 use mathlib.Core.Path.{refl}
 use native.Mathlib.Omega.{arith}
-use Rattle.pool.proofs.Telling.{row-counts, row-taken, sheet-counts, tells-pooled, tells-refused}
+use Rattle.pool.proofs.Telling.{row-counts, row-taken, row-behind, sheet-counts, sheet-behind, refused-behind, tells-pooled, tells-refused}
 use borrow.Author.Needs.{needs}
 use Rattle.pool.proofs.tell.Statement.{statement}
 use Rattle.pool.proofs.tell.Tie as tie
@@ -18,7 +18,7 @@ returns c =
     let p = c .before .before .before in
     let s = p .before .before .before .before .before .before in
     let call = p .pool-sheets .ensures in
-    (tells-pooled _ _ _ _ _ call (s .pre .0) [] (c .if1 .taken), (sheet-counts _ _ _ _ _ call (s .pre .0), (omega arith, refl)))
+    (tells-pooled _ _ _ _ _ call (s .pre .0) [] (c .if1 .taken), (sheet-counts _ _ _ _ _ call (s .pre .0), ((omega arith, refl), (sheet-behind _ _ _ _ _ call (s .pre .0), refl))))
 
 put-refusal-requires : tie.Need-put-refusal-requires
 put-refusal-requires c κs = search needs
@@ -35,7 +35,7 @@ returns-2 c =
     let e = c .before .before .before .before in
     let p = e .before .before .before in
     let s = p .before .before .before .before .before .before in
-    (tells-refused _ _ _ _ _ (p .pool-sheets .ensures) (s .pre .0) _ (e .if1 .left) (row-taken _ _ _ _ w), ((omega arith, refl), row-counts _ _ _ _ w))
+    (tells-refused _ _ _ _ _ (p .pool-sheets .ensures) (s .pre .0) _ (e .if1 .left) (row-taken _ _ _ _ w), ((omega arith, refl), (row-counts _ _ _ _ w, (refused-behind _ _ _ _ _ (p .pool-sheets .ensures) (s .pre .0) (e .if1 .left), row-behind _ _ _ _ w))))
 
 pub tell-spec : {M : Type 1} → statement M
 tell-spec =

@@ -46,14 +46,6 @@ pub least-words : (loss : Bool) (g : Graph) (target chosen : ℕ) (f : List ℕ)
 least-words loss g target chosen f n fam w =
     least-below chosen (λ held. Derivation (ruleOf loss g) held target) (derivation-rising loss g target) f fam n w
 
--- a base lists exactly the minimal sets
-pub base-exactly : (loss : Bool) (s : Setup) (g : Graph) (target : ℕ) (l : List ℕ) → Iff (Base loss s g target l) (ListsExactly (MinimalSet loss s g target) l)
-base-exactly loss s g target l =
-    record {
-      to = λ b. record { sound = b .sound; whole = b .whole; ordered = b .ordered };
-      from = λ b. record { sound = b .sound; whole = b .whole; ordered = b .ordered };
-    }
-
 -- ---- the target's sets, and those of the family
 
 module _ (loss : Bool) (s : Setup) (g : Graph) (target chosen : ℕ) (ch : ChosenSet loss s chosen) where
@@ -85,9 +77,8 @@ module _ (loss : Bool) (s : Setup) (g : Graph) (target chosen : ℕ) (ch : Chose
     -- the list of the minimal members' sets is the base
     pub base-of : (m : List ℕ) → MinimalMembers f m → (l : List ℕ) → ListOf chosen m l → Base loss s g target l
     base-of m min l o =
-        base-exactly loss s g target l .from
-        (exactly-same (Smallest (Has chosen Derives)) (MinimalSet loss s g target) l (λ x. record { to = minimal-smallest x .from; from = minimal-smallest x .to })
-        (list-smallest chosen Derives (derivation-rising loss g target) f fits small fam m min l o))
+        exactly-same (Smallest (Has chosen Derives)) (MinimalSet loss s g target) l (λ x. record { to = minimal-smallest x .from; from = minimal-smallest x .to })
+        (list-smallest chosen Derives (derivation-rising loss g target) f fits small fam m min l o)
 
     -- the least sum over the members' sets is the score
     pub score-of : (r : ℕ) (value : ℕ → ℕ) → ((x : ℕ) → sumOver value x ≡ sumOf loss s x) → LeastSum chosen f value r → Score loss s g target r

@@ -4,7 +4,7 @@ use mathlib.Core.Bool.{Bool}
 use mathlib.Core.List.{List}
 use Prim.Native.Nat.{ℕ}
 use Rattle.vertex_set.specs.Set.{Member, ProperlyWithin}
-use Rattle.vertex_set.specs.Order.{Listed, Ordered}
+use Rattle.vertex_set.specs.Order.{ListsExactly}
 use Rattle.setup.specs.declared.Graph.{Graph}
 use Rattle.setup.specs.declared.Setup.{Setup}
 use Rattle.setup.specs.Setup.{Chosen}
@@ -26,7 +26,5 @@ pub record MinimalSet (loss : Bool) (s : Setup) (g : Graph) (target x : ℕ) : T
   pub minimal : (y : ℕ) → ProperlyWithin y x → Derives loss g target y → ⊥
 
 -- l is the base of the target: exactly the minimal sets, each once, fewer vertices first, then the smaller number.
-pub record Base (loss : Bool) (s : Setup) (g : Graph) (target : ℕ) (l : List ℕ) : Type 0 where
-  pub sound : (x : ℕ) → Listed l x → MinimalSet loss s g target x
-  pub whole : (x : ℕ) → MinimalSet loss s g target x → Listed l x
-  pub ordered : Ordered l
+abbrev pub Base : Bool → Setup → Graph → ℕ → List ℕ → Type 0
+Base loss s g target = ListsExactly (MinimalSet loss s g target)

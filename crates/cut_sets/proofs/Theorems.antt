@@ -12,7 +12,6 @@ use Rattle.setup.specs.declared.Setup.{Setup}
 use Rattle.setup.specs.Setup.{Chosen, ChosenSet}
 use Rattle.derivations.specs.Access.{HasAccess}
 use Rattle.bases.specs.Base.{MinimalSet}
-use Rattle.bases.proofs.Bridge.{base-exactly}
 use Rattle.forecasts.proofs.Bounds.{chosen-set}
 use Rattle.cut_sets.specs.Cuts.{CutSet, CutList, MeetsEvery, Transversal, Duality, DualityHolds, CutsMeetBase}
 use Rattle.cut_sets.proofs.Sets.{iff-sym, empty-cut, all-cut, cut-within}
@@ -40,9 +39,9 @@ duality-holds s target cuts w c = holds (chosen-set false s w .0) (chosen-set fa
         record {
           transversals = λ l b. exactly-same (Smallest (CutSet s target)) (Smallest (Transversal s l)) cuts (smallest-meet s target initial w ch l b) c;
           again = λ l b. exactly-same (MinimalSet false s (s .graph) target) (Smallest (MeetsEvery (CutSet s target))) l
-              (λ x. iff-sym (base-again s target initial w ch x)) (base-exactly false s (s .graph) target l .to b);
+              (λ x. iff-sym (base-again s target initial w ch x)) b;
           againListed = λ l b. exactly-same (MinimalSet false s (s .graph) target) (Smallest (MeetsEvery (Listed cuts))) l
-              (λ x. iff-sym (base-again-listed s target initial w ch cuts c x)) (base-exactly false s (s .graph) target l .to b);
+              (λ x. iff-sym (base-again-listed s target initial w ch cuts c x)) b;
           empty = λ shut. exactly-unique (Smallest (CutSet s target)) cuts (0 ∷ []) c (empty-alone s target shut);
           some = let z = cut-within s target initial w ch initial (all-cut s target initial ch) in listed-some cuts (z .0) (c .whole (z .0) (z .2));
           forecast = cuts-foretold s target cuts c;

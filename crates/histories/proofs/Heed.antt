@@ -57,7 +57,7 @@ module _ (s : Setup) (h o : VertexSet) (loss : Bool) (g : Graph) (target : ℕ) 
   minimal-back = minimal-too (holding s h o) (s .held) (s .opened) loss g target
 
   base-too : (l : List ℕ) → Base loss s g target l → Base loss (holding s h o) g target l
-  base-too l b = record { sound = λ x i. minimal-too s h o loss g target x (b .sound x i); whole = λ x m. b .whole x (minimal-back x m); ordered = b .ordered }
+  base-too l = exactly-same (MinimalSet loss s g target) (MinimalSet loss (holding s h o) g target) l (λ x. record { to = minimal-too s h o loss g target x; from = minimal-back x })
 
   score-too : (r : ℕ) → Score loss s g target r → Score loss (holding s h o) g target r
   score-too r a =

@@ -12,7 +12,6 @@ use Rattle.vertex_set.proofs.Lists.{exactly-unique}
 use Rattle.setup.specs.declared.Graph.{Graph}
 use Rattle.setup.specs.declared.Setup.{Setup}
 use Rattle.bases.specs.Base.{MinimalSet, Base}
-use Rattle.bases.proofs.Bridge.{base-exactly}
 use Rattle.scores.specs.Never.{never}
 use Rattle.bases.specs.Score.{Score}
 use Rattle.bases.specs.Marks.{Mark, Repeated, Shut, Loose, Right, CountsAs, MarkedAs, tally, Counts}
@@ -20,7 +19,7 @@ use Rattle.bases.specs.Marks.{Mark, Repeated, Shut, Loose, Right, CountsAs, Mar
 module _ (loss : Bool) (s : Setup) (g : Graph) (target : ℕ) where
   pub base-unique : (l k : List ℕ) → Base loss s g target l → Base loss s g target k → l ≡ k
   base-unique l k a b =
-      exactly-unique (MinimalSet loss s g target) l k (base-exactly loss s g target l .to a) (base-exactly loss s g target k .to b)
+      exactly-unique (MinimalSet loss s g target) l k a b
 
   -- no score is above another
   score-le : (r q : ℕ) → Score loss s g target r → Score loss s g target q → q < never → r ≤ q

@@ -1,5 +1,5 @@
 /* A worked example of include/portal.h. Reads a sheet, prints the opening sets of an account by name with the way in of each,
- * says what to harden so that no way in is left, marks a handed-in list, and redraws the setup:
+ * says what to harden so that no way in is left, marks a handed-in list, redraws the setup, and saves the drawing:
  *
  *     portal SHEET ACCOUNT [SET ...]     a set is names joined by '+', and '-' is the empty set
  *
@@ -142,6 +142,21 @@ static void print_held(const char *what)
     printf("\n");
 }
 
+/* Saves the drawing as it now is, under the sheet's names, and reads it again: the same drawing, with nothing held. */
+static void save_drawing(void)
+{
+    static uint8_t saved[PORTAL_SAVE_BYTES];
+    static uint64_t again[PORTAL_SETUP_WORDS];
+    struct portal_write_sheet_result text = portal_write_sheet(sheet, length, setup, PORTAL_SETUP_WORDS, saved, sizeof saved);
+    if (text.number != 0)
+        stop("save", text.number);
+    struct portal_read_result reading = portal_read(saved, text.length, again, PORTAL_SETUP_WORDS);
+    if (reading.number != 0)
+        stop("read what was saved", reading.number);
+    printf("saved in %" PRIu64 " bytes; read again it is %s\n", text.length,
+           memcmp(setup, again, PORTAL_HELD * sizeof *setup) == 0 ? "the same drawing" : "another drawing");
+}
+
 /* An edge more, from an item that is not open, in a colour by which the account is: that colour is then harder, and the account may shut.
  * Where there is no such item or colour, nothing is drawn; a refused call leaves the setup as it was. */
 static void draw_edge(uint64_t account)
@@ -162,6 +177,7 @@ static void draw_edge(uint64_t account)
     print_name(from);
     printf(" in colour %u", (unsigned)colour);
     print_held(" added");
+    save_drawing();
     number = portal_remove_edge(setup, PORTAL_SETUP_WORDS, from, account, colour);
     if (number != 0)
         stop("remove an edge", number);

@@ -5,7 +5,7 @@ use mathlib.Core.Bool.{true, false}
 use mathlib.Core.List.{List, map}
 use Prim.Native.Nat.{ℕ, _≤_}
 use native.Mathlib.Omega.{arith}
-use lib.ListN.{length, take, drop, length-map, length-replicate}
+use lib.ListN.{length, take, drop, length-map}
 use lib.Seq.{take-at}
 use Rattle.written.specs.Inner.{Wrote}
 use Rattle.written.proofs.Writing.{wrote-front}
@@ -20,7 +20,7 @@ use Rattle.sheet_format.proofs.Meaning.{accepted-of-valid}
 use Rattle.sheet_rows.specs.Inner.NameKeys.{NameKeys}
 use Rattle.sheet_lines.specs.declared.item_keys.Keys.{Keys}
 use Rattle.sheet_lines.specs.Inner.Keys.{SheetKeys}
-use Rattle.sheet_lines.proofs.Accepted.{accepts-of, setup-of, count-of}
+use Rattle.sheet_lines.proofs.Accepted.{accepts-of, setup-of, count-of, rows-of-text}
 use Rattle.handin_format.specs.Sets.{setFrom}
 use Rattle.handin_format.specs.Lines.{LineNo, lineNo, lineCall}
 use Rattle.handin_lines.specs.declared.lines.LineRead.{LineRead}
@@ -93,6 +93,12 @@ module _ (sheet line : List ℕ) (r : Reading) (is : r ≡ readSheet sheet) wher
               noLine = λ d v q n. absurd (n (first-is d v q ∙ z));
               says = λ d v q _. subst (λ (x : RegisterCall). TaskFor (setupOf d) x t) (sym (c .says z (d .items) (keys-are d v q) .call)) (h d v q);
             }
+
+        pub can-hand-over : CanHandOver line read
+        can-hand-over =
+            let d = rows-of-text sheet (r .setup) (accepts-of sheet r is zero) in
+            let y = c .says z (d .doc .items) (keys-are (d .doc) (d .valid) (d .text)) in
+            record { counted = y .counted; few = y .few }
 
         pub task-leaves : (t : Task) → read .withdraws ≡ true → t ≡ leaving (read .student) → TaskOfLine sheet line t
         unfolding callRead

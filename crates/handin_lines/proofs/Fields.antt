@@ -28,7 +28,7 @@ use Rattle.handin_lines.specs.declared.lines.Form.{Form}
 use Rattle.handin_lines.specs.declared.lines.WayField.{WayField}
 use Rattle.handin_lines.specs.declared.lines.LineRead.{LineRead}
 use Rattle.handin_lines.specs.Inner.Splitting.{splitFrom}
-use Rattle.handin_lines.specs.Inner.Naming.{itemFrom, ReadsItem}
+use Rattle.handin_lines.specs.Inner.Naming.{itemFrom, NamesItem}
 use Rattle.handin_lines.specs.Inner.Sets.{setsFrom, ChecksSets, handedQuestions, ChecksHanded}
 use Rattle.handin_lines.specs.Inner.Lines.{noLine, partOf, FieldsCut, FormOf, ReadsWay, attemptQuestions, attemptRead, ChecksAttempt, callRead, SaysCall, ChecksLine}
 use Rattle.handin_lines.proofs.Splitting.{split-over}
@@ -106,7 +106,7 @@ item-is items g z =
     (λ e. absurd (let w = rw e at z in omega arith))
 
 module _ (low high : List ℕ) (count : ℕ) (l : List ℕ) (form : Form) (student : ℕ) where
-  module _ (target : ItemField) (t : ReadsItem low high count (partOf l (form .first + 1) (form .second)) target) where
+  module _ (target : ItemField) (t : NamesItem low high count (partOf l (form .first + 1) (form .second)) target) where
     target-first : (items : List ItemRow) → NameKeys items low high count
         → firstNoOf (attemptQuestions items (partOf l (form .first + 1) (form .second)) (partOf l (form .second + 1) (form .third)) (splitFrom 32 (form .third + 1) l))
         ≡ cond (eqb (target .number) 0) (firstNoOf (askOf 5 3 (isWay (partOf l (form .second + 1) (form .third))) ∷ handedQuestions items (splitFrom 32 (form .third + 1) l))) (record { number = target .number; place = 2 })

@@ -26,7 +26,7 @@ use Rattle.report_rows.specs.Inner.Writing.{SetNamePlaces}
 use Rattle.report_facts.specs.declared.names.Names.{Names}
 use Rattle.report_facts.specs.Inner.Places.{NamesPlaced}
 use Rattle.handin_format.specs.declared.SetWritten.{SetWritten}
-use Rattle.handins.specs.Inner.{CanName, HandsOut}
+use Rattle.handins.specs.Inner.{CanName, HandsNames}
 
 -- ---- the first bytes of a text
 
@@ -34,10 +34,10 @@ module _ (text : List ℕ) (size : ℕ) (entry : List ℕ) (few : size ≤ lengt
   long : length (take size text) ≡ size
   long = length-take-le size text few
 
-  pub written-short : (r : SetWritten) (exit : List ℕ) → length entry < size → r ≡ record { number = 15; length = 0 } → exit ≡ entry → HandsOut (take size text) r entry exit
+  pub written-short : (r : SetWritten) (exit : List ℕ) → length entry < size → r ≡ record { number = 15; length = 0 } → exit ≡ entry → HandsNames (take size text) r entry exit
   written-short r exit h e u = inl (let n = long in omega arith, e, u)
 
-  pub written-room : (exit : List ℕ) (n : ℕ) → size ≤ length entry → Wrote entry 0 (take size text) exit n → HandsOut (take size text) (record { number = 0; length = size }) entry exit
+  pub written-room : (exit : List ℕ) (n : ℕ) → size ≤ length entry → Wrote entry 0 (take size text) exit n → HandsNames (take size text) (record { number = 0; length = size }) entry exit
   written-room exit n h w =
       let k = long in
       let l : length (take size text) ≤ length entry = omega arith in

@@ -36,7 +36,7 @@ use Rattle.handin_lines.specs.Inner.Lines.{callRead, SaysCall, ChecksLine}
 use Rattle.handin_lines.specs.Inner.Tasks.{TaskFor, TaskOfLine}
 use Rattle.handin_lines.proofs.Splitting.{split-over}
 use Rattle.handin_lines.proofs.Entering.{keys-are, sets-many}
-use Rattle.handins.specs.Inner.{noLine}
+use Rattle.handins.specs.Inner.{unreadLine}
 
 -- ---- a line by itself
 
@@ -70,7 +70,7 @@ module _ (items : List ItemRow) (l : List ℕ) (r : LineRead) (s : SaysCall item
   many : length (handedOf (lineCall items l)) ≡ r .count
   many = ap length handed-is ∙ sets-many items (r .start) l ∙ sym (s .counted)
 
-  tells-short : (lent : List ℕ) (a : LineAnswer) (exit : List ℕ) → length lent < r .count → a ≡ noLine 15 0 0 → exit ≡ lent → TellsCall (lineCall items l) lent (withSets a exit)
+  tells-short : (lent : List ℕ) (a : LineAnswer) (exit : List ℕ) → length lent < r .count → a ≡ unreadLine 15 0 0 → exit ≡ lent → TellsCall (lineCall items l) lent (withSets a exit)
   unfolding Asks
   tells-short lent a exit h e u =
       inl (λ y. let m = many in omega arith, ap (withSets a) u ∙ ap (λ (b : LineAnswer). withSets b lent) e)
@@ -87,7 +87,7 @@ module _ (sheet line lent : List ℕ) (r : Reading) (is : r ≡ readSheet sheet)
   number-is : r .number ≡ readSheet sheet .number
   number-is = ap (λ (x : Reading). x .number) is
 
-  pub read-no-sheet : (a : LineAnswer) (exit : List ℕ) → (r .number ≡ 0 → ⊥) → a ≡ noLine (r .number) 1 (r .line) → exit ≡ lent → ReadLineCall sheet line a lent exit
+  pub read-no-sheet : (a : LineAnswer) (exit : List ℕ) → (r .number ≡ 0 → ⊥) → a ≡ unreadLine (r .number) 1 (r .line) → exit ≡ lent → ReadLineCall sheet line a lent exit
   unfolding Asks
   read-no-sheet a exit n e u =
       inl (λ z. n (number-is ∙ z), ap (withSets a) u ∙ ap (λ (b : LineAnswer). withSets b lent) e ∙ ap (λ (x : Reading). lineRefused 1 (x .line) lent (x .number)) is)
@@ -103,7 +103,7 @@ module _ (sheet line lent : List ℕ) (r : Reading) (is : r ≡ readSheet sheet)
         let d = rows-of-text sheet (r .setup) (accepts-of sheet r is zero) in
         inr (sym number-is ∙ zero, record { d = d .doc; valid = d .valid; is = d .text; told = told (d .doc) (d .valid) (d .text) })
 
-    pub read-no-line : (a : LineAnswer) (exit : List ℕ) → (read .number ≡ 0 → ⊥) → a ≡ noLine (read .number) 2 (read .place) → exit ≡ lent → ReadLineCall sheet line a lent exit
+    pub read-no-line : (a : LineAnswer) (exit : List ℕ) → (read .number ≡ 0 → ⊥) → a ≡ unreadLine (read .number) 2 (read .place) → exit ≡ lent → ReadLineCall sheet line a lent exit
     read-no-line a exit n e u =
         read-told a exit (λ d v t.
         let q = c .first (d .items) (keys-are sheet line r is zero keys has d v t) in
@@ -118,7 +118,7 @@ module _ (sheet line lent : List ℕ) (r : Reading) (is : r ≡ readSheet sheet)
           let k = keys-are sheet line r is zero keys has d v t in
           (ap (λ (x : LineNo). x .number) (c .first (d .items) k) ∙ z, c .says z (d .items) k)
 
-      pub read-short : (a : LineAnswer) (exit : List ℕ) → length lent < read .count → a ≡ noLine 15 0 0 → exit ≡ lent → ReadLineCall sheet line a lent exit
+      pub read-short : (a : LineAnswer) (exit : List ℕ) → length lent < read .count → a ≡ unreadLine 15 0 0 → exit ≡ lent → ReadLineCall sheet line a lent exit
       read-short a exit h e u =
           read-told a exit (λ d v t. let y = says d v t in inr (y .0, tells-short (d .items) line read (y .1) lent a exit h e u))
 

@@ -29,8 +29,8 @@ use Rattle.handin_format.specs.declared.NamedSet.{NamedSet}
 use Rattle.handin_format.specs.declared.SetWritten.{SetWritten}
 use Rattle.handin_format.specs.Sets.{setFrom, setNames}
 use Rattle.handin_format.specs.Calls.{setRefused, setTold, ReadSetCall, writeSetCall}
-use Rattle.handin_lines.specs.Inner.Naming as naming
-use Rattle.handins.specs.Inner.{HandsOut}
+use Rattle.handin_lines.specs.Inner.Naming.{NamesSet}
+use Rattle.handins.specs.Inner.{HandsNames}
 
 -- ---- reading
 
@@ -42,7 +42,7 @@ module _ (sheet l : List ℕ) (r : Reading) (is : r ≡ readSheet sheet) where
   unfolding Asks
   set-no-sheet a n e = inl (λ z. n (number-is ∙ z), e ∙ ap (λ (x : Reading). setRefused 1 (x .line) (x .number)) is)
 
-  module _ (zero : r .number ≡ 0) (keys : Keys) (has : SheetKeys sheet (r .setup .count) keys) (f : SetField) (reads : naming.ReadsSet (keys .low) (keys .high) (r .setup .count) l f) where
+  module _ (zero : r .number ≡ 0) (keys : Keys) (has : SheetKeys sheet (r .setup .count) keys) (f : SetField) (reads : NamesSet (keys .low) (keys .high) (r .setup .count) l f) where
     named : (a : NamedSet)
         → ((items : List ItemRow) → f ≡ setFrom items l
         → ((setFrom items l .number ≡ 0 → ⊥) × (a ≡ setRefused 2 0 (setFrom items l .number))) ⊎ ((setFrom items l .number ≡ 0) × (a ≡ setTold (setFrom items l .set))))
@@ -147,7 +147,7 @@ module _ (sheet : List ℕ) (x : ℕ) (r : SetWritten) (entry exit : List ℕ) w
                 ),
               )
 
-          write-names : HandsOut (setNames (nameOf sheet) x) r entry exit → Tells
+          write-names : HandsNames (setNames (nameOf sheet) x) r entry exit → Tells
           write-names t =
               ⊎-elim
               (λ l. let k = l .0 in turned 15 (names-told (turnsAway (entry ∷ []) 15) (inl (λ m. let n = m .0 in omega arith, refl))) (l .1) (l .2))
@@ -155,8 +155,8 @@ module _ (sheet : List ℕ) (x : ℕ) (r : SetWritten) (entry exit : List ℕ) w
               (names-told (ends (gives (length (setNames (nameOf sheet) x) ∷ [])) (written (setNames (nameOf sheet) x) entry ∷ [])) (inr ((l .0, tt), refl))) (l .1) (l .2))
               t
 
-          pub write-empty : x ≡ 0 → HandsOut dash r entry exit → Tells
-          write-empty e h = write-names (subst (λ (t : List ℕ). HandsOut t r entry exit) (sym (names-empty (nameOf sheet) x e)) h)
+          pub write-empty : x ≡ 0 → HandsNames dash r entry exit → Tells
+          write-empty e h = write-names (subst (λ (t : List ℕ). HandsNames t r entry exit) (sym (names-empty (nameOf sheet) x e)) h)
 
-          pub write-some : (x ≡ 0 → ⊥) → HandsOut (setText (nameOf sheet) x) r entry exit → Tells
-          write-some n h = write-names (subst (λ (t : List ℕ). HandsOut t r entry exit) (sym (names-some (nameOf sheet) x n)) h)
+          pub write-some : (x ≡ 0 → ⊥) → HandsNames (setText (nameOf sheet) x) r entry exit → Tells
+          write-some n h = write-names (subst (λ (t : List ℕ). HandsNames t r entry exit) (sym (names-some (nameOf sheet) x n)) h)

@@ -20,10 +20,10 @@ pub record CanName (sheet : List ℕ) (count x : ℕ) : Type 0 where
   pub short : length (setText (nameOf sheet) x) ≤ 1087
 
 -- The text stands in the first places of the buffer; or it has no room there, and the buffer is as it was.
-abbrev pub HandsOut : List ℕ → SetWritten → List ℕ → List ℕ → Type 0
-HandsOut text r entry exit =
+abbrev pub HandsNames : List ℕ → SetWritten → List ℕ → List ℕ → Type 0
+HandsNames text r entry exit =
     ((length entry < length text) × (r ≡ record { number = 15; length = 0 }) × (exit ≡ entry))
     ⊎ ((length text ≤ length entry) × (r ≡ record { number = 0; length = length text }) × (exit ≡ written text entry))
 
-abbrev pub noLine : ℕ → ℕ → ℕ → LineAnswer
-noLine q text place = record { number = q; text = text; place = place; withdraws = false; student = 0; target = 0; loss = false; count = 0 }
+abbrev pub unreadLine : ℕ → ℕ → ℕ → LineAnswer
+unreadLine q text place = record { number = q; text = text; place = place; withdraws = false; student = 0; target = 0; loss = false; count = 0 }

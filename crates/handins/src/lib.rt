@@ -21,7 +21,7 @@ ghost use Rattle.questions.specs.Told.{Told};
 ghost use Rattle.sheet_format.specs.Names.{nameOf};
 ghost use Rattle.report_text.specs.Rows.{setText};
 ghost use Rattle.handin_format.specs.Calls.{setRefused, ReadSetCall, writeSetCall, ReadLineCall, EnterCall};
-ghost use Rattle.handins.specs.Inner.{CanName, HandsOut, noLine};
+ghost use Rattle.handins.specs.Inner.{CanName, HandsNames, unreadLine};
 
 // No set has longer names: 64 of 16 bytes, and a `+` between each two.
 pub const SET_BYTES: usize = 1087;
@@ -75,7 +75,7 @@ fn no_text(number: u64) -> SetWritten
 // The first `size` bytes of the text, to the start of the buffer where they have room.
 fn hand_out(text: &[u8], size: usize, out: &mut [u8]) -> SetWritten
     requires { ⌜ size ≤ length (now text) ⌝ }
-    ensures { λ r. ⌜ HandsOut (take size (now (text .entry))) r (now (out .entry)) (now (out .exit)) ⌝ }
+    ensures { λ r. ⌜ HandsNames (take size (now (text .entry))) r (now (out .entry)) (now (out .exit)) ⌝ }
 {
     if out.len() < size {
         return no_text(questions::SHORT);
@@ -91,7 +91,7 @@ fn hand_out(text: &[u8], size: usize, out: &mut [u8]) -> SetWritten
 // not touched where it is too short.
 fn put_names(sheet: &[u8], count: usize, set: u64, out: &mut [u8]) -> SetWritten
     requires { ⌜ CanName (now sheet) count set ⌝ }
-    ensures { λ r. ⌜ HandsOut (setText (nameOf (now (sheet .entry))) set) r (now (out .entry)) (now (out .exit)) ⌝ }
+    ensures { λ r. ⌜ HandsNames (setText (nameOf (now (sheet .entry))) set) r (now (out .entry)) (now (out .exit)) ⌝ }
 {
     let places = names::name_places(sheet, count);
     let starts = places.from;
@@ -125,7 +125,7 @@ pub fn write_set(sheet: &[u8], set: u64, out: &mut [u8]) -> SetWritten
 }
 
 fn no_line(number: u64, text: u64, place: u64) -> LineAnswer
-    ensures { λ r. ⌜ r ≡ noLine number text place ⌝ }
+    ensures { λ r. ⌜ r ≡ unreadLine number text place ⌝ }
 {
     LineAnswer {
         number,

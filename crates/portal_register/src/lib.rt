@@ -7,7 +7,7 @@ ghost use Rattle.questions.specs.Told.{Told};
 ghost use Rattle.register.specs.Calls.{HandInCall, WithdrawCall};
 ghost use Rattle.portal_words.specs.Words.{setupIn};
 ghost use Rattle.handin_format.specs.Calls.{ReadSetCall, writeSetCall, EnterCall};
-ghost use Rattle.portal_register.specs.Lines.{LineTold};
+ghost use Rattle.portal_register.specs.Lines.{TellLineCall};
 use handin_lines::tasks;
 use records::Record;
 use records::Registered;
@@ -108,7 +108,7 @@ fn yes_number(yes: bool) -> u64
 // What a hand-in line says; its sets go to the start of the lent list.
 #[no_mangle]
 pub extern "C" fn portal_read_line(sheet: &[u8], line: &[u8], sets: &mut [u64]) -> ReadLineResult
-    ensures { λ r. ⌜ LineTold (now (sheet .entry)) (now (line .entry)) r (now (sets .entry)) (now (sets .exit)) ⌝ }
+    ensures { λ r. ⌜ TellLineCall (now (sheet .entry)) (now (line .entry)) r (now (sets .entry)) (now (sets .exit)) ⌝ }
 {
     let a = handins::read_line(sheet, line, sets);
     let withdraws = yes_number(a.withdraws);

@@ -50,7 +50,7 @@ impl Lab {
     pub fn of(text: Vec<u8>) -> Option<Lab> {
         let read = sheet::read(&text).ok()?;
         let names = read.names_in(&text);
-        Some(Lab { text, names, calls: Calls::on(&read.setup) })
+        Some(Lab { text, names, calls: Calls::new(&read.setup) })
     }
 
     fn subject<'a>(&'a self, label: &'a str) -> Subject<'a> {
@@ -140,7 +140,8 @@ fn compare_entered(lab: &Lab, line: &[u8], rng: &mut Rng, ends: &mut Ends) -> Ou
         Ok(call) => registers::slice_for(rng, &lab.calls, places, call),
         Err(_) => registers::slice(rng, &lab.calls, places),
     };
-    let used = *rng.pick(&[places, places, 0, places + 1, usize::MAX, rng.clone().below(places + 1)]);
+    let some = rng.below(places + 1);
+    let used = *rng.pick(&[places, places, 0, places + 1, usize::MAX, some, some]);
     let (mut proved, mut brute) = (lent(&slice), slice.clone());
     let answer = product::enter_line(&lab.text, line, &mut proved, used);
     let expected = match &said {

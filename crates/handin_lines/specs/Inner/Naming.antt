@@ -18,12 +18,12 @@ noItem q = record { number = q; item = 0 }
 unfoldable pub itemFrom : List ItemRow → List ℕ → ItemField
 itemFrom items n = cond (isName n) (cond (isKnown items n) (record { number = 0; item = numberIn items n }) (noItem 8)) (noItem 5)
 
-pub record ReadsItem (low high : List ℕ) (count : ℕ) (l : List ℕ) (r : ItemField) : Type 0 where
+pub record NamesItem (low high : List ℕ) (count : ℕ) (l : List ℕ) (r : ItemField) : Type 0 where
   pub each : (items : List ItemRow) → NameKeys items low high count → r ≡ itemFrom items l
   pub inside : r .number ≡ 0 → r .item < count
 
 pub record TakesName (low high : List ℕ) (count x : ℕ) (l : List ℕ) (r : SetField) : Type 0 where
   pub each : (items : List ItemRow) → NameKeys items low high count → r ≡ withName items x l
 
-pub record ReadsSet (low high : List ℕ) (count : ℕ) (l : List ℕ) (r : SetField) : Type 0 where
+pub record NamesSet (low high : List ℕ) (count : ℕ) (l : List ℕ) (r : SetField) : Type 0 where
   pub each : (items : List ItemRow) → NameKeys items low high count → r ≡ setFrom items l

@@ -60,7 +60,7 @@ pub fn line(rng: &mut Rng, calls: &Calls, names: &[String]) -> Vec<u8> {
     let target = rng.below(names.len());
     let lock = rng.chance(1, 2);
     let list = if lock { calls.lockout_list(target as u64) } else { calls.opening_list(target as u64) };
-    let mut sets: Vec<u64> = list.unwrap_or_default().into_iter().take(rng.below(6)).collect();
+    let mut sets: Vec<u64> = list.unwrap_or_default().iter().copied().take(rng.below(6)).collect();
     for _ in 0..rng.below(4) {
         sets.push(rng.number() & rng.number());
     }

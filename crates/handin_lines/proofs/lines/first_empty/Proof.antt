@@ -8,6 +8,7 @@ use Rattle.handin_lines.proofs.Shapes.{Filled, filled-first, filled-fou
 use Rattle.handin_lines.proofs.lines.first_empty.Statement.{statement}
 use Rattle.handin_lines.proofs.lines.first_empty.Tie as tie
 
+-- None of the n fields before `at` is empty.
 abbrev Inv-loop : tie.InvT-loop
 Inv-loop l n₀ at₀ n at = (n ≤ at) × Filled l n at
 

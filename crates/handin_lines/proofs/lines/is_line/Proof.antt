@@ -10,6 +10,7 @@ use Rattle.handin_format.specs.Lines.{isLineByte}
 use Rattle.handin_lines.proofs.lines.is_line.Statement.{statement}
 use Rattle.handin_lines.proofs.lines.is_line.Tie as tie
 
+-- All bytes are bytes of a line exactly if those from i on are.
 abbrev Inv-loop : tie.InvT-loop
 Inv-loop l i₀ i = (i ≤ length l) × (all isLineByte l ≡ all isLineByte (drop i l))
 

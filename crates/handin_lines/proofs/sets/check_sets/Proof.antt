@@ -9,6 +9,7 @@ use Rattle.handin_lines.proofs.SetFields.{Checking, checking-first, che
 use Rattle.handin_lines.proofs.sets.check_sets.Statement.{statement}
 use Rattle.handin_lines.proofs.sets.check_sets.Tie as tie
 
+-- n fields before `at` are sets.
 abbrev Inv-loop : tie.InvT-loop
 Inv-loop l start low high count n₀ at₀ n at = (n ≤ at) × Checking low high count l start n at
 

@@ -8,6 +8,7 @@ use Rattle.handin_lines.proofs.SetFields.{Putting, putting-first, putti
 use Rattle.handin_lines.proofs.sets.put_sets.Statement.{statement}
 use Rattle.handin_lines.proofs.sets.put_sets.Tie as tie
 
+-- The sets of the n fields before `at` are written.
 abbrev Inv-loop : tie.InvT-loop
 Inv-loop l start low high count out₀ n₀ at₀ out n at = (n ≤ at) × Putting low high count l start n at out₀ out
 

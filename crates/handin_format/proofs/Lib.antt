@@ -1,3 +1,4 @@
 pub mod Sets
 pub mod Lines
+pub mod ReadBack
 pub mod Afternoon

@@ -39,17 +39,17 @@ overfull-meets s (Withdraw k) used a entry exit n e =
 
 module _ (d : Doc) (v : Valid d) (line : List ℕ) (used : ℕ) (a : Registered) (entry exit : List Record) where
   -- a line that can be read is the call that it says
-  Said : Type 0
+  abbrev pub Said : Type 0
   Said = (lineNo (d .items) line .number ≡ 0) × MeetsCall (setupOf d) (lineCall (d .items) line) used entry a exit
 
   -- one that can't be read changes nothing
-  record Kept : Type 0 where
-    no : lineNo (d .items) line .number ≡ 0 → ⊥
-    number : ℕ
-    back : withSlice a exit ≡ handsBack used entry number
+  pub record Kept : Type 0 where
+    pub no : lineNo (d .items) line .number ≡ 0 → ⊥
+    pub number : ℕ
+    pub back : withSlice a exit ≡ handsBack used entry number
 
   by-line : EntersLine (render d) line used entry (withSlice a exit) → Said ⊎ Kept
-  unfolding Asks Said
+  unfolding Asks
   by-line h =
       let same = rows-unique (h .d) d (h .valid) v (sym (h .is)) in
       ⊎-elim (λ n. inr (record { no = n .0; number = lineNo (d .items) line .number; back = n .1 })) (λ y. inl y)
@@ -59,13 +59,12 @@ module _ (d : Doc) (v : Valid d) (line : List ℕ) (used : ℕ) (a : Registered)
       same (h .told))
 
   by-number : (used ≤ length entry → ⊥) → withSlice a exit ≡ handsBack used entry 25 → Said ⊎ Kept
-  unfolding Said
   by-number n e =
       byTest (eqb (lineNo (d .items) line .number) 0)
       (λ t. inl (eqb-true (lineNo (d .items) line .number) 0 t, overfull-meets (setupOf d) (lineCall (d .items) line) used a entry exit n e))
       (λ t. inr (record { no = eqb-false (lineNo (d .items) line .number) 0 t; number = 25; back = e }))
 
-  line-comes : EnterCall (render d) line used a entry exit → Said ⊎ Kept
+  pub line-comes : EnterCall (render d) line used a entry exit → Said ⊎ Kept
   unfolding Asks
   line-comes c =
       ⊎-elim (λ n. by-number (n .0) (n .1))
@@ -85,7 +84,7 @@ module _ (d : Doc) (v : Valid d) (slice : List Record) (m : EnteredLine) (earlie
   After = SameAfternoon (setupOf d) slice (callsMade (d .items) (m ∷ earlier)) (m .answer .used) (m .exit)
 
   said : Before → Said d v (m .line) (usedAfterLines earlier) (m .answer) (sliceAfterLines slice earlier) (m .exit) → After
-  unfolding callsMade Said
+  unfolding callsMade
   said b c =
       rw (ap (λ (n : ℕ). eqb n 0) (c .0))
       (record {

@@ -2,3 +2,4 @@ pub mod Sets
 pub mod Lines
 pub mod ReadBack
 pub mod Afternoon
+pub mod Marks

@@ -285,12 +285,12 @@ module _ (items : List ItemRow) (rows : NamedRows items) where
       record {
         entry = HandsIn (record { student = numberOf f; target = g; loss = sameText h (wayText true); sets = s .sets });
         valid =
-          record {
-            student = n .bound;
-            target = known-decided items g .yes (q .1 .1 .0);
-            sets = s .valid;
-            many = subst (λ (k : ℕ). k ≤ mostSets) (ap length (s .texts) ∙ length-map (s .sets) namesText) (leb-true (length xs) mostSets (many .0));
-          };
+            record {
+              student = n .bound;
+              target = known-decided items g .yes (q .1 .1 .0);
+              sets = s .valid;
+              many = subst (λ (k : ℕ). k ≤ mostSets) (ap length (s .texts) ∙ length-map (s .sets) namesText) (leb-true (length xs) mostSets (many .0));
+            };
         text = ap₂ (λ (x y : List ℕ). joinedBy 32 (x ∷ g ∷ y ∷ xs)) (sym (n .text)) (sym (way-read h (q .1 .1 .1 .0)))
             ∙ ap (λ (ys : List (List ℕ)). joinedBy 32 (decimal (numberOf f) ∷ g ∷ wayText (sameText h (wayText true)) ∷ ys)) (s .texts);
         said = ap (λ (ys : List ℕ). HandIn (record { student = numberOf f; target = numberIn items g; loss = sameText h (wayText true); handed = ys })) (s .said);

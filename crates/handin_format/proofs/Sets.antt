@@ -116,9 +116,9 @@ named-members items (n ∷ ns) i =
     record {
       to = λ m. ⊎-elim (λ h. (n, inl refl, sym (in-one (numberIn items n) i .to h))) (λ h. let k = ih .to h in (k .0, inr (k .1), k .2)) (or .to m);
       from = λ h. or .from (⊎-elim
-      (λ e. inl (in-one (numberIn items n) i .from (sym (h .2) ∙ ap (numberIn items) e)))
-      (λ k. inr (ih .from (h .0, k, h .2)))
-      (h .1));
+          (λ e. inl (in-one (numberIn items n) i .from (sym (h .2) ∙ ap (numberIn items) e)))
+          (λ k. inr (ih .from (h .0, k, h .2)))
+          (h .1));
     }
 
 pub set-of-names : SetOfNames
@@ -156,8 +156,11 @@ record Takes (items : List ItemRow) (x : ℕ) (n : List ℕ) : Type 0 where
 takes : (items : List ItemRow) (x : ℕ) (n : List ℕ) → Takes items x n → withName items x n ≡ someSet (more items x n)
 unfolding withName
 takes items x n t =
-    rw (t .name, yes-of (isKnown items n) (known-decided items n) (t .known),
-    no-of (eqb (x / 2 ^ numberIn items n % 2) 1) (member-decided x (numberIn items n)) (t .free))
+    rw (
+      t .name,
+      yes-of (isKnown items n) (known-decided items n) (t .known),
+      no-of (eqb (x / 2 ^ numberIn items n % 2) 1) (member-decided x (numberIn items n)) (t .free),
+    )
 
 withNames-more : (items : List ItemRow) (x : ℕ) (n : List ℕ) (ns : List (List ℕ))
     → withNames items (someSet x) (n ∷ ns) ≡ withNames items (withName items x n) ns

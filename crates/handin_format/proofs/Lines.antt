@@ -25,7 +25,7 @@ use Rattle.report_text.specs.Rows.{wayText}
 use Rattle.register.specs.Afternoon.{RegisterCall, HandIn, Withdraw}
 use Rattle.handin_format.specs.declared.SetField.{SetField}
 use Rattle.handin_format.specs.Sets.{joinedBy, namesText, setNamed, setFrom}
-use Rattle.handin_format.specs.Entries.{NamedAttempt, LineEntry, HandsIn, Withdraws, withdrawText, entryText, mostSets, ValidNames, ValidAttempt, ValidEntry, stated}
+use Rattle.handin_format.specs.Entries.{NamedAttempt, LineEntry, HandsIn, Withdraws, withdrawText, entryText, mostHanded, ValidNames, ValidAttempt, ValidEntry, stated}
 use Rattle.handin_format.specs.Lines.{FieldAsked, askOf, isLineByte, fieldsFilled, fieldsThere, isStudent, isWay, setQuestions, fieldQuestions, lineQuestions, LineNo, firstNoOf, lineNo, callOfFields, lineCall}
 use Rattle.handin_format.specs.Meaning.{NamedRows, LineOfEntry, EntryOfLine}
 use Rattle.handin_format.proofs.Sets.{known-name, names-read, NamesRead, set-read}
@@ -164,9 +164,9 @@ module _ (items : List ItemRow) (rows : NamedRows items) where
   attempt-asked : (x : NamedAttempt) → ValidAttempt items x → Each Yes (fieldQuestions items (attempt-fields x))
   unfolding attempt-fields fieldQuestions isStudent
   attempt-asked x v =
-      let sets = each-append Yes (setQuestions items 4 (map namesText (x .sets))) (askOf 7 0 (leb (length (map namesText (x .sets))) mostSets) ∷ [])
+      let sets = each-append Yes (setQuestions items 4 (map namesText (x .sets))) (askOf 7 0 (leb (length (map namesText (x .sets))) mostHanded) ∷ [])
       (sets-yes 4 (x .sets) (v .sets))
-      (subst (λ (n : ℕ). leb n mostSets ≡ true) (sym (length-map (x .sets) namesText)) (le-leb (length (x .sets)) mostSets (v .many)), tt) in (
+      (subst (λ (n : ℕ). leb n mostHanded ≡ true) (sym (length-map (x .sets) namesText)) (le-leb (length (x .sets)) mostHanded (v .many)), tt) in (
         number-to largest (x .student) (omega arith) (v .student),
         (
           known-name items (rows .valid) (x .target) (v .target),
@@ -219,8 +219,8 @@ module _ (items : List ItemRow) (rows : NamedRows items) where
   fields-numbered (f ∷ []) = tt
   fields-numbered (f ∷ g ∷ []) = (fixed 4 1 (isStudent f), tt)
   fields-numbered (f ∷ g ∷ h ∷ xs) =
-      let sets = each-append Numbered (setQuestions items 4 xs) (askOf 7 0 (leb (length xs) mostSets) ∷ []) (sets-numbered 4 xs)
-      (fixed 6 0 (leb (length xs) mostSets), tt) in
+      let sets = each-append Numbered (setQuestions items 4 xs) (askOf 7 0 (leb (length xs) mostHanded) ∷ []) (sets-numbered 4 xs)
+      (fixed 6 0 (leb (length xs) mostHanded), tt) in
       (fixed 4 1 (isStudent f), (fixed 4 2 (isName g), (fixed 7 2 (isKnown items g), (fixed 4 3 (isWay h), sets))))
 
   line-numbered : (l : List ℕ) → Each Numbered (lineQuestions items l)
@@ -280,8 +280,8 @@ module _ (items : List ItemRow) (rows : NamedRows items) where
       let q = a .fields in
       let sets = q .1 .1 .1 .1 in
       let n = to-number largest f (omega arith) (q .0) in
-      let s = sets-read 4 xs (askOf 7 0 (leb (length xs) mostSets) ∷ []) sets in
-      let many = each-right Yes (setQuestions items 4 xs) (askOf 7 0 (leb (length xs) mostSets) ∷ []) sets in
+      let s = sets-read 4 xs (askOf 7 0 (leb (length xs) mostHanded) ∷ []) sets in
+      let many = each-right Yes (setQuestions items 4 xs) (askOf 7 0 (leb (length xs) mostHanded) ∷ []) sets in
       record {
         entry = HandsIn (record { student = numberOf f; target = g; loss = sameText h (wayText true); sets = s .sets });
         valid =
@@ -289,7 +289,7 @@ module _ (items : List ItemRow) (rows : NamedRows items) where
               student = n .bound;
               target = known-decided items g .yes (q .1 .1 .0);
               sets = s .valid;
-              many = subst (λ (k : ℕ). k ≤ mostSets) (ap length (s .texts) ∙ length-map (s .sets) namesText) (leb-true (length xs) mostSets (many .0));
+              many = subst (λ (k : ℕ). k ≤ mostHanded) (ap length (s .texts) ∙ length-map (s .sets) namesText) (leb-true (length xs) mostHanded (many .0));
             };
         text = ap₂ (λ (x y : List ℕ). joinedBy 32 (x ∷ g ∷ y ∷ xs)) (sym (n .text)) (sym (way-read h (q .1 .1 .1 .0)))
             ∙ ap (λ (ys : List (List ℕ)). joinedBy 32 (decimal (numberOf f) ∷ g ∷ wayText (sameText h (wayText true)) ∷ ys)) (s .texts);

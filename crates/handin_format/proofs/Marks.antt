@@ -26,7 +26,7 @@ use Rattle.handin_format.specs.Lines.{lineNo, lineCall}
 use Rattle.handin_format.specs.Calls.{EnterCall}
 use Rattle.handin_format.specs.Afternoon.{EnteredLine, sliceAfterLines, usedAfterLines, LinesEntered, callsMade}
 use Rattle.handin_format.specs.Meaning.{NamedRows}
-use Rattle.handin_format.specs.Marks.{Sought, NamesSought, NamedRecord, TakenIn, LineMarks, HandedByLine, RecordOfLine, RegisterMarks}
+use Rattle.handin_format.specs.Marks.{Sought, NamesSought, NamedRecord, LineTaken, LineMarks, HandedByLine, RecordOfLine, RegisterMarks}
 use Rattle.handin_format.proofs.Lines.{line-of-entry, entry-of-line}
 use Rattle.handin_format.proofs.Afternoon.{line-comes, lines-law}
 
@@ -78,7 +78,7 @@ module _ (d : Doc) where
     rows = record { valid = v .items; names = v .names }
 
     taken-in : (x : NamedAttempt) → ValidAttempt (d .items) x → (used : ℕ) (a : Registered) (entry exit : List Record)
-        → EnterCall (render d) (entryText (HandsIn x)) used a entry exit → a .number ≡ 0 → TakenIn d x used a entry exit
+        → EnterCall (render d) (entryText (HandsIn x)) used a entry exit → a .number ≡ 0 → LineTaken d x used a entry exit
     taken-in x w used a entry exit c z =
         let l = line-of-entry (d .items) rows (HandsIn x) w in
         ⊎-elim

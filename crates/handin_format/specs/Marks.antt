@@ -28,16 +28,17 @@ pub record NamesSought (d : Doc) (x : NamedAttempt) : Type 0 where
   pub eachOne : (y : ℕ) → Sought d x y → Listed (map (setNamed (d .items)) (x .sets)) y
   pub oneTime : Apart (λ ms ns. setNamed (d .items) ms ≡ setNamed (d .items) ns) (x .sets)
 
--- r is the record of the attempt: its student, target and way, and the marks of the sets that it names. It has full marks
--- exactly where these are the sought ones.
+-- r is the record of the attempt: its student, target and way, and the marks of the sets that it names. It has full
+-- marks exactly where these are the sought ones.
 pub record NamedRecord (d : Doc) (x : NamedAttempt) (r : Record) : Type 0 where
   pub isRecord :
-      RecordOf (setupOf d) (x .student) (numberIn (d .items) (x .target)) (x .loss) (map (setNamed (d .items)) (x .sets)) r
+      RecordOf (setupOf d) (x .student) (numberIn (d .items) (x .target)) (x .loss)
+      (map (setNamed (d .items)) (x .sets)) r
   pub full : Iff (Full (r .repeated) (r .shut) (r .loose) (r .missing)) (NamesSought d x)
 
 -- The register has the attempt's record now: it took the place of the one with its student, target and way, or stands
 -- behind the used ones.
-pub record TakenIn (d : Doc) (x : NamedAttempt) (used : ℕ) (a : Registered) (entry exit : List Record) : Type 0 where
+pub record LineTaken (d : Doc) (x : NamedAttempt) (used : ℕ) (a : Registered) (entry exit : List Record) : Type 0 where
   pub row : Record
   pub isRecord : NamedRecord d x row
   pub left : withSlice a exit ≡ keepsUsed (withRecord row (take used entry)) entry
@@ -46,8 +47,8 @@ pub record TakenIn (d : Doc) (x : NamedAttempt) (used : ℕ) (a : Registered) (e
 abbrev pub LineMarks : Type 0
 LineMarks =
     (d : Doc) → Valid d → (x : NamedAttempt) → ValidAttempt (d .items) x
-    → (used : ℕ) (a : Registered) (entry exit : List Record) → EnterCall (render d) (entryText (HandsIn x)) used a entry exit
-    → a .number ≡ 0 → TakenIn d x used a entry exit
+    → (used : ℕ) (a : Registered) (entry exit : List Record)
+    → EnterCall (render d) (entryText (HandsIn x)) used a entry exit → a .number ≡ 0 → LineTaken d x used a entry exit
 
 -- One of the lines is the written form of the attempt, and was entered with the number 0.
 abbrev pub HandedByLine : List EnteredLine → NamedAttempt → Type 0

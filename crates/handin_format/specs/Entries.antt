@@ -35,8 +35,8 @@ entryText (HandsIn x) = joinedBy 32 (decimal (x .student) ∷ x .target ∷ wayT
 entryText (Withdraws k) = joinedBy 32 (decimal k ∷ withdrawText ∷ [])
 
 -- The most sets of one line: as many as 14 items have subsets.
-abbrev pub mostSets : ℕ
-mostSets = 16384
+abbrev pub mostHanded : ℕ
+mostHanded = 16384
 
 -- A set names known items, none twice.
 pub record ValidNames (items : List ItemRow) (ns : List (List ℕ)) : Type 0 where
@@ -48,7 +48,7 @@ pub record ValidAttempt (items : List ItemRow) (x : NamedAttempt) : Type 0 where
   pub student : x .student ≤ largest
   pub target : Known items (x .target)
   pub sets : Each (ValidNames items) (x .sets)
-  pub many : length (x .sets) ≤ mostSets
+  pub many : length (x .sets) ≤ mostHanded
 
 -- What makes an entry valid: a student to withdraw is a number up to the largest.
 abbrev pub ValidEntry : List ItemRow → LineEntry → Type 0

@@ -13,7 +13,7 @@ use Rattle.sheet_format.specs.Questions.{isKnown}
 use Rattle.report_text.specs.Rows.{wayText}
 use Rattle.register.specs.Afternoon.{RegisterCall, HandIn, Withdraw}
 use Rattle.handin_format.specs.Sets.{setFrom}
-use Rattle.handin_format.specs.Entries.{withdrawText, mostSets}
+use Rattle.handin_format.specs.Entries.{withdrawText, mostHanded}
 
 -- A question's number, the field that it is asked of (counted from 1; 0 for the whole line), and whether the answer is
 -- yes.
@@ -65,7 +65,7 @@ fieldQuestions items (f ∷ []) = []
 fieldQuestions items (f ∷ g ∷ []) = askOf 5 1 (isStudent f) ∷ []
 fieldQuestions items (f ∷ g ∷ h ∷ xs) =
     askOf 5 1 (isStudent f) ∷ askOf 5 2 (isName g) ∷ askOf 8 2 (isKnown items g) ∷ askOf 5 3 (isWay h)
-    ∷ (setQuestions items 4 xs ++ (askOf 7 0 (leb (length xs) mostSets) ∷ []))
+    ∷ (setQuestions items 4 xs ++ (askOf 7 0 (leb (length xs) mostHanded) ∷ []))
 
 -- All questions of a line, in order.
 unfoldable pub lineQuestions : List ItemRow → List ℕ → List FieldAsked

@@ -1,4 +1,5 @@
--- What reading and writing names means. Statements only; proofs/Meaning.antt has the theorems.
+-- What reading and writing names means. Statements only; proofs/Sets.antt, proofs/Lines.antt and proofs/ReadBack.antt have
+-- the theorems.
 use mathlib.Core.Path.{_≡_}
 use mathlib.Core.List.{List, [], _∷_}
 use mathlib.Core.Logic.{_⊎_}

@@ -20,7 +20,7 @@ use Rattle.sheet_fields.proofs.Forms.{number-to, number-small}
 use Rattle.sheet_rows.specs.Inner.NameKeys.{NameKeys}
 use Rattle.report_text.specs.Rows.{wayText}
 use Rattle.handin_format.specs.Sets.{setFrom}
-use Rattle.handin_format.specs.Entries.{mostSets}
+use Rattle.handin_format.specs.Entries.{mostHanded}
 use Rattle.handin_format.specs.Lines.{FieldAsked, askOf, isStudent, isWay, setQuestions, fieldQuestions, LineNo, firstNoOf, lineNo, callOfFields, lineCall}
 use Rattle.handin_lines.specs.declared.by_name.ItemField.{ItemField}
 use Rattle.handin_lines.specs.declared.sets.Checked.{Checked}
@@ -57,9 +57,9 @@ sets-then items k (x ∷ xs) later =
 module _ (low high : List ℕ) (count : ℕ) (l : List ℕ) (start : ℕ) (r : Checked) (h : ChecksSets low high count l start r) where
   asked : (items : List ItemRow) → NameKeys items low high count
       → firstNoOf (handedQuestions items (splitFrom 32 start l))
-      ≡ cond (eqb (r .number) 0) (firstNoOf (askOf 7 0 (leb (length (splitFrom 32 start l)) mostSets) ∷ [])) (record { number = r .number; place = r .place })
+      ≡ cond (eqb (r .number) 0) (firstNoOf (askOf 7 0 (leb (length (splitFrom 32 start l)) mostHanded) ∷ [])) (record { number = r .number; place = r .place })
   unfolding handedQuestions
-  asked items t = sets-then items 4 (splitFrom 32 start l) (askOf 7 0 (leb (length (splitFrom 32 start l)) mostSets) ∷ []) ∙ rw (h .first items t)
+  asked items t = sets-then items 4 (splitFrom 32 start l) (askOf 7 0 (leb (length (splitFrom 32 start l)) mostHanded) ∷ []) ∙ rw (h .first items t)
 
   pub handed-no : (r .number ≡ 0 → ⊥) → ChecksHanded low high count l start r
   handed-no n =
@@ -67,24 +67,24 @@ module _ (low high : List ℕ) (count : ℕ) (l : List ℕ) (start : ℕ) (r : C
 
   module _ (z : r .number ≡ 0) where
     last : (items : List ItemRow) → NameKeys items low high count
-        → firstNoOf (handedQuestions items (splitFrom 32 start l)) ≡ firstNoOf (askOf 7 0 (leb (r .count) mostSets) ∷ [])
+        → firstNoOf (handedQuestions items (splitFrom 32 start l)) ≡ firstNoOf (askOf 7 0 (leb (r .count) mostHanded) ∷ [])
     last items t = asked items t ∙ rw (eq-eqb (r .number) 0 z, h .counted z)
 
-    pub handed-many : mostSets < r .count → ChecksHanded low high count l start (record { number = 7; place = 0; count = 0 })
+    pub handed-many : mostHanded < r .count → ChecksHanded low high count l start (record { number = 7; place = 0; count = 0 })
     unfolding firstNoOf
     handed-many m =
         record {
-          first = λ items t. last items t ∙ rw (lt-leb (r .count) mostSets m);
+          first = λ items t. last items t ∙ rw (lt-leb (r .count) mostHanded m);
           counted = λ w. absurd (omega arith);
           plain = λ w. absurd (omega arith);
           few = λ w. absurd (omega arith);
         }
 
-    pub handed-all : r .count ≤ mostSets → ChecksHanded low high count l start r
+    pub handed-all : r .count ≤ mostHanded → ChecksHanded low high count l start r
     unfolding firstNoOf
     handed-all m =
         record {
-          first = λ items t. last items t ∙ rw (le-leb (r .count) mostSets m, z, h .plain z);
+          first = λ items t. last items t ∙ rw (le-leb (r .count) mostHanded m, z, h .plain z);
           counted = h .counted;
           plain = h .plain;
           few = λ _. m;
@@ -210,7 +210,7 @@ module _ (low high : List ℕ) (count : ℕ) (l : List ℕ) (form : Form) (f : F
 
         attempt-says : (items : List ItemRow) (r : LineRead)
             → r ≡ attemptRead student (numberIn items (partOf l (form .first + 1) (form .second))) (sameText (partOf l (form .second + 1) (form .third)) (wayText true)) (form .third + 1) (length (splitFrom 32 (form .third + 1) l))
-            → r .count ≤ mostSets → SaysCall items l r
+            → r .count ≤ mostHanded → SaysCall items l r
         unfolding lineCall callOfFields callRead setsFrom
         attempt-says items r e few =
             record {

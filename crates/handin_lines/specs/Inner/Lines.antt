@@ -11,7 +11,7 @@ use Rattle.sheet_format.specs.Questions.{isKnown}
 use Rattle.sheet_rows.specs.Inner.NameKeys.{NameKeys}
 use Rattle.report_text.specs.Rows.{wayText}
 use Rattle.register.specs.Afternoon.{RegisterCall, HandIn, Withdraw}
-use Rattle.handin_format.specs.Entries.{mostSets}
+use Rattle.handin_format.specs.Entries.{mostHanded}
 use Rattle.handin_format.specs.Lines.{FieldAsked, askOf, fieldsFilled, fieldsThere, fieldQuestions, isWay, firstNoOf, lineNo, lineCall}
 use Rattle.handin_lines.specs.declared.lines.Form.{Form}
 use Rattle.handin_lines.specs.declared.lines.WayField.{WayField}
@@ -87,7 +87,7 @@ pub record ChecksAttempt (low high : List ℕ) (count : ℕ) (l : List ℕ) (for
   pub says : r .number ≡ 0 → (items : List ItemRow) → NameKeys items low high count
       → r ≡ attemptRead student (numberIn items (partOf l (form .first + 1) (form .second))) (sameText (partOf l (form .second + 1) (form .third)) (wayText true))
       (form .third + 1) (length (splitFrom 32 (form .third + 1) l))
-  pub few : r .number ≡ 0 → r .count ≤ mostSets
+  pub few : r .number ≡ 0 → r .count ≤ mostHanded
 
 -- The register's call that was read.
 unfoldable pub callRead : List ItemRow → List ℕ → LineRead → RegisterCall
@@ -99,7 +99,7 @@ callRead items l r =
 pub record SaysCall (items : List ItemRow) (l : List ℕ) (r : LineRead) : Type 0 where
   pub call : lineCall items l ≡ callRead items l r
   pub counted : r .count ≡ length (splitFrom 32 (r .start) l)
-  pub few : r .count ≤ mostSets
+  pub few : r .count ≤ mostHanded
   pub alone : r .withdraws ≡ true → (r .target ≡ 0) × (r .loss ≡ false) × (r .count ≡ 0)
 
 -- The line's first no, and what it says where there is none.

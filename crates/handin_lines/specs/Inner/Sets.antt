@@ -8,7 +8,7 @@ use Rattle.written.specs.Inner.{Wrote}
 use Rattle.sheet_format.specs.Rows.{ItemRow}
 use Rattle.sheet_rows.specs.Inner.NameKeys.{NameKeys}
 use Rattle.handin_format.specs.Sets.{setFrom}
-use Rattle.handin_format.specs.Entries.{mostSets}
+use Rattle.handin_format.specs.Entries.{mostHanded}
 use Rattle.handin_format.specs.Lines.{FieldAsked, askOf, firstNoOf, setQuestions}
 use Rattle.handin_lines.specs.declared.sets.Checked.{Checked}
 use Rattle.handin_lines.specs.Inner.Splitting.{splitFrom}
@@ -26,7 +26,7 @@ pub record ChecksSets (low high : List ℕ) (count : ℕ) (l : List ℕ) (start 
 
 -- The questions of the sets, and last 7.
 unfoldable pub handedQuestions : List ItemRow → List (List ℕ) → List FieldAsked
-handedQuestions items xs = setQuestions items 4 xs ++ (askOf 7 0 (leb (length xs) mostSets) ∷ [])
+handedQuestions items xs = setQuestions items 4 xs ++ (askOf 7 0 (leb (length xs) mostHanded) ∷ [])
 
 -- The first no of these, and the number of the sets where there is none.
 pub record ChecksHanded (low high : List ℕ) (count : ℕ) (l : List ℕ) (start : ℕ) (r : Checked) : Type 0 where
@@ -34,7 +34,7 @@ pub record ChecksHanded (low high : List ℕ) (count : ℕ) (l : List ℕ) (star
       → firstNoOf (handedQuestions items (splitFrom 32 start l)) ≡ record { number = r .number; place = r .place }
   pub counted : r .number ≡ 0 → r .count ≡ length (splitFrom 32 start l)
   pub plain : r .number ≡ 0 → r .place ≡ 0
-  pub few : r .number ≡ 0 → r .count ≤ mostSets
+  pub few : r .number ≡ 0 → r .count ≤ mostHanded
 
 -- The sets stand in the first places.
 pub record PutsSets (low high : List ℕ) (count : ℕ) (l : List ℕ) (start r : ℕ) (entry exit : List ℕ) : Type 0 where

@@ -10,7 +10,7 @@ use Rattle.register.specs.Afternoon.{RegisterCall, HandIn, Withdraw}
 use Rattle.sheet_format.specs.Rows.{ItemRow, Doc, Valid, render, setupOf}
 use Rattle.sheet_format.specs.Read.{readSheet}
 use Rattle.sheet_rows.specs.Inner.NameKeys.{NameKeys}
-use Rattle.handin_format.specs.Entries.{mostSets}
+use Rattle.handin_format.specs.Entries.{mostHanded}
 use Rattle.handin_format.specs.Lines.{lineNo, lineCall}
 use Rattle.handin_lines.specs.declared.lines.LineRead.{LineRead}
 use Rattle.handin_lines.specs.Inner.Splitting.{splitFrom}
@@ -19,7 +19,7 @@ use Rattle.handin_lines.specs.Inner.Sets.{setsFrom}
 -- The sets of the line have been counted.
 pub record CanHandOver (l : List ℕ) (r : LineRead) : Type 0 where
   pub counted : r .count ≡ length (splitFrom 32 (r .start) l)
-  pub few : r .count ≤ mostSets
+  pub few : r .count ≤ mostHanded
 
 -- The sets that the line names are handed in, whatever item rows the keys are of.
 pub record HandsOver (low high : List ℕ) (count : ℕ) (s : Setup) (l : List ℕ) (r : LineRead) (t : Task) : Type 0 where

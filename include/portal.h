@@ -7,6 +7,10 @@
  *              portal_name                   an item's name
  *              portal_pool                   two sheets, pooled into one
  *              portal_write_sheet            the sheet of a setup that was redrawn, to keep
+ *   names      portal_read_set               the set that names joined by '+' name on a sheet
+ *              portal_write_set              the names of a set
+ *              portal_read_line              what a line says by which a student hands in sets by name
+ *              portal_enter_line             such a line taken to the class register
  *   setups     portal_check                  is this a setup?
  *              portal_closure, portal_lost   what a set opens, what the loss of a set takes away
  *              portal_way_in                 how a set opens an item, step by step
@@ -30,11 +34,12 @@
  * is proved, says for every input what is returned and how every lent place ends (docs/INDEX.md leads from each call to it).
  *
  * Results. A result is a struct of plain numbers, called after its call: portal_closure hands back a struct portal_closure_result. (Both
- * calls that mark share portal_marks_result, the three findings portal_finding_result, and the two calls on the register
+ * calls that mark share portal_marks_result, the three findings portal_finding_result, and the three calls on the register
  * portal_register_result.) No function has a struct's name. Its first field is `number`: 0 for an answer, else that of the refusal. The
  * other fields have the answer's values; a field that the answer has no value for is 0, so all of them are after a refusal.
  * (The line that portal_read hands back, and that of portal_pool with its sheet, are the exceptions that the documents ask for: a refused
- * sheet has a line. The count of a portal_register_result is that of document 02: it comes back from a refusal as it was given.)
+ * sheet has a line. So are the text and the place that portal_read_set and portal_read_line hand back. The count of a
+ * portal_register_result is that of document 02: it comes back from a refusal as it was given.)
  * portal_bag_at_most alone hands back a bool: it refuses nothing, and true is yes.
  *
  * Lent places. A slice is a pointer and the count of its places. A pointer may be null where the count is 0, and nowhere else.
@@ -66,9 +71,9 @@ extern "C" {
 
 /* ---- version ---- */
 
-/* 4.0.0 is 40000: the last two parts have two digits each. The first part changes where a call or a struct does, the second
+/* 4.1.0 is 40100: the last two parts have two digits each. The first part changes where a call or a struct does, the second
  * where one is new. */
-#define PORTAL_VERSION 40000
+#define PORTAL_VERSION 40100
 
 /* The version of the library. A program that was compiled with another one's header sees PORTAL_VERSION differ from it. */
 uint64_t portal_version(void);
@@ -80,8 +85,9 @@ uint64_t portal_version(void);
 
 /* Bytes of stack: for a call that asks all subsets of the starting or losable items, which scores, lists, cut sets, the next
  * opening set and findings do, and portal_bag_score, which needs the most; for one that marks a handed-in list, which
- * portal_hand_in does; and for the others (portal_version, _read, _name, _check, _closure, _lost, _way_in, _opens, _forecast,
- * _kinds, _bag_at_most, _take_in, _take_out, _add_edge, _remove_edge, _pool, _write_sheet, _withdraw). */
+ * portal_hand_in and portal_enter_line do; and for the others (portal_version, _read, _name, _check, _closure, _lost, _way_in, _opens, _forecast,
+ * _kinds, _bag_at_most, _take_in, _take_out, _add_edge, _remove_edge, _pool, _write_sheet, _withdraw, _read_set,
+ * _write_set, _read_line). */
 #define PORTAL_STACK ((size_t)256 * 1024)
 #define PORTAL_STACK_MARKS ((size_t)512 * 1024)
 #define PORTAL_STACK_SMALL ((size_t)128 * 1024)
@@ -175,6 +181,10 @@ static inline const char *portal_refusal_text(uint64_t number)
 #define PORTAL_POOL_BYTES 11626
 /* Bytes that are always enough for a saved sheet. */
 #define PORTAL_SAVE_BYTES 11626
+/* Bytes that are always enough for the names of a set: 64 names of 16 bytes, and 63 signs. */
+#define PORTAL_SET_BYTES 1087
+/* The most sets of one hand-in line: as many as 14 items have subsets. */
+#define PORTAL_MAX_HANDED 16384
 #define PORTAL_MAX_VALUE UINT64_C(4000000000)
 
 /* Places that are always enough for one list of a target, and for both: of subsets of at most 14 items none of which lies within another
@@ -290,6 +300,37 @@ struct portal_pool_result {
 struct portal_write_sheet_result {
     uint64_t number;
     uint64_t length;
+};
+
+/*
+ * A set by its names, and a hand-in line. A refusal says whose the number is, as the sheet's numbers and the other text's are the same: text
+ * is 1 for the sheet, whose line is the place (0 where the no is about the whole sheet), and 2 for the names or the line. The place of a line
+ * is its field, counted from 1, or 0 where the no is about the whole line; that of the names of a set is 0. For 15 both are 0.
+ */
+struct portal_read_set_result {
+    uint64_t number;
+    uint64_t text;
+    uint64_t place;
+    uint64_t set;
+};
+
+/* The names' bytes are the first `length` of the buffer. */
+struct portal_write_set_result {
+    uint64_t number;
+    uint64_t length;
+};
+
+/* withdraws is 1 for a withdrawal, of the student alone; else lock is 1 for lockout sets and 0 for opening sets, and the first `count` places of
+ * the list have the sets. */
+struct portal_read_line_result {
+    uint64_t number;
+    uint64_t text;
+    uint64_t place;
+    uint64_t withdraws;
+    uint64_t student;
+    uint64_t target;
+    uint64_t lock;
+    uint64_t count;
 };
 
 /* more is 1 where a set is shown, and 0 for "no more"; then set is 0 too. */
@@ -422,6 +463,34 @@ struct portal_pool_result portal_pool(const uint8_t *first, size_t first_length,
  * items than the sheet has names; 15. A refusal leaves the buffer as it was, and the bytes behind the saved sheet stay as they were.
  */
 struct portal_write_sheet_result portal_write_sheet(const uint8_t *sheet, size_t length, const uint64_t *setup, size_t words, uint8_t *out, size_t places);
+
+/*
+ * The set that a text names on a sheet: names joined by '+', in any order, none twice, as mailpw+token; "-" is the empty set. Refused with the
+ * sheet's number, 1 to 11, with text 1 and its line as place; then with 5 where the text is not names joined by '+', 8 where no item has a
+ * name, 6 where an item is named twice, from the left, with text 2.
+ */
+struct portal_read_set_result portal_read_set(const uint8_t *sheet, size_t length, const uint8_t *text, size_t text_length);
+
+/*
+ * The names of a set, rising and joined by '+', or "-" for the empty one, written to the start of the buffer: portal_read_set reads them back.
+ * PORTAL_SET_BYTES places are always enough. Refused with the sheet's number, 1 to 11; 14; 15. A refusal leaves the buffer as it was, and the
+ * bytes behind the names stay as they were.
+ */
+struct portal_write_set_result portal_write_set(const uint8_t *sheet, size_t length, uint64_t set, uint8_t *out, size_t places);
+
+/*
+ * What a hand-in line says, which is handed over without its line end. There are two kinds:
+ *
+ *     student target way set set ..        way is open or lock; any number of sets, none too
+ *     student withdraw
+ *
+ * One space stands between fields. student is 0 to 4000000000 without leading zeros, target the name of an item, a set as portal_read_set takes
+ * it. Refused with the sheet's number, 1 to 11, with text 1 and its line as place; then with the line's first no, text 2 and the field as place:
+ * 2 (a byte that is no plain letter, digit or sign; place 0); 4 (the first empty field; else the first that is missing); then the fields from
+ * the left, 5 for a student, 5 or 8 for a target, 5 for a way, 5, 8 or 6 for a set; 7 for more than PORTAL_MAX_HANDED sets (place 0). Last 15, where
+ * the list has fewer places than the line has sets. A refusal leaves the list as it was.
+ */
+struct portal_read_line_result portal_read_line(const uint8_t *sheet, size_t length, const uint8_t *line, size_t line_length, uint64_t *sets, size_t places);
 
 /* ---- calls on a setup ---- */
 
@@ -586,6 +655,14 @@ struct portal_register_result portal_hand_in(const uint64_t *setup, size_t words
  * the end keep what stood in them before the call. Refused with 25, 27.
  */
 struct portal_register_result portal_withdraw(struct portal_record *records, size_t places, size_t used, uint64_t student);
+
+/*
+ * Takes a hand-in line (see portal_read_line) to the register: a hand-in as portal_hand_in does on the sheet's setup, a withdrawal as
+ * portal_withdraw. Refused with 25; the sheet's number, 1 to 11; the line's, 2, 4, 5, 6, 7 or 8; then 26 or 27. portal_read_line tells whose a
+ * number is, and where. A line that is refused changes no record and no count.
+ */
+struct portal_register_result portal_enter_line(const uint8_t *sheet, size_t length, const uint8_t *line, size_t line_length,
+                                                struct portal_record *records, size_t places, size_t used);
 
 #ifdef __cplusplus
 }

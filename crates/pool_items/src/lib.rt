@@ -1,23 +1,16 @@
-// The item rows of two accepted sheets that are pooled: the keys of their names, which items are in
-// both, whether these agree, and what remains of the second sheet.
+// The item rows of two accepted sheets that are pooled: which items are in both, whether these agree, and
+// what remains of the second sheet.
 use setup::Kind;
 use setup::Value;
 use setup::Vertex;
 use sheet_fields::Key;
+use sheet_lines::item_keys::Keys;
 ghost use mathlib.Core.Path.{_≡_};
 ghost use Prim.Native.Nat.{_≤_};
 ghost use Rattle.vertex_set.specs.Set.{Decides};
-ghost use Rattle.pool_items.specs.Inner.Keys.{HasLines, SheetKeys, KeyPlaces};
+ghost use Rattle.pool_items.specs.Inner.Keys.{KeyPlaces};
 ghost use Rattle.setup.specs.Inner.{kindNumber};
 ghost use Rattle.pool_items.specs.Inner.Items.{AllAgree, Small, WithItem, PlacesRise, CountsRemaining};
-
-// The keys of the names of a sheet's items, and where each item's row begins; behind the last of
-// them the place of the empty line.
-pub struct Keys {
-    pub low: [u64; 64],
-    pub high: [u64; 64],
-    pub from: [usize; 65],
-}
 
 // Of the items that remain: how many there are, how many of them are starting and losable ones, and
 // how many bytes their rows have.
@@ -26,28 +19,6 @@ pub struct Remaining {
     pub starts: usize,
     pub losses: usize,
     pub bytes: usize,
-}
-
-// The keys of the first `count` items: each row is a line below the header.
-pub fn keys_of(s: &[u8], count: usize) -> Keys
-    requires { ⌜ HasLines (now s) count ⌝ }
-    ensures { λ r. ⌜ SheetKeys (now (s .entry)) count r ⌝ }
-{
-    let mut low = [0u64; 64];
-    let mut high = [0u64; 64];
-    let mut from = [0usize; 65];
-    let mut at = sheet_fields::find(s, 0, sheet_fields::LF) + 1;
-    for v in 0..count {
-        let end = sheet_fields::find(s, at, sheet_fields::LF);
-        let item = sheet_rows::read_item(&s[at..end]);
-        let key = item.key;
-        low[v] = key.low;
-        high[v] = key.high;
-        from[v] = at;
-        at = end + 1;
-    }
-    from[count] = at;
-    Keys { low, high, from }
 }
 
 // For each of the second sheet's `count` items its number in the first sheet, or the first sheet's

@@ -21,22 +21,23 @@ use Rattle.sheet_format.specs.Text.{linesOf}
 use Rattle.sheet_format.specs.Rows.{ItemRow, Doc, Valid, startCount, lossCount, lineText, firstHeader, secondHeader, itemFields, itemLines, edgeLines, render}
 use Rattle.sheet_format.specs.Questions.{isKnown}
 use Rattle.sheet_format.specs.Read.{readSheet}
-use Rattle.sheet_format.proofs.Meaning.{valid-of-accepted, accepted-or-refused}
 use Rattle.sheet_fields.specs.Inner.Parts.{until}
 use Rattle.sheet_fields.proofs.Lines.{line-at, lines-over}
 use Rattle.sheet_fields.proofs.Slices.{rest-part}
 use Rattle.pool_format.specs.declared.Pooled.{Pooled}
 use Rattle.pool_format.specs.Rows.{remaining, pooled}
 use Rattle.pool_format.specs.Call.{asks22, asks23, asks24, withBuffer, poolRefusal, poolsText, PoolsRows, PoolCall}
-use Rattle.pool_items.specs.declared.Keys.{Keys}
+use Rattle.sheet_lines.specs.declared.item_keys.Keys.{Keys}
+use Rattle.sheet_lines.specs.Inner.Keys.{Accepts, SheetKeys}
+use Rattle.sheet_lines.proofs.Accepted.{count-of, edges-many, rows-of-text}
 use Rattle.pool_items.specs.declared.Remaining.{Remaining}
-use Rattle.pool_items.specs.Inner.Keys.{HasLines, SheetKeys, KeyPlaces}
+use Rattle.pool_items.specs.Inner.Keys.{KeyPlaces}
 use Rattle.pool_items.specs.Inner.Items.{PlacesRise, CountsRemaining}
 use Rattle.pool_text.specs.Inner.{freshRows, withDigits}
 use Rattle.pooling.specs.declared.Bounds.{Bounds}
 use Rattle.pooling.specs.declared.Plan.{Plan}
-use Rattle.pooling.specs.Inner.{Accepts, Starts, BothRead, CountsInBounds, BoundsOf, pooledText, CanWrite, PlanFor, PlanOf, disagrees, beyond, ready}
-use Rattle.pooling.proofs.Sheets.{count-of, has-lines, edges-many, rising, start-inside}
+use Rattle.pooling.specs.Inner.{Starts, BothRead, CountsInBounds, BoundsOf, pooledText, CanWrite, PlanFor, PlanOf, disagrees, beyond, ready}
+use Rattle.pooling.proofs.Sheets.{rising, start-inside}
 use Rattle.pooling.proofs.Plans.{Sheets, Counted, counted, bounds-for}
 
 -- ---- lines
@@ -66,17 +67,6 @@ losses-over i s l e h = decide-no (λ b. let m = b .losses in omega arith)
 
 -- ---- accepted sheets have rows
 
-pub record RowsOfText (s : List ℕ) (a : Setup) : Type 0 where
-  pub doc : Doc
-  pub valid : Valid doc
-  pub text : s ≡ render doc
-
-pub rows-of-text : (s : List ℕ) (a : Setup) → Accepts s a → RowsOfText s a
-rows-of-text s a h = let d = valid-of-accepted s a (h .reading) in record { doc = d .0; valid = d .1; text = d .2 }
-
-pub lines-there : (s : List ℕ) (a : Setup) → Accepts s a → HasLines s (a .count)
-lines-there s a h = let d = rows-of-text s a h in has-lines s a (d .doc) h (d .valid) (d .text)
-
 pub rows-rise : (s : List ℕ) (a : Setup) (from : List ℕ) → Accepts s a → Starts s a from → PlacesRise from (a .count)
 rows-rise s a from h n = let d = rows-of-text s a h in rising s a (d .doc) h (d .valid) (d .text) from n
 
@@ -92,14 +82,6 @@ text-short s a h = let d = rows-of-text s a h in let e = ap length (d .text) in 
 
 pub start-there : (s : List ℕ) (a : Setup) (from : List ℕ) → Accepts s a → Starts s a from → getD from (a .count) 0 + 20 ≤ length s
 start-there s a from h n = let d = rows-of-text s a h in start-inside s a (d .doc) h (d .valid) (d .text) from n
-
--- a reading with the number 0
-pub accepts-of : (s : List ℕ) (r : Reading) → r ≡ readSheet s → r .number ≡ 0 → Accepts s (r .setup)
-accepts-of s r q z =
-    ⊎-elim
-    (λ a. record { reading = a .reading ∙ ap (λ (x : Setup). record { number = 0; line = 0; setup = x }) (sym (ap (λ (x : Reading). x .setup) (q ∙ a .reading))) })
-    (λ n. absurd (let e = ap (λ (x : Reading). x .number) (q ∙ n .reading) in let l = n .least in omega arith))
-    (accepted-or-refused .either s)
 
 -- ---- what remains is no more than all
 

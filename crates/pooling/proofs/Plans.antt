@@ -25,9 +25,11 @@ use Rattle.sheet_format.proofs.Question12Lists.{In, each-of, of-each}
 use Rattle.sheet_format.proofs.Stated.{stands-below, at-place, stands-in, in-stands, number-stands, stands-number}
 use Rattle.pool_format.specs.Rows.{Agree, remaining, recoloured, pooled, Fits}
 use Rattle.pool_format.specs.Inner.{PlacesAmong}
-use Rattle.pool_items.specs.declared.Keys.{Keys}
+use Rattle.sheet_lines.specs.declared.item_keys.Keys.{Keys}
+use Rattle.sheet_lines.specs.Inner.Keys.{Accepts, SheetKeys}
+use Rattle.sheet_lines.proofs.Accepted.{setup-of, count-of, edges-many}
 use Rattle.pool_items.specs.declared.Remaining.{Remaining}
-use Rattle.pool_items.specs.Inner.Keys.{SheetKeys, KeyPlaces}
+use Rattle.pool_items.specs.Inner.Keys.{KeyPlaces}
 use Rattle.pool_items.specs.Inner.Items.{AllAgree, ItemCounts, CountsRemaining}
 use Rattle.pool_items.proofs.Items.{known-place}
 use Rattle.pool_colours.specs.declared.Colours.{Colours}
@@ -35,8 +37,8 @@ use Rattle.pool_colours.specs.Inner.Colours.{Both, ColoursOf}
 use Rattle.pool_text.specs.Inner.{freshRows, withDigits}
 use Rattle.pooling.specs.declared.Bounds.{Bounds}
 use Rattle.pooling.specs.declared.Plan.{Plan}
-use Rattle.pooling.specs.Inner.{Accepts, Starts, CountsInBounds, BoundsHold, BoundsFor, BoundsOf, pooledText, Parts, PlanFor, PlanOf, disagrees, beyond, ready}
-use Rattle.pooling.proofs.Sheets.{setup-of, count-of, vertex-of, tail, front, front-is, behind-is, from-inside, rows-of, within, row-is, edge-lines, edge-bytes, edges-many}
+use Rattle.pooling.specs.Inner.{Starts, CountsInBounds, BoundsHold, BoundsFor, BoundsOf, pooledText, Parts, PlanFor, PlanOf, disagrees, beyond, ready}
+use Rattle.pooling.proofs.Sheets.{vertex-of, tail, front, front-is, behind-is, from-inside, rows-of, within, row-is, edge-lines, edge-bytes}
 use Rattle.pooling.proofs.Texts.{fresh-rows, edges-put, edges-can, together, together-is, same-long}
 
 -- ---- agreement

@@ -9,59 +9,31 @@ use lib.ListN.{length, getD, take, drop, length-append, length-map, take-append-
 use lib.Seq.{take-at, drop-at, getD-append-add, drop-append-add, drop-length, drop-drop}
 use Rattle.setup.specs.declared.Setup.{Setup}
 use Rattle.setup.specs.Setup.{unusedVertex, vertexAt}
-use Rattle.sheet_format.specs.declared.Reading.{Reading}
 use Rattle.sheet_format.specs.Text.{linesOf}
-use Rattle.sheet_format.specs.Rows.{ItemRow, Doc, Valid, vertexOf, lineText, firstHeader, secondHeader, itemFields, itemLines, edgeLines, render, setupOf}
-use Rattle.sheet_format.specs.Read.{readSheet}
+use Rattle.sheet_format.specs.Rows.{ItemRow, Doc, Valid, vertexOf, lineText, firstHeader, secondHeader, itemFields, itemLines, edgeLines, render}
 use Rattle.sheet_format.specs.Names.{lineStart}
 use Rattle.sheet_format.specs.Stated.{StandsAt}
 use Rattle.sheet_format.proofs.Lines.{line-text}
 use Rattle.sheet_format.proofs.Rows.{itemLine, edgeLine}
 use Rattle.sheet_format.proofs.Documents.{docLines}
-use Rattle.sheet_format.proofs.Meaning.{render-lines, accepted-of-valid}
+use Rattle.sheet_format.proofs.Meaning.{render-lines}
 use Rattle.sheet_format.proofs.Stated.{stands-below, at-place, stated-by-rows, take-more}
+use Rattle.sheet_lines.specs.Inner.Keys.{Accepts}
 use Rattle.sheet_lines.proofs.Starts.{lines-behind}
-use Rattle.pool_items.specs.Inner.Keys.{HasLines}
+use Rattle.sheet_lines.proofs.Lines.{start-more}
+use Rattle.sheet_lines.proofs.Accepted.{setup-of, count-of, edges-many}
 use Rattle.pool_items.specs.Inner.Items.{PlacesRise, ItemRowsAt}
-use Rattle.pool_items.proofs.Lines.{start-more}
 use Rattle.pool_items.proofs.Items.{lines-append}
 use Rattle.pool_text.specs.Inner.{RowsWithin, rowAt}
-use Rattle.pooling.specs.Inner.{Accepts, Starts}
+use Rattle.pooling.specs.Inner.{Starts}
 
--- ---- the setup that rows state
-
-pub setup-of : (s : List ℕ) (a : Setup) (d : Doc) → Accepts s a → Valid d → s ≡ render d → a ≡ setupOf d
-setup-of s a d h v t = ap (λ (r : Reading). r .setup) (sym (h .reading) ∙ ap readSheet t ∙ accepted-of-valid d v)
-
-pub count-of : (s : List ℕ) (a : Setup) (d : Doc) → Accepts s a → Valid d → s ≡ render d → a .count ≡ length (d .items)
-unfolding setupOf
-count-of s a d h v t = ap (λ (x : Setup). x .count) (setup-of s a d h v t)
+-- ---- the vertices that rows state
 
 pub vertex-of : (s : List ℕ) (a : Setup) (d : Doc) → Accepts s a → Valid d → s ≡ render d → (j : ℕ) (y : ItemRow) → StandsAt (d .items) j y
     → getD (a .vertices) j unusedVertex ≡ vertexOf y
 vertex-of s a d h v t j y k =
     let f = stated-by-rows d v .items j y k in
     ap (λ (x : Setup). vertexAt x j) (setup-of s a d h v t) ∙ (λ i. record { kind = f .kind i; start = f .start i; loss = f .loss i; rank = f .rank i })
-
--- ---- lines
-
-lines-long : (d : Doc) → Valid d → length (linesOf (render d)) ≡ length (d .items) + length (d .edges) + 3
-lines-long d v =
-    let a = length-append (map itemLine (d .items)) ([] ∷ secondHeader ∷ map edgeLine (d .edges)) in
-    let b = length-map (d .items) itemLine in
-    let c = length-map (d .edges) edgeLine in
-    rw (render-lines d v) (omega arith)
-
-pub has-lines : (s : List ℕ) (a : Setup) (d : Doc) → Accepts s a → Valid d → s ≡ render d → HasLines s (a .count)
-has-lines s a d h v t =
-    let c = count-of s a d h v t in
-    let l = lines-long d v in
-    let m = v .most in
-    record { few = omega arith; lines = rw t (omega arith) }
-
--- as many edge rows as lines that are no others
-pub edges-many : (s : List ℕ) (a : Setup) (d : Doc) → Accepts s a → Valid d → s ≡ render d → length (linesOf s) ≡ a .count + length (d .edges) + 3
-edges-many s a d h v t = let c = count-of s a d h v t in let l = lines-long d v in rw t (omega arith)
 
 -- ---- the text, cut where an item row begins
 

@@ -26,7 +26,8 @@ use Rattle.pool_format.proofs.Recolouring.{re-from, re-to}
 use Rattle.pool_items.proofs.Items.{remains-not, remains, known-place, unknown-place, lines-append}
 use Rattle.pool_colours.specs.Inner.Colours.{DigitAt}
 use Rattle.pool_text.specs.Inner.{rowAt, freshRows, withDigit, withDigits, CanPut}
-use Rattle.pooling.specs.Inner.{Accepts, Starts}
+use Rattle.sheet_lines.specs.Inner.Keys.{Accepts}
+use Rattle.pooling.specs.Inner.{Starts}
 use Rattle.pooling.proofs.Sheets.{tail, front, front-is, behind-is, row-is}
 
 -- a recoloured row keeps its mark

@@ -8,17 +8,13 @@ use Rattle.setup.specs.Bounds.{mostEdges, mostChosen}
 use Rattle.setup.specs.declared.Setup.{Setup}
 use Rattle.sheet_format.specs.Text.{linesOf}
 use Rattle.sheet_format.specs.Rows.{Doc, Valid, startCount, lossCount, itemLines, render}
-use Rattle.sheet_format.specs.Read.{readSheet, accepted}
 use Rattle.sheet_format.specs.Names.{lineStart}
+use Rattle.sheet_lines.specs.Inner.Keys.{Accepts}
 use Rattle.pool_format.specs.Rows.{Agree, remaining, pooled, Fits}
 use Rattle.pool_format.specs.Inner.{PlacesAmong}
 use Rattle.pool_text.specs.Inner.{RowsWithin, freshRows, withDigits, CanPut}
 use Rattle.pooling.specs.declared.Bounds.{Bounds}
 use Rattle.pooling.specs.declared.Plan.{Plan}
-
--- The sheet is accepted, and yields the setup.
-pub record Accepts (s : List ℕ) (a : Setup) : Type 0 where
-  pub reading : readSheet s ≡ accepted a
 
 -- Where the item rows begin, and behind them the empty line.
 pub record Starts (s : List ℕ) (a : Setup) (from : List ℕ) : Type 0 where

@@ -3,19 +3,21 @@
 // sheet's edge rows one byte changes, the colour.
 use pool_colours::Colours;
 use pool_format::Pooled;
-use pool_items::Keys;
 use setup::Graph;
 use setup::MAX_EDGES;
 use setup::Setup;
+use sheet_lines::item_keys;
+use sheet_lines::item_keys::Keys;
 ghost use mathlib.Core.Path.{_≡_};
 ghost use Prim.Native.Nat.{_≤_};
 ghost use lib.ListN.{length};
 ghost use Rattle.vertex_set.specs.Set.{Decides};
 ghost use Rattle.written.specs.Inner.{Wrote};
 ghost use Rattle.sheet_format.specs.Text.{linesOf};
+ghost use Rattle.sheet_lines.specs.Inner.Keys.{Accepts};
 ghost use Rattle.pool_format.specs.Call.{withBuffer, PoolsRows, PoolCall};
 ghost use Rattle.pool_colours.specs.Inner.Colours.{ColoursOf};
-ghost use Rattle.pooling.specs.Inner.{CountsInBounds, Accepts, BothRead, BoundsOf, PlanOf, pooledText, CanWrite};
+ghost use Rattle.pooling.specs.Inner.{CountsInBounds, BothRead, BoundsOf, PlanOf, pooledText, CanWrite};
 
 // The lines of a sheet that are no rows: two headers and the empty line.
 const OTHER_LINES: usize = 3;
@@ -162,8 +164,8 @@ fn plan_of(first: &[u8], second: &[u8], a: Setup, b: Setup) -> Plan
 {
     let known = a.count;
     let count = b.count;
-    let own = pool_items::keys_of(first, known);
-    let keys = pool_items::keys_of(second, count);
+    let own = item_keys::keys_of(first, known);
+    let keys = item_keys::keys_of(second, count);
     let places = pool_items::places_of(own, known, keys, count);
     let own_vertices = a.vertices;
     let vertices = b.vertices;

@@ -10,9 +10,9 @@ use Rattle.questions.specs.Contract.{Contract, telling}
 use Rattle.questions.specs.Questions.{asks13}
 use Rattle.portal_words.specs.Words.{setupWords, setupIn, wordsOf}
 
--- 40000 for version 4.0.0 of the calls, two digits for each of the last two parts.
+-- 40100 for version 4.1.0 of the calls, two digits for each of the last two parts.
 abbrev pub version : ℕ
-version = 40000
+version = 40100
 
 -- The sheet's own number and line, and its setup's words at the front of the lent buffer. With fewer places than these words no word is written,
 -- and an accepted sheet gets 15.

@@ -40,8 +40,8 @@ pub struct WriteSheetResult {
     pub length: u64,
 }
 
-// Version 4.0.0.
-const VERSION: u64 = 40000;
+// Version 4.1.0.
+const VERSION: u64 = 40100;
 
 // The version of the calls that this library has.
 #[no_mangle]

@@ -7,7 +7,7 @@ ghost use Prim.Native.Nat.{_<_, _≤_, _+_, _^_};
 ghost use Rattle.questions.specs.Contract.{ends, Fulfils};
 ghost use Rattle.answers.specs.Answers.{marksReply, marksCall};
 ghost use Rattle.records.specs.Records.{wayCode, sameThree};
-ghost use Rattle.records.specs.Inner.{lesser, withdrawalTurn, takesOf, passBehind, handInTurn, stepOf, turnsOf, refusesOf, firstCount, beginOf, finishOf, studentAlone, leaving, taskOf, Attempts};
+ghost use Rattle.records.specs.Inner.{lesser, withdrawalTurn, takesOf, passBehind, handInTurn, stepOf, turnsOf, refusesOf, firstCount, beginOf, finishOf, outcomeOf, Leaves, studentAlone, leaving, taskOf, Attempts};
 use answers::MarksAnswer;
 use setup::Setup;
 
@@ -283,6 +283,24 @@ pub fn finish(t: Task, p: Pass) -> Registered
         number: questions::ALL_USED,
         used: p.used,
     }
+}
+
+// The pass over the slice: at each place the record there is read, and one is stored.
+pub fn apply(records: &mut [Record], used: usize, t: Task) -> Registered
+    ensures { λ a. ⌜ Leaves a (now (records .exit)) (outcomeOf (now (records .entry)) used t) ⌝ }
+{
+    let mut p = begin(records.len(), used, t);
+    let n = p.turns;
+    let mut i = 0;
+    while i < n {
+        let r = records[i];
+        let d = step(t, p, r, i);
+        let at = d.at;
+        records[at] = d.row;
+        p = d.pass;
+        i = i + 1;
+    }
+    finish(t, p)
 }
 
 // A record that has the student alone, for a task that lays none down.

@@ -26,11 +26,11 @@ use Rattle.register.specs.Calls.{asks25, asks26, asks27, Enters, HandInC
 -- ---- the outcome, question by question
 
 module _ (ys : List Record) (used : ℕ) (t : Task) where
-  over : length ys < used → outcomeOf ys used t ≡ handsBack used ys 25
+  pub over : length ys < used → outcomeOf ys used t ≡ handsBack used ys 25
   unfolding outcomeOf
   over l = if-true _ _ _ (lt-ltb _ _ l)
 
-  turned : used ≤ length ys → (t .refused ≡ 0 → ⊥) → outcomeOf ys used t ≡ handsBack used ys (t .refused)
+  pub turned : used ≤ length ys → (t .refused ≡ 0 → ⊥) → outcomeOf ys used t ≡ handsBack used ys (t .refused)
   unfolding outcomeOf
   turned l n = if-false _ _ _ (le-ltb _ _ l) ∙ if-false _ _ _ (ne-eqb (t .refused) 0 n)
 

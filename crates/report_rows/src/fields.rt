@@ -82,7 +82,14 @@ fn put_item(
 }
 
 // The names of the vertices of the set x, joined by `+`.
-fn put_items(x: u64, sheet: &[u8], from: &[usize], to: &[usize], out: &mut [u8], at: usize) -> usize
+pub fn put_items(
+    x: u64,
+    sheet: &[u8],
+    from: &[usize],
+    to: &[usize],
+    out: &mut [u8],
+    at: usize,
+) -> usize
     requires { ⌜ SetNamePlaces (now sheet) (now from) (now to) x ⌝ }
     requires { ⌜ at + length (setText (nameOf (now sheet)) x) ≤ length (now out) ⌝ }
     ensures { λ r. ⌜ Wrote (now (out .entry)) at (setText (nameOf (now (sheet .entry))) x) (now (out .exit)) r ⌝ }

@@ -40,7 +40,7 @@ unfolding answerText
 answer-length true = omega arith
 answer-length false = omega arith
 
-joined-length : (name : ℕ → List ℕ) (l : List ℕ) → ((v : ℕ) → Listed l v → length (name v) ≤ 16) → length (joined name l) ≤ 17 * length l - 1
+pub joined-length : (name : ℕ → List ℕ) (l : List ℕ) → ((v : ℕ) → Listed l v → length (name v) ≤ 16) → length (joined name l) ≤ 17 * length l - 1
 unfolding joined
 joined-length name [] h = omega arith
 joined-length name (v ∷ []) h = let a = h v (inl refl) in omega arith

@@ -1,5 +1,6 @@
 // The lines of a sheet: the test of the whole text, and the headers; in `names`, where an item's name
-// stands.
+// stands; in `item_keys`, the keys of all names.
+pub mod item_keys;
 pub mod names;
 
 ghost use mathlib.Core.Path.{_≡_};
@@ -43,7 +44,7 @@ pub fn is_text(s: &[u8]) -> bool
 }
 
 // Are the two texts the same?
-fn same_text(s: &[u8], t: &[u8]) -> bool
+pub fn same_text(s: &[u8], t: &[u8]) -> bool
     ensures { λ r. ⌜ r ≡ sameText (now (s .entry)) (now (t .entry)) ⌝ }
 {
     if s.len() != t.len() {

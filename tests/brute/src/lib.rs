@@ -13,6 +13,7 @@
 //!   intruder could get in (02, point 1).
 //! * [`next`] shows an opening list one set at a time (02, point 9).
 //! * [`register`] works the class register out from the log of its calls (02, point 12).
+//! * [`handin`] reads the lines that hand sets in by name.
 //! * [`bags`] compares bags of values, and has the scores that keep their parts (02, point 6).
 //! * [`living`] has the calls that change a setup (02, point 8).
 //! * [`pool`] pools two sheets (02, point 11); [`save`] writes the sheet of a setup.
@@ -25,6 +26,7 @@ pub mod calls;
 pub mod cases;
 pub mod forecast;
 pub mod graph;
+pub mod handin;
 pub mod kinds;
 pub mod lists;
 pub mod living;

@@ -6,6 +6,7 @@
 
 mod bags;
 mod compare;
+mod handins;
 mod intruders;
 mod living;
 mod long_lists;

@@ -8,7 +8,7 @@ use brute::Calls;
 
 type Outcome = Result<(), Box<Difference>>;
 
-fn lent(records: &[Record]) -> Vec<product::Record> {
+pub fn lent(records: &[Record]) -> Vec<product::Record> {
     let record = |r: &Record| product::Record {
         student: r.student,
         target: r.target,

@@ -2,6 +2,7 @@
 
 use crate::bags::{compare_bag_scores, compare_bags, compare_known_bags};
 use crate::compare::Difference;
+use crate::handins::{compare_handin_bounds, compare_handins, ENDS};
 use crate::intruders::compare_known_kinds;
 use crate::living::{
     compare_every_step, compare_lives, compare_living_cases, compare_short_lists, DRAWINGS,
@@ -16,6 +17,7 @@ use crate::sheets::{compare_by_hand, compare_report, compare_sheet};
 use crate::walks::{compare_next_cases, compare_walks};
 use brute::cases::by_hand::by_hand;
 use brute::cases::draft::sheet_of_setup;
+use brute::cases::handins::Ends;
 use brute::cases::living::LISTS;
 use brute::cases::registers::Met;
 use brute::cases::{
@@ -37,6 +39,9 @@ const CHANGED: usize = 3_000;
 /// Of the 6,561 graphs of two items and two colours, how many there are from one to the next whose lists
 /// of up to 3 calls the gate makes one by one: a number that shares no factor with 3.
 const APART: usize = 800;
+
+/// How many hand-in lines the gate reads and enters.
+const LINES: usize = 20_000;
 
 /// The fewest of the gate's calls on the class register, by what they came to.
 const REGISTERED: [(&str, usize); 11] = [
@@ -171,6 +176,10 @@ impl Run {
         compare_longest(&mut self.rng)?;
         let saves = compare_saved_lives(&mut self.rng, 600)?;
         assert!(saves.enough(), "too little was saved: {saves:?}");
+        let mut ends = Ends::default();
+        compare_handin_bounds(&mut self.rng, &mut ends)?;
+        compare_handins(&mut self.rng, LINES, &mut ends)?;
+        assert!(ends.too_few(&ENDS).is_empty(), "too few lines: {:?} of {ends:?}", ends.too_few(&ENDS));
         for case in bounds::bounds() {
             self.counts.bounds += 1;
             self.sheet(&case, FEW, true)?;
@@ -290,6 +299,7 @@ impl Run {
         }
         compare_pools(&mut self.rng, 40)?;
         compare_saved_lives(&mut self.rng, 20)?;
+        compare_handins(&mut self.rng, 200, &mut Ends::default())?;
         for case in damaged::damaged_sheets(self.rng.number(), 11) {
             self.counts.damaged += 1;
             self.sheet(&case, MANY, false)?;

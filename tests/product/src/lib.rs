@@ -15,8 +15,8 @@ mod results;
 pub use results::{
     BagScoreResult, ClosureResult, CutSetsResult, FindingResult, ForecastResult, KindsResult,
     ListsResult, LostResult, MarksResult, NameResult, NextOpeningResult, OpensResult, PoolResult,
-    ReadResult, Record, Refusal, RegisterResult, SetupRiskResult, SetupScoreResult, WayInResult,
-    WriteSheetResult,
+    ReadLineResult, ReadResult, ReadSetResult, Record, Refusal, RegisterResult, SetupRiskResult,
+    SetupScoreResult, WayInResult, WriteSetResult, WriteSheetResult,
 };
 
 /// How many words a setup has.
@@ -33,8 +33,12 @@ pub const NEVER: u64 = 1 << 62;
 pub const POOL_BYTES: usize = 11_626;
 /// Bytes that are always enough for a saved sheet: no sheet has more.
 pub const SAVE_BYTES: usize = 11_626;
+/// Bytes that are always enough for the names of a set.
+pub const SET_BYTES: usize = 1_087;
+/// The most sets of one hand-in line.
+pub const MAX_HANDED: usize = 16_384;
 /// The version of the header that this crate was written for.
-pub const VERSION: u64 = 40000;
+pub const VERSION: u64 = 40100;
 
 mod linked {
     use super::*;
@@ -62,6 +66,36 @@ mod linked {
             out: *mut u8,
             places: usize,
         ) -> WriteSheetResult;
+        pub fn portal_read_set(
+            sheet: *const u8,
+            length: usize,
+            text: *const u8,
+            text_length: usize,
+        ) -> ReadSetResult;
+        pub fn portal_write_set(
+            sheet: *const u8,
+            length: usize,
+            set: u64,
+            out: *mut u8,
+            places: usize,
+        ) -> WriteSetResult;
+        pub fn portal_read_line(
+            sheet: *const u8,
+            length: usize,
+            line: *const u8,
+            line_length: usize,
+            sets: *mut u64,
+            places: usize,
+        ) -> ReadLineResult;
+        pub fn portal_enter_line(
+            sheet: *const u8,
+            length: usize,
+            line: *const u8,
+            line_length: usize,
+            records: *mut Record,
+            places: usize,
+            used: usize,
+        ) -> RegisterResult;
         pub fn portal_check(setup: *const u64, words: usize) -> u64;
         pub fn portal_closure(setup: *const u64, words: usize, set: u64) -> ClosureResult;
         pub fn portal_lost(setup: *const u64, words: usize, set: u64) -> LostResult;
@@ -222,6 +256,46 @@ pub fn write_sheet(sheet: &[u8], setup: &[u64], out: &mut [u8]) -> WriteSheetRes
     let (text, length) = (sheet.as_ptr(), sheet.len());
     let (words, count) = (setup.as_ptr(), setup.len());
     unsafe { linked::portal_write_sheet(text, length, words, count, out.as_mut_ptr(), out.len()) }
+}
+
+/// The set that names joined by `+` name on a sheet. 1 to 11 of the sheet with its line; 5, 8, 6.
+pub fn read_set(sheet: &[u8], text: &[u8]) -> ReadSetResult {
+    let (names, size) = (text.as_ptr(), text.len());
+    unsafe { linked::portal_read_set(sheet.as_ptr(), sheet.len(), names, size) }
+}
+
+/// The names of a set, joined by `+`, to a buffer. 1 to 11 of the sheet; 14, 15.
+pub fn write_set(sheet: &[u8], set: u64, out: &mut [u8]) -> WriteSetResult {
+    let (places, count) = (out.as_mut_ptr(), out.len());
+    unsafe { linked::portal_write_set(sheet.as_ptr(), sheet.len(), set, places, count) }
+}
+
+/// What a hand-in line says, its sets to a list. 1 to 11 of the sheet with its line; 2, 4, 5, 6, 7, 8
+/// of the line with its field; 15.
+pub fn read_line(sheet: &[u8], line: &[u8], sets: &mut [u64]) -> ReadLineResult {
+    let (text, length) = (sheet.as_ptr(), sheet.len());
+    let (other, size) = (line.as_ptr(), line.len());
+    unsafe { linked::portal_read_line(text, length, other, size, sets.as_mut_ptr(), sets.len()) }
+}
+
+/// A hand-in line taken to the register. 25; 1 to 11 of the sheet; 2, 4, 5, 6, 7, 8 of the line; 26, 27.
+pub fn enter_line(
+    sheet: &[u8],
+    line: &[u8],
+    records: &mut [Record],
+    used: usize,
+) -> RegisterResult {
+    unsafe {
+        linked::portal_enter_line(
+            sheet.as_ptr(),
+            sheet.len(),
+            line.as_ptr(),
+            line.len(),
+            records.as_mut_ptr(),
+            records.len(),
+            used,
+        )
+    }
 }
 
 /// Question 12: 0 for a setup from an accepted sheet and calls that change it, else 12.

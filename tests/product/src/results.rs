@@ -66,6 +66,37 @@ results! {
         /// How many bytes it has.
         length,
     }
+    /// A set by its names.
+    ReadSetResult {
+        /// Whose the refusal's number is: 1 for the sheet, 2 for the names; 0 where there is none.
+        text,
+        /// The line of a refused sheet.
+        place,
+        /// The set.
+        set,
+    }
+    /// The names of a set.
+    WriteSetResult {
+        /// How many bytes they have.
+        length,
+    }
+    /// What a hand-in line says.
+    ReadLineResult {
+        /// Whose the refusal's number is: 1 for the sheet, 2 for the line; 0 for 15, and where there is none.
+        text,
+        /// The line of a refused sheet, or the field of a refused line, from 1 on; 0 for the whole text.
+        place,
+        /// 1 for a withdrawal, and 0 for a hand-in.
+        withdraws,
+        /// The student.
+        student,
+        /// The target's number.
+        target,
+        /// 1 for lockout sets, and 0 for opening sets.
+        lock,
+        /// How many sets stand in the list.
+        count,
+    }
     /// What a set opens.
     ClosureResult {
         /// The set of all items that it opens.

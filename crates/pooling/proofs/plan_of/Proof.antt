@@ -5,7 +5,8 @@ use mathlib.Core.Path.{_≡_, refl}
 use Prim.Native.Nat.{_+_, _≤_}
 use lib.ListN.{length, getD}
 use Rattle.pooling.specs.Inner.{BothRead}
-use Rattle.pooling.proofs.Calls.{lines-there, text-short, start-there, both-read, bytes-small}
+use Rattle.sheet_lines.proofs.Accepted.{lines-there}
+use Rattle.pooling.proofs.Calls.{text-short, start-there, both-read, bytes-small}
 use Rattle.pooling.proofs.Plans.{both-start, plan-disagrees, plan-beyond, plan-ninth, plan-ready}
 use Rattle.pooling.proofs.plan_of.Statement.{statement}
 use Rattle.pooling.proofs.plan_of.Tie as tie

@@ -1,7 +1,8 @@
 -- `pooling::pool_sheets` meets its contract: the first sheet, the second, then both.
 use borrow.Author.Needs.{needs}
 use mathlib.Core.Path.{refl}
-use Rattle.pooling.proofs.Calls.{accepts-of, call-refused, call-refused-second, call-pools}
+use Rattle.sheet_lines.proofs.Accepted.{accepts-of}
+use Rattle.pooling.proofs.Calls.{call-refused, call-refused-second, call-pools}
 use Rattle.pooling.proofs.pool_sheets.Statement.{statement}
 use Rattle.pooling.proofs.pool_sheets.Tie as tie
 

@@ -56,10 +56,10 @@ use Rattle.records.proofs.attempt as make
 use Rattle.records.proofs.attempt.Symbol as make-def
 use Rattle.records.proofs.attempt.Symbol.{name as #records·attempt}
 use Rattle.records.proofs.attempt.Met as make-thm
-use Rattle.register.proofs.apply as pass
-use Rattle.register.proofs.apply.Symbol as pass-def
-use Rattle.register.proofs.apply.Symbol.{name as #register·apply}
-use Rattle.register.proofs.apply.Met as pass-thm
+use Rattle.records.proofs.apply as pass
+use Rattle.records.proofs.apply.Symbol as pass-def
+use Rattle.records.proofs.apply.Symbol.{name as #records·apply}
+use Rattle.records.proofs.apply.Met as pass-thm
 use Rattle.register.proofs.hand_in.Key.{name as #register·hand-in}
 use Rattle.register.proofs.hand_in as f
 use Rattle.register.proofs.hand_in.Statement as stated
@@ -128,7 +128,7 @@ module _ {M : Type 1} (𝓤 : URA M) (H : Heap 𝓤) (A : Atoms 𝓤) (W : Given
       suffices ! _ (ends-at 𝓤 H A f.ended stayed (f.clauses 𝓤 H A mem run) W (((κ₀, (κ₁, tt)), (q₀, (q₁, tt)), tt, a, vals), tt) w c (zs, (tt, (tt, (tt, (tt, (tt, (tt, tt))))))) (l, (tt, (tt, (tt, (tt, (tt, (tt, tt)))))))) $ says ! e $
       nothing ! $ move ! (2 ∷ 0 ∷ []) $ join ! $ move ! (1 ∷ 0 ∷ []) $ join ! $ frame ! $ nothing ! $ move ! (2 ∷ 0 ∷ []) $ fjoin ! $ owned ! bool (Is bool) (bool-makes 𝓤 H A W) loss _ refl $ fjoin ! $ owned ! u64 (Is u64) (uint-makes 𝓤 H A W w64) target _ (refl, target-fits) $ fjoin ! $ owned ! u64 (Is u64) (uint-makes 𝓤 H A W w64) student _ (refl, student-fits) $ fjoin ! $ owned ! G.the-row (Is G.the-row) (LL.makes G.the-type G′.the-plain 𝓤 H A) g _ g-is $ fjoin ! $ owned ! usize (Is usize) (uint-makes 𝓤 H A W w64) used _ (refl, used-fits) $ fjoin ! $ move ! (1 ∷ 0 ∷ []) $ fjoin ! $ frame ! $ done !
 
-  module _ (C : Calls 𝓤 H) (Λ : Loops 𝓤 H) (fm : FmC 𝓤 H (W .laws) C) (known-make : Triple 𝓤 (C #records·attempt) (Make 𝓤 H A mem run)) (known-pass : Triple 𝓤 (C #register·apply) (Pass 𝓤 H A mem run)) where
+  module _ (C : Calls 𝓤 H) (Λ : Loops 𝓤 H) (fm : FmC 𝓤 H (W .laws) C) (known-make : Triple 𝓤 (C #records·attempt) (Make 𝓤 H A mem run)) (known-pass : Triple 𝓤 (C #records·apply) (Pass 𝓤 H A mem run)) where
     walk : Room T.the-row (length ys) → Room u64 (length (handed .now)) → ent 𝓤 (onEntry 𝓤 H A f.signature (κ₀, (κ₁, tt)) (q₀, (q₁, tt)) a vals) (WpFn 𝓤 H C Λ code.function (s ∷ vint w64 used ∷ v-g ∷ vint w64 student ∷ vint w64 target ∷ vbool loss ∷ v-handed ∷ []) Post)
     walk room room-handed =
         qed W ((‵ (flft κ₀ q₀) ⊛ (‵ (flft κ₁ q₁) ⊛ ‵ ftrue)) ∷ ‵ (owns (MutSlice (named 0) κ₀ T.the-row ∷ usize ∷ G.the-row ∷ u64 ∷ u64 ∷ bool ∷ ShrSlice (named 1) κ₁ u64 ∷ []) a vals) ∷ []) ∵ enter ! C Λ code.function (s ∷ vint w64 used ∷ v-g ∷ vint w64 student ∷ vint w64 target ∷ vbool loss ∷ v-handed ∷ []) _ $
@@ -167,7 +167,7 @@ module _ {M : Type 1} (𝓤 : URA M) (H : Heap 𝓤) (A : Atoms 𝓤) (W : Given
         keep ! (0 ∷ 5 ∷ 3 ∷ 7 ∷ 2 ∷ []) $ by ! (exits c w (zs .0) (hands-in g used student target loss (handed .now) t c ys (zs .0) e₀ e) l))))))))))))))))))))))
 
 module _ {M : Type 1} (𝓤 : URA M) (H : Heap 𝓤) (A : Atoms 𝓤) (W : Given 𝓤 H A) (mem : Memory → SProp 𝓤) (run : Routine → Fun 𝓤) (𝓣 : Tables 𝓤 H)
-    (known-make : Triple 𝓤 (𝓣 .C #records·attempt) (Make 𝓤 H A mem run)) (known-pass : Triple 𝓤 (𝓣 .C #register·apply) (Pass 𝓤 H A mem run)) where
+    (known-make : Triple 𝓤 (𝓣 .C #records·attempt) (Make 𝓤 H A mem run)) (known-pass : Triple 𝓤 (𝓣 .C #records·apply) (Pass 𝓤 H A mem run)) where
   walks : Walks 𝓤 H A f.ended stayed (WpFn 𝓤 H (𝓣 .C) (𝓣 .Λ) code.function) (f.clauses 𝓤 H A mem run)
   walks = walked 𝓤 H A f.ended stayed (f.clauses 𝓤 H A mem run) (WpFn 𝓤 H (𝓣 .C) (𝓣 .Λ) code.function)
       (λ κs. (slice-vals, (uint-vals w64, (LL.vals G.the-type G′.the-laws, (uint-vals w64, (uint-vals w64, (bool-vals, (slice-vals, tt))))))))
@@ -186,4 +186,4 @@ hand-in-spec 𝓤 H 𝓜 𝓖 𝓡 =
     (tables 𝓤 H 𝓜 𝓡 code.env .C) (tables 𝓤 H 𝓜 𝓡 code.env .Λ) #register·hand-in code.function (code.unfolded 𝓤 H 𝓜 𝓡)
     (meets 𝓤 H (𝓖 .A) (givenOf 𝓤 H 𝓜 𝓖) (𝓜 .mem) (𝓡 .run) (tablesOf 𝓤 H 𝓜 (tables 𝓤 H 𝓜 𝓡 code.env))
     (cited 𝓤 H (Make 𝓤 H (𝓖 .A) (𝓜 .mem) (𝓡 .run)) 𝓜 𝓡 code.env #records·attempt make-def.routine code.calls-records·attempt (make-thm.met 𝓤 H 𝓜 𝓖 𝓡))
-    (cited 𝓤 H (Pass 𝓤 H (𝓖 .A) (𝓜 .mem) (𝓡 .run)) 𝓜 𝓡 code.env #register·apply pass-def.routine code.calls-register·apply (pass-thm.met 𝓤 H 𝓜 𝓖 𝓡)))
+    (cited 𝓤 H (Pass 𝓤 H (𝓖 .A) (𝓜 .mem) (𝓡 .run)) 𝓜 𝓡 code.env #records·apply pass-def.routine code.calls-records·apply (pass-thm.met 𝓤 H 𝓜 𝓖 𝓡)))

@@ -52,10 +52,10 @@ use Rattle.records.proofs.leave as make
 use Rattle.records.proofs.leave.Symbol as make-def
 use Rattle.records.proofs.leave.Symbol.{name as #records·leave}
 use Rattle.records.proofs.leave.Met as make-thm
-use Rattle.register.proofs.apply as pass
-use Rattle.register.proofs.apply.Symbol as pass-def
-use Rattle.register.proofs.apply.Symbol.{name as #register·apply}
-use Rattle.register.proofs.apply.Met as pass-thm
+use Rattle.records.proofs.apply as pass
+use Rattle.records.proofs.apply.Symbol as pass-def
+use Rattle.records.proofs.apply.Symbol.{name as #records·apply}
+use Rattle.records.proofs.apply.Met as pass-thm
 use Rattle.register.proofs.withdraw.Key.{name as #register·withdraw}
 use Rattle.register.proofs.withdraw as f
 use Rattle.register.proofs.withdraw.Statement as stated
@@ -118,7 +118,7 @@ module _ {M : Type 1} (𝓤 : URA M) (H : Heap 𝓤) (A : Atoms 𝓤) (W : Given
       suffices ! _ (ends-at 𝓤 H A f.ended stayed (f.clauses 𝓤 H A mem run) W (((κ₀, tt), (q₀, tt), tt, a, vals), tt) w c (zs, (tt, (tt, tt))) (l, (tt, (tt, tt)))) $ says ! e $
       nothing ! $ move ! (1 ∷ 0 ∷ []) $ join ! $ frame ! $ nothing ! $ owned ! u64 (Is u64) (uint-makes 𝓤 H A W w64) student _ (refl, student-fits) $ fjoin ! $ owned ! usize (Is usize) (uint-makes 𝓤 H A W w64) used _ (refl, used-fits) $ fjoin ! $ move ! (1 ∷ 0 ∷ []) $ fjoin ! $ frame ! $ done !
 
-  module _ (C : Calls 𝓤 H) (Λ : Loops 𝓤 H) (fm : FmC 𝓤 H (W .laws) C) (known-make : Triple 𝓤 (C #records·leave) (Make 𝓤 H A mem run)) (known-pass : Triple 𝓤 (C #register·apply) (Pass 𝓤 H A mem run)) where
+  module _ (C : Calls 𝓤 H) (Λ : Loops 𝓤 H) (fm : FmC 𝓤 H (W .laws) C) (known-make : Triple 𝓤 (C #records·leave) (Make 𝓤 H A mem run)) (known-pass : Triple 𝓤 (C #records·apply) (Pass 𝓤 H A mem run)) where
     walk : Room T.the-row (length ys) → ent 𝓤 (onEntry 𝓤 H A f.signature (κ₀, tt) (q₀, tt) a vals) (WpFn 𝓤 H C Λ code.function (s ∷ vint w64 used ∷ vint w64 student ∷ []) Post)
     walk room =
         qed W ((‵ (flft κ₀ q₀) ⊛ ‵ ftrue) ∷ ‵ (owns (MutSlice (named 0) κ₀ T.the-row ∷ usize ∷ u64 ∷ []) a vals) ∷ []) ∵ enter ! C Λ code.function (s ∷ vint w64 used ∷ vint w64 student ∷ []) _ $
@@ -151,7 +151,7 @@ module _ {M : Type 1} (𝓤 : URA M) (H : Heap 𝓤) (A : Atoms 𝓤) (W : Given
         keep ! (0 ∷ 3 ∷ 2 ∷ []) $ by ! (exits c w (zs .0) (withdraws used student t c ys (zs .0) e₀ e) l))))))))))))))))))
 
 module _ {M : Type 1} (𝓤 : URA M) (H : Heap 𝓤) (A : Atoms 𝓤) (W : Given 𝓤 H A) (mem : Memory → SProp 𝓤) (run : Routine → Fun 𝓤) (𝓣 : Tables 𝓤 H)
-    (known-make : Triple 𝓤 (𝓣 .C #records·leave) (Make 𝓤 H A mem run)) (known-pass : Triple 𝓤 (𝓣 .C #register·apply) (Pass 𝓤 H A mem run)) where
+    (known-make : Triple 𝓤 (𝓣 .C #records·leave) (Make 𝓤 H A mem run)) (known-pass : Triple 𝓤 (𝓣 .C #records·apply) (Pass 𝓤 H A mem run)) where
   walks : Walks 𝓤 H A f.ended stayed (WpFn 𝓤 H (𝓣 .C) (𝓣 .Λ) code.function) (f.clauses 𝓤 H A mem run)
   walks = walked 𝓤 H A f.ended stayed (f.clauses 𝓤 H A mem run) (WpFn 𝓤 H (𝓣 .C) (𝓣 .Λ) code.function)
       (λ κs. (slice-vals, (uint-vals w64, (uint-vals w64, tt))))
@@ -170,4 +170,4 @@ withdraw-spec 𝓤 H 𝓜 𝓖 𝓡 =
     (tables 𝓤 H 𝓜 𝓡 code.env .C) (tables 𝓤 H 𝓜 𝓡 code.env .Λ) #register·withdraw code.function (code.unfolded 𝓤 H 𝓜 𝓡)
     (meets 𝓤 H (𝓖 .A) (givenOf 𝓤 H 𝓜 𝓖) (𝓜 .mem) (𝓡 .run) (tablesOf 𝓤 H 𝓜 (tables 𝓤 H 𝓜 𝓡 code.env))
     (cited 𝓤 H (Make 𝓤 H (𝓖 .A) (𝓜 .mem) (𝓡 .run)) 𝓜 𝓡 code.env #records·leave make-def.routine code.calls-records·leave (make-thm.met 𝓤 H 𝓜 𝓖 𝓡))
-    (cited 𝓤 H (Pass 𝓤 H (𝓖 .A) (𝓜 .mem) (𝓡 .run)) 𝓜 𝓡 code.env #register·apply pass-def.routine code.calls-register·apply (pass-thm.met 𝓤 H 𝓜 𝓖 𝓡)))
+    (cited 𝓤 H (Pass 𝓤 H (𝓖 .A) (𝓜 .mem) (𝓡 .run)) 𝓜 𝓡 code.env #records·apply pass-def.routine code.calls-records·apply (pass-thm.met 𝓤 H 𝓜 𝓖 𝓡)))

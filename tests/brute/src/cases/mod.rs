@@ -10,6 +10,7 @@ pub mod cuts;
 pub mod damaged;
 pub mod draft;
 pub mod forecasts;
+pub mod handins;
 pub mod intruders;
 pub mod living;
 pub mod noise;

@@ -1,4 +1,4 @@
--- `pool_items::keys_of` meets its contract: one line below the header is one item.
+-- `sheet_lines::item_keys::keys_of` meets its contract: one line below the header is one item.
 use borrow.Author.Needs.{needs}
 use mathlib.Core.Path.{_≡_}
 use Prim.Native.Nat.{suc, _-_, _≤_, _<_}
@@ -6,10 +6,10 @@ use native.Mathlib.Omega.{arith}
 use lib.ListN.{length}
 use Rattle.sheet_format.specs.Text.{linesOf}
 use Rattle.sheet_fields.proofs.Cutting.{until-le}
-use Rattle.pool_items.proofs.Lines.{LineAt}
-use Rattle.pool_items.proofs.NameRows.{KeysSoFar, keys-none, row-at, keys-more, keys-all}
-use Rattle.pool_items.proofs.keys_of.Statement.{statement}
-use Rattle.pool_items.proofs.keys_of.Tie as tie
+use Rattle.sheet_lines.proofs.Lines.{LineAt}
+use Rattle.sheet_lines.proofs.Keys.{KeysSoFar, keys-none, row-at, keys-more, keys-all}
+use Rattle.sheet_lines.proofs.item_keys.keys_of.Statement.{statement}
+use Rattle.sheet_lines.proofs.item_keys.keys_of.Tie as tie
 
 -- The items before v have their keys, and the row of item v begins at `at`.
 abbrev Inv-loop : tie.InvT-loop

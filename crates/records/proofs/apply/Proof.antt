@@ -1,4 +1,4 @@
--- `register::apply` meets its contract: a walk of its MIR, by hand, with one loop. The borrow is opened once, before the loop, and closed once, after it.
+-- `records::apply` meets its contract: a walk of its MIR, by hand, with one loop. The borrow is opened once, before the loop, and closed once, after it.
 -- In a turn one record is taken out of the row and read, `step` is called, which is all by value, and one record is stored. What `apply` knows of `begin`, `step` and `finish` is that each meets its contract.
 -- Assumes nothing.
 use mathlib.Core.Path.{_≡_, refl, sym, _∙_, ap, subst}
@@ -48,39 +48,39 @@ use denote.Triple.Spec.{Meets, tripleOf}
 use denote.Triple.Table.{entered, cited}
 use denote.Triple.Walked.{says, Stays, stay-slice, stay-none, walkOf, goes-slice, goes-none, Walks, ends-at, walked, walk-meets}
 use denote.Exit.{yes}
 use Rattle.records.specs.Inner.{blankRecord, stepOf, turnsOf, beginOf, finishOf, End, endOf}
 use Rattle.records.proofs.Laws.{told, turns-fit, begin-turns, step-at}
 use Rattle.records.specs.declared.Record.{Record}
 use Rattle.records.specs.declared.Task.{Task}
 use Rattle.records.specs.declared.Pass.{Pass}
 use Rattle.records.specs.declared.Turn.{Turn}
 use Rattle.records.specs.declared.Registered.{Registered}
 use Rattle.records.proofs.Record as T
 use Rattle.records.proofs.Record.Laws as T′
 use Rattle.records.proofs.Task as K
 use Rattle.records.proofs.Task.Laws as K′
 use Rattle.records.proofs.Pass as P
 use Rattle.records.proofs.Pass.Laws as P′
 use Rattle.records.proofs.Turn as D
 use Rattle.records.proofs.Turn.Laws as D′
 use Rattle.records.proofs.Registered as N
 use Rattle.records.proofs.Registered.Laws as N′
 use Rattle.records.proofs.begin as begin
 use Rattle.records.proofs.begin.Symbol as begin-def
 use Rattle.records.proofs.begin.Symbol.{name as #records·begin}
 use Rattle.records.proofs.begin.Met as begin-thm
 use Rattle.records.proofs.step as step
 use Rattle.records.proofs.step.Symbol as step-def
 use Rattle.records.proofs.step.Symbol.{name as #records·step}
 use Rattle.records.proofs.step.Met as step-thm
 use Rattle.records.proofs.finish as finish
 use Rattle.records.proofs.finish.Symbol as finish-def
 use Rattle.records.proofs.finish.Symbol.{name as #records·finish}
 use Rattle.records.proofs.finish.Met as finish-thm
-use Rattle.register.proofs.apply.Key.{name as #register·apply}
-use Rattle.register.proofs.apply as f
-use Rattle.register.proofs.apply.Statement as stated
-use Rattle.register.proofs.apply.Code as code
+use Rattle.records.proofs.apply.Key.{name as #records·apply}
+use Rattle.records.proofs.apply as f
+use Rattle.records.proofs.apply.Statement as stated
+use Rattle.records.proofs.apply.Code as code
 
 abbrev stayed : Stays (f.ended .signature .params) (f.ended .kept)
 stayed = (stay-slice (0 ∷ []) tt (plain (λ _. T.the-row)), (stay-none (λ _. usize) yes, (stay-none (λ _. K.the-row) yes, tt)))
@@ -460,7 +460,7 @@ pub apply-spec : {M : Type 1} → stated.statement M
 unfolding code.routine tablesOf
 apply-spec 𝓤 H 𝓜 𝓖 𝓡 =
     entered 𝓤 H (tripleOf 𝓤 H (𝓖 .A) f.signature (f.spec 𝓤 H (𝓖 .A) (𝓜 .mem) (𝓡 .run)))
-    (tables 𝓤 H 𝓜 𝓡 code.env .C) (tables 𝓤 H 𝓜 𝓡 code.env .Λ) #register·apply code.function (code.unfolded 𝓤 H 𝓜 𝓡)
+    (tables 𝓤 H 𝓜 𝓡 code.env .C) (tables 𝓤 H 𝓜 𝓡 code.env .Λ) #records·apply code.function (code.unfolded 𝓤 H 𝓜 𝓡)
     (apply-meets 𝓤 H (𝓖 .A) (givenOf 𝓤 H 𝓜 𝓖) (𝓜 .mem) (𝓡 .run) (tablesOf 𝓤 H 𝓜 (tables 𝓤 H 𝓜 𝓡 code.env))
     (cited 𝓤 H (Begin 𝓤 H (𝓖 .A) (𝓜 .mem) (𝓡 .run)) 𝓜 𝓡 code.env #records·begin begin-def.routine code.calls-records·begin (begin-thm.met 𝓤 H 𝓜 𝓖 𝓡))
     (cited 𝓤 H (Step 𝓤 H (𝓖 .A) (𝓜 .mem) (𝓡 .run)) 𝓜 𝓡 code.env #records·step step-def.routine code.calls-records·step (step-thm.met 𝓤 H 𝓜 𝓖 𝓡))

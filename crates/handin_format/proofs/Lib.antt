@@ -1,0 +1,5 @@
+pub mod Sets
+pub mod Lines
+pub mod ReadBack
+pub mod Afternoon
+pub mod Marks

@@ -66,6 +66,37 @@ results! {
         /// How many bytes it has.
         length,
     }
+    /// A set by its names.
+    ReadSetResult {
+        /// Whose the number is: 1 the sheet's, 2 that of the names.
+        text,
+        /// The line of a refused sheet; else 0.
+        place,
+        /// The set.
+        set,
+    }
+    /// The names of a set.
+    WriteSetResult {
+        /// How many bytes they have.
+        length,
+    }
+    /// What a hand-in line says.
+    ReadLineResult {
+        /// Whose the number is: 1 the sheet's, 2 the line's.
+        text,
+        /// The line of a refused sheet, or the field of a refused line, from 1 on; 0 for all of it.
+        place,
+        /// 1 for a withdrawal, and 0 for a hand-in.
+        withdraws,
+        /// Whose it is.
+        student,
+        /// The item that is to be opened or locked.
+        target,
+        /// 1 for lock, and 0 for open.
+        lock,
+        /// How many sets were written.
+        count,
+    }
     /// What a set opens.
     ClosureResult {
         /// The set of all items that it opens.

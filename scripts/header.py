@@ -160,7 +160,7 @@ lengths = {macro(header, "PORTAL_SETUP_WORDS"), str(opened + 1), stated}
 faults += [f"a setup has {' and '.join(sorted(lengths))} words"] * (len(lengths) != 1)
 faults += ["PORTAL_VERSION is another number"] * (macro(header, "PORTAL_VERSION") != str(constant(reading, "VERSION")))
 major, minor, patch = (constant(reading, "VERSION") // unit % 100 for unit in (10_000, 100, 1))
-pages = ("man/portal.3", "man/report.1", "man/pool.1")
+pages = ("man/portal.3", "man/report.1", "man/pool.1", "man/gemzuleg.1", "man/gemzuleg.5")
 faults += [f"{page} is for another version" for page in pages if f'"Gemzuleg {major}.{minor}.{patch}"\n' not in read(page)]
 faults += ["rust/portal is for another version"] * (f"pub const VERSION: u64 = {constant(reading, 'VERSION')};" not in read("rust/portal/src/lib.rs"))
 faults += ["PORTAL_BLANK is another number"] * (macro(header, "PORTAL_BLANK") != "UINT64_MAX" or constant(words, "BLANK") != 2**64 - 1)

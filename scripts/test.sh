@@ -33,6 +33,13 @@ bash scripts/lib.sh
 bash tests/c/run.sh
 bash tests/c/installed.sh
 
+echo "test: the command, as people use it"
+bash scripts/rust.sh
+bash scripts/gemzuleg.sh
+python3 tests/command/walk.py
+python3 tests/command/faults.py
+(cd tests && cargo run --release --quiet -p day -- gate)
+
 echo "test: the examples' reports"
 bash scripts/examples.sh
 

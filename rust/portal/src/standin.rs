@@ -99,8 +99,10 @@ pub fn enter_line(
 fn items_of(sheet: &[u8]) -> Result<Vec<&[u8]>, No> {
     let mut setup = vec![0; crate::WORDS];
     let read = crate::read(sheet, &mut setup);
+    let name = |row: &'_ [u8]| row.iter().position(|&byte| byte == b' ').unwrap_or(0);
+    let rows = sheet.split(|&byte| byte == b'\n').skip(1).take(setup[0] as usize);
     match read.number {
-        0 => Ok((0..setup[0]).map(|item| crate::name(sheet, item).of(sheet)).collect()),
+        0 => Ok(rows.map(|row| &row[..name(row)]).collect()),
         number => Err((number, read.line)),
     }
 }

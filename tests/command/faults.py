@@ -103,6 +103,36 @@ hold("check goes on", run(["check", "no.sheet", "empty", "bench.sheet"]), 2, CHE
 (at / "a b\xe9.sheet").write_bytes(sheet)
 hold("a file's name in a table", run(["check", "a b\xe9.sheet"]), 0, CHECKED + b"a_b__.sheet 5 3 3 2 4 1\n", b"")
 
+(at / "wide").write_bytes(b"\xff\xfe" + handins.decode().encode("utf-16-le"))
+WIDE = b"wide: the text is UTF-16, two bytes for a letter; 'gemzuleg tidy' prints a mended copy [2]\n"
+fails("hand-ins in UTF-16", ["mark", "bench.sheet", "wide"], WIDE, status=1)
+fails("kinds in UTF-16", ["kinds", "bench.sheet", "wide"], WIDE, status=1)
+fails("kinds with an odd byte", ["kinds", "bench.sheet", "-"],
+      b"-:2: only plain letters, digits and signs may stand in a line [2]\n    t??ken local none\n     ^^\n", status=1,
+      give=b"name location skill\nt\xc3\xb6ken local none\n")
+fails("kinds with an odd byte at the top", ["kinds", "bench.sheet", "-"],
+      b"-:1: only plain letters, digits and signs may stand in a line [2]\n    ?name location skill\n    ^\n", status=1, give=b"\xffname location skill\n")
+PACKED = b"-: this is a spreadsheet's or word processor's own file; save it as text [%d]\n"
+fails("a spreadsheet's own file", ["list", "-"], PACKED % 2, status=1, give=b"PK\x03\x04" + bytes(99))
+fails("a large one", ["list", "-"], PACKED % 1, status=1, give=b"PK\x03\x04" + bytes(99_999))
+fails("the account before the way", ["list", "bench.sheet", "no", "way"], b"'no': no item is called 'no' [8]\n", status=1)
+fails("the way before the sets", ["why", "bench.sheet", "mail", "way", "no"], b"'way': 'way' is no way: open or lock [5]\n", status=1)
+GRAPH = b"""digraph sheet {
+  rankdir=LR;
+  "ordpw" [shape=ellipse];
+  "mailpw" [shape=ellipse, style=filled, fillcolor=gray60];
+  "token" [shape=ellipse];
+  "mail" [shape=box, style=filled, fillcolor=gray90];
+  "order" [shape=box%s];
+  "mailpw" -> "mail" [label="0", color=black, fontcolor=black];
+  "ordpw" -> "order" [label="0", color=black, fontcolor=black];
+  "token" -> "order" [label="0", color=black, fontcolor=black];
+  "mail" -> "order" [label="1", color=blue3, fontcolor=blue3, style=dashed];
+}
+"""
+hold("a drawing with what is reached", run(["graph", "bench.sheet", "--reach", "mailpw"]), 0, GRAPH % b", style=filled, fillcolor=gray90", b"")
+hold("a drawing with what is lost", run(["graph", "--lose", "mailpw", "bench.sheet"]), 0, GRAPH % b"", b"")
+
 # ---- a class
 (at / "lab1.sheet").write_bytes(sheet)
 (at / "lab1.handins").write_bytes(b"7 order open mailpw ordpw+token\n")

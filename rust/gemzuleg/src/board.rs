@@ -6,8 +6,7 @@ use crate::stop::{answered, hold, Answer};
 use crate::tables::Table;
 
 /// `why`: each set's mark, and why.
-pub fn why(lab: &Lab, account: &str, way: Way, sets: &[String]) -> Answer<String> {
-    let target = lab.account(account)?;
+pub fn why(lab: &Lab, target: usize, way: Way, sets: &[String]) -> Answer<String> {
     let sets: Vec<u64> = sets.iter().map(|set| lab.set(set)).collect::<Answer<_>>()?;
     let reasons = Reasons::new(lab, target, way)?;
     let mut text = String::new();

@@ -1,5 +1,8 @@
 //! Reading files and standard input, and the file's name in messages and tables.
 
+use crate::mending;
+use crate::refusals::Refusal;
+use crate::sheet_words;
 use crate::stop::{Answer, Stop};
 use std::io::{self, Read};
 use std::path::Path;
@@ -44,10 +47,24 @@ pub fn read_sheet(file: &str) -> Answer<Vec<u8>> {
     bytes(file, MOST_OF_A_SHEET).map_err(|error| failed(file, &error))
 }
 
-/// All bytes of a file, or nothing where there is none of this name.
+/// The bytes of a file of hand-ins or kinds, which is read line by line.
+pub fn read_lines(file: &str) -> Answer<Vec<u8>> {
+    one_byte_letters(file, read(file)?)
+}
+
+/// 2: no line of UTF-16 can be read, so that this is told once.
+fn one_byte_letters(file: &str, text: Vec<u8>) -> Answer<Vec<u8>> {
+    if !mending::is_wide(&text) {
+        return Ok(text);
+    }
+    let (place, sentence) = (file.to_string(), sheet_words::WIDE.to_string());
+    Err(Refusal { place, sentence, number: 2, shown: None }.into())
+}
+
+/// All bytes of a file of hand-ins, or nothing where there is none of this name.
 pub fn read_if_there(file: &str) -> Answer<Option<Vec<u8>>> {
     match bytes(file, u64::MAX) {
-        Ok(text) => Ok(Some(text)),
+        Ok(text) => one_byte_letters(file, text).map(Some),
         Err(error) if error.kind() == io::ErrorKind::NotFound => Ok(None),
         Err(error) => Err(failed(file, &error)),
     }

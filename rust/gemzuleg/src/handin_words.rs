@@ -84,8 +84,9 @@ fn odd_character(line: &[u8]) -> Words {
 }
 
 fn of_field(names: &[String], line: &str, number: u64, field: u64) -> Words {
-    let before: usize = line.split(' ').take(field as usize - 1).map(|text| text.len() + 1).sum();
-    let text = line.split(' ').nth(field as usize - 1).unwrap_or_default();
+    let place = (field as usize).saturating_sub(1);
+    let before: usize = line.split(' ').take(place).map(|text| text.len() + 1).sum();
+    let text = line.split(' ').nth(place).unwrap_or_default();
     let words = match field {
         1 => {
             let rule = "0 to 4000000000 without leading zeros";

@@ -31,9 +31,6 @@ fn whole(number: u64, sentence: String) -> No {
 
 /// A row: the item, and its kind.
 fn row(lab: &Lab, names: &[String], kinds: &[u8], line: &str) -> Result<(usize, u8), No> {
-    if !line.bytes().all(|byte| (32..=126).contains(&byte)) {
-        return Err((2, handin_words::of_line(names, line.as_bytes(), 2, 0)));
-    }
     let fields: Vec<&str> = line.split(' ').collect();
     let [name, location, skill] = fields[..] else {
         let count = fields.len();
@@ -57,7 +54,7 @@ fn row(lab: &Lab, names: &[String], kinds: &[u8], line: &str) -> Result<(usize, 
 
 /// The kind of each item, as the file says.
 fn read(lab: &Lab, file: &str) -> Answer<Vec<u8>> {
-    let text = files::read(file)?;
+    let text = files::read_lines(file)?;
     let names = lab.all_names()?;
     let mut kinds = vec![UNSAID; lab.count()];
     let mut header = false;
@@ -66,7 +63,9 @@ fn read(lab: &Lab, file: &str) -> Answer<Vec<u8>> {
         if line.is_empty() || line.starts_with('#') {
             continue;
         }
-        let found = if header {
+        let found = if !bytes.iter().all(|byte| (32..=126).contains(byte)) {
+            Err((2, handin_words::of_line(&names, &bytes, 2, 0)))
+        } else if header {
             row(lab, &names, &kinds, &line).map(|(item, kind)| kinds[item] = kind)
         } else if line == HEADER {
             header = true;
@@ -102,10 +101,9 @@ fn at_most(one: u8, other: u8) -> bool {
 
 /// `kinds`: which kinds of intruder get in, and which of them are the least.
 pub fn answer(lab: &Lab, file: &str, account: Option<&String>) -> Answer<String> {
-    let targets = lab.targets(account)?;
     let kinds = read(lab, file)?;
     let mut table = Table::new("target location skill enters least");
-    for target in targets {
+    for target in lab.targets(account)? {
         let lowest = portal::kinds(&lab.setup, target as u64, &kinds);
         if lowest.number == 17 {
             return Err(unsaid(lab, file, &kinds)?.into());

@@ -6,10 +6,10 @@ use crate::stop::{answered, hold, Answer};
 use crate::tables::Table;
 use portal::{BAG_PLACES, MAX_LIST};
 
-/// `list`: the report's rows of an account, of all where none is named, of one way where it is.
-pub fn list(lab: &Lab, account: Option<&String>, way: Option<Way>) -> Answer<String> {
+/// `list`: the report's rows of some targets; of one way where it is named.
+pub fn list(lab: &Lab, targets: &[usize], way: Option<Way>) -> Answer<String> {
     let mut table = Table::new("target way size sum items");
-    for target in lab.targets(account)? {
+    for &target in targets {
         let name = lab.name(target)?;
         for one in
             [Way::Open, Way::Lock].into_iter().filter(|one| way.is_none_or(|way| way == *one))

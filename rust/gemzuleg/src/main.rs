@@ -36,7 +36,6 @@ const HANDINS: &str = include_str!("example.handins");
 const KINDS: &str = include_str!("example.kinds");
 
 fn main() -> ExitCode {
-    portal::end_with_the_reader();
     if portal::version() != portal::VERSION {
         screen::tell("gemzuleg: internal: the library is of another version; please report\n");
         return ExitCode::from(DISAGREES);
@@ -103,7 +102,10 @@ fn of_lab(asked: &Asked) -> Answer<u8> {
     let words = &asked.words;
     let lab = Lab::read(&words[0])?;
     let text = match asked.command {
-        "list" => lists::list(&lab, words.get(1), words.get(2).map(|word| way(word)).transpose()?)?,
+        "list" => {
+            let targets = lab.targets(words.get(1))?;
+            lists::list(&lab, &targets, words.get(2).map(|word| way(word)).transpose()?)?
+        }
         "routes" => lists::routes(&lab, words.get(1))?,
         "harden" => lists::harden(&lab, words.get(1))?,
         "kinds" => kinds::answer(&lab, &words[1], words.get(2))?,
@@ -111,7 +113,8 @@ fn of_lab(asked: &Asked) -> Answer<u8> {
         "reach" => board::reach(&lab, lab.set(&words[1])?)?,
         "lose" => board::lose(&lab, lab.set(&words[1])?)?,
         "why" => {
-            let text = board::why(&lab, &words[1], way(&words[2])?, &words[3..])?;
+            let target = lab.account(&words[1])?;
+            let text = board::why(&lab, target, way(&words[2])?, &words[3..])?;
             return done(screen::plain(text.as_bytes()));
         }
         _ => {

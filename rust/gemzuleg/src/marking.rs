@@ -200,7 +200,7 @@ pub fn register_row(lab: &Lab, before: &[&str], record: &Record, table: &mut Tab
 /// `mark`: the marks of one lab.
 pub fn one_lab(sheet: &str, handins: &str, shown: Shown) -> Answer<(String, u8)> {
     let lab = Lab::read(sheet)?;
-    let text = files::read(handins)?;
+    let text = files::read_lines(handins)?;
     let marked = mark(&lab, handins, &text, shown)?;
     let mut table = Table::new(REGISTER);
     for record in &marked.records {

@@ -32,8 +32,10 @@ pub fn progress_over() {
     }
 }
 
-/// The system's words where the bytes can't be written.
+/// Writes bytes; the system's words where it can't. A reader that has gone ends the command quietly: from here on,
+/// since a program that was given a sheet may go too.
 fn write(bytes: &[u8]) -> Answer<()> {
+    portal::end_with_the_reader();
     let mut out = io::stdout().lock();
     let closed = files::output_closed().filter(|_| !bytes.is_empty());
     let written = match closed {

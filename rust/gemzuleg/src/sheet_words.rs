@@ -13,6 +13,11 @@ pub const ITEMS: &str = "name kind start loss rank";
 /// The line above the arrows.
 pub const ARROWS: &str = "from to colour rec";
 const TIDY: &str = "'gemzuleg tidy' prints a mended copy";
+/// Of a text of UTF-16.
+pub const WIDE: &str =
+    "the text is UTF-16, two bytes for a letter; 'gemzuleg tidy' prints a mended copy";
+/// How the files of spreadsheets and word processors begin.
+const PACKED: &[u8] = b"PK\x03\x04";
 const MOST_ITEMS: usize = 64;
 const MOST_CHOSEN: usize = 14;
 const VALUE: &str = "0 to 4000000000 without leading zeros, or - for none";
@@ -43,6 +48,10 @@ impl Found {
 /// The refusal of a file's bytes as a sheet, with the reader's number and line.
 pub fn refusal(file: &str, text: &[u8], number: u64, line: u64) -> Refusal {
     let (line, found) = match number {
+        1 | 2 if text.starts_with(PACKED) => {
+            let sentence = "this is a spreadsheet's or word processor's own file; save it as text";
+            (0, Found::alone(sentence))
+        }
         1 => (0, Found::alone(words::sentence(1))),
         2 => no_text(text),
         _ => (line as usize, of_line(text, number, line as usize)),
@@ -63,7 +72,7 @@ fn no_text(text: &[u8]) -> (usize, Found) {
         return (0, Found::alone("the file is empty"));
     }
     if mending::is_wide(text) {
-        return (0, Found::alone(format!("the text is UTF-16, two bytes for a letter; {TIDY}")));
+        return (0, Found::alone(WIDE));
     }
     if text.starts_with(mending::MARK) {
         let sentence = format!("an invisible mark (a byte order mark) stands at the start; {TIDY}");

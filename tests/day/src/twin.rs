@@ -299,22 +299,15 @@ impl Twin {
             };
         }
         let reached = self.spread(set, lock);
-        let more = reached & !set;
-        let mut text = match (lock, more) {
-            (false, 0) => format!("{} does not open {name}\n  it opens nothing\n", self.set(set)),
-            (false, _) => {
-                format!("{} does not open {name}\n  it opens {}\n", self.set(set), self.set(more))
-            }
-            (true, 0) => format!(
-                "losing {} does not shut {name}\n  nothing else is lost with it\n",
-                self.set(set)
-            ),
-            (true, _) => format!(
-                "losing {} does not shut {name}\n  {} is lost with it\n",
-                self.set(set),
-                self.set(more)
-            ),
+        let more = self.set(reached & !set);
+        let begin = match (lock, more.as_str()) {
+            (false, "-") => "does not open NAME\n  it opens nothing\n".to_string(),
+            (false, more) => format!("does not open NAME\n  it opens {more}\n"),
+            (true, "-") => "does not shut NAME\n  nothing else is lost with it\n".to_string(),
+            (true, more) => format!("does not shut NAME\n  {more} is lost with it\n"),
         };
+        let losing = if lock { "losing " } else { "" };
+        let mut text = format!("{losing}{} {}", self.set(set), begin.replace("NAME", name));
         for colour in self.colours(target) {
             let row = self.row(target, colour);
             let (takes, with) = (self.set(row), self.colour_text(target, colour));
@@ -495,19 +488,7 @@ impl Twin {
                 (format!("a hand-in has at most 16384 sets; here are {}", fields.len() - 3), None)
             }
             (27, _) => (format!("student {} has handed nothing in", fields[0]), None),
-            (5, 1) => {
-                let rule = "0 to 4000000000 without leading zeros";
-                (format!("'{}' is no student number: {rule}", fields[0]), whole(1))
-            }
-            (5, 2) => {
-                let (name, meant) = (&fields[1], self.meant(&fields[1]));
-                (format!("'{name}' is no name: 1 to 16 of a-z, 0-9 and _{meant}"), whole(2))
-            }
-            (5, 3) => (format!("'{}' is no way: open or lock", fields[2]), whole(3)),
-            (8, 2) => {
-                let (name, meant) = (&fields[1], self.meant(&fields[1]));
-                (format!("no item is called '{name}'{meant}"), whole(2))
-            }
+            (5 | 8, 1..=3) => (self.of_head(&fields, number, field), whole(field)),
             (5, _) => {
                 let form = "a set is names joined by +, as mailpw+token, or - for the empty set";
                 (format!("{form}; a name is 1 to 16 of a-z, 0-9 and _"), whole(field))
@@ -517,6 +498,19 @@ impl Twin {
                 let (sentence, (from, to)) = self.in_set(&fields[field - 1], number);
                 (sentence, Some((before + from, before + to)))
             }
+        }
+    }
+
+    /// 5 and 8, of a student, a target and a way.
+    fn of_head(&self, fields: &[String], number: u64, field: usize) -> String {
+        let (word, meant) = (&fields[field - 1], self.meant(&fields[field - 1]));
+        match (number, field) {
+            (5, 1) => {
+                format!("'{word}' is no student number: 0 to 4000000000 without leading zeros")
+            }
+            (5, 2) => format!("'{word}' is no name: 1 to 16 of a-z, 0-9 and _{meant}"),
+            (5, _) => format!("'{word}' is no way: open or lock"),
+            _ => format!("no item is called '{word}'{meant}"),
         }
     }
 

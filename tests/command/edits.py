@@ -34,8 +34,9 @@ def run(command, **more):
 
 
 def build(room):
-    """Builds the copy, and puts it beside the proved programs."""
-    done = run(["cargo", "build", "--release", "--quiet", "-p", "gemzuleg"], cwd=room / "rust", env=os.environ | {"CARGO_TARGET_DIR": str(room / "cargo")})
+    """Builds the copy, and puts it beside the proved programs. What it does is tried, not how fast."""
+    quick = {"CARGO_TARGET_DIR": str(room / "cargo"), "CARGO_PROFILE_RELEASE_OPT_LEVEL": "1", "CARGO_PROFILE_RELEASE_CODEGEN_UNITS": "8"}
+    done = run(["cargo", "build", "--release", "--quiet", "-p", "gemzuleg"], cwd=room / "rust", env=os.environ | quick)
     if done.returncode:
         return done.stdout.decode()
     shutil.copy(room / "cargo/release/gemzuleg", room / "bin")
@@ -47,10 +48,10 @@ def noticed(room):
     tests = [
         ("walk", ["python3", "tests/command/walk.py"]),
         ("faults", ["python3", "tests/command/faults.py"]),
-        ("day", [str(ROOT / "build/cargo/release/day"), "fuzz", SEED, SECONDS]),
+        ("day", [str(room / "day"), "fuzz", SEED, SECONDS]),
     ]
     for name, command in tests:
-        if run(command, cwd=ROOT, env=os.environ | {"GEMZULEG": str(room / "bin")}).returncode:
+        if run(command, cwd=room, env=os.environ | {"GEMZULEG": str(room / "bin")}).returncode:
             return name
     return None
 
@@ -59,9 +60,12 @@ def main(first, last):
     room = Path(tempfile.mkdtemp(prefix="edits."))
     faults, found = [], []
     try:
-        shutil.copytree(ROOT / "rust", room / "rust")
+        # The tests too: the tree may be worked on meanwhile.
+        for part in ("rust", "docs", "examples", "tests/command"):
+            shutil.copytree(ROOT / part, room / part)
         (room / "build").symlink_to(ROOT / "build")
         (room / "bin").mkdir()
+        shutil.copy(ROOT / "build/cargo/release/day", room)
         for program in ("report", "pool"):
             shutil.copy(ROOT / "build/bin" / program, room / "bin")
         if build(room) or noticed(room):

@@ -133,6 +133,9 @@ GRAPH = b"""digraph sheet {
 hold("a drawing with what is reached", run(["graph", "bench.sheet", "--reach", "mailpw"]), 0, GRAPH % b", style=filled, fillcolor=gray90", b"")
 hold("a drawing with what is lost", run(["graph", "--lose", "mailpw", "bench.sheet"]), 0, GRAPH % b"", b"")
 
+fails("a name that moves the cursor", ["list", "\x1b[2Jno.sheet"], b"gemzuleg: ?[2Jno.sheet: No such file or directory\n")
+fails("a name with an accent", ["list", "\xfcbung.sheet"], "gemzuleg: \xfcbung.sheet: No such file or directory\n".encode())
+
 # ---- a class
 (at / "lab1.sheet").write_bytes(sheet)
 (at / "lab1.handins").write_bytes(b"7 order open mailpw ordpw+token\n")

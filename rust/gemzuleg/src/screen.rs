@@ -10,9 +10,12 @@ use std::sync::atomic::{AtomicBool, Ordering};
 static PROGRESS: AtomicBool = AtomicBool::new(false);
 const BLANK_LINE: &str = "\r\x1b[K";
 
-/// Tells something on standard error. Where that cannot be written there is nobody to tell.
+/// Tells something on standard error; a file's name may have signs that move a terminal's cursor, which are
+/// shown as `?`. Where nothing can be written there is nobody to tell.
 pub fn tell(text: &str) {
     progress_over();
+    let shown = |sign: char| if sign.is_control() && sign != '\n' { '?' } else { sign };
+    let text: String = text.chars().map(shown).collect();
     let _ = io::stderr().write_all(text.as_bytes());
 }
 

@@ -166,6 +166,9 @@ fn fields(lines: &Lines) -> Found {
         }
         Some(_) => ("an arrow", "four", ARROWS),
     };
+    if lines.line.trim().is_empty() {
+        return Found::alone(format!("nothing but spaces stands in this line; {TIDY}"));
+    }
     let here: Vec<&str> = lines.line.split(' ').collect();
     let rule = format!("the row of {row} has {count} fields, {names}");
     if here.contains(&"") {

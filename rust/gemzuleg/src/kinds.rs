@@ -4,10 +4,9 @@ use crate::files;
 use crate::handin_words::{self, Words};
 use crate::lab::{items, yes_no, Lab, Way};
 use crate::mending;
-use crate::refusals::{printable, Refusal};
+use crate::refusals::Refusal;
 use crate::stop::{answered, hold, Answer};
 use crate::tables::Table;
-use crate::words;
 
 const HEADER: &str = "name location skill";
 const LOCATIONS: [&str; 2] = ["remote", "local"];
@@ -90,8 +89,9 @@ fn read(lab: &Lab, file: &str) -> Answer<Vec<u8>> {
 fn unsaid(lab: &Lab, file: &str, kinds: &[u8]) -> Answer<Refusal> {
     let without = items(lab.chosen(Way::Open)).filter(|&item| kinds[item] == UNSAID);
     let names: Vec<String> = without.map(|item| lab.name(item)).collect::<Answer<_>>()?;
-    let sentence = format!("{}: {}", words::sentence(17), names.join(" "));
-    Ok(Refusal { place: printable(file.as_bytes()), sentence, number: 17, shown: None })
+    let form = "a location (remote, local) and a skill (none, some, expert)";
+    let sentence = format!("no kind is given for {}; a starting item has {form}", names.join(", "));
+    Ok(Refusal { place: file.to_string(), sentence, number: 17, shown: None })
 }
 
 /// Is the one kind at most the other, in both parts?

@@ -3,8 +3,8 @@
 
 Each command of the help has its synopsis in man/gemzuleg.1 and a paragraph there, stands in the completion with its options, and is
 one that the sources take, with the same words; the sentences of `explain` begin as the header's do; docs/SHEET.md has a section for each
-number that a file can get; docs/COURSE.md names each command; and no line of the command's sources has `unsafe`, `unwrap()`, `expect(` or
-`panic!`. Else the exit status is 1.
+number that a file can get; docs/COURSE.md names each command; no line of the command's sources has `unsafe`, `unwrap()`, `expect(` or
+`panic!`, and no function there has more than 40 lines. Else the exit status is 1.
 """
 import re
 import sys
@@ -77,6 +77,9 @@ faults += [f"docs/COURSE.md does not name 'gemzuleg {name}'" for name in names i
 for name, source in sources.items():
     code = re.sub(r"//.*", "", source)
     faults += [f"{name} has {word}" for word in ("unsafe", ".unwrap()", ".expect(", "panic!", "todo!", "unreachable!") if word in code]
+
+    for indent, function, body in re.findall(r"^( *)(?:pub )?fn (\w+)(.*?\n)\1\}$", source, re.M | re.S):
+        faults += [f"{name}: {function} has {body.count(chr(10)) + 1} lines"] * (body.count("\n") + 1 > 40)
 
 print(*(f"command: {fault}\n" for fault in faults), sep="", end="")
 print(f"command: {len(names)} commands, {last} numbers, {len(faults)} faults")

@@ -1,13 +1,14 @@
 # `make` alone says what there is. `make test` proves and tests everything; its last line is the verdict.
-.PHONY: help test quick report pool definitions prove lib install fuzz bench mutate alter check-contracts clean
+.PHONY: help test quick report pool gemzuleg definitions prove lib install fuzz bench mutate alter check-contracts clean
 
 ALONE = @bash scripts/alone.sh
 
 help:
+	@echo 'make gemzuleg   makes the command for a course day, build/bin/gemzuleg; docs/COURSE.md shows it'
 	@echo 'make report     prints the report of examples/document.sheet; SHEET=file, that of another sheet'
 	@echo 'make pool       pools two sheets: FIRST=file SECOND=file'
 	@echo 'make lib        makes the library for C in build/lib, with include/portal.h'
-	@echo 'make install    library, header, programs and manual pages to PREFIX=/usr/local'
+	@echo 'make install    command, library, header, programs, manual pages and completion to PREFIX=/usr/local'
 	@echo 'make definitions  prints every definition that must be believed'
 	@echo 'make quick      layout, contracts, rows, map, index and header, in seconds'
 	@echo 'make test       the gate: proves every crate, tries the edits that must fail, runs all tests (half an hour)'
@@ -37,6 +38,10 @@ pool:
 	$(ALONE) pool rt python3 -- python3 scripts/prove.py pool build/pool.log pool
 	@target/bin/pool "$$FIRST" "$$SECOND"
 
+# The command for a course day, with the proved programs that it runs: build/bin.
+gemzuleg:
+	$(ALONE) gemzuleg rt python3 cargo gcc ar -- bash scripts/gemzuleg.sh
+
 # Every definition that must be believed, in reading order, as one text.
 definitions:
 	@python3 scripts/definitions.py
@@ -49,10 +54,10 @@ prove:
 lib:
 	$(ALONE) lib rt python3 gcc ar -- bash scripts/lib.sh
 
-# Library, header, pkg-config file, the programs `report` and `pool`, and manual pages: make install PREFIX=/usr/local.
+# The command, library, header, pkg-config file, the programs `report` and `pool`, manual pages and completion: make install PREFIX=/usr/local.
 PREFIX = /usr/local
 install:
-	$(ALONE) install rt python3 gcc ar -- bash scripts/install.sh "$(PREFIX)"
+	$(ALONE) install rt python3 cargo gcc ar -- bash scripts/install.sh "$(PREFIX)"
 
 # Fresh inputs against the brute force: make fuzz, make fuzz SECONDS=600, make fuzz SEED=7 to repeat a run.
 SECONDS = 60

@@ -2,7 +2,7 @@
 """Holds include/portal.h to the sources and to the documents.
 
 Every exported function of the portal's crates has its prototype, with the same names and the types that C has for them, in
-order; every struct that is handed back has its fields, here and in tests/product; the version, the places of a setup's words, the blank, never,
+order; every struct that is handed back has its fields, here and in rust/portal; the version, the places of a setup's words, the blank, never,
 the most items and colours, the largest value, sheet and name, the bytes of a pooled sheet, the longest list, the number of kinds and the places of a bag are the sources', and the manual pages have the version; the refusals' names and sentences are those of docs/TERMS.md and of man/portal.3; README.md and man/portal.3 name every call, and above
 each prototype stands a comment. Else the exit status is 1.
 """
@@ -114,13 +114,13 @@ faults += [f"struct {name} has the name of a call" for name in sorted(laid.keys(
 # the same structs in Rust
 wrapped = {
     f"portal_{snake(name)}": ["number", *re.findall(r"^        (\w+),$", fields, re.M)]
-    for name, fields in re.findall(r"^    (\w+) \{\n(.*?)^    \}$", read("tests/product/src/results.rs"), re.M | re.S)
+    for name, fields in re.findall(r"^    (\w+) \{\n(.*?)^    \}$", read("rust/portal/src/results.rs"), re.M | re.S)
 }
-plain = re.findall(r"^pub struct (\w+) \{\n(.*?)^\}", read("tests/product/src/results.rs"), re.M | re.S)
+plain = re.findall(r"^pub struct (\w+) \{\n(.*?)^\}", read("rust/portal/src/results.rs"), re.M | re.S)
 wrapped |= {struct(name): re.findall(r"^    pub (\w+):", fields, re.M) for name, fields in plain}
 for name, fields in made.items():
     if wrapped.get(name) != [word for _, word in fields]:
-        faults.append(f"struct {name}: the source has {fields}, tests/product {wrapped.get(name)}")
+        faults.append(f"struct {name}: the source has {fields}, rust/portal {wrapped.get(name)}")
 
 # constants
 words, reading = sources["portal_words"], sources["portal_sheets"]
@@ -154,16 +154,16 @@ faults += ["PORTAL_NEVER is another number"] * (macro(header, "PORTAL_NEVER") !=
 longest = re.search(r"^longestSheet = (\d+)$", read("crates/sheet_format/specs/Meaning.antt"), re.M).group(1)
 for name in ("POOL_BYTES", "SAVE_BYTES"):
     faults += [f"PORTAL_{name} is another number"] * (macro(header, f"PORTAL_{name}") != longest)
-    faults += [f"tests/product has another number as {name}"] * (str(constant(read("tests/product/src/lib.rs"), name)) != longest)
+    faults += [f"rust/portal has another number as {name}"] * (str(constant(read("rust/portal/src/lib.rs"), name)) != longest)
 # The opened set is the last word.
 stated = re.search(r"^setupWords = (\d+)$", read("crates/portal_words/specs/Words.antt"), re.M).group(1)
 lengths = {macro(header, "PORTAL_SETUP_WORDS"), str(opened + 1), stated}
 faults += [f"a setup has {' and '.join(sorted(lengths))} words"] * (len(lengths) != 1)
 faults += ["PORTAL_VERSION is another number"] * (macro(header, "PORTAL_VERSION") != str(constant(reading, "VERSION")))
 major, minor, patch = (constant(reading, "VERSION") // unit % 100 for unit in (10_000, 100, 1))
-pages = ("man/portal.3", "man/report.1", "man/pool.1")
+pages = ("man/portal.3", "man/report.1", "man/pool.1", "man/gemzuleg.1", "man/gemzuleg.5")
 faults += [f"{page} is for another version" for page in pages if f'"Gemzuleg {major}.{minor}.{patch}"\n' not in read(page)]
-faults += ["tests/product is for another version"] * (f"pub const VERSION: u64 = {constant(reading, 'VERSION')};" not in read("tests/product/src/lib.rs"))
+faults += ["rust/portal is for another version"] * (f"pub const VERSION: u64 = {constant(reading, 'VERSION')};" not in read("rust/portal/src/lib.rs"))
 faults += ["PORTAL_BLANK is another number"] * (macro(header, "PORTAL_BLANK") != "UINT64_MAX" or constant(words, "BLANK") != 2**64 - 1)
 
 # refusals

@@ -1,5 +1,6 @@
 #!/bin/bash
-# Installs the portal's library, its header, the pkg-config file, the programs `report` and `pool`, and the manual pages: install.sh PREFIX.
+# Installs the command with its completion, the portal's library, its header, the pkg-config file, the programs `report` and `pool`, and the
+# manual pages: install.sh PREFIX.
 # DESTDIR stands before every path that is written to, and in no file.
 set -euo pipefail
 cd "$(dirname "$0")/.."
@@ -8,9 +9,7 @@ prefix=$1
 to=${DESTDIR:-}$prefix
 [[ $prefix == /* ]] || { echo "install: PREFIX must be a path from the root on" >&2; exit 1; }
 
-bash scripts/make_older.sh build/lib/libportal.a bash scripts/lib.sh
-bash scripts/make_older.sh target/bin/report python3 scripts/prove.py install build/report.log report
-bash scripts/make_older.sh target/bin/pool python3 scripts/prove.py install build/pool.log pool
+bash scripts/gemzuleg.sh
 version=$(sed -n 's/^#define PORTAL_VERSION \([0-9]*\)$/\1/p' include/portal.h)
 dotted=$((version / 10000)).$((version / 100 % 100)).$((version % 100))
 
@@ -18,9 +17,11 @@ install -D -m 644 -t "$to/include" include/portal.h
 install -D -m 644 -t "$to/lib" build/lib/libportal.a
 install -D -m 755 -t "$to/lib" build/lib/libportal.so.*
 cp -P build/lib/libportal.so "$to/lib/"
-install -D -m 755 -t "$to/bin" target/bin/report target/bin/pool
-install -D -m 644 -t "$to/share/man/man1" man/report.1 man/pool.1
+install -D -m 755 -t "$to/bin" build/bin/gemzuleg build/bin/report build/bin/pool
+install -D -m 644 -t "$to/share/man/man1" man/gemzuleg.1 man/report.1 man/pool.1
 install -D -m 644 -t "$to/share/man/man3" man/portal.3
+install -D -m 644 -t "$to/share/man/man5" man/gemzuleg.5
+install -D -m 644 rust/gemzuleg/gemzuleg.bash "$to/share/bash-completion/completions/gemzuleg"
 mkdir -p "$to/lib/pkgconfig"
 cat > "$to/lib/pkgconfig/gemzuleg.pc" << END
 prefix=$prefix

@@ -34,6 +34,17 @@ bash scripts/lib.sh
 bash tests/c/run.sh
 bash tests/c/installed.sh
 
+echo "test: the command, built; its pages followed word by word"
+bash scripts/rust.sh
+bash scripts/gemzuleg.sh
+python3 tests/command/walk.py
+
+echo "test: the command where files, input or output fail, and on a terminal"
+python3 tests/command/faults.py
+
+echo "test: course days through the command, beside the brute force"
+(cd tests && cargo run --release --quiet -p day -- gate)
+
 echo "test: the examples' reports"
 bash scripts/examples.sh
 

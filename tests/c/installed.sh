@@ -1,5 +1,5 @@
 #!/bin/bash
-# Installs to a folder of its own, and builds and runs the example, `report` and `pool` from there, as a buyer would.
+# Installs to a folder of its own, and builds and runs the example, the command, `report` and `pool` from there, as a buyer would.
 set -euo pipefail
 cd "$(dirname "$0")/../.."
 at=$(mktemp -d)
@@ -16,7 +16,9 @@ gcc -std=c11 -Wall -Wextra -Werror -o "$at/example" examples/portal.c "${flags[@
 LD_LIBRARY_PATH=$at/lib "$at/example" examples/document.sheet order mailpw mailpw mailpw+token token | cmp - examples/portal.expected
 "$at/bin/report" < examples/document.sheet | cmp - examples/document.report
 "$at/bin/pool" examples/first-lab.sheet examples/second-lab.sheet | cmp - examples/both-labs.sheet
-for page in man1/report.1 man1/pool.1 man3/portal.3; do
+"$at/bin/gemzuleg" report examples/document.sheet | cmp - examples/document.report
+[[ -s $at/share/bash-completion/completions/gemzuleg ]] || { echo "installed: no completion" >&2; exit 1; }
+for page in man1/gemzuleg.1 man1/report.1 man1/pool.1 man3/portal.3 man5/gemzuleg.5; do
     [[ -s $at/share/man/$page ]] || { echo "installed: no $page" >&2; exit 1; }
 done
-echo "installed: the example, report and pool run from there"
+echo "installed: the example, gemzuleg, report and pool run from there"

@@ -7,7 +7,7 @@ use crate::targets::{at_most, largest, smallest, Target};
 use crate::timing::in_turn;
 use crate::twin::{self, members, Setup, Sums, VERTICES};
 use crate::{proved, Rounds};
-use product::BLANK;
+use portal::BLANK;
 use std::hint::black_box;
 
 /// Lists from this length on are long.

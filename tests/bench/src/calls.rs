@@ -43,7 +43,7 @@ fn brute_lists(kind: &Kind) -> f64 {
 
 /// Question 12 alone, with the setup taken from its words.
 fn question(kind: &Kind, rounds: usize) -> f64 {
-    let ask = || once(|| assert_eq!(black_box(product::check(black_box(&kind.words))), 0));
+    let ask = || once(|| assert_eq!(black_box(portal::check(black_box(&kind.words))), 0));
     median((0..rounds).map(|_| ask()).collect())
 }
 
@@ -105,19 +105,19 @@ pub fn one_target(kinds: &[Kind], rounds: &Rounds, targets: &mut Vec<Target>) ->
 /// The reading of the longest accepted sheet against one list call.
 pub fn reading(rounds: &Rounds, targets: &mut Vec<Target>) -> Grid {
     let kind = longest_sheet();
-    let mut words = [0; product::WORDS];
+    let mut words = [0; portal::WORDS];
     let mut out = vec![0; ROOM];
     let [read, listed, scored] = in_turn(
         rounds.calls,
         [
             &mut || {
-                black_box(product::read(black_box(&kind.sheet), &mut words));
+                black_box(portal::read(black_box(&kind.sheet), &mut words));
             },
             &mut || {
                 black_box(proved::both_bases(black_box(&kind.words), kind.target, &mut out));
             },
             &mut || {
-                black_box(product::score(black_box(&kind.sheet), kind.target as u64));
+                black_box(portal::score(black_box(&kind.sheet), kind.target as u64));
             },
         ],
     );

@@ -94,7 +94,7 @@ fn times(kind: &Kind, set: u64, rounds: usize) -> [f64; 3] {
         rounds,
         [
             &mut many(|| {
-                black_box(product::closure(black_box(words), black_box(set)));
+                black_box(portal::closure(black_box(words), black_box(set)));
             }),
             &mut many(|| {
                 black_box(call(black_box(words), black_box(set), closure)).ok();
@@ -128,7 +128,7 @@ pub fn closures(kinds: &[Kind], rounds: &Rounds, targets: &mut Vec<Target>) -> G
     let mut ratios = [Vec::new(), Vec::new(), Vec::new()];
     for kind in kinds {
         let set = kind.setup.chosen(false);
-        let proved = product::closure(&kind.words, set);
+        let proved = portal::closure(&kind.words, set);
         assert_eq!(call(&kind.words, set, in_place), Ok(proved.set), "{}: another set", kind.name);
         let counted = Ok((proved.set, proved.passes as usize));
         assert_eq!(call(&kind.words, set, closure), counted, "{}: another closure", kind.name);

@@ -35,7 +35,7 @@ fn twin_forecast(words: &[u64], target: usize) -> Result<u64, u64> {
 }
 
 fn proved_forecast(words: &[u64], target: usize) -> u64 {
-    let forecast = product::forecast(words, target as u64);
+    let forecast = portal::forecast(words, target as u64);
     assert_eq!(forecast.number, 0, "a forecast was refused");
     forecast.sets
 }

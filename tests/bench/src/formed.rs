@@ -4,7 +4,7 @@
 use crate::closing::closure;
 use crate::kinds::CHOSEN;
 use crate::twin::{Graph, Rows, VERTICES};
-use product::{BLANK, HELD, OPENED};
+use portal::{BLANK, HELD, OPENED};
 
 /// What question 12 looks at, as the proved code has it.
 #[derive(Clone, Copy)]

@@ -104,7 +104,7 @@ fn list_of(kind: &Kind) -> Vec<u8> {
 }
 
 fn proved(words: &[u64], target: usize, kinds: &[u8]) -> u64 {
-    let score = product::kinds(words, target as u64, kinds);
+    let score = portal::kinds(words, target as u64, kinds);
     assert_eq!(score.number, 0, "a score by kinds was refused");
     score.kinds
 }

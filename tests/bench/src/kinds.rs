@@ -6,7 +6,7 @@ use brute::cases::bounds::{bounds, longest_reports};
 use brute::cases::draft::Draft;
 use brute::cases::random::at_least;
 use brute::cases::Rng;
-use product::BLANK;
+use portal::BLANK;
 
 /// The most edges of a sheet, and the most initial and the most losable vertices.
 pub use brute::setup::{MAX_EDGES as EDGES, MAX_STARTING as CHOSEN};
@@ -31,8 +31,8 @@ pub struct Kind {
 impl Kind {
     /// A sheet that is accepted.
     pub fn new(name: &str, sheet: Vec<u8>) -> Kind {
-        let mut words = vec![0; product::WORDS];
-        let number = product::read(&sheet, &mut words).number;
+        let mut words = vec![0; portal::WORDS];
+        let number = portal::read(&sheet, &mut words).number;
         assert_eq!(number, 0, "the sheet \"{name}\" of the benchmark is refused");
         Kind { sheet, ..Kind::of_words(name, words) }
     }

@@ -15,7 +15,7 @@ use brute::cases::living::{edges, random_edit};
 use brute::cases::Rng;
 use brute::living::{Edit, Named};
 use brute::sheet;
-use product::{HELD, OPENED};
+use portal::{HELD, OPENED};
 use std::hint::black_box;
 
 /// How many calls are timed together: one is too short for the clock.
@@ -24,12 +24,12 @@ const CALLS: usize = 1_000;
 /// A call of the product, in place.
 fn proved(words: &mut [u64], edit: Edit) -> u64 {
     match edit {
-        Edit::TakeIn(item) => product::take_in(words, item),
-        Edit::TakeOut(item) => product::take_out(words, item),
+        Edit::TakeIn(item) => portal::take_in(words, item),
+        Edit::TakeOut(item) => portal::take_out(words, item),
         Edit::Add(Named { from, to, colour }, marked) => {
-            product::add_edge(words, from, to, colour, marked)
+            portal::add_edge(words, from, to, colour, marked)
         }
-        Edit::Remove(Named { from, to, colour }) => product::remove_edge(words, from, to, colour),
+        Edit::Remove(Named { from, to, colour }) => portal::remove_edge(words, from, to, colour),
     }
 }
 
@@ -210,18 +210,18 @@ fn remove_and_add(kind: &Kind, rounds: usize) -> [f64; 2] {
     let held = kind.setup.chosen(false);
     let mut words = kind.words.clone();
     (0..VERTICES as u64).filter(|v| held >> v & 1 == 1).for_each(|v| {
-        assert_eq!(product::take_in(&mut words, v), 0, "{}: an initial item", kind.name);
+        assert_eq!(portal::take_in(&mut words, v), 0, "{}: an initial item", kind.name);
     });
     let marked = words[769 + 8 * to as usize + colour as usize] >> from & 1 == 1;
     let (row, mut text) = (kind.sheet[start..].to_vec(), kind.sheet.clone());
     let (before, mut read) = (words.clone(), words.clone());
     let two_calls = |words: &mut [u64]| {
-        assert_eq!(product::remove_edge(black_box(words), from, to, colour), 0);
-        assert_eq!(product::add_edge(black_box(words), from, to, colour, marked), 0);
+        assert_eq!(portal::remove_edge(black_box(words), from, to, colour), 0);
+        assert_eq!(portal::add_edge(black_box(words), from, to, colour, marked), 0);
     };
     let mut reread = |text: &[u8]| {
-        assert_eq!(product::read(black_box(text), &mut read).number, 0);
-        read[OPENED] = product::closure(&read, held).set;
+        assert_eq!(portal::read(black_box(text), &mut read).number, 0);
+        read[OPENED] = portal::closure(&read, held).set;
         read[HELD] = held;
         black_box(&read);
     };
@@ -281,15 +281,15 @@ fn both_libraries(kind: &Kind, older: &Older, rounds: usize) -> [(&'static str, 
     let (words, target, set) = (&kind.words, kind.target as u64, kind.setup.chosen(false));
     let mut lists = [vec![0; ROOM], vec![0; ROOM]];
     let [one, other] = &mut lists;
-    let (was, is) = (older.lists(words, target, one), product::lists(words, target, other));
+    let (was, is) = (older.lists(words, target, one), portal::lists(words, target, other));
     assert_eq!((was.number, was.values), (is.number, [is.openings, is.lockouts]));
-    let (was, is) = (older.closure(words, set), product::closure(words, set));
+    let (was, is) = (older.closure(words, set), portal::closure(words, set));
     assert_eq!((was.number, was.values), (is.number, [is.set, is.passes]));
     let many = |work: &dyn Fn()| (0..CALLS).for_each(|_| work());
     let check = in_turn(
         rounds,
         [&mut || many(&|| assert_eq!(black_box(older.check(black_box(words))), 0)), &mut || {
-            many(&|| assert_eq!(black_box(product::check(black_box(words))), 0))
+            many(&|| assert_eq!(black_box(portal::check(black_box(words))), 0))
         }],
     );
     let closures = in_turn(
@@ -297,7 +297,7 @@ fn both_libraries(kind: &Kind, older: &Older, rounds: usize) -> [(&'static str, 
         [
             &mut || many(&|| assert_eq!(black_box(older.closure(black_box(words), set)).number, 0)),
             &mut || {
-                many(&|| assert_eq!(black_box(product::closure(black_box(words), set)).number, 0))
+                many(&|| assert_eq!(black_box(portal::closure(black_box(words), set)).number, 0))
             },
         ],
     );
@@ -308,7 +308,7 @@ fn both_libraries(kind: &Kind, older: &Older, rounds: usize) -> [(&'static str, 
                 black_box(older.lists(black_box(words), target, one));
             },
             &mut || {
-                black_box(product::lists(black_box(words), target, other));
+                black_box(portal::lists(black_box(words), target, other));
             },
         ],
     );

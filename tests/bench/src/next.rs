@@ -62,7 +62,7 @@ fn twin_next(words: &[u64], target: usize, last: u64) -> Result<[u64; 2], u64> {
 }
 
 fn proved_next(words: &[u64], target: usize, last: u64) -> [u64; 2] {
-    let next = product::next_opening(words, target as u64, last);
+    let next = portal::next_opening(words, target as u64, last);
     assert_eq!(next.number, 0, "a next set was refused");
     [next.more, next.set]
 }

@@ -77,12 +77,12 @@ fn times(kind: &Kind, questions: &[Question], rounds: usize) -> [f64; 3] {
         [
             &mut || {
                 all(&|set, target| {
-                    black_box(product::opens(black_box(words), target as u64, set));
+                    black_box(portal::opens(black_box(words), target as u64, set));
                 })
             },
             &mut || {
                 all(&|set, target| {
-                    black_box(product::closure(black_box(words), set).set >> target & 1);
+                    black_box(portal::closure(black_box(words), set).set >> target & 1);
                 })
             },
             &mut || {
@@ -125,11 +125,11 @@ fn shut(kind: &Kind) -> Option<Question> {
 /// The twin answers as the proved call, and both as the closure.
 fn same_answers(kind: &Kind, questions: &[Question]) {
     for &(set, target) in questions {
-        let proved = product::opens(&kind.words, target as u64, set);
+        let proved = portal::opens(&kind.words, target as u64, set);
         assert_eq!(proved.number, 0, "{}: {set:#x} {target}", kind.name);
         let answer = Ok((proved.opens == 1, proved.set));
         assert_eq!(call(&kind.words, set, target), answer, "{}: {set:#x} {target}", kind.name);
-        let closure = product::closure(&kind.words, set).set;
+        let closure = portal::closure(&kind.words, set).set;
         assert_eq!(closure >> target & 1, proved.opens, "{}: {set:#x} {target}", kind.name);
     }
 }

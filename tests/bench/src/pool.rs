@@ -10,7 +10,7 @@ use crate::Rounds;
 use brute::cases::draft::{joined, Draft};
 use brute::cases::Rng;
 use brute::setup::COLOURS;
-use product::{PoolResult, BLANK, POOL_BYTES};
+use portal::{PoolResult, BLANK, POOL_BYTES};
 use std::hint::black_box;
 use std::ops::Range;
 
@@ -40,7 +40,7 @@ fn line_end(text: &[u8], at: usize) -> usize {
 /// An accepted sheet: its setup, its items' names as numbers, and where each item's row begins.
 struct Half<'a> {
     text: &'a [u8],
-    words: [u64; product::WORDS],
+    words: [u64; portal::WORDS],
     setup: Setup,
     keys: [u128; VERTICES],
     from: [usize; VERTICES + 1],
@@ -48,8 +48,8 @@ struct Half<'a> {
 
 impl Half<'_> {
     fn read(text: &[u8], sheet: u64) -> Result<Half<'_>, PoolResult> {
-        let mut words = [0; product::WORDS];
-        let reading = product::read(text, &mut words);
+        let mut words = [0; portal::WORDS];
+        let reading = portal::read(text, &mut words);
         if reading.number != 0 {
             return Err(PoolResult {
                 number: reading.number,
@@ -242,21 +242,21 @@ fn pairs() -> [Pair; 6] {
 
 /// The times of pooling, of the twin, and of reading both sheets.
 fn times(pair: &Pair, rounds: usize) -> [f64; 3] {
-    let mut words = [0; product::WORDS];
+    let mut words = [0; portal::WORDS];
     let mut out = [[0; POOL_BYTES]; 2];
     let [proved, twin] = &mut out;
     in_turn(
         rounds,
         [
             &mut || {
-                black_box(product::pool(black_box(&pair.first), black_box(&pair.second), proved));
+                black_box(portal::pool(black_box(&pair.first), black_box(&pair.second), proved));
             },
             &mut || {
                 black_box(twin_pool(black_box(&pair.first), black_box(&pair.second), twin)).ok();
             },
             &mut || {
-                black_box(product::read(black_box(&pair.first), &mut words));
-                black_box(product::read(black_box(&pair.second), &mut words));
+                black_box(portal::read(black_box(&pair.first), &mut words));
+                black_box(portal::read(black_box(&pair.second), &mut words));
             },
         ],
     )
@@ -304,11 +304,11 @@ pub fn pooling(rounds: &Rounds, targets: &mut Vec<Target>) -> Grid {
 
 /// The twin answers and leaves what the proved call does. The length of the pooled sheet.
 fn same_answers(pair: &Pair) -> u64 {
-    let told = product::pool(&pair.first, &pair.second, &mut [0; POOL_BYTES]);
+    let told = portal::pool(&pair.first, &pair.second, &mut [0; POOL_BYTES]);
     let length = told.length as usize;
     for places in [length.saturating_sub(1), length, POOL_BYTES] {
         let (mut proved, mut twin) = (vec![b'#'; places], vec![b'#'; places]);
-        let answer = product::pool(&pair.first, &pair.second, &mut proved);
+        let answer = portal::pool(&pair.first, &pair.second, &mut proved);
         let other = twin_pool(&pair.first, &pair.second, &mut twin);
         assert_eq!(Ok(answer), other.or_else(Ok::<_, PoolResult>), "{}, {places}", pair.name);
         assert_eq!(proved, twin, "{}, {places}", pair.name);

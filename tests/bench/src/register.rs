@@ -6,7 +6,7 @@ use crate::kinds::{Kind, ROOM};
 use crate::targets::{largest, Target};
 use crate::timing::in_turn;
 use crate::{proved, Rounds};
-use product::{Record, RegisterResult};
+use portal::{Record, RegisterResult};
 use std::hint::black_box;
 
 const CLASS: usize = 10_000;
@@ -49,7 +49,7 @@ fn openings(kind: &Kind) -> Vec<u64> {
 fn hand_in(kind: &Kind, records: &mut [Record], student: u64, sets: &[u64]) {
     let target = kind.target as u64;
     let words = black_box(&kind.words);
-    let answer = product::hand_in(words, records, CLASS, student, target, false, sets);
+    let answer = portal::hand_in(words, records, CLASS, student, target, false, sets);
     assert_eq!(answer.number, 0, "a hand-in was refused");
     black_box(answer);
 }
@@ -82,14 +82,14 @@ pub fn register(kinds: &[Kind], rounds: &Rounds, targets: &mut Vec<Target>) -> G
             rounds.points,
             [
                 &mut || {
-                    black_box(product::mark_openings(black_box(&kind.words), target, &sets));
+                    black_box(portal::mark_openings(black_box(&kind.words), target, &sets));
                 },
                 &mut || hand_in(kind, &mut fresh, NEW, &sets),
                 &mut || hand_in(kind, &mut again, NEW - 1, &sets),
                 // The first student is put back, so that each round has the same to do.
                 &mut || {
                     proved[0].student = NEW;
-                    black_box(product::withdraw(&mut proved, CLASS, NEW));
+                    black_box(portal::withdraw(&mut proved, CLASS, NEW));
                 },
                 &mut || {
                     twin[0].student = NEW;
@@ -124,7 +124,7 @@ fn same_answers(target: u64) {
         [(0, CLASS), (NEW - 1, CLASS), (NEW, CLASS), (NEW, CLASS + 1), (0, CLASS + 2)]
     {
         let (mut proved, mut twin) = (class(target), class(target));
-        let answer = product::withdraw(&mut proved, used, student);
+        let answer = portal::withdraw(&mut proved, used, student);
         assert_eq!(answer, twin_withdraw(&mut twin, used, student), "{student}");
         assert_eq!(proved, twin, "{student}");
     }

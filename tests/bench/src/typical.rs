@@ -60,7 +60,7 @@ impl Lab {
     fn new(seed: u64) -> Lab {
         let kind = Kind::new(&format!("lab {seed}"), draft(seed).text());
         let mut lists = vec![0; ROOM];
-        let counts = product::lists(&kind.words, kind.target as u64, &mut lists);
+        let counts = portal::lists(&kind.words, kind.target as u64, &mut lists);
         lists.truncate((counts.openings + counts.lockouts) as usize);
         Lab { kind, lists, openings: counts.openings as usize }
     }
@@ -105,22 +105,22 @@ const CALLS: [&str; 14] = [
 fn make(call: &str, lab: &Lab, lent: &mut Lent) {
     let (words, target) = (&lab.kind.words[..], lab.kind.target as u64);
     let number = match call {
-        "check" => product::check(words),
-        "closure" => product::closure(words, lab.held()).number,
-        "opens" => product::opens(words, target, lab.held()).number,
-        "forecast" => product::forecast(words, target).number,
-        "score" => product::setup_score(words, target).number,
-        "risk" => product::setup_risk(words, target).number,
-        "lists" => product::lists(words, target, &mut lent.sets).number,
-        "cut_sets" => product::cut_sets(words, target, &mut lent.sets).number,
-        "next_opening" => product::next_opening(words, target, 0).number,
+        "check" => portal::check(words),
+        "closure" => portal::closure(words, lab.held()).number,
+        "opens" => portal::opens(words, target, lab.held()).number,
+        "forecast" => portal::forecast(words, target).number,
+        "score" => portal::setup_score(words, target).number,
+        "risk" => portal::setup_risk(words, target).number,
+        "lists" => portal::lists(words, target, &mut lent.sets).number,
+        "cut_sets" => portal::cut_sets(words, target, &mut lent.sets).number,
+        "next_opening" => portal::next_opening(words, target, 0).number,
         "bag_score" => {
-            product::bag_score(words, target, &mut lent.values, &mut lent.lengths).number
+            portal::bag_score(words, target, &mut lent.values, &mut lent.lengths).number
         }
-        "mark_openings" => product::mark_openings(words, target, &lab.lists[..lab.openings]).number,
-        "mark_lockouts" => product::mark_lockouts(words, target, &lab.lists[lab.openings..]).number,
-        "backdoor" => product::backdoor(words, target).number,
-        "idle" => product::idle(words, target).number,
+        "mark_openings" => portal::mark_openings(words, target, &lab.lists[..lab.openings]).number,
+        "mark_lockouts" => portal::mark_lockouts(words, target, &lab.lists[lab.openings..]).number,
+        "backdoor" => portal::backdoor(words, target).number,
+        "idle" => portal::idle(words, target).number,
         _ => panic!("no call is named {call}: {CALLS:?}"),
     };
     assert_eq!(black_box(number), 0, "{call} refused a typical sheet");
@@ -166,14 +166,14 @@ pub fn class() -> Grid {
         let kind = Kind::new("a lab", draft(seed).text());
         let accounts = (0..kind.setup.count).filter(|&v| kind.words[1 + 4 * v] != 0);
         for target in accounts.map(|v| v as u64) {
-            let counts = product::lists(&kind.words, target, &mut sets);
+            let counts = portal::lists(&kind.words, target, &mut sets);
             let (first, second) = (counts.openings as usize, counts.lockouts as usize);
             for student in 0..STUDENTS {
                 let handed = first - usize::from(student % 3 == 1 && first > 0);
                 time += once(|| {
-                    black_box(product::mark_openings(&kind.words, target, &sets[..handed]));
+                    black_box(portal::mark_openings(&kind.words, target, &sets[..handed]));
                     let lockouts = &sets[first..first + second];
-                    black_box(product::mark_lockouts(&kind.words, target, lockouts));
+                    black_box(portal::mark_lockouts(&kind.words, target, lockouts));
                 });
                 marked += 2;
             }

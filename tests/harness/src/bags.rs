@@ -85,8 +85,8 @@ pub fn compare_known_bags() -> Outcome {
         compared("known bags", one, other, answer)?;
     }
     for case in known() {
-        let mut setup = vec![0; product::WORDS];
-        assert_eq!(product::read(&case.case.sheet, &mut setup).number, 0, "{}", case.case.label);
+        let mut setup = vec![0; portal::WORDS];
+        assert_eq!(portal::read(&case.case.sheet, &mut setup).number, 0, "{}", case.case.label);
         let many = case.bags.len();
         let lent = (vec![77; bags::MOST * many + 1], vec![88; many + 1]);
         let subject =
@@ -127,7 +127,7 @@ fn some_list(rng: &mut Rng, high: usize) -> Vec<u64> {
 fn compared(label: &str, one: &[u64], other: &[u64], answer: bool) -> Outcome {
     let subject = Subject { label, sheet: None, setup: None };
     let named = || format!("bag_at_most({one:?}, {other:?})");
-    subject.same(named, product::bag_at_most(one, other), answer)
+    subject.same(named, portal::bag_at_most(one, other), answer)
 }
 
 /// Bag scores of random setups whose start values are few, so that bags meet and drop one another.
@@ -182,6 +182,6 @@ pub fn compare_written(
     let expected = score.clone().and_then(|bags| bags::write(&bags, &mut values, &mut lengths));
     let expected = (told(1, expected.map(|count| vec![count as u64])), values, lengths);
     let (mut values, mut lengths) = lent.clone();
-    let proved = product::bag_score(words, target, &mut values, &mut lengths).numbers();
+    let proved = portal::bag_score(words, target, &mut values, &mut lengths).numbers();
     subject.same(named, (proved, values, lengths), expected)
 }

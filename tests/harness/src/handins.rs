@@ -87,7 +87,7 @@ fn compare_line(lab: &Lab, line: &[u8], rng: &mut Rng, ends: &mut Ends) -> Outco
     for places in [sets.len(), sets.len().saturating_sub(1), 0, sets.len() + 1 + rng.below(4)] {
         let before: Vec<u64> = (0..places as u64).map(|at| !at).collect();
         let mut list = before.clone();
-        let answer = product::read_line(&lab.text, line, &mut list).numbers();
+        let answer = portal::read_line(&lab.text, line, &mut list).numbers();
         subject.same(named, &answer, &told(&said, places))?;
         let mut expected = before;
         if answer[0] == 0 {
@@ -107,14 +107,14 @@ fn compare_set(lab: &Lab, text: &[u8], set: u64, rng: &mut Rng) -> Outcome {
         Ok(set) => vec![0, 0, 0, set],
         Err(number) => vec![u64::from(number), 2, 0, 0],
     };
-    let answer = product::read_set(&lab.text, text).numbers();
+    let answer = portal::read_set(&lab.text, text).numbers();
     subject.same(|| format!("{:?}", String::from_utf8_lossy(text)), answer, expected)?;
     let written = handin::set_text(&lab.names, set);
     let size = written.as_ref().map_or(3, String::len);
-    for places in [size, size - 1, 0, size + rng.below(9), product::SET_BYTES] {
+    for places in [size, size - 1, 0, size + rng.below(9), portal::SET_BYTES] {
         let before: Vec<u8> = (0..places).map(|at| b'!' + (at % 90) as u8).collect();
         let mut buffer = before.clone();
-        let answer = product::write_set(&lab.text, set, &mut buffer).numbers();
+        let answer = portal::write_set(&lab.text, set, &mut buffer).numbers();
         let mut expected = before;
         let numbers = match &written {
             None => vec![14, 0],
@@ -128,7 +128,7 @@ fn compare_set(lab: &Lab, text: &[u8], set: u64, rng: &mut Rng) -> Outcome {
         subject.same(|| format!("the buffer of the set {set:x}"), &buffer, &expected)?;
     }
     let Some(text) = written else { return Ok(()) };
-    let again = product::read_set(&lab.text, text.as_bytes()).numbers();
+    let again = portal::read_set(&lab.text, text.as_bytes()).numbers();
     subject.same(|| format!("{text} read back"), again, vec![0, 0, 0, set])
 }
 
@@ -143,7 +143,7 @@ fn compare_entered(lab: &Lab, line: &[u8], rng: &mut Rng, ends: &mut Ends) -> Ou
     let some = rng.below(places + 1);
     let used = *rng.pick(&[places, places, 0, places + 1, usize::MAX, some, some]);
     let (mut proved, mut brute) = (lent(&slice), slice.clone());
-    let answer = product::enter_line(&lab.text, line, &mut proved, used);
+    let answer = portal::enter_line(&lab.text, line, &mut proved, used);
     let expected = match &said {
         _ if used > places => (25, used as u64),
         Err(no) => (u64::from(no.number), used as u64),
@@ -175,7 +175,7 @@ fn compare_lines(lab: &Lab, rng: &mut Rng, many: usize) -> Outcome {
         if rng.chance(1, 4) {
             text = damaged(rng, &lab.names, &text);
         }
-        let answer = product::enter_line(&lab.text, &text, &mut proved, used);
+        let answer = portal::enter_line(&lab.text, &text, &mut proved, used);
         let expected = match handin::read_line(&lab.names, &text) {
             Ok(call) => brute.make(call),
             Err(no) => (u64::from(no.number), used),
@@ -197,11 +197,11 @@ fn compare_refused(text: &[u8], line: &[u8], ends: &mut Ends) -> Outcome {
     let named = || "a set, the names, a line and an entered line".to_string();
     let (mut list, mut buffer) = ([7; 3], [7; 3]);
     let mut records = lent(&[Record::default(); 2]);
-    let entered = product::enter_line(text, line, &mut records, 1);
+    let entered = portal::enter_line(text, line, &mut records, 1);
     let found = vec![
-        product::read_set(text, line).numbers(),
-        product::write_set(text, 1, &mut buffer).numbers(),
-        product::read_line(text, line, &mut list).numbers(),
+        portal::read_set(text, line).numbers(),
+        portal::write_set(text, 1, &mut buffer).numbers(),
+        portal::read_line(text, line, &mut list).numbers(),
         vec![entered.number, entered.used as u64],
     ];
     let zeros = |many: usize| vec![0; many];

@@ -10,7 +10,7 @@ use brute::cases::{probes, Rng};
 use brute::living::{Edit, Named};
 use brute::sheet;
 use brute::Setup;
-use product::{HELD, OPENED, WORDS};
+use portal::{HELD, OPENED, WORDS};
 
 type Outcome = Result<(), Box<Difference>>;
 
@@ -23,12 +23,12 @@ fn some_length(rng: &mut Rng) -> usize {
 /// The call of the product, in place.
 pub fn proved(words: &mut [u64], edit: Edit) -> u64 {
     match edit {
-        Edit::TakeIn(item) => product::take_in(words, item),
-        Edit::TakeOut(item) => product::take_out(words, item),
+        Edit::TakeIn(item) => portal::take_in(words, item),
+        Edit::TakeOut(item) => portal::take_out(words, item),
         Edit::Add(Named { from, to, colour }, marked) => {
-            product::add_edge(words, from, to, colour, marked)
+            portal::add_edge(words, from, to, colour, marked)
         }
-        Edit::Remove(Named { from, to, colour }) => product::remove_edge(words, from, to, colour),
+        Edit::Remove(Named { from, to, colour }) => portal::remove_edge(words, from, to, colour),
     }
 }
 
@@ -74,7 +74,7 @@ impl Life {
     pub fn read(text: &[u8], behind: &[u64]) -> Life {
         let mut words = vec![u64::MAX; WORDS];
         words.extend(behind);
-        assert_eq!(product::read(text, &mut words).number, 0, "the sheet of a life is read");
+        assert_eq!(portal::read(text, &mut words).number, 0, "the sheet of a life is read");
         Life { setup: sheet::setup_of(text), words }
     }
 
@@ -107,7 +107,7 @@ pub fn compare_living_cases() -> Outcome {
         let label = &case.case.label;
         let mut life = Life::read(&case.case.sheet, &[7, 8]);
         if let Some((item, before, _)) = case.backdoor {
-            let yes = product::backdoor(&life.words, item).yes;
+            let yes = portal::backdoor(&life.words, item).yes;
             assert_eq!(yes, u64::from(before), "{label}: a backdoor at first");
         }
         for step in &case.steps {
@@ -121,7 +121,7 @@ pub fn compare_living_cases() -> Outcome {
             subject.same(named, number == 0 || before == life.words, true)?;
         }
         if let Some((item, _, after)) = case.backdoor {
-            let yes = product::backdoor(&life.words, item).yes;
+            let yes = portal::backdoor(&life.words, item).yes;
             assert_eq!(yes, u64::from(after), "{label}: a backdoor in the end");
         }
     }

@@ -19,8 +19,8 @@ const SHEET: &[u8] =
 /// Marks each list, and counts its different sets besides. All have a vertex that is not there, so
 /// that each is shut or repeated, and the list's one set is missing.
 pub fn compare_long_lists(seed: u64) -> Result<(), Box<Difference>> {
-    let mut setup = vec![0; product::WORDS];
-    assert_eq!(product::read(SHEET, &mut setup).number, 0, "the sheet is accepted");
+    let mut setup = vec![0; portal::WORDS];
+    assert_eq!(portal::read(SHEET, &mut setup).number, 0, "the sheet is accepted");
     for (label, sets) in lists(seed) {
         let different = sets.iter().collect::<HashSet<_>>().len() as u64;
         let expected = vec![0, 0, MANY as u64 - different, different, 0, 1];
@@ -49,7 +49,7 @@ fn lists(seed: u64) -> [(&'static str, Vec<u64>); 4] {
 
 /// The number of the answer, and its five counts.
 fn marked(setup: Vec<u64>, sets: Vec<u64>) -> Vec<u64> {
-    let work = move || product::mark_openings(&setup, 1, &sets).numbers();
+    let work = move || portal::mark_openings(&setup, 1, &sets).numbers();
     let thread = thread::Builder::new().stack_size(STACK).spawn(work);
     thread.expect("a thread starts").join().expect("marking ends")
 }

@@ -12,9 +12,9 @@ type Outcome = Result<(), Box<Difference>>;
 /// quick yes to every item.
 pub fn compare_known_passes() -> Outcome {
     for case in known_passes() {
-        let mut setup = vec![0; product::WORDS];
-        assert_eq!(product::read(&case.sheet, &mut setup).number, 0, "{} is read", case.label);
-        let closure = product::closure(&setup, case.set);
+        let mut setup = vec![0; portal::WORDS];
+        assert_eq!(portal::read(&case.sheet, &mut setup).number, 0, "{} is read", case.label);
+        let closure = portal::closure(&setup, case.set);
         let subject = Subject { label: case.label, sheet: Some(&case.sheet), setup: None };
         let named = || format!("closure({:#x}), number and passes", case.set);
         subject.same(named, (closure.number, closure.passes), (0, case.passes as u64))?;
@@ -36,11 +36,11 @@ fn compare_target(
 ) -> Outcome {
     let set = case.set;
     let expected = calls.opens(set, target).map(|(yes, held)| vec![u64::from(yes), held]);
-    let quick = product::opens(setup, target, set);
+    let quick = portal::opens(setup, target, set);
     let named = || format!("opens({target}, {set:#x})");
     subject.same(named, quick.numbers(), told(2, expected))?;
     let (mut items, mut colours) = ([0; PLACES], [0; PLACES]);
-    let way = product::way_in(setup, target, set, &mut items, &mut colours);
+    let way = portal::way_in(setup, target, set, &mut items, &mut colours);
     let (mut items_brute, mut colours_brute) = ([0; PLACES], [0; PLACES]);
     let expected = calls.way_in(set, target, &mut items_brute, &mut colours_brute);
     let expected = expected.map(|way| match way {

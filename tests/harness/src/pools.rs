@@ -7,7 +7,7 @@ use brute::cases::Rng;
 use brute::graph::closure;
 use brute::pool::{pool, pooled};
 use brute::sheet;
-use product::POOL_BYTES;
+use portal::POOL_BYTES;
 
 type Outcome = Result<(), Box<Difference>>;
 
@@ -62,12 +62,12 @@ fn compare_pool(case: &PoolCase, rng: &mut Rng) -> Result<u64, Box<Difference>> 
     for places in [0, length.saturating_sub(1), length, length + 1, POOL_BYTES, 20_000] {
         let entry: Vec<u8> = (0..places).map(|_| rng.number() as u8).collect();
         let (mut proved, mut plain) = (entry.clone(), entry);
-        let answer = product::pool(&case.first, &case.second, &mut proved);
+        let answer = portal::pool(&case.first, &case.second, &mut proved);
         let told = pool(&case.first, &case.second, &mut plain);
         subject.same(|| format!("pool, {places} places"), answer.numbers(), told.numbers())?;
         subject.same(|| format!("pool, the buffer of {places}"), &proved, &plain)?;
         if answer.number == 0 {
-            let read = product::read(&proved[..answer.length as usize], &mut [0; product::WORDS]);
+            let read = portal::read(&proved[..answer.length as usize], &mut [0; portal::WORDS]);
             subject.same(|| "the reading of a pooled sheet".to_string(), read.number, 0)?;
         }
     }

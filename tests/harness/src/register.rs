@@ -8,8 +8,8 @@ use brute::Calls;
 
 type Outcome = Result<(), Box<Difference>>;
 
-pub fn lent(records: &[Record]) -> Vec<product::Record> {
-    let record = |r: &Record| product::Record {
+pub fn lent(records: &[Record]) -> Vec<portal::Record> {
+    let record = |r: &Record| portal::Record {
         student: r.student,
         target: r.target,
         way: r.way,
@@ -22,12 +22,12 @@ pub fn lent(records: &[Record]) -> Vec<product::Record> {
     records.iter().map(record).collect()
 }
 
-fn made(words: &[u64], records: &mut [product::Record], used: usize, call: &Call) -> (u64, usize) {
+fn made(words: &[u64], records: &mut [portal::Record], used: usize, call: &Call) -> (u64, usize) {
     let answer = match call {
         Call::HandIn(Attempt { student, target, lock, sets }) => {
-            product::hand_in(words, records, used, *student, *target, *lock, sets)
+            portal::hand_in(words, records, used, *student, *target, *lock, sets)
         }
-        Call::Withdraw(student) => product::withdraw(records, used, *student),
+        Call::Withdraw(student) => portal::withdraw(records, used, *student),
     };
     (answer.number, answer.used)
 }

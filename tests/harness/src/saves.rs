@@ -8,7 +8,7 @@ use brute::cases::living::{beginning, random_edit};
 use brute::cases::Rng;
 use brute::save::{save, saved};
 use brute::sheet;
-use product::{SAVE_BYTES, WORDS};
+use portal::{SAVE_BYTES, WORDS};
 
 type Outcome = Result<(), Box<Difference>>;
 
@@ -50,7 +50,7 @@ pub fn compare_saves(
     for places in [size + rng.below(9), size, size.saturating_sub(1), 0] {
         let mut proved: Vec<u8> = (0..places).map(|at| b'!' + (at % 90) as u8).collect();
         let mut plain = proved.clone();
-        let answer = product::write_sheet(names, words, &mut proved);
+        let answer = portal::write_sheet(names, words, &mut proved);
         let told = save(names, &setup, &mut plain);
         let named = || format!("saved, in {places} places: number and length");
         subject.same(named, (answer.number, answer.length), (told.number, told.length))?;
@@ -64,7 +64,7 @@ pub fn compare_saves(
         true,
     )?;
     let mut again = vec![u64::MAX; WORDS];
-    subject.same(|| "is it read again?".to_string(), product::read(&text, &mut again).number, 0)?;
+    subject.same(|| "is it read again?".to_string(), portal::read(&text, &mut again).number, 0)?;
     let wanted = words_of(&setup.nothing_held()).expect("what is saved can be said in words");
     subject.same(|| "what is read again".to_string(), &again, &wanted)?;
     subject.same(
@@ -95,7 +95,7 @@ pub fn compare_longest(rng: &mut Rng) -> Outcome {
     let subject = Subject { label: "the longest sheet", sheet: Some(&text), setup: None };
     subject.same(|| "its length".to_string(), text.len(), SAVE_BYTES)?;
     let mut words = vec![0; WORDS];
-    subject.same(|| "its reading".to_string(), product::read(&text, &mut words).number, 0)?;
+    subject.same(|| "its reading".to_string(), portal::read(&text, &mut words).number, 0)?;
     compare_saves(&subject, rng, &text, &words, &mut Saves::default())
 }
 

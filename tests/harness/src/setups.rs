@@ -16,7 +16,7 @@ use brute::kinds::{self, Intruder, KINDS};
 use brute::lists::{Least, Marks};
 use brute::report::PORTAL_NEVER;
 use brute::setup::{holds, single, Setup, PLACES};
-use product::{HELD, WORDS};
+use portal::{HELD, WORDS};
 
 /// How much is asked of a setup.
 #[derive(Clone, Copy)]
@@ -162,14 +162,14 @@ impl Compare<'_> {
         let calls = self.calls;
         let expected = if calls.well_formed() { 0 } else { 12 };
         let call = || "check".to_string();
-        self.subject.same(call, product::check(&self.words), expected)?;
+        self.subject.same(call, portal::check(&self.words), expected)?;
         // A malformed setup's count may be any number.
         let count = calls.setup().count.min(PLACES as u64);
         let mut sets = probes::sets_within(self.rng, count, self.depth.sets);
         sets.extend(probes::sets_outside(self.rng, count));
         for &set in &sets {
             self.closure(set)?;
-            let lost = product::lost(&self.words, set);
+            let lost = portal::lost(&self.words, set);
             self.value("lost", set, lost.numbers(), calls.lost_set(set))?;
         }
         for target in self.targets(count) {
@@ -191,7 +191,7 @@ impl Compare<'_> {
 
     /// What a set opens, and the number of passes.
     fn closure(&self, set: u64) -> Outcome {
-        let proved = product::closure(&self.words, set);
+        let proved = portal::closure(&self.words, set);
         let opened = self.calls.closure(set);
         let expected = opened.and_then(|opened| Ok(vec![opened, self.calls.passes(set)? as u64]));
         let named = || format!("closure({set:#x})");
@@ -244,7 +244,7 @@ impl Compare<'_> {
     /// is among those that it counted.
     fn forecast(&mut self, target: u64) -> Outcome {
         let calls = self.calls;
-        let proved = product::forecast(&self.words, target);
+        let proved = portal::forecast(&self.words, target);
         self.value("forecast", target, proved.numbers(), calls.forecast(target))?;
         if let Ok(list) = calls.opening_list(target) {
             let counted = forecast::counted(calls.setup(), target as usize);
@@ -276,7 +276,7 @@ impl Compare<'_> {
     fn kinds(&mut self, target: u64) -> Outcome {
         let list = self.list_of_kinds();
         let (calls, setup) = (self.calls, self.calls.setup());
-        let proved = product::kinds(&self.words, target, &list);
+        let proved = portal::kinds(&self.words, target, &list);
         let expected = calls.kinds(target, &list).map(|score| vec![score]);
         let named = || format!("kinds({target}, {list:?})");
         self.subject.same(named, proved.numbers(), told(1, expected))?;
@@ -324,7 +324,7 @@ impl Compare<'_> {
 
     /// What is shown after one set, as the proved code has it.
     fn next_opening(&self, target: u64, last: u64) -> Result<Option<u64>, Box<Difference>> {
-        let proved = product::next_opening(&self.words, target, last);
+        let proved = portal::next_opening(&self.words, target, last);
         let expected = self.calls.next_opening(target, last).map(values);
         let named = || format!("next_opening({target}, {last:#x})");
         self.subject.same(named, proved.numbers(), told(2, expected))?;
@@ -335,19 +335,19 @@ impl Compare<'_> {
         let calls = self.calls;
         let coded = |least: Least| if let Least::Sum(sum) = least { sum } else { PORTAL_NEVER };
         if self.more() {
-            let proved = product::setup_score(&self.words, target).numbers();
+            let proved = portal::setup_score(&self.words, target).numbers();
             self.value("setup_score", target, proved, calls.score(target).map(coded))?;
         }
         if self.more() {
-            let proved = product::setup_risk(&self.words, target).numbers();
+            let proved = portal::setup_risk(&self.words, target).numbers();
             self.value("setup_risk", target, proved, calls.risk(target).map(coded))?;
         }
         if self.more() {
-            let proved = product::backdoor(&self.words, target).numbers();
+            let proved = portal::backdoor(&self.words, target).numbers();
             self.value("backdoor", target, proved, calls.backdoor(target).map(u64::from))?;
         }
         if self.more() {
-            let proved = product::idle(&self.words, target).numbers();
+            let proved = portal::idle(&self.words, target).numbers();
             self.value("idle", target, proved, calls.idle(target).map(u64::from))?;
         }
         Ok(())
@@ -359,13 +359,13 @@ impl Compare<'_> {
             let members = calls.setup().starting();
             let right = calls.opening_list(target).unwrap_or_default();
             let mark = |handed: &[u64]| calls.mark_openings(target, handed);
-            self.marks("mark_openings", target, right, &members, mark, product::mark_openings)?;
+            self.marks("mark_openings", target, right, &members, mark, portal::mark_openings)?;
         }
         if self.more() {
             let members = calls.setup().losable();
             let right = calls.lockout_list(target).unwrap_or_default();
             let mark = |handed: &[u64]| calls.mark_lockouts(target, handed);
-            self.marks("mark_lockouts", target, right, &members, mark, product::mark_lockouts)?;
+            self.marks("mark_lockouts", target, right, &members, mark, portal::mark_lockouts)?;
         }
         Ok(())
     }
@@ -385,7 +385,7 @@ impl Compare<'_> {
     fn pair(&mut self, above: u64, below: u64) -> Outcome {
         let expected = self.calls.out_of_rank(above, below).map(|is| vec![u64::from(is)]);
         let named = || format!("out_of_rank({above}, {below})");
-        let proved = product::out_of_rank(&self.words, above, below);
+        let proved = portal::out_of_rank(&self.words, above, below);
         self.subject.same(named, proved.numbers(), told(1, expected))
     }
 
@@ -406,7 +406,7 @@ impl Compare<'_> {
             let (mut proved, mut brute) = (before.clone(), before);
             let expected = calls.lists(target, &mut brute);
             let expected = expected.map(|(n, m)| vec![n as u64, m as u64]);
-            let numbers = product::lists(&self.words, target, &mut proved).numbers();
+            let numbers = portal::lists(&self.words, target, &mut proved).numbers();
             let named = || format!("lists({target}), with {length} places");
             self.subject.same(named, (numbers, proved), (told(2, expected), brute))?;
         }
@@ -425,7 +425,7 @@ impl Compare<'_> {
             let before = probes::lent_sets(self.rng, length);
             let (mut proved, mut brute) = (before.clone(), before);
             let expected = calls.cut_sets(target, &mut brute).map(|count| vec![count as u64]);
-            let numbers = product::cut_sets(&self.words, target, &mut proved).numbers();
+            let numbers = portal::cut_sets(&self.words, target, &mut proved).numbers();
             let named = || format!("cut_sets({target}), with {length} places");
             self.subject.same(named, (numbers, proved), (told(1, expected), brute))?;
         }
@@ -481,7 +481,7 @@ impl Compare<'_> {
             });
             let (mut items_proved, mut colours_proved) = (items.clone(), colours.clone());
             let way =
-                product::way_in(&self.words, target, set, &mut items_proved, &mut colours_proved);
+                portal::way_in(&self.words, target, set, &mut items_proved, &mut colours_proved);
             let lengths = (items.len(), colours.len());
             let named = || format!("way_in({target}, {set:#x}), places {lengths:?}");
             let proved = (way.numbers(), items_proved, colours_proved);
@@ -495,7 +495,7 @@ impl Compare<'_> {
     fn opens(&self, target: u64, set: u64) -> Outcome {
         let expected = self.calls.opens(set, target);
         let expected = expected.map(|(yes, held)| vec![u64::from(yes), held]);
-        let proved = product::opens(&self.words, target, set);
+        let proved = portal::opens(&self.words, target, set);
         let named = || format!("opens({target}, {set:#x})");
         self.subject.same(named, proved.numbers(), told(2, expected))
     }
@@ -508,7 +508,7 @@ impl Compare<'_> {
         right: &[u64],
         members: &[(usize, u64)],
         brute: impl Fn(&[u64]) -> Result<Marks, u8>,
-        proved: fn(&[u64], u64, &[u64]) -> product::MarksResult,
+        proved: fn(&[u64], u64, &[u64]) -> portal::MarksResult,
     ) -> Outcome {
         let allowed = members.iter().fold(0, |set, &(item, _)| set | 1 << item);
         let count = self.calls.setup().count.min(PLACES as u64);

@@ -12,7 +12,7 @@ use brute::report::portal_code;
 use brute::setup::Setup;
 use brute::sheet::{self, Refusal, Sheet};
 use brute::Calls;
-use product::{HELD, WORDS};
+use portal::{HELD, WORDS};
 
 type Outcome = Result<(), Box<Difference>>;
 
@@ -54,7 +54,7 @@ pub fn compare_by_hand() -> Result<usize, Box<Difference>> {
         let text = &case.case.sheet;
         let subject = Subject { label: &case.case.label, sheet: Some(text), setup: None };
         let mut words = vec![0; WORDS];
-        let read = product::read(text, &mut words);
+        let read = portal::read(text, &mut words);
         let edges = |first: usize| {
             words[first..first + 512].iter().map(|row| row.count_ones() as usize).sum()
         };
@@ -67,7 +67,7 @@ pub fn compare_by_hand() -> Result<usize, Box<Difference>> {
     for &(text, item, name) in NAMES {
         let subject =
             Subject { label: "a name, as worked out by hand", sheet: Some(text), setup: None };
-        subject.same(|| format!("name({item})"), product::name(text, item).of(text), name)?;
+        subject.same(|| format!("name({item})"), portal::name(text, item).of(text), name)?;
     }
     Ok(cases.len())
 }
@@ -100,7 +100,7 @@ fn reading(
     for length in [WORDS + 1, other] {
         let lent = probes::lent_sets(rng, length);
         let (mut proved, mut brute) = (lent.clone(), lent);
-        let numbers = product::read(sheet, &mut proved).numbers();
+        let numbers = portal::read(sheet, &mut proved).numbers();
         let number = match brute.get_mut(..WORDS) {
             Some(front) => {
                 front.copy_from_slice(&words);
@@ -127,7 +127,7 @@ fn names(subject: &Subject, rng: &mut Rng, sheet: &[u8], read: &Result<Sheet, Re
             Err(refusal) => (u64::from(refusal.number), 0..0),
         };
         let expected = vec![number, range.start as u64, range.len() as u64];
-        let part = product::name(sheet, item);
+        let part = portal::name(sheet, item);
         let call = || format!("name({item})");
         subject.same(call, (part.numbers(), part.of(sheet)), (expected, &sheet[range]))?;
     }
@@ -153,9 +153,9 @@ fn portal(
             Err(refusal) => (Err(refusal.number), Err(refusal.number)),
         };
         let call = || format!("score({item})");
-        subject.same(call, product::score(sheet, item), portal_code(score))?;
+        subject.same(call, portal::score(sheet, item), portal_code(score))?;
         let call = || format!("risk({item})");
-        subject.same(call, product::risk(sheet, item), portal_code(risk))?;
+        subject.same(call, portal::risk(sheet, item), portal_code(risk))?;
     }
     Ok(())
 }

@@ -30,12 +30,12 @@ pub struct Walked {
 /// The answers that were worked out by hand.
 pub fn compare_next_cases() -> Outcome {
     for case in next_cases() {
-        let mut words = vec![0; product::WORDS];
+        let mut words = vec![0; portal::WORDS];
         let label = &case.case.label;
-        assert_eq!(product::read(&case.case.sheet, &mut words).number, 0, "{label} is read");
+        assert_eq!(portal::read(&case.case.sheet, &mut words).number, 0, "{label} is read");
         let subject = Subject { label, sheet: Some(&case.case.sheet), setup: None };
         for (last, answer) in case.shown {
-            let proved = product::next_opening(&words, case.target, last);
+            let proved = portal::next_opening(&words, case.target, last);
             let named = || format!("next_opening({}, {last:#x})", case.target);
             subject.same(named, proved.numbers(), told(2, answer.map(values)))?;
         }
@@ -82,7 +82,7 @@ fn walk(
                 if any { random_edit(rng, &life.setup) } else { redrawing(rng, &life.setup) };
             walked.changed += usize::from(life.step(label, edit)? == 0);
         }
-        let proved = product::next_opening(&life.words, target, last);
+        let proved = portal::next_opening(&life.words, target, last);
         let calls = Calls::new(&life.setup);
         let expected = calls.next_opening(target, last);
         let subject = Subject { label, sheet: None, setup: Some(&life.setup) };

@@ -1,7 +1,7 @@
 //! A setup as the plain numbers that the proved calls take and give.
 
 use brute::setup::{Place, Setup, ACCOUNT, COLOURS, CREDENTIAL, PLACES};
-use product::{BLANK, HELD, OPENED, WORDS};
+use portal::{BLANK, HELD, OPENED, WORDS};
 
 /// The words of a setup; `None` for one that they can't say: a value has the number that stands for a
 /// blank. Another kind than the two is a number above 1.

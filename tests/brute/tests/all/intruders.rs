@@ -17,33 +17,27 @@ fn answers_worked_out_by_hand() {
     }
 }
 
-/// The list that stands beside a sheet for people: each item's name, its kind, and the kind in words.
+/// The kinds file that stands beside a sheet: a row for each starting item, and for no other one.
 #[test]
 fn the_list_among_the_examples() {
-    const WORDS: [&str; KINDS as usize] = [
-        "remote, no skill",
-        "remote, some skill",
-        "remote, expert",
-        "local, no skill",
-        "local, some skill",
-        "local, expert",
-    ];
     let sheet = include_bytes!("../../../../examples/figure-07-intruders.sheet");
     let list = include_str!("../../../../examples/figure-07-intruders.kinds");
-    let (mut names, mut kinds) = (Vec::new(), Vec::new());
-    for row in list.lines() {
-        let fields: Vec<&str> = row.splitn(3, ' ').collect();
-        let kind: u8 = fields[1].parse().unwrap();
-        let words = WORDS.get(usize::from(kind)).unwrap_or(&"not read: no starting item");
-        assert_eq!(&fields[2], words, "{row}");
-        names.push(fields[0]);
-        kinds.push(kind);
+    let names = accepted(sheet).names_in(sheet);
+    let item = |name: &str| names.iter().position(|other| other == name).unwrap();
+    let mut rows = list.lines().filter(|line| !line.starts_with('#'));
+    assert_eq!(rows.next(), Some("name location skill"));
+    let mut kinds = vec![u8::MAX; names.len()];
+    for row in rows {
+        let fields: Vec<&str> = row.split(' ').collect();
+        let place = |words: &[&str], word| words.iter().position(|other| *other == word).unwrap();
+        let location = place(&["remote", "local"], fields[1]);
+        let skill = place(&["none", "some", "expert"], fields[2]);
+        kinds[item(fields[0])] = (3 * location + skill) as u8;
     }
-    assert_eq!(names, accepted(sheet).names_in(sheet));
-    let score = |name| {
-        let item = names.iter().position(|&other| other == name).unwrap();
-        calls(sheet).kinds(item as u64, &kinds)
-    };
+    let starting = accepted(sheet).setup.starting();
+    let given = (0..names.len()).filter(|&item| kinds[item] != u8::MAX);
+    assert!(given.eq(starting.iter().map(|&(item, _)| item)));
+    let score = |name| calls(sheet).kinds(item(name) as u64, &kinds);
     assert_eq!(score("acc_shop"), Ok(2));
     assert_eq!(score("acc_mail"), Ok(16));
 }

@@ -179,7 +179,11 @@ impl Run {
         let mut ends = Ends::default();
         compare_handin_bounds(&mut self.rng, &mut ends)?;
         compare_handins(&mut self.rng, LINES, &mut ends)?;
-        assert!(ends.too_few(&ENDS).is_empty(), "too few lines: {:?} of {ends:?}", ends.too_few(&ENDS));
+        assert!(
+            ends.too_few(&ENDS).is_empty(),
+            "too few lines: {:?} of {ends:?}",
+            ends.too_few(&ENDS)
+        );
         for case in bounds::bounds() {
             self.counts.bounds += 1;
             self.sheet(&case, FEW, true)?;

@@ -1,5 +1,6 @@
 /* A worked example of include/portal.h. Reads a sheet, prints the opening sets of an account by name with the way in of each,
- * says what to harden so that no way in is left, marks a handed-in list, redraws the setup, and saves the drawing:
+ * says what to harden so that no way in is left, marks a handed-in list, takes lines of a class to the register, redraws the
+ * setup, and saves the drawing:
  *
  *     portal SHEET ACCOUNT [SET ...]     a set is names joined by '+', and '-' is the empty set
  *
@@ -31,50 +32,32 @@ static void print_name(uint64_t item)
     printf("%.*s", (int)name.length, (const char *)sheet + name.start);
 }
 
+/* A set as the report prints it: names joined by '+', or '-' for the empty set. */
 static void print_set(uint64_t set)
 {
-    const char *between = "";
-    for (uint64_t item = 0; item < setup[PORTAL_COUNT]; item++)
-        if (set >> item & 1) {
-            printf("%s", between);
-            print_name(item);
-            between = "+";
-        }
-    if (set == 0)
-        printf("-");
+    uint8_t names[PORTAL_SET_BYTES];
+    struct portal_write_set_result written = portal_write_set(sheet, length, set, names, sizeof names);
+    if (written.number != 0)
+        stop("the names of a set", written.number);
+    printf("%.*s", (int)written.length, (const char *)names);
 }
 
-/* The item that has the name; the item count where none has. */
-static uint64_t item_named(const char *text, size_t size)
-{
-    uint64_t item = 0;
-    for (; item < setup[PORTAL_COUNT]; item++) {
-        struct portal_name_result name = portal_name(sheet, length, item);
-        if (name.length == size && memcmp(sheet + name.start, text, size) == 0)
-            break;
-    }
-    return item;
-}
-
-/* A set as the report prints it: names joined by '+', or '-' for the empty set. A name that is not in the sheet ends the program:
- * it would otherwise have to stand for some number, and every number below 64 may be an item of a sheet. */
+/* The same, read. A name that is not in the sheet ends the program. */
 static uint64_t set_named(const char *text)
 {
-    uint64_t set = 0;
-    if (strcmp(text, "-") == 0)
-        return 0;
-    for (;;) {
-        size_t size = strcspn(text, "+");
-        uint64_t item = item_named(text, size);
-        if (setup[PORTAL_COUNT] <= item) {
-            fprintf(stderr, "portal: the sheet has no item %.*s\n", (int)size, text);
-            exit(1);
-        }
-        set |= UINT64_C(1) << item;
-        if (text[size] == '\0')
-            return set;
-        text += size + 1;
-    }
+    struct portal_read_set_result named = portal_read_set(sheet, length, (const uint8_t *)text, strlen(text));
+    if (named.number != 0)
+        stop(text, named.number);
+    return named.set;
+}
+
+/* An item is a set of one; the item count where the text names another set. */
+static uint64_t item_named(const char *text)
+{
+    uint64_t set = set_named(text), item = 0;
+    while (item < setup[PORTAL_COUNT] && set != UINT64_C(1) << item)
+        item++;
+    return item;
 }
 
 static void print_way(uint64_t account, uint64_t set)
@@ -131,6 +114,56 @@ static void print_marks(uint64_t account, const uint64_t *handed, size_t count)
         stop("marks", m.number);
     printf("right %" PRIu64 ", repeated %" PRIu64 ", shut %" PRIu64 ", loose %" PRIu64 ", missing %" PRIu64 ": %s\n", m.right,
            m.repeated, m.shut, m.loose, m.missing, portal_is_full(m) ? "full" : "not full");
+}
+
+/* The class register: the records, and how many are used. */
+static struct portal_record records[4];
+static size_t used;
+
+/* A line as students hand it in. One that is refused loses that line and nothing else; portal_read_line tells where it is wrong. */
+static void enter(const char *line)
+{
+    const uint8_t *text = (const uint8_t *)line;
+    struct portal_register_result entered = portal_enter_line(sheet, length, text, strlen(line), records, 4, used);
+    used = entered.used;
+    if (entered.number != 0) {
+        struct portal_read_line_result read = portal_read_line(sheet, length, text, strlen(line), sets, PORTAL_MAX_SETS);
+        printf("%.20s.., field %" PRIu64 ": %s\n", line, read.place, portal_refusal_text(entered.number));
+    }
+}
+
+/* A line that hands in the sets of a list, each by its names; the first one misspelt where `misspelt` is true. */
+static void hand_in(unsigned student, const char *account, const char *way, const uint64_t *list, uint64_t count, bool misspelt)
+{
+    static char line[40 + PORTAL_MAX_LIST * (PORTAL_SET_BYTES + 2)];
+    int at = sprintf(line, "%u %s %s", student, account, way);
+    for (uint64_t i = 0; i < count; i++) {
+        line[at++] = ' ';
+        if (misspelt && i == 0)
+            at += sprintf(line + at, "no_such_item+");
+        at += (int)portal_write_set(sheet, length, list[i], (uint8_t *)line + at, PORTAL_SET_BYTES).length;
+    }
+    line[at] = '\0';
+    enter(line);
+}
+
+/* An afternoon: one student hands both lists in, another misspells a set, hands in half a list in its place, and a third leaves. */
+static void register_class(uint64_t account, const char *name)
+{
+    static uint64_t both[PORTAL_MAX_SETS];
+    struct portal_lists_result lists = portal_lists(setup, PORTAL_SETUP_WORDS, account, both, PORTAL_MAX_SETS);
+    hand_in(1017, name, "open", both, lists.openings, false);
+    hand_in(1017, name, "lock", both + lists.openings, lists.lockouts, false);
+    hand_in(1042, name, "open", both, lists.openings, true);
+    hand_in(1042, name, "open", both, lists.openings / 2, false);
+    hand_in(1058, name, "lock", NULL, 0, false);
+    enter("1058 withdraw");
+    for (size_t i = 0; i < used; i++) {
+        printf("%" PRIu64 " ", records[i].student);
+        print_name(records[i].target);
+        printf(" %s: right %" PRIu64 ", missing %" PRIu64 ", %s\n", records[i].way == 1 ? "lock" : "open", records[i].right, records[i].missing,
+               portal_is_full_record(records[i]) ? "full" : "not full");
+    }
 }
 
 static void print_held(const char *what)
@@ -216,7 +249,7 @@ int main(int argc, char **argv)
         return 1;
     }
     read_sheet(argv[1]);
-    uint64_t account = item_named(argv[2], strlen(argv[2]));
+    uint64_t account = item_named(argv[2]);
     struct portal_lists_result lists = portal_lists(setup, PORTAL_SETUP_WORDS, account, sets, PORTAL_MAX_SETS);
     if (lists.number != 0)
         stop(argv[2], lists.number);
@@ -235,6 +268,7 @@ int main(int argc, char **argv)
         handed[i] = set_named(argv[i + 3]);
     print_marks(account, handed, count);
     free(handed);
+    register_class(account, argv[2]);
     if (first != 0)
         redraw(account, first);
     return 0;

@@ -618,6 +618,139 @@ static void try_write_sheet(void)
     expect("saved, nothing at all", portal_write_sheet(NULL, 0, NULL, 0, NULL, 0).number, PORTAL_NO_TEXT);
 }
 
+static struct portal_read_set_result names(const char *text)
+{
+    return portal_read_set((const uint8_t *)SHEET, sizeof SHEET - 1, (const uint8_t *)text, strlen(text));
+}
+
+/* A set by its names, in any order; and each no of a name. */
+static void try_read_set(void)
+{
+    expect("names", names("token+mailpw").set, TOKEN | MAILPW);
+    expect("names, all", names("order+mail+token+mailpw+ordpw").set, 31);
+    expect("names, one", names("order").set, UINT64_C(1) << ORDER_ITEM);
+    expect("no names", names("-").set, 0);
+    expect("no names, the number", names("-").number, 0);
+    static const struct { const char *text; uint64_t number; } wrong[] = {
+        { "", PORTAL_FORM }, { "mailpw+", PORTAL_FORM }, { "+mailpw", PORTAL_FORM }, { "mailpw++token", PORTAL_FORM }, { "Mail", PORTAL_FORM },
+        { "-+mail", PORTAL_FORM }, { "mailpwd", PORTAL_NAME_UNKNOWN }, { "mai", PORTAL_NAME_UNKNOWN }, { "mail+token+mail", PORTAL_NAME_USED },
+        { "mail+mail+x", PORTAL_NAME_USED }, { "mail+x+mail", PORTAL_NAME_UNKNOWN },
+    };
+    for (size_t i = 0; i < sizeof wrong / sizeof wrong[0]; i++) {
+        struct portal_read_set_result r = names(wrong[i].text);
+        expect(wrong[i].text, r.number, wrong[i].number);
+        expect("whose", r.text, 2);
+        expect("where", r.place, 0);
+        expect("no set", r.set, 0);
+    }
+    struct portal_read_set_result r = portal_read_set((const uint8_t *)BEYOND, sizeof BEYOND - 1, (const uint8_t *)"a", 1);
+    expect("names, a refused sheet", r.number, PORTAL_FORM);
+    expect("the sheet's", r.text, 1);
+    expect("its line", r.place, 2);
+    expect("names, nothing at all", portal_read_set(NULL, 0, NULL, 0).number, PORTAL_NO_TEXT);
+}
+
+/* The names of a set: rising, in just enough room and in one byte less. */
+static void try_write_set(void)
+{
+    const uint8_t *sheet = (const uint8_t *)SHEET;
+    size_t n = sizeof SHEET - 1;
+    uint8_t out[PORTAL_SET_BYTES];
+    memset(out, '#', sizeof out);
+    struct portal_write_set_result r = portal_write_set(sheet, n, TOKEN | MAILPW, out, 12);
+    expect("written", r.number, 0);
+    expect("written, its length", r.length, 12);
+    expect("written, its bytes", (uint64_t)memcmp(out, "mailpw+token#", 13), 0);
+    memset(out, '#', sizeof out);
+    expect("written, no room", portal_write_set(sheet, n, TOKEN | MAILPW, out, 11).number, PORTAL_SHORT);
+    expect("written, no room: first byte", out[0], '#');
+    r = portal_write_set(sheet, n, 0, out, 1);
+    expect("the empty set", r.length, 1);
+    expect("the empty set, its sign", out[0], '-');
+    expect("the empty set, the byte behind", out[1], '#');
+    expect("the empty set, no room", portal_write_set(sheet, n, 0, NULL, 0).number, PORTAL_SHORT);
+    expect("another item", portal_write_set(sheet, n, 32, out, sizeof out).number, PORTAL_OUTSIDE);
+    expect("item 63", portal_write_set(sheet, n, UINT64_C(1) << 63, out, sizeof out).number, PORTAL_OUTSIDE);
+    expect("written, a refused sheet", portal_write_set(sheet, n - 1, 32, out, sizeof out).number, PORTAL_NO_TEXT);
+}
+
+static struct portal_read_line_result said(const char *line, uint64_t *sets, size_t places)
+{
+    return portal_read_line((const uint8_t *)SHEET, sizeof SHEET - 1, (const uint8_t *)line, strlen(line), sets, places);
+}
+
+/* What a line says; and each no, with its field. */
+static void try_read_line(void)
+{
+    uint64_t sets[4] = { 77, 77, 77, 77 };
+    struct portal_read_line_result r = said("1017 order lock token+mailpw - mail", sets, 3);
+    expect("a line", r.number, 0);
+    expect("a line, no withdrawal", r.withdraws, 0);
+    expect("a line, the student", r.student, 1017);
+    expect("a line, the target", r.target, ORDER_ITEM);
+    expect("a line, the way", r.lock, 1);
+    expect("a line, its sets", r.count, 3);
+    expect("a line, the first set", sets[0], TOKEN | MAILPW);
+    expect("a line, the empty set", sets[1], 0);
+    expect("a line, the last set", sets[2], UINT64_C(1) << MAIL_ITEM);
+    expect("a line, the place behind", sets[3], 77);
+    r = said("0 mail open", NULL, 0);
+    expect("a line without sets", r.number + r.withdraws + r.lock + r.count, 0);
+    r = said("4000000000 withdraw", NULL, 0);
+    expect("a withdrawal", r.withdraws, 1);
+    expect("a withdrawal, the student", r.student, UINT64_C(4000000000));
+    static const struct { const char *line; uint64_t number, field; } wrong[] = {
+        { "1017 order\topen", PORTAL_NO_TEXT, 0 }, { "", PORTAL_FIELDS, 1 }, { "1017", PORTAL_FIELDS, 2 }, { "1017 order", PORTAL_FIELDS, 3 },
+        { "1017 order open ", PORTAL_FIELDS, 4 }, { "1017  order open", PORTAL_FIELDS, 2 }, { " 1017 order open", PORTAL_FIELDS, 1 },
+        { "4000000001 order open", PORTAL_FORM, 1 }, { "017 withdraw", PORTAL_FORM, 1 }, { "1017 Order open", PORTAL_FORM, 2 },
+        { "1017 orders open", PORTAL_NAME_UNKNOWN, 2 }, { "1017 order shut", PORTAL_FORM, 3 }, { "1017 order open mail,token", PORTAL_FORM, 4 },
+        { "1017 order open mail mailpwd", PORTAL_NAME_UNKNOWN, 5 }, { "1017 order open mail - mail+mail", PORTAL_NAME_USED, 6 },
+    };
+    for (size_t i = 0; i < sizeof wrong / sizeof wrong[0]; i++) {
+        sets[0] = 77;
+        r = said(wrong[i].line, sets, 4);
+        expect(wrong[i].line, r.number, wrong[i].number);
+        expect("whose", r.text, 2);
+        expect("its field", r.place, wrong[i].field);
+        expect("nothing said", r.withdraws + r.student + r.target + r.lock + r.count, 0);
+        expect("nothing written", sets[0], 77);
+    }
+    r = said("1017 order open mail -", sets, 1);
+    expect("no room", r.number, PORTAL_SHORT);
+    expect("no room, whose and where", r.text + r.place + r.count, 0);
+    expect("no room, nothing written", sets[0], 77);
+}
+
+static struct portal_register_result entered(const char *line, struct portal_record *records, size_t places, size_t used)
+{
+    return portal_enter_line((const uint8_t *)SHEET, sizeof SHEET - 1, (const uint8_t *)line, strlen(line), records, places, used);
+}
+
+/* Lines taken to the register: a refused one changes nothing. */
+static void try_enter_line(void)
+{
+    struct portal_record records[2] = { { 7, 7, 7, 7, 7, 7, 7, 7 }, { 7, 7, 7, 7, 7, 7, 7, 7 } };
+    expect("25 first", entered("", records, 2, 3).number, PORTAL_OVERFULL);
+    expect("a misspelt set", entered("1017 order open mailpwd", records, 2, 0).number, PORTAL_NAME_UNKNOWN);
+    expect("a misspelt set, the count", entered("1017 order open mailpwd", records, 2, 1).used, 1);
+    expect("a misspelt set, no record", records[0].student, 7);
+    expect("nobody to withdraw", entered("1017 withdraw", records, 2, 0).number, PORTAL_NO_RECORD);
+    struct portal_register_result r = entered("1017 order open mailpw token+ordpw", records, 2, 0);
+    expect("entered", r.number, 0);
+    expect("entered, the count", r.used, 1);
+    expect("entered, full", portal_is_full_record(records[0]), 1);
+    expect("entered, the student", records[0].student, 1017);
+    expect("entered, the target", records[0].target, ORDER_ITEM);
+    expect("entered, the place behind", records[1].student, 7);
+    r = entered("1017 order lock ordpw+mailpw", records, 2, 1);
+    expect("entered, the other way", r.used, 2);
+    expect("entered, lock", records[1].way, 1);
+    expect("entered, one is missing", records[1].missing, 1);
+    expect("no place", entered("1018 order lock", records, 2, 2).number, PORTAL_ALL_USED);
+    expect("withdrawn", entered("1017 withdraw", records, 2, 2).used, 0);
+    expect("no sheet", portal_enter_line(NULL, 0, NULL, 0, NULL, 0, 0).number, PORTAL_NO_TEXT);
+}
+
 static void expect_refused(const char *what, struct portal_pool_result r, uint64_t number, uint64_t sheet, uint64_t line, const uint8_t *out)
 {
     size_t changed = 0;
@@ -822,12 +955,16 @@ static const struct call {
     { "a setup that lives, to every call", PORTAL_STACK_MARKS, try_held },
     { "portal_pool", PORTAL_STACK_SMALL, try_pool },
     { "portal_write_sheet", PORTAL_STACK_SMALL, try_write_sheet },
+    { "portal_read_set", PORTAL_STACK_SMALL, try_read_set },
+    { "portal_write_set", PORTAL_STACK_SMALL, try_write_set },
+    { "portal_read_line", PORTAL_STACK_SMALL, try_read_line },
     { "portal_setup_score", PORTAL_STACK, try_setup_score },
     { "portal_setup_risk", PORTAL_STACK, try_setup_risk },
     { "portal_mark_openings", PORTAL_STACK_MARKS, try_mark_openings },
     { "portal_mark_lockouts", PORTAL_STACK_MARKS, try_mark_lockouts },
     { "portal_hand_in", PORTAL_STACK_MARKS, try_hand_in },
     { "portal_withdraw", PORTAL_STACK_SMALL, try_withdraw },
+    { "portal_enter_line", PORTAL_STACK_MARKS, try_enter_line },
     { "portal_backdoor", PORTAL_STACK, try_backdoor },
     { "portal_idle", PORTAL_STACK, try_idle },
     { "portal_out_of_rank", PORTAL_STACK, try_out_of_rank },

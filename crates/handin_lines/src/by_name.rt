@@ -35,9 +35,9 @@ pub fn item_of(l: &[u8], low: &[u64], high: &[u64], count: usize) -> ItemField
         if item < count {
             return ItemField { number: 0, item };
         }
-        return no_item(8);
+        return no_item(questions::NAME_UNKNOWN);
     }
-    no_item(5)
+    no_item(questions::FORM)
 }
 
 fn no_set(number: u64) -> SetField
@@ -59,7 +59,7 @@ fn take_name(x: u64, l: &[u8], low: &[u64], high: &[u64], count: usize) -> SetFi
     let v = found.item;
     let one: u64 = 1;
     if (x >> v) % 2 == 1 {
-        return no_set(6);
+        return no_set(questions::NAME_USED);
     }
     SetField {
         number: 0,

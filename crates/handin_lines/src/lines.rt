@@ -109,7 +109,7 @@ fn cut_fields(l: &[u8]) -> Form
     let n = l.len();
     let first = sheet_fields::find(l, 0, SPACE);
     if n <= first {
-        return no_form(4, 2);
+        return no_form(questions::FIELDS, 2);
     }
     let second = sheet_fields::find(l, first + 1, SPACE);
     if second < n {
@@ -131,7 +131,7 @@ fn cut_fields(l: &[u8]) -> Form
             third: second,
         };
     }
-    no_form(4, 3)
+    no_form(questions::FIELDS, 3)
 }
 
 // The questions 2 and 4.
@@ -141,11 +141,11 @@ fn form_of(l: &[u8]) -> Form
     if is_line(l) {
         let empty = first_empty(l);
         if empty != 0 {
-            return no_form(4, empty);
+            return no_form(questions::FIELDS, empty);
         }
         return cut_fields(l);
     }
-    no_form(2, 0)
+    no_form(questions::NO_TEXT, 0)
 }
 
 // A way: `open` or `lock`.
@@ -217,7 +217,7 @@ fn check_attempt(
             count: found.count,
         };
     }
-    refuse(5, 3)
+    refuse(questions::FORM, 3)
 }
 
 // What the line says, or its first no.
@@ -233,7 +233,7 @@ pub fn check_line(l: &[u8], low: &[u64], high: &[u64], count: usize) -> LineRead
     let first = form.first;
     let student = sheet_fields::read_number(&l[..first]);
     if setup::MAX_VALUE < student {
-        return refuse(5, 1);
+        return refuse(questions::FORM, 1);
     }
     let second = form.second;
     if second < l.len() {

@@ -59,7 +59,7 @@ pub fn check_handed(l: &[u8], start: usize, low: &[u64], high: &[u64], count: us
     }
     if MAX_HANDED < found.count {
         return Checked {
-            number: 7,
+            number: questions::BOUND,
             place: 0,
             count: 0,
         };

@@ -5,7 +5,7 @@
 //! marks, `rows` that of the report with the most rows, `reports` those of reading and of reports,
 //! `forecast` that of forecasts, `next` that of next sets, `living` those of calls that change a setup,
 //! `closing` that of closures, `opens` that of quick answers, `cuts` that of cut sets, `intruders` that
-//! of kinds of intruder, `register` that of the class register, `bags` that of bag scores, and `pool`
+//! of kinds of intruder, `register` that of the class register, `handins` that of hand-in lines, `bags` that of bag scores, and `pool`
 //! that of two sheets pooled.
 
 mod bags;
@@ -19,6 +19,7 @@ mod document;
 mod forecast;
 mod formed;
 mod grid;
+mod handins;
 mod intruders;
 mod kinds;
 mod living;
@@ -95,10 +96,11 @@ fn main() -> ExitCode {
         ["cuts"] => print_cuts(),
         ["intruders"] => print_intruders(),
         ["register"] => print_register(),
+        ["handins"] => print_handins(),
         ["bags"] => print_bags(),
         ["pool"] => print_pools(),
         _ => {
-            eprintln!("usage: bench [quick | typical [CALL] | marking | rows | reports | forecast | next | living | closing | opens | cuts | intruders | register | bags | pool]");
+            eprintln!("usage: bench [quick | typical [CALL] | marking | rows | reports | forecast | next | living | closing | opens | cuts | intruders | register | handins | bags | pool]");
             return ExitCode::from(2);
         }
     }
@@ -136,6 +138,7 @@ fn run(rounds: &Rounds, folder: &str) {
     show(bags::bag_scores(&kinds, rounds, &mut targets));
     show(marking::marking(antichain(&kinds), rounds, &mut targets));
     show(register::register(&kinds, rounds, &mut targets));
+    show(handins::lines(rounds, &mut targets));
     show(pool::pooling(rounds, &mut targets));
     let clingo = clingo::opening_lists(&kinds, &programs, rounds, &mut targets);
     clingo.into_iter().for_each(&mut show);
@@ -250,6 +253,12 @@ fn print_cuts() {
 fn print_register() {
     let mut targets = Vec::new();
     let grid = register::register(&kinds::all(), &FULL, &mut targets);
+    println!("{}\n{}", grid.text(), targets::grid(&targets).text());
+}
+
+fn print_handins() {
+    let mut targets = Vec::new();
+    let grid = handins::lines(&FULL, &mut targets);
     println!("{}\n{}", grid.text(), targets::grid(&targets).text());
 }
 

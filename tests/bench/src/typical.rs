@@ -18,7 +18,7 @@ const LABS: u64 = 40;
 const STUDENTS: usize = 30;
 
 /// A typical sheet.
-fn draft(seed: u64) -> Draft {
+pub fn draft(seed: u64) -> Draft {
     let mut rng = Rng::new(seed);
     let items = rng.between(10, 30);
     let starting = rng.between(3, 10.min(items - 3));

@@ -182,7 +182,11 @@ fn compare_lines(lab: &Lab, rng: &mut Rng, many: usize) -> Outcome {
         };
         let named = || format!("line {before}: {:?}", String::from_utf8_lossy(&text));
         let found = ((answer.number, answer.used), &proved);
-        lab.subject("an afternoon of lines").same(named, found, (expected, &lent(brute.slice())))?;
+        lab.subject("an afternoon of lines").same(
+            named,
+            found,
+            (expected, &lent(brute.slice())),
+        )?;
         used = answer.used;
     }
     Ok(())

@@ -2,7 +2,8 @@
 //!
 //! `harness gate` compares a fixed part. `harness fuzz SEED SECONDS` goes on for as long as it is
 //! told. `harness lists` makes all lists of up to 3 calls that change a setup on all graphs of two items
-//! and two colours. The first difference is printed with its input, and the exit status is 1.
+//! and two colours. `harness handins` compares the gate's hand-in lines alone. The first difference is
+//! printed with its input, and the exit status is 1.
 
 mod bags;
 mod compare;
@@ -39,8 +40,9 @@ fn main() -> ExitCode {
             run("fuzz", seed, |run| run.fuzz(Duration::from_secs(seconds)))
         }
         (Some("lists"), None, None) => run("lists", SEED, Run::lists),
+        (Some("handins"), None, None) => run("handins", SEED, Run::handins),
         _ => {
-            eprintln!("usage: harness gate | harness fuzz SEED SECONDS | harness lists");
+            eprintln!("usage: harness gate | fuzz SEED SECONDS | lists | handins");
             ExitCode::from(2)
         }
     }

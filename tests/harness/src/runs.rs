@@ -176,10 +176,7 @@ impl Run {
         compare_longest(&mut self.rng)?;
         let saves = compare_saved_lives(&mut self.rng, 600)?;
         assert!(saves.enough(), "too little was saved: {saves:?}");
-        let mut ends = Ends::default();
-        compare_handin_bounds(&mut self.rng, &mut ends)?;
-        compare_handins(&mut self.rng, LINES, &mut ends)?;
-        assert!(ends.too_few(&ENDS).is_empty(), "too few lines: {:?} of {ends:?}", ends.too_few(&ENDS));
+        self.handins()?;
         for case in bounds::bounds() {
             self.counts.bounds += 1;
             self.sheet(&case, FEW, true)?;
@@ -228,6 +225,16 @@ impl Run {
         for case in &given {
             self.setup(case, MANY)?;
         }
+        Ok(())
+    }
+
+    /// Hand-ins by name: lines at the bounds and at random; each number must come from each field.
+    pub fn handins(&mut self) -> Outcome {
+        let mut ends = Ends::default();
+        compare_handin_bounds(&mut self.rng, &mut ends)?;
+        compare_handins(&mut self.rng, LINES, &mut ends)?;
+        let too_few = ends.too_few(&ENDS);
+        assert!(too_few.is_empty(), "too few lines: {too_few:?} of {ends:?}");
         Ok(())
     }
 

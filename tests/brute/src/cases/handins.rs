@@ -59,7 +59,8 @@ pub fn line(rng: &mut Rng, calls: &Calls, names: &[String]) -> Vec<u8> {
     }
     let target = rng.below(names.len());
     let lock = rng.chance(1, 2);
-    let list = if lock { calls.lockout_list(target as u64) } else { calls.opening_list(target as u64) };
+    let list =
+        if lock { calls.lockout_list(target as u64) } else { calls.opening_list(target as u64) };
     let mut sets: Vec<u64> = list.unwrap_or_default().iter().copied().take(rng.below(6)).collect();
     for _ in 0..rng.below(4) {
         sets.push(rng.number() & rng.number());
@@ -107,8 +108,19 @@ pub fn bounds(names: &[String]) -> Vec<Vec<u8>> {
     let all = format!("8 {} open {}", names[0], names.join("+")).into_bytes();
     let last = format!("8 {} open {}+x", names[0], names.join("+")).into_bytes();
     let wrong_behind = [handed(MAX_SETS), b" +".to_vec()].concat();
-    vec![Vec::new(), b" ".to_vec(), b"7".to_vec(), b"7 ".to_vec(), handed(0), handed(MAX_SETS - 1),
-        handed(MAX_SETS), handed(MAX_SETS + 1), wrong_behind, all, last]
+    vec![
+        Vec::new(),
+        b" ".to_vec(),
+        b"7".to_vec(),
+        b"7 ".to_vec(),
+        handed(0),
+        handed(MAX_SETS - 1),
+        handed(MAX_SETS),
+        handed(MAX_SETS + 1),
+        wrong_behind,
+        all,
+        last,
+    ]
 }
 
 /// How often lines came to each end, by its name: a number with the field that it was about.

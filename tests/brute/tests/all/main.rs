@@ -7,6 +7,7 @@ mod examples;
 mod forecasts;
 mod generators;
 mod graphs;
+mod handins;
 mod intruders;
 mod living;
 mod pools;

@@ -28,6 +28,7 @@ use Rattle.portal_living.specs.Living.{livingCall}
 use Rattle.portal_living.proofs.Calls.{one-redrawn}
 use Rattle.demands.specs.Demands.{SettledForC}
 use Rattle.demands.proofs.Calls.{living-numbered}
+use Rattle.demands.proofs.HandIns.{settled-write-set}
 
 -- ---- an item's name: the sheet's own number is not 0 where it is asked and answered no
 
@@ -87,6 +88,7 @@ settled-for-c =
       calls = λ q s n f l t. settled-told (contractOf q s) (one-answer q s) n f l t (numbered q s);
       living = λ c words n f l t. settled-told (livingCall c words) (one-redrawn c words) n f l t (living-numbered c (setupIn words));
       name = settled-name;
+      writeSet = settled-write-set;
       check = checked;
       reading = one-reading;
     }

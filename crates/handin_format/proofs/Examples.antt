@@ -176,8 +176,8 @@ module _ (sheet line : List ℕ) (a : LineAnswer) (entry exit : List ℕ) (c : R
 
 module _ (sheet line : List ℕ) (used : ℕ) (a : Registered) (entry exit : List Record) (c : EnterCall sheet line used a entry exit) where
   -- a refused line that leaves a record, or loses the count
-  pub no-record-left : (a .number ≡ 0 → ⊥) → (exit ≡ entry) × (a .used ≡ used)
-  no-record-left n = by (enter-comes sheet line used a entry exit c)
+  pub no-change-by-a-refusal : (a .number ≡ 0 → ⊥) → (exit ≡ entry) × (a .used ≡ used)
+  no-change-by-a-refusal n = by (enter-comes sheet line used a entry exit c)
     where
       left : (q : ℕ) → _≡_ {A = RegisterOutcome} (record { answer = a; slice = exit }) (record { answer = record { number = q; used = used }; slice = entry }) → (exit ≡ entry) × (a .used ≡ used)
       left q e = (ap (λ (o : RegisterOutcome). o .slice) e, ap (λ (o : RegisterOutcome). o .answer .used) e)

@@ -92,7 +92,7 @@ settled-withdrawal used student a entry exit c =
 -- ---- pooling
 
 -- a sheet's own refusal has one of the sheet's numbers
-sheet-asked : (s : List ℕ) → (readSheet s .number ≡ 0 → ⊥) → Listed sheetNumbers (readSheet s .number)
+pub sheet-asked : (s : List ℕ) → (readSheet s .number ≡ 0 → ⊥) → Listed sheetNumbers (readSheet s .number)
 sheet-asked s n =
     ⊎-elim
     (λ a. absurd (n (ap (λ (x : Reading). x .number) (a .reading))))

@@ -28,6 +28,11 @@ use Rattle.histories.proofs.Reaching.{question-12}
 use Rattle.histories.proofs.Heed.{no-heed}
 use Rattle.histories.proofs.Drawings.{drawing-saved}
 use Rattle.portal_living.proofs.Lists.{lives-in-words}
+use Rattle.handin_format.proofs.Afternoon.{lines-law}
+use Rattle.handin_format.proofs.Sets.{set-of-names}
+use Rattle.handin_format.proofs.Lines.{line-of-entry, entry-of-line}
+use Rattle.handin_format.proofs.ReadBack.{set-read-back}
+use Rattle.handin_format.proofs.Marks.{line-marks, register-marks}
 use Rattle.answers.specs.Demand3.{Demand3}
 use Rattle.answers.specs.declared.AllAnswers.{AllAnswers}
 use Rattle.answers.specs.Answers.{basesReply, basesCall, scoreReply, riskReply, scoreCall, marksReply, marksCall}
@@ -36,6 +41,7 @@ use Rattle.demands.specs.Calls.{Every, MadeCall, SettledOn, FulfilledOn,
 use Rattle.demands.specs.Demands.{Demand1, Papers, Demand2, Demand3Reached}
 use Rattle.demands.proofs.Sheets.{settled-reading, settled-portal}
 use Rattle.demands.proofs.Calls.{every-of, settled-on, settled-yes-no, settled-living, settled-hand-in, settled-withdrawal, settled-pool}
+use Rattle.demands.proofs.HandIns.{settled-read-set, settled-read-line, settled-entering}
 use Rattle.demands.proofs.ForC.{settled-for-c}
 
 pub papers : Papers
@@ -62,6 +68,13 @@ papers =
       text = pooled-text;
       pooling = pooling;
       register = register-law;
+      lines = lines-law;
+      lineOfEntry = line-of-entry;
+      entryOfLine = entry-of-line;
+      setOfNames = set-of-names;
+      setReadBack = set-read-back;
+      lineMarks = line-marks;
+      registerMarks = register-marks;
     }
 
 pub one-of-two : (text : List ℕ) (item : ℕ) (s : Setup) (calls : List MadeCall) (opened locked : List ℕ) (r : Answers) → Demand2 text item s calls opened locked r
@@ -78,6 +91,9 @@ one-of-two text item s calls opened locked r d =
       withdraw = settled-withdrawal;
       pool = settled-pool;
       living = settled-living;
+      readSet = settled-read-set;
+      readLine = settled-read-line;
+      enterLine = settled-entering;
       forC = settled-for-c;
     }
 

@@ -28,6 +28,7 @@ use Rattle.portal_living.specs.Living.{livingCall}
 use Rattle.portal_living.proofs.Calls.{one-redrawn}
 use Rattle.demands.specs.Demands.{SettledForC}
 use Rattle.living.proofs.Kept.{living-numbered}
+use Rattle.demands.proofs.HandIns.{settled-write-set}
 
 -- ---- question 12, and the reading
 
@@ -52,6 +53,7 @@ settled-for-c =
       calls = λ q s n f l t. settled-told (contractOf q s) (one-answer q s) n f l t (numbered q s);
       living = λ c words n f l t. settled-told (livingCall c words) (one-redrawn c words) n f l t (all-numbered (livingCall c words .questions) (living-numbered c (setupIn words)));
       name = λ text item n f l t. settled-told (nameCall text item) (one-name text item) n f l t (λ z. z, all-numbered (asks13 (readSheet text .setup) item ∷ []) refl);
+      writeSet = settled-write-set;
       check = checked;
       reading = one-reading;
     }

@@ -39,9 +39,16 @@ use Rattle.portal_sheets.specs.Reading.{ReadingCall, nameCall}
 use Rattle.portal_sets.specs.Check.{asksReached}
 use Rattle.portal_living.specs.Living.{livingCall, LivesInWords}
 use Rattle.portal.specs.Portal.{PortalCall}
+use Rattle.handin_format.specs.declared.NamedSet.{NamedSet}
+use Rattle.handin_format.specs.declared.LineAnswer.{LineAnswer}
+use Rattle.handin_format.specs.Calls.{ReadSetCall, writeSetCall, ReadLineCall, EnterCall}
+use Rattle.handin_format.specs.Afternoon.{LinesLaw}
+use Rattle.handin_format.specs.Meaning.{LineOfEntry, EntryOfLine, SetOfNames, SetReadBack}
+use Rattle.handin_format.specs.Marks.{LineMarks, RegisterMarks}
 use Rattle.demands.specs.declared.Answers.{Answers}
 use Rattle.demands.specs.Sheets.{Reads, SettledReading, SettledPortal}
 use Rattle.demands.specs.Calls.{Every, MadeCall, SettledOn, FulfilledOn, SettledYesNo, SettledLiving, SettledHandIn, SettledWithdrawal, SettledPool}
+use Rattle.demands.specs.HandIns.{SettledReadSet, SettledReadLine, SettledEntering}
 
 -- Demand 1 of the calls for C, each of which tells of the contract of a call, on the setup that its words say: an answer, or one of the call's numbers with
 -- every field 0 and every lent place kept, and nothing else. The register's calls, pooling, the portal's two numbers and "at most" have the contracts of the
@@ -50,6 +57,9 @@ pub record SettledForC : Type 0 where
   pub calls : (q : Request) (s : Setup) (n : ℕ) (fields : List ℕ) (lent : List (List ℕ)) → Told (contractOf q s) n fields lent → SettledTold (contractOf q s) n fields lent
   pub living : (c : Call) (words : List ℕ) (n : ℕ) (fields : List ℕ) (lent : List (List ℕ)) → Told (livingCall c words) n fields lent → SettledTold (livingCall c words) n fields lent
   pub name : (text : List ℕ) (item n : ℕ) (fields : List ℕ) (lent : List (List ℕ)) → Told (nameCall text item) n fields lent → SettledTold (nameCall text item) n fields lent
+  -- the names of a set, in a lent buffer
+  pub writeSet : (sheet : List ℕ) (x : ℕ) (out : List ℕ) (n : ℕ) (fields : List ℕ) (lent : List (List ℕ)) → Told (writeSetCall sheet x out) n fields lent
+      → SettledTold (writeSetCall sheet x out) n fields lent
   -- question 12: 0 exactly where an accepted sheet and a list of calls reach the setup that the words say, else 12
   pub check : (words : List ℕ) (r : ℕ) → Asks (λ q. q) (asksReached (setupIn words) ∷ []) (λ n. n ≡ 0) r
       → Settled (λ n. n) (λ q. q) (12 ∷ []) (Asks (λ q. q) (asksReached (setupIn words) ∷ []) (λ n. n ≡ 0)) r
@@ -72,6 +82,11 @@ pub record Demand1 (text : List ℕ) (item : ℕ) (s : Setup) (calls : List Made
   pub withdraw : (used student : ℕ) (a : Registered) (entry exit : List Record) → WithdrawCall used student a entry exit → SettledWithdrawal used student a entry exit
   pub pool : (first second : List ℕ) (p : Pooled) (entry exit : List ℕ) → PoolCall first second p entry exit → SettledPool first second p entry exit
   pub living : (c : Call) (t : Setup) (p : Redrawing) → CallOf c t p → SettledLiving c t p
+  -- hand-ins by name
+  pub readSet : (sheet l : List ℕ) (a : NamedSet) → ReadSetCall sheet l a → SettledReadSet sheet l a
+  pub readLine : (sheet line : List ℕ) (a : LineAnswer) (entry exit : List ℕ) → ReadLineCall sheet line a entry exit → SettledReadLine sheet line a entry exit
+  pub enterLine : (sheet line : List ℕ) (used : ℕ) (a : Registered) (entry exit : List Record) → EnterCall sheet line used a entry exit
+      → SettledEntering sheet line used a entry exit
   pub forC : SettledForC
 
 -- The papers' sentences over more than one call, and over what is printed: of document 01 the report; of document 02 the points that are named.
@@ -112,6 +127,16 @@ pub record Papers : Type 0 where
   pub pooling : Pooling
   -- 12: after every list of calls on the class register its records are those of the latest accepted attempts
   pub register : RegisterLaw
+  -- hand-ins by name: after every list of lines the register holds what the lines say; a line is accepted exactly where it is the written form of a valid entry,
+  -- and says what that states; a set of names has the items with these names, and a written set is read back
+  pub lines : LinesLaw
+  pub lineOfEntry : LineOfEntry
+  pub entryOfLine : EntryOfLine
+  pub setOfNames : SetOfNames
+  pub setReadBack : SetReadBack
+  -- a line's record has full marks exactly where the sets that it names are those of demand 3, each one time, and no other
+  pub lineMarks : LineMarks
+  pub registerMarks : RegisterMarks
 
 -- Demand 2: every answer is the one of the papers' definitions, by the calls' own contracts; a sheet is accepted exactly where it has the paper's form, and
 -- yields the setup that its rows state.

@@ -1,3 +1,4 @@
 pub mod Sheets
 pub mod Calls
+pub mod HandIns
 pub mod Demands

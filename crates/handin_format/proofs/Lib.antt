@@ -3,3 +3,5 @@ pub mod Lines
 pub mod ReadBack
 pub mod Afternoon
 pub mod Marks
+pub mod Unique
+pub mod Examples

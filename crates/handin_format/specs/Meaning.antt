@@ -1,5 +1,5 @@
--- What reading and writing names means. Statements only; proofs/Sets.antt, proofs/Lines.antt and proofs/ReadBack.antt have
--- the theorems.
+-- What reading and writing names means. Statements only; proofs/Sets.antt, proofs/Lines.antt and proofs/ReadBack.antt
+-- have the theorems.
 use mathlib.Core.Path.{_≡_}
 use mathlib.Core.List.{List, [], _∷_}
 use mathlib.Core.Logic.{_⊎_}
@@ -8,7 +8,8 @@ use Rattle.vertex_set.specs.Set.{Iff, Member}
 use Rattle.setup.specs.Calls.{Inside}
 use Rattle.sheet_format.specs.Rows.{ItemRow, Doc, Each, Apart, ValidItem, SameName, Valid, numberIn, render, setupOf}
 use Rattle.sheet_format.specs.Names.{nameOf}
-use Rattle.handin_format.specs.Sets.{setNamed, setNames, someSet, setFrom}
+use Rattle.register.specs.Afternoon.{RegisterCall}
+use Rattle.handin_format.specs.Sets.{namesText, setNamed, setNames, someSet, setFrom}
 use Rattle.handin_format.specs.Entries.{LineEntry, ValidNames, ValidEntry, entryText, stated}
 use Rattle.handin_format.specs.Lines.{lineNo, lineCall}
 
@@ -45,3 +46,25 @@ abbrev pub SetReadBack : Type 0
 SetReadBack =
     (d : Doc) → Valid d → (x : ℕ) → Inside (setupOf d) x
     → setFrom (d .items) (setNames (nameOf (render d)) x) ≡ someSet x
+
+-- ---- of a sheet's bytes
+
+-- On the sheet's rows the text is the names of a set, and x is that set.
+pub record NamesSet (sheet l : List ℕ) (x : ℕ) : Type 0 where
+  pub d : Doc
+  pub valid : Valid d
+  pub is : sheet ≡ render d
+  pub names : List (List ℕ)
+  pub validNames : ValidNames (d .items) names
+  pub text : l ≡ namesText names
+  pub set : x ≡ setNamed (d .items) names
+
+-- On the sheet's rows the line is the written form of an entry, and c is the register's call that it states.
+pub record LineSays (sheet line : List ℕ) (c : RegisterCall) : Type 0 where
+  pub d : Doc
+  pub valid : Valid d
+  pub is : sheet ≡ render d
+  pub entry : LineEntry
+  pub validEntry : ValidEntry (d .items) entry
+  pub text : line ≡ entryText entry
+  pub says : c ≡ stated (d .items) entry

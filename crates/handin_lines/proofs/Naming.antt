@@ -25,7 +25,7 @@ use Rattle.sheet_format.specs.Fields.{dash}
 use Rattle.sheet_fields.specs.Inner.Parts.{until}
 use Rattle.handin_lines.specs.declared.by_name.ItemField.{ItemField}
 use Rattle.handin_lines.specs.Inner.Splitting.{splitFrom}
-use Rattle.handin_lines.specs.Inner.Naming.{noItem, itemFrom, NamesItem, TakesName, NamesSet}
+use Rattle.handin_lines.specs.Inner.Naming.{noItem, itemFrom, NamesItem, TakesName, ReadsNames}
 use Rattle.handin_lines.proofs.Splitting.{parts-split, split-at, split-over}
 use Rattle.handin_format.specs.declared.SetField.{SetField}
 use Rattle.handin_format.specs.Sets.{noSet, someSet, partsOf, withName, withNames, setFrom}
@@ -120,7 +120,7 @@ pub left-first : (items : List ItemRow) (l : List ℕ) → sameText l dash ≡ f
 unfolding leftFrom setFrom
 left-first items l n = rw (n, parts-split l)
 
-pub set-empty : (low high : List ℕ) (count : ℕ) (l : List ℕ) → sameText l dash ≡ true → NamesSet low high count l (noSet 0)
+pub set-empty : (low high : List ℕ) (count : ℕ) (l : List ℕ) → sameText l dash ≡ true → ReadsNames low high count l (noSet 0)
 unfolding setFrom
 set-empty low high count l e = record { each = λ items t. rw e }
 
@@ -132,11 +132,11 @@ pub reading-first : (l low high : List ℕ) (count : ℕ) → sameText l dash �
 reading-first l low high count n = record { each = λ items t. left-first items l n }
 
 module _ (l low high : List ℕ) (count x at e : ℕ) (here : Reading l low high count x at) (h : at ≤ length l) (q : e ≡ at + until 43 (drop at l)) (r : SetField) (takes : TakesName low high count x (take (e - at) (drop at l)) r) where
-  pub reading-refused : (r .number ≡ 0 → ⊥) → NamesSet low high count l r
+  pub reading-refused : (r .number ≡ 0 → ⊥) → ReadsNames low high count l r
   reading-refused n = record { each = λ items t. sym (here .each items t ∙ left-refused l low high count x at e h q r takes items t n) }
 
   pub reading-next : r .number ≡ 0 → Reading l low high count (r .set) (e + 1)
   reading-next z = record { each = λ items t. here .each items t ∙ left-next l low high count x at e h q r takes items t z }
 
-pub reading-over : (l low high : List ℕ) (count x at : ℕ) → Reading l low high count x at → length l < at → NamesSet low high count l (record { number = 0; set = x })
+pub reading-over : (l low high : List ℕ) (count x at : ℕ) → Reading l low high count x at → length l < at → ReadsNames low high count l (record { number = 0; set = x })
 reading-over l low high count x at here h = record { each = λ items t. sym (here .each items t ∙ left-over items x at l h) }

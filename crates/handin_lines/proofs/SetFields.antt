@@ -17,7 +17,7 @@ use Rattle.handin_format.specs.Sets.{setFrom}
 use Rattle.handin_format.specs.Lines.{LineNo, firstNoOf, setQuestions}
 use Rattle.handin_lines.specs.declared.sets.Checked.{Checked}
 use Rattle.handin_lines.specs.Inner.Splitting.{splitFrom}
-use Rattle.handin_lines.specs.Inner.Naming.{NamesSet}
+use Rattle.handin_lines.specs.Inner.Naming.{ReadsNames}
 use Rattle.handin_lines.specs.Inner.Sets.{setsFrom, ChecksSets, PutsSets}
 use Rattle.handin_lines.proofs.Splitting.{split-at, split-over}
 
@@ -45,7 +45,7 @@ pub checking-first : (low high : List ℕ) (count : ℕ) (l : List ℕ) (start :
 checking-first low high count l start = record { first = λ items t. refl; counted = omega arith }
 
 module _ (low high : List ℕ) (count : ℕ) (l : List ℕ) (start n at e : ℕ) (here : Checking low high count l start n at) (h : at ≤ length l) (q : e ≡ at + until 32 (drop at l))
-    (f : SetField) (reads : NamesSet low high count (take (e - at) (drop at l)) f) where
+    (f : SetField) (reads : ReadsNames low high count (take (e - at) (drop at l)) f) where
   here-no : (items : List ItemRow) → NameKeys items low high count
       → firstNoOf (setQuestions items 4 (splitFrom 32 start l)) ≡ firstNoOf (setQuestions items (4 + n) (take (e - at) (drop at l) ∷ splitFrom 32 (e + 1) l))
   here-no items t = here .first items t ∙ ap (λ (fs : List (List ℕ)). firstNoOf (setQuestions items (4 + n) fs)) (split-at 32 l at e h q)
@@ -113,7 +113,7 @@ module _ (low high : List ℕ) (count : ℕ) (l : List ℕ) (start n at e : ℕ)
       let k = ap length (split-at 32 l at e h q) in
       omega arith
 
-  pub putting-next : (f : SetField) → NamesSet low high count (take (e - at) (drop at l)) f → Putting low high count l start (n + 1) (e + 1) entry (set out n (f .set))
+  pub putting-next : (f : SetField) → ReadsNames low high count (take (e - at) (drop at l)) f → Putting low high count l start (n + 1) (e + 1) entry (set out n (f .set))
   putting-next f reads =
       let c = here .counted in
       let k = ap length (split-at 32 l at e h q) in

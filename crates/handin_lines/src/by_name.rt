@@ -7,7 +7,7 @@ ghost use lib.ListN.{length};
 ghost use Rattle.sheet_format.specs.Text.{sameText};
 ghost use Rattle.sheet_format.specs.Fields.{dash};
 ghost use Rattle.handin_format.specs.Sets.{noSet};
-ghost use Rattle.handin_lines.specs.Inner.Naming.{noItem, NamesItem, TakesName, NamesSet};
+ghost use Rattle.handin_lines.specs.Inner.Naming.{noItem, NamesItem, TakesName, ReadsNames};
 
 const PLUS: u8 = 43;
 
@@ -77,7 +77,7 @@ fn is_dash(l: &[u8]) -> bool
 // The set that the text names.
 pub fn set_of(l: &[u8], low: &[u64], high: &[u64], count: usize) -> SetField
     requires { ⌜ (count ≤ length (now low)) × (count ≤ length (now high)) × (count ≤ 64) ⌝ }
-    ensures { λ r. ⌜ NamesSet (now (low .entry)) (now (high .entry)) count (now (l .entry)) r ⌝ }
+    ensures { λ r. ⌜ ReadsNames (now (low .entry)) (now (high .entry)) count (now (l .entry)) r ⌝ }
 {
     if is_dash(l) {
         return no_set(0);

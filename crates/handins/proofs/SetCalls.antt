@@ -29,7 +29,7 @@ use Rattle.handin_format.specs.declared.NamedSet.{NamedSet}
 use Rattle.handin_format.specs.declared.SetWritten.{SetWritten}
 use Rattle.handin_format.specs.Sets.{setFrom, setNames}
 use Rattle.handin_format.specs.Calls.{setRefused, setTold, ReadSetCall, writeSetCall}
-use Rattle.handin_lines.specs.Inner.Naming.{NamesSet}
+use Rattle.handin_lines.specs.Inner.Naming.{ReadsNames}
 use Rattle.handins.specs.Inner.{HandsNames}
 
 -- ---- reading
@@ -42,7 +42,7 @@ module _ (sheet l : List ℕ) (r : Reading) (is : r ≡ readSheet sheet) where
   unfolding Asks
   set-no-sheet a n e = inl (λ z. n (number-is ∙ z), e ∙ ap (λ (x : Reading). setRefused 1 (x .line) (x .number)) is)
 
-  module _ (zero : r .number ≡ 0) (keys : Keys) (has : SheetKeys sheet (r .setup .count) keys) (f : SetField) (reads : NamesSet (keys .low) (keys .high) (r .setup .count) l f) where
+  module _ (zero : r .number ≡ 0) (keys : Keys) (has : SheetKeys sheet (r .setup .count) keys) (f : SetField) (reads : ReadsNames (keys .low) (keys .high) (r .setup .count) l f) where
     named : (a : NamedSet)
         → ((items : List ItemRow) → f ≡ setFrom items l
         → ((setFrom items l .number ≡ 0 → ⊥) × (a ≡ setRefused 2 0 (setFrom items l .number))) ⊎ ((setFrom items l .number ≡ 0) × (a ≡ setTold (setFrom items l .set))))

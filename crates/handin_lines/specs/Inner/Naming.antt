@@ -25,5 +25,5 @@ pub record NamesItem (low high : List ℕ) (count : ℕ) (l : List ℕ) (r : Ite
 pub record TakesName (low high : List ℕ) (count x : ℕ) (l : List ℕ) (r : SetField) : Type 0 where
   pub each : (items : List ItemRow) → NameKeys items low high count → r ≡ withName items x l
 
-pub record NamesSet (low high : List ℕ) (count : ℕ) (l : List ℕ) (r : SetField) : Type 0 where
+pub record ReadsNames (low high : List ℕ) (count : ℕ) (l : List ℕ) (r : SetField) : Type 0 where
   pub each : (items : List ItemRow) → NameKeys items low high count → r ≡ setFrom items l

@@ -15,7 +15,7 @@ COMMENT = re.compile(r"(?:^|(?<=\s))--(?=\s|-|$).*")
 LEVELS = {"⊎": (2, "r"), "×": (2, "r"), "≡": (4, "n"), "<": (4, "n"), "≤": (4, "n"), "||": (4.5, "r"), "&&": (4.6, "r"), "∷": (5, "r"), "++": (5, "r")}
 LEVELS |= {"+": (6, "l"), "-": (6, "l"), "*": (7, "l"), "/": (7, "l"), "%": (7, "l"), "^": (8, "r")}
 STOP = {")", "}", ";", "→", "=", ":", "in"} | set(LEVELS)
-HEAD = re.compile(r"^(?:(?:unfoldable|abbrev) )?pub (?:(record|data) )?([^\s:(]+)(?=[\s:(]|$)")
+HEAD = re.compile(r"^(?:(?:unfoldable|abbrev) (?:pub )?|pub )(?:(record|data) )?([^\s:(]+)(?=[\s:(]|$)")
 
 
 class Refused(Exception):
@@ -264,8 +264,8 @@ def clause(lines, file, found):
     found[name]["clauses"].append((patterns, body))
 
 
-def read(text, file="text"):
-    """The `use` lines of a file, and its definitions by their names, in order."""
+def read(text, file="text", statements=False):
+    """The `use` lines of a file, and its definitions by their names, in order. A head without a clause is refused, or is a statement."""
     uses, found = [], {}
     for lines in pieces(text):
         first = lines[0][1]
@@ -289,5 +289,7 @@ def read(text, file="text"):
             clause(lines, file, found)
     for name, d in found.items():
         if d["kind"] == "fun" and not d["clauses"]:
-            raise Refused(f"{file}: {name} has no clause")
+            if not statements:
+                raise Refused(f"{file}: {name} has no clause")
+            found[name] = {**d, "type": ("app", ("var", "Type"), [("num", 0)]), "clauses": [([], d["type"])], "statement": True}
     return uses, found

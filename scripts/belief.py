@@ -16,6 +16,7 @@ PART = re.compile(r"^\| \*\*(.+)\*\* \| \| \|$")
 ROW = re.compile(r"^\| `([\w/]+\.antt)` \| \d+ \| .* \|$")
 USED = re.compile(r"^use Rattle·(\w+?)(?:·specs)?\.specs\.([\w.-]+)", re.M)
 BROUGHT = re.compile(r"^use Rattle·(\w+?)(?:·specs)?\.specs\.(\w+)\.\{(.*)\}", re.M)
+BRINGS = re.compile(r"^use (\w+)(?:::(\w+))?::([A-Z]\w*);", re.M)
 SENTENCE = re.compile(r"(.*?\.)(?= |$)")
 
 
@@ -91,6 +92,39 @@ def types(file):
         if names[0] == "declared":
             found.append((crate, names[1] if len(names) > 2 else "lib", names[-1]))
     return list(dict.fromkeys(found))
+
+
+def declaration(path, name):
+    """A struct or an enum of a source file, with the comment above it."""
+    found = re.search(rf"^(?://.*\n|#\[.*\n)*pub (?:struct|enum) {name}\b(?:.*;$| \{{\n(?:.*\n)*?\}}$)", path.read_text(encoding="utf-8"), re.M)
+    if not found:
+        raise SystemExit(f"no type {name} in {path.relative_to(ROOT)}")
+    return found[0]
+
+
+def source(crate, module):
+    return ROOT / "crates" / crate / "src" / f"{module}.rt"
+
+
+def named_in(crate, module, name):
+    """The types of the project that a type's fields name: those of its own source file, and those that the file brings in."""
+    path = source(crate, module)
+    text = path.read_text(encoding="utf-8")
+    words = re.findall(r"\b[A-Z]\w*", re.sub(r"//.*", "", declaration(path, name)))
+    here = {word: (crate, module, word) for word in re.findall(r"^pub (?:struct|enum) (\w+)", text, re.M)}
+    for home, part, word in re.findall(r"\b(\w+)(?:::(\w+))?::([A-Z]\w*)", declaration(path, name)) + BRINGS.findall(text):
+        here[word] = (crate if home == "crate" else home, part or "lib", word)
+    return [here[word] for word in dict.fromkeys(words) if word in here and word != name]
+
+
+def with_parts(wanted, told):
+    """The wanted types that are not told yet, each behind the types of its fields; they are told then."""
+    found = []
+    for one in wanted:
+        if one not in told:
+            told.add(one)
+            found += with_parts(named_in(*one), told) + [one]
+    return found
 
 
 @functools.cache

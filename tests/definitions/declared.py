@@ -7,11 +7,11 @@ import sys
 import types
 
 import blocks
-import examples
+import examples_by_hand as examples
 import scratch
 
 DATA = blocks.HERE / "declared.txt"
-SOURCE = (blocks.HERE / "definitions.py").read_text()
+SOURCE = (blocks.HERE / "by_hand.py").read_text()
 
 
 def module(text):

@@ -11,7 +11,7 @@ from made import antt
 
 Example = collections.namedtuple("Example", "name world group expected used seconds")
 # How long an example may take of an altered definition, and all of them together.
-ONE, ALL = 5, 60
+ONE, ALL = 5, 20
 
 
 class Late(BaseException):
@@ -74,10 +74,19 @@ def measured(at):
     return found
 
 
-def of_name(every, name):
+EVERY = []
+
+
+def measure():
+    """All examples, measured, before any process is started that asks them."""
+    with pool() as many:
+        EVERY[:] = [e for found in many.imap_unordered(measured, range(len(groups()))) for e in found]
+
+
+def of_name(name):
     """The examples that use a definition, the fastest first."""
     users = D._made.users(name)
-    return sorted((e for e in every if e.used & users), key=lambda e: e.seconds)
+    return sorted((e for e in EVERY if e.used & users), key=lambda e: e.seconds)
 
 
 def noticing(candidates, new, first=()):
@@ -109,8 +118,8 @@ QUESTIONS = {}
 
 def by_rule(task):
     """The alterations by rule of one definition: for each its sentence, and the example that notices it or what else is to be said."""
-    file, name, every = task
-    candidates, first, found = of_name(every, name), [], []
+    file, name = task
+    candidates, first, found = of_name(name), [], []
     for n, sentence, new in rules.alterations(D._made, file):
         if n != name:
             continue

@@ -338,6 +338,7 @@ def of_setups(D):
         ("not without recovery: no edge", lambda: D.WithoutRecovery(bench, emptyGraph), False),
         ("not without recovery: 63 places", lambda: D.WithoutRecovery(bench, Graph(lessRecovery(bench).rows[:63])), False),
         ("initial set: bench", lambda: D.ChosenSet(False, bench, 7), True),
+        ("not initial set: three others", lambda: D.ChosenSet(False, bench, 11), False),
         ("not initial set: bench less one", lambda: D.ChosenSet(False, bench, 3), False),
         ("not initial set: with item 70", lambda: D.ChosenSet(False, bench, 7 + 2**70), False),
     ]
@@ -362,6 +363,8 @@ def of_well_formed(D):
         ("not well formed: no item", lambda: D.WellFormed(EMPTY), False),
         ("not well formed: 65 items", lambda: D.WellFormed(all_items(0)._replace(count=65)), False),
         ("not well formed: rank 10", lambda: D.WellFormed(RANK_10), False),
+        ("not well formed: rank 1 at 5, the first place not in use", lambda: D.WellFormed(with_vertex(bench, 5, unusedVertex._replace(rank=1))), False),
+        ("not well formed: an edge to 5", lambda: D.WellFormed(bench._replace(graph=with_row(G, 5, 0, 1))), False),
         ("not well formed: rank 1 at 63", lambda: D.WellFormed(with_vertex(bench, 63, unusedVertex._replace(rank=1))), False),
         ("not well formed: an edge from 5", lambda: D.WellFormed(bench._replace(graph=with_row(G, 4, 0, 37))), False),
         ("not well formed: an edge to 63", lambda: D.WellFormed(bench._replace(graph=with_row(G, 63, 0, 1))), False),
@@ -389,6 +392,9 @@ def of_parts(D):
         ("not smallest: 7 of 3 and 7", lambda: D.Smallest(lambda x: x in (3, 7), 7), False),
         ("not smallest: without the property", lambda: D.Smallest(lambda x: x in (3, 7), 1), False),
         ("full: all zero", lambda: D.Full(0, 0, 0, 0), True),
+        ("points: of a blank", lambda: D.points(None) == 0, True),
+        ("sum over: item 64 is none", lambda: D.sumOver(lambda v: 1, 2**64 + 2**63) == 1, True),
+        ("question 1: 16,384 bytes, and one more", lambda: D.question1([10] * 16384) and not D.question1([10] * 16385), True),
     ]
 
 
@@ -492,6 +498,7 @@ def of_scores(D):
         ("not B5: score 0", lambda: D.Score(False, bench, G, ORDER, 0), False),
         ("not B5: score 4", lambda: D.Score(False, bench, G, ORDER, 4), False),
         ("not B5: never", lambda: D.Score(False, bench, G, ORDER, never), False),
+        ("not least over: a sum of never", lambda: D.LeastOver(lambda x: x == 1, lambda x: never, never), False),
         ("score over B3", lambda: D.ScoreOver(False, bench, [2, 5], 1), True),
         ("not score over B3: 4", lambda: D.ScoreOver(False, bench, [2, 5], 4), False),
         ("not score over B3: 0", lambda: D.ScoreOver(False, bench, [2, 5], 0), False),
@@ -519,6 +526,10 @@ def of_marks(D):
         ("counts as: repeated", lambda: D.CountsAs(False, bench, G, ORDER, [2], 2, "Repeated"), True),
         ("not counts as: right, where repeated", lambda: D.CountsAs(False, bench, G, ORDER, [2], 2, "Right"), False),
         ("counts as: shut for a vertex outside", lambda: D.CountsAs(False, bench, G, ORDER, [], 10, "Shut"), True),
+        ("not counts as: shut, where repeated", lambda: D.CountsAs(False, bench, G, ORDER, [10], 10, "Shut"), False),
+        ("not counts as: loose, where repeated", lambda: D.CountsAs(False, bench, G, ORDER, [6], 6, "Loose"), False),
+        ("not counts as: loose, where right", lambda: D.CountsAs(False, bench, G, ORDER, [], 2, "Loose"), False),
+        ("not counts as: right, where loose", lambda: D.CountsAs(False, bench, G, ORDER, [], 6, "Right"), False),
         ("not counts as: loose, where shut", lambda: D.CountsAs(False, bench, G, ORDER, [], 10, "Loose"), False),
         ("not counts as: shut, where loose", lambda: D.CountsAs(False, bench, G, ORDER, [], 6, "Shut"), False),
         ("marked: B7's marks", lambda: D.MarkedAs(False, bench, G, ORDER, [], [2, 2, 6, 4], ["Right", "Repeated", "Loose", "Shut"]), True),
@@ -1356,6 +1367,7 @@ def of_contracts(D):
     toy = lambda lent, *questions: D.Contract([lent], list(questions), lambda: [(7, 8), (8, 7), (7,)], lambda a: a == (7, 8), lambda a: (len(a),), lambda a: (a,))
     open_ = lambda lent: D.Contract([lent], [], lambda: [(7, 8), (8, 7)], lambda a: True, lambda a: (len(a),), lambda a: (a,))
     tell = lambda *questions: D.telling(lambda: [7], list(questions), lambda a: True, lambda a: (a,))
+    loose = D.Contract([LENT[:1]], [], lambda: [(), (7, 8)], lambda a: True, lambda a: (), lambda a: (a,))
     two, one = LENT[:2], LENT[:1]
     right, other, short = ended(D, 0, [2], [7, 8]), ended(D, 0, [2], [8, 7]), ended(D, 15, [], two)
     told = lambda n, f, x, c=toy(two): D.Told(c, n, f, [x])
@@ -1427,6 +1439,7 @@ def of_contracts(D):
         ("settled told: 15", lambda: D.among(told=results)(lambda: D.SettledTold(toy(one), 15, [0, 0], [one])), True),
         ("not settled told: another struct tells of it", lambda: D.among(told=results)(lambda: D.SettledTold(toy(two), 0, [0, 2], [[7, 8]])), False),
         ("not settled told: another end of the list", lambda: D.among(told=results)(lambda: D.SettledTold(toy(two), 0, [2, 0], [two])), False),
+        ("not settled told: 0 and 15 tell of it alike", lambda: D.among(told=[(n, [0, 0], [one]) for n in (0, 15)])(lambda: D.SettledTold(loose, 0, [0, 0], [one])), False),
         ("not settled told: 13", lambda: D.among(told=[])(lambda: D.SettledTold(toy(two), 13, [0, 0], [two])), False),
         ("asks 12, 13, 14: bench", lambda: D.asks12(bench).Yes() and D.asks13(bench, 4).Yes() and D.asks14(bench, 31).Yes(), True),
         ("not asks 12: no item", lambda: D.asks12(EMPTY).Yes(), False),

@@ -22,10 +22,13 @@ def order():
     return [x for file in files.listed() for x in ([files.BEFORE[file][0], file] if file in files.BEFORE else [file])]
 
 
+FLAT = {int, bool, str}
+
+
 def plain(x):
     """With tuples for lists, through and through."""
     if type(x) in (list, tuple, range):
-        return tuple(map(plain, x))
+        return tuple(x) if set(map(type, x)) <= FLAT else tuple(map(plain, x))
     if isinstance(x, tuple) and not getattr(x, "is_plain", False):
         x = type(x)(*map(plain, x))
         x.is_plain = True
@@ -106,13 +109,13 @@ class Definitions:
         values = {*self.constants(name), *([name] if self.is_value(name) else [])}
         return {n for n in self.texts if n == name or self.cited[n] & values}
 
-    def altered(self, file, text):
-        """The definitions with another text of a file. What is the same there stays as it is."""
+    def changed(self, file, text):
+        """The definitions that are others in another text of a file."""
         here, new = pristine(file), files.resolved(*antt.read(text, file))
-        changed = [name for name in here if new.get(name) != here[name]]
-        if list(new) != list(here) or not changed:
+        found = {name: new[name] for name in here if new.get(name) != here[name]}
+        if list(new) != list(here) or not found:
             raise antt.Refused(f"{file}: no definition is altered, or one is gone")
-        return self.replaced({name: new[name] for name in changed})
+        return found
 
     @contextlib.contextmanager
     def replaced(self, new):
@@ -133,7 +136,7 @@ class Definitions:
 
     def alter(self, name, d, before):
         if d["kind"] == "record":
-            d["data"] = self.t.defs[name]["data"]
+            d["data"], d["implicit"] = self.t.defs[name]["data"], self.t.defs[name]["implicit"]
         self.t.take({name: d})
         text = self.t.definition(d)
         if self.t.looking != self.known["looking"]:

@@ -21,7 +21,7 @@ RUNS = {"text calls numbers": "given.runs"}
 RANGES = {
     # ---- sets, derivations, contracts
     "Rising": {"y": "(0, *l)"},
-    "Derivation": {"steps": "lists_of_steps(r, held)"},
+    "Derivation": {"steps": "[*lists_of_steps(r, held), *((e,) for e in r.Step())]"},
     "access": {"Step": "steps()"},
     "lockout": {"Step": "world.vertices"},
     "Passes": {"u": "world.sets"},

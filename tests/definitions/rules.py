@@ -1,6 +1,7 @@
 """Alterations by rule: of each definition every one that a rule makes. < and ≤, × and ⊎, true and false are exchanged, and so are their sisters that
 compute; a condition, a negation or a field is dropped; a number is one higher; two arguments of one type, or the sides of an operator, change places.
-Head lines, types of values and patterns stay as they are, so that the altered definition is one."""
+Head lines, types of values and patterns stay as they are, so that the altered definition is one. A law holds of everything, which is proved, and so does
+what follows from it by its form alone; such alterations of laws are not made, since no example could notice them."""
 import files
 import translate
 
@@ -12,6 +13,8 @@ BOTTOM = ("var", "⊥")
 GIVEN = {"eqb": ["ℕ", "ℕ"], "ltb": ["ℕ", "ℕ"], "leb": ["ℕ", "ℕ"], "take": ["ℕ", "List"], "drop": ["ℕ", "List"], "cond": ["Bool", "A", "A"], "min": ["ℕ", "ℕ"], "max": ["ℕ", "ℕ"]}
 GIVEN = {name: [("var", t) for t in types] for name, types in GIVEN.items()}
 # With their arguments exchanged these say the same.
+# Laws with arguments, which are proved of all of them, or of all that a law in the same file names.
+LAWS = set("Duality QuickAgrees NoEasierRoute Meaning ReportMeaning UnmixedPrints PoolingLaw RenamesLowest RegisterAfter Demand1 Demand2 Demand3Reached".split())
 SYMMETRIC = set("eqb min max bitAnd bitOr Iff Meets SameMultiset SameName SameEdge SameAttempt sameText sameEdge sameThree".split())
 
 
@@ -56,24 +59,22 @@ class Rules:
             return []
         return [a for _, a, implicit in (translate.telescope(d["type"])[0] if d["kind"] == "fun" else d["params"]) if not implicit]
 
-    def here(self, e):
-        """What the rules make of the expression itself."""
+    def here(self, e, sign):
+        """What the rules make of the expression itself. `sign` is 1 where what follows from it makes the law weaker, and -1 where it makes it stronger."""
         k = e[0]
         if k == "num":
             yield ("num", e[1] + 1)
         if k == "var" and e[1] in WORDS:
             yield ("var", WORDS[e[1]])
-        if k == "op" and e[1] in SISTERS and not (e[1] == "×" and self.t.is_data(e, set())):
+        if k == "op" and e[1] in SISTERS and sign != {"<": 1, "×": 1, "≤": -1, "⊎": -1}.get(e[1], 2) and not (e[1] == "×" and self.t.is_data(e, set())):
             yield ("op", SISTERS[e[1]], *e[2:])
-            if e[1] in ("×", "&&"):
-                yield e[2]
-                yield e[3]
+        if k == "op" and (e[1] == "&&" or (e[1] == "×" and sign != 1)):
+            yield e[2]
+            yield e[3]
         if k == "op" and e[1] in SIDES and e[2] != e[3]:
             yield ("op", e[1], e[3], e[2], *e[4:])
-        if k == "arr":
+        if k == "arr" and (e[2] == BOTTOM or sign != -1):
             yield e[1] if e[2] == BOTTOM else e[2]
-        if k == "pi" and e[3] == BOTTOM:
-            yield e[2]
         if k == "app":
             types = self.arguments(e[1])
             args = [x for x in e[2] if x[0] != "named"]
@@ -82,9 +83,9 @@ class Rules:
                     if types[i] == types[j] and args[i] != args[j] and len(args) == len(e[2]):
                         yield ("app", e[1], [*args[:i], args[j], *args[i + 1:j], args[i], *args[j + 1:]])
 
-    def within(self, e):
+    def within(self, e, sign=0):
         """All alterations of an expression, each with what is altered and what it becomes."""
-        for new in self.here(e):
+        for new in self.here(e, sign):
             yield new, e, new
         k = e[0]
         if k == "app":
@@ -101,33 +102,35 @@ class Rules:
                 yield from self.placed(value, lambda x, i=i, n=n: ("rec", [*e[1][:i], (n, x), *e[1][i + 1:]]))
         elif k in ("op", "arr", "let", "sigma", "pi"):
             for at in {"op": (2, 3), "arr": (1, 2), "let": (2, 3), "sigma": (3,), "pi": (3,)}[k]:
-                yield from self.placed(e[at], lambda x, at=at: (*e[:at], x, *e[at + 1:]))
+                below = 0 if k == "let" or (k == "op" and e[1] not in "×⊎") else -sign if k == "arr" and at == 1 else sign
+                yield from self.placed(e[at], lambda x, at=at: (*e[:at], x, *e[at + 1:]), below)
             if k in ("pi", "sigma") and not self.t.is_data(e[2], self.types):
-                yield from self.placed(e[2], lambda x: (*e[:2], x, *e[3:]))
+                yield from self.placed(e[2], lambda x: (*e[:2], x, *e[3:]), sign if k == "sigma" else -sign)
 
-    def placed(self, e, put):
-        for new, old, now in self.within(e):
+    def placed(self, e, put, sign=0):
+        for new, old, now in self.within(e, sign):
             yield put(new), old, now
 
     def of(self, d):
         """All alterations of a definition: a sentence, and the altered definition."""
         self.types = {n for n, _, implicit in d.get("params", ()) if implicit}
+        sign = int(d["name"] in LAWS or (self.t.is_prop(d["name"]) and not self.t.arity[d["name"]]))
         if d["kind"] == "fun":
             for i, (patterns, body) in enumerate(d["clauses"]):
-                for new, old, now in self.within(body):
+                for new, old, now in self.within(body, sign):
                     yield f"`{show(old)}` to `{show(now)}`" + (f" in clause {i + 1}" if len(d["clauses"]) > 1 else ""), {**d, "clauses": [*d["clauses"][:i], (patterns, new), *d["clauses"][i + 1:]]}
         elif not self.t.defs[d["name"]]["data"]:
-            yield from self.of_fields(d)
+            yield from self.of_fields(d, sign)
 
-    def of_fields(self, d):
+    def of_fields(self, d, sign):
         for i, (name, a) in enumerate(d["fields"]):
             if d["kind"] == "record" and self.t.is_data(a, self.types):
                 continue
             put = lambda x, i=i, name=name: {**d, "fields": [*d["fields"][:i], (name, x), *d["fields"][i + 1:]]}
-            for new, old, now in self.within(a):
+            for new, old, now in self.within(a, sign):
                 if d["kind"] == "record" or translate.telescope(new)[1] == translate.telescope(a)[1]:
                     yield f"`{show(old)}` to `{show(now)}` in {name}", put(new)
-            if len(d["fields"]) > 1:
+            if len(d["fields"]) > 1 and not sign:
                 yield f"{name} dropped", {**d, "fields": [*d["fields"][:i], *d["fields"][i + 1:]]}
 
 

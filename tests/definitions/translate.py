@@ -120,9 +120,8 @@ class Translator:
         if d["data"]:
             self.data.add(d["name"])
             self.known_record(d["name"], [n for n, _ in d["fields"]])
-        used = set().union(*(free(a) for _, a in d["fields"]))
-        d["implicit"] = [n for n, _, implicit in d["params"] if implicit and n in used and not n.startswith("ℓ")]
-        d["implicit"] = [n for n in d["implicit"] if any(self.runs_over(n, a) for _, a in d["fields"])]
+        # the types over which a variable runs; an altered definition keeps those that it had
+        d.setdefault("implicit", [n for n, _, implicit in d["params"] if implicit and any(self.runs_over(n, a) for _, a in d["fields"])])
         self.implicit[d["name"]] = d["implicit"]
         self.arity[d["name"]] = len(d["implicit"]) + sum(not implicit for _, _, implicit in d["params"])
 

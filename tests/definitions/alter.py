@@ -27,7 +27,7 @@ def definitions():
 
 
 def reasons():
-    """Why an alteration by rule changes no answer: by file, name and sentence, or by file and name for all of its alterations."""
+    """Why an alteration by rule changes no answer: by file, name and sentence, or for all of a field or clause, or of the definition."""
     found = {}
     for line in REASONS.read_text().split("\n"):
         if line and not line.startswith("#"):
@@ -45,7 +45,11 @@ def ruled(words):
         for done, (file, name, these) in enumerate(pool.imap_unordered(asking.by_rule, todo), 1):
             for sentence, seen, said in these:
                 tried += 1
-                keys = [k for k in (f"{file} {name}: {sentence}", f"{file} {name}") if k in why]
+                if not seen and sentence.endswith(rules.MORE):
+                    found[file, name].append((sentence, seen, "the law could perhaps say more"))
+                    continue
+                part = sentence.removesuffix(" dropped").rpartition(" in ")[2]
+                keys = [k for k in (f"{file} {name}: {sentence}", f"{file} {name} {part}", f"{file} {name}") if k in why]
                 used |= set() if seen else set(keys[:1])
                 found[file, name].append((sentence, seen, why[keys[0]] if keys and not seen else ""))
                 if not seen and not keys:

@@ -11,7 +11,7 @@ from made import antt
 
 Example = collections.namedtuple("Example", "name world group expected used seconds")
 # How long an example may take of an altered definition, and all of them together.
-ONE, ALL = 5, 20
+ONE, ALL = 4, 6
 
 
 class Late(BaseException):
@@ -29,15 +29,16 @@ WORLDS = examples.worlds(D)
 
 def answer(question, seconds=0):
     """The answer, or as a text why there is none."""
-    signal.setitimer(signal.ITIMER_REAL, seconds)
     try:
-        return bool(question())
+        signal.setitimer(signal.ITIMER_REAL, seconds)
+        try:
+            return bool(question())
+        except Exception as e:
+            return f"{type(e).__name__}: {e}"
+        finally:
+            signal.setitimer(signal.ITIMER_REAL, 0)
     except Late:
         return "late"
-    except (Exception, RecursionError) as e:
-        return f"{type(e).__name__}: {e}"
-    finally:
-        signal.setitimer(signal.ITIMER_REAL, 0)
 
 
 def groups():

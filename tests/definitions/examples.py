@@ -621,6 +621,7 @@ def of_quick(D):
         ("agrees: no", lambda: agrees(bench, 0, 2), True),
         ("agrees: 14", lambda: agrees(bench, ORDER, 32), True),
         ("agrees: 12", lambda: agrees(EMPTY, 0, 32), True),
+        ("agrees: 13 far beyond the count", lambda: agrees(bench, 6, 2), True),
         ("agrees: 13, where the closure answers", lambda: agrees(bench, 5, 2), True),
     ]
 
@@ -637,6 +638,7 @@ def of_base_calls(D):
         ("not call: lists, 15 with equal room", lambda: bases_call(D, bench, ORDER, 15, [], LENT[:4], LENT[:4]), False),
         ("call: lists, 15", lambda: bases_call(D, bench, ORDER, 15, [], LENT[:3], LENT[:3]), True),
         ("not call: lists, 15 with a place changed", lambda: bases_call(D, bench, ORDER, 15, [], LENT[:3], [2, 5, 3]), False),
+        ("not are bases: one lockout set missing", lambda: D.AreBases(bench, ORDER, D.Bases([2, 5], [3])), False),
         ("call: lists, 13", lambda: bases_call(D, bench, 5, 13, [], [], []), True),
         ("not call: lists, 15 before 13", lambda: bases_call(D, bench, 5, 15, [], [], []), False),
         ("call: lists, 12", lambda: bases_call(D, EMPTY, 5, 12, [], [9], [9]), True),
@@ -650,6 +652,7 @@ def of_score_calls(D):
         ("call: score, B5", lambda: score_call(D, False, bench, ORDER, 0, [1]), True),
         ("call: risk, B5", lambda: score_call(D, True, bench, ORDER, 0, [3]), True),
         ("not call: score, never", lambda: score_call(D, False, bench, ORDER, 0, [never]), False),
+        ("is score: order's score and risk", lambda: D.IsScore(False, bench, ORDER, 1) and D.IsScore(True, bench, ORDER, 3), True),
         ("call: score, 13", lambda: score_call(D, False, bench, 5, 13, []), True),
         ("not call: score, 13 inside", lambda: score_call(D, False, bench, ORDER, 13, []), False),
         ("call: score, 12", lambda: score_call(D, False, EMPTY, 0, 12, []), True),
@@ -659,6 +662,7 @@ def of_score_calls(D):
         ("call: marks, one twice", lambda: marks_call(D, False, bench, ORDER, [2, 2], 0, [1, 1, 0, 0, 1]), True),
         ("call: marks, loose and shut", lambda: marks_call(D, False, bench, ORDER, [6, 7, 4], 0, [0, 0, 1, 2, 2]), True),
         ("not call: marks, full early", lambda: marks_call(D, False, bench, ORDER, [2], 0, [1, 0, 0, 0, 0]), False),
+        ("not are marks: 2 right of B7", lambda: D.AreMarks(False, bench, ORDER, [2, 2, 6, 4], D.Marks(2, 0, 1, 1, 0)), False),
         ("call: marks, 13", lambda: marks_call(D, False, bench, 5, [2], 13, []), True),
         ("not call: marks, 13 inside", lambda: marks_call(D, False, bench, ORDER, [2], 13, []), False),
         ("call: marks, 12", lambda: marks_call(D, False, EMPTY, 0, [2], 12, []), True),
@@ -689,6 +693,9 @@ def of_attackers(D):
         ("not of base: all three", lambda: D.OfBase(bench, APART, ORDER, 5), False),
         ("in score: the lower", lambda: D.KindInScore(bench, UNLIKE, ORDER, 1), True),
         ("not in score: the higher", lambda: D.KindInScore(bench, UNLIKE, ORDER, 4), False),
+        ("gets in: anybody, where no kinds are told", lambda: D.GetsIn(bench, [], ORDER, 0), True),
+        ("attacker: of kinds that are not told", lambda: D.attackerOf([], 3) == 0, True),
+        ("largest over: item 64 is none", lambda: D.largestOver(lambda v: v, 2**64 + 2) == 1, True),
         ("gets in: remote expert", lambda: D.GetsIn(bench, APART, ORDER, 2), True),
         ("not gets in: remote with some skill", lambda: D.GetsIn(bench, APART, ORDER, 1), False),
         ("not gets in: by items that do not start", lambda: D.GetsIn(bench, UNREAD, ORDER, 0), False),
@@ -701,6 +708,10 @@ def of_attackers(D):
         ("not score by kinds: none", lambda: D.AttackerScore(bench, UNLIKE, ORDER, 0), False),
         ("fit: 255 where nothing starts", lambda: D.EntriesFit(bench, APART), True),
         ("not fit: 6", lambda: D.EntriesFit(bench, six), False),
+        ("fit: 5 everywhere", lambda: D.EntriesFit(bench, [5] * 5), True),
+        ("not fit: 6, where nothing can be lost", lambda: D.EntriesFit(ring, [6] * 6), False),
+        ("not agree: where nothing can be lost", lambda: D.AgreeAtInitial(ring, [0] * 6, [1] * 6), False),
+        ("score at most: nobody and nobody", lambda: D.KindsAtMost(0, 0), True),
         ("six kinds", lambda: D.among(asked=asked)(D.SixKinds), True),
         ("nobody in", lambda: D.among(asked=asked)(D.NobodyIn), True),
         ("score at most: remote some, and those above", lambda: D.KindsAtMost(2, 20), True),
@@ -1307,7 +1318,8 @@ def of_living(D):
 
 
 def of_findings(D):
-    """Findings."""
+    """Findings; `strong` has an account that is ranked above another, and stronger."""
+    strong = read([H1, "a c 1 - 0", "b c 5 - 0", "low a - - 1", "high a - - 3", "", H2, "a low 0 0", "b high 0 0"])
     return [
         ("backdoor: order", lambda: backdoor_call(D, bench, ORDER, 0, [1]), True),
         ("not backdoor: order has none", lambda: backdoor_call(D, bench, ORDER, 0, [0]), False),
@@ -1334,6 +1346,11 @@ def of_findings(D):
         ("not backdoor: by mail's scores", lambda: D.Backdoor(bench, MAIL, 1, 1), False),
         ("not a backdoor: by other scores", lambda: D.Backdoor(bench, MAIL, 0, 1), False),
         ("ineffective: mail's risks", lambda: D.IneffectiveRecovery(bench, MAIL, 1, 1), True),
+        ("not ineffective: order's risks, the other way round", lambda: D.IneffectiveRecovery(bench, ORDER, 2, 3), False),
+        ("not ineffective: by other risks", lambda: D.IneffectiveRecovery(bench, MAIL, 0, 5), False),
+        ("not inconsistent: by another score of the lower", lambda: D.Inconsistent(bench, ORDER, MAIL, 1, 5), False),
+        ("not out of rank: stronger, whatever the risks are", lambda: D.isOutOfRank(strong, 3, 2), False),
+        ("not inconsistent: stronger", lambda: D.Inconsistent(strong, 3, 2, 5, 1), False),
         ("not ineffective: order's risks", lambda: D.IneffectiveRecovery(bench, ORDER, 3, 2), False),
         ("inconsistent: order and mail", lambda: D.Inconsistent(bench, ORDER, MAIL, 1, 1), True),
         ("not inconsistent: mail and order", lambda: D.Inconsistent(bench, MAIL, ORDER, 1, 1), False),
@@ -1717,6 +1734,7 @@ def of_ring(D):
         ("B8", lambda: D.Base(False, ring, ring.graph, 5, [5, 6, 9, 10]), True),
         ("not B8: one set", lambda: D.Base(False, ring, ring.graph, 5, [5]), False),
         ("B8: closure from device, pwd_manager", lambda: D.AccessFrom(ring.graph, 6, 63), True),
+        ("counted: the ring's four", lambda: D.CountedSet(ring, 5, 15), True),
         ("keep initial: the ring's four", lambda: D.KeepInitial(15, [ring]), True),
     ]
 
@@ -1742,8 +1760,18 @@ def of_one(D):
 
 
 def of_spare(D):
-    """What executable definitions mean."""
+    """What executable definitions mean, and some of them alone."""
+    joined = read([H1, "a c 1 1 0", "b c 1 1 0", "t a - - 0", "", H2, "a t 0 0", "b t 0 0"])
+    line = read([H1, "a c 1 - 0", "b a - - 0", "c a - - 0", "d a - - 0", "", H2, "a b 0 0", "b c 0 0", "c d 0 0"])
     return [
+        ("meaning: two that are needed together", lambda: D.among(handed=[[3], [1]])(lambda: D.Meaning(joined, joined.graph)), True),
+        ("way: three steps, the last item last", lambda: D.wayOf(4, line.graph, 3, 1) == tuple(Step(v, 0) for v in (1, 2, 3)), True),
+        ("lowest: none below 0, none below 2", lambda: (D.lowest(lambda i: False, 0), D.lowest(lambda i: False, 2)) == (0, 2), True),
+        ("colour of: 8 where there is none", lambda: D.colourOf(emptyGraph.rows[0], 3) == 8, True),
+        ("count of: 1 where nothing can be added", lambda: D.countOf(False, 0, emptyGraph, 0, 5) == 1, True),
+        ("sets up to: of two vertices", lambda: [D.setsUpTo(lambda v: True, 2, k) for k in (0, 2)] == [(0,), (0, 1, 2, 3)], True),
+        ("numbers from: 3 and 4", lambda: D.numbersFrom(3, 2) == (3, 4), True),
+        ("no easier route: useful recovery", lambda: D.NoEasierRoute(useful), True),
         ("meaning: the executable definitions", lambda: D.among(handed=[[1, 2, 1], [3, 4], []])(lambda: D.Meaning(spare, spare.graph)), True),
         ("report meaning", lambda: D.ReportMeaning(spare), True),
         ("graph of: its own, and that without recovery", lambda: D.GraphOf(spare, spare.graph) and D.GraphOf(spare, lessRecovery(spare)), True),
@@ -1762,6 +1790,9 @@ def of_spare(D):
         ("not idle: recovery by a mixed colour is", lambda: idle_call(D, useful, MAIL, 0, [1]), False),
         ("without marked: a mixed colour", lambda: D.WithoutMarked(mixed, with_row(mixed.graph, MAIL, 1, 2)), True),
         ("not without marked: the whole colour", lambda: D.WithoutMarked(mixed, with_row(mixed.graph, MAIL, 1, 0)), False),
+        ("not without marked: 63 places", lambda: D.WithoutMarked(mixed, Graph(THE.lessMarked(mixed).rows[:63])), False),
+        ("graphs without recovery: 64 places", lambda: [len(f(mixed).rows) for f in (D.lessMarked, D.lessRecovery)] == [64, 64], True),
+        ("unmixed: bench", lambda: D.Unmixed(bench), True),
         ("not unmixed: a mixed colour", lambda: D.Unmixed(mixed), False),
         ("unmixed: colours with and without recovery", lambda: D.Unmixed(spare), True),
         ("unmixed prints: a mixed colour", lambda: D.UnmixedPrints(text(MIXED)), True),
@@ -1794,12 +1825,33 @@ def of_rows(D):
     ]
 
 
+def of_bytes(D):
+    """Bytes and fields at their bounds."""
+    among = lambda test, bytes_: [b for b in range(256) if test(b)] == sorted(bytes_)
+    return [
+        ("digits", lambda: among(D.isDigit, b"0123456789"), True),
+        ("bytes of a name", lambda: among(D.isNameByte, b"0123456789_abcdefghijklmnopqrstuvwxyz"), True),
+        ("bytes of a text", lambda: among(D.isTextByte, [10, *range(32, 127)]), True),
+        ("not number: nothing", lambda: D.isNumber([]), False),
+        ("decimal: the last 20 digits", lambda: D.decimal(10**20 + 7) == tuple(b"00000000000000000007"), True),
+        ("number in: as many as there are, for a name that is not there", lambda: D.numberIn(DOC.items, list(b"zz")) == 2, True),
+    ]
+
+
 def of_stated(D):
     """What rows state."""
     used = with_vertex(bench, 5, Vertex(Account, None, None, 0))
+    fields = zip("kind start loss rank".split(), (Vertex(Account, 1, 2, 3), Vertex(Credential, 2, 2, 3), Vertex(Credential, 1, 1, 3), Vertex(Credential, 1, 2, 2)))
     return [
+        ("joins: ordpw and order", lambda: D.Joins(BENCH_DOC, 0, ORDER, 0, edge("ordpw", "order")), True),
+        ("not joins: a row that is not there", lambda: D.Joins(BENCH_DOC, 0, MAIL, 5, edge("ordpw", "mail", 5)), False),
         ("stated: bench", lambda: D.Stated(BENCH_DOC, bench), True),
         ("not stated: another start", lambda: D.Stated(BENCH_DOC, with_vertex(bench, 0, Vertex(Credential, 2, 2, 0))), False),
+        ("not stated: 63 vertices", lambda: D.Stated(BENCH_DOC, bench._replace(vertices=bench.vertices[:63])), False),
+        ("not stated: 6 items", lambda: D.Stated(BENCH_DOC, bench._replace(count=6)), False),
+        ("not stated: something opened", lambda: D.Stated(BENCH_DOC, bench._replace(opened=24)), False),
+        ("has fields", lambda: D.HasFields(item("a", 1, 2, 3), Vertex(Credential, 1, 2, 3)), True),
+        *((f"not has fields: another {n}", lambda v=v: D.HasFields(item("a", 1, 2, 3), v), False) for n, v in fields),
         ("not stated: a place in use", lambda: D.Stated(BENCH_DOC, used), False),
         ("not stated: an item held", lambda: D.Stated(BENCH_DOC, bench._replace(held=2)), False),
         ("not stated: an edge more", lambda: D.Stated(BENCH_DOC, bench._replace(graph=with_row(bench.graph, MAIL, 0, 3))), False),
@@ -1821,6 +1873,17 @@ def of_meaning(D):
         ("not first no: 4, a yes", lambda: D.FirstNo([D.Asked(4, True), D.Asked(5, False)], 4), False),
         ("refusal law", lambda: D.among(texts=TEXTS, numbers=NUMBERS, lines=LINES)(D.RefusalLaw), True),
         ("refusal unique", lambda: D.among(texts=TEXTS[:6] + TEXTS[10:11], numbers=NUMBERS, lines=LINES)(D.RefusalUnique), True),
+        ("with row, with item: behind the others", lambda: (D.withRow(DOC, MANY[0]).edges[-1], D.withItem(DOC, item("z")).items[-1]) == (MANY[0], item("z")), True),
+        ("questions: of an item row, and of an edge row", lambda: [[a.number for a in f(DOC, [])] for f in (D.itemQuestions, D.edgeQuestions)] == [[4, 5, 6, 7], [4, 5, 8, 9, 7]], True),
+        ("question 11: the second header", lambda: [D.question11(p) for p in ("AtFirstHeader", "AmongItems", "AtSecondHeader", "AmongEdges")] == [False, False, False, True], True),
+        ("not too long: 16,384 bytes", lambda: D.TooLong([10] * 16384, 1, 0), False),
+        ("not no text: too long", lambda: D.NoText([0] * 16385, 2, 0), False),
+        ("not refused 11: bench", lambda: D.NoAtEnd(text(BENCH), 11, 13), False),
+        ("not refused 3: too long", lambda: D.NoAtLine([10] * 16385, 3, 1), False),
+        ("not refused 3: no text", lambda: D.NoAtLine([110, 1, 10], 3, 1), False),
+        ("name begins: mail", lambda: D.NameBegins(text(BENCH), text(BENCH)[:69], list(b"mail"), MAIL), True),
+        ("not name begins: other bytes", lambda: D.NameBegins(text(BENCH), text(BENCH)[:69], list(b"mall"), MAIL), False),
+        ("not name begins: the same bytes in the row above", lambda: D.NameBegins(text(BENCH), text(BENCH)[:40], list(b"mail"), MAIL), False),
         ("accepted: bench", lambda: D.Accepted(text(BENCH)), True),
         ("not accepted: refused 5", lambda: D.Accepted(REFUSED["refused 5"][0]), False),
         ("refused: with 5 in line 2", lambda: D.among(numbers=NUMBERS, lines=LINES)(lambda: D.Refused(REFUSED["refused 5"][0])), True),
@@ -2062,7 +2125,7 @@ GROUPS = {
     "sums": [of_sums],
     "bench": [of_derivations, of_passes, of_ways, of_bases, of_scores, of_marks, of_set_calls, of_way_calls, of_base_calls, of_score_calls, of_demand3]
     + [of_quick, of_forecasts, of_cuts, of_attackers, of_next_sets, of_register, of_living, of_findings, of_portal, of_contracts, of_told, of_words, of_readings, of_demands, of_both_demands, of_soundness],
-    "rows": [of_valid_rows, of_rows, of_stated, of_meaning, of_refusals],
+    "rows": [of_valid_rows, of_rows, of_bytes, of_stated, of_meaning, of_refusals],
     "spare": [of_spare],
     "pool": [of_pools, of_saves],
     "ring": [of_ring],

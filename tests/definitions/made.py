@@ -14,7 +14,7 @@ PRELUDE = compile((HERE / "prelude.py").read_text(), "prelude.py", "exec")
 EXAMPLES = HERE / "Examples.txt"
 WORLDS = compile((HERE / "definitions.py").read_text(), "definitions.py", "exec")
 # lists are taken apart by recursion, and a sheet may have 16,384 bytes
-sys.setrecursionlimit(200000)
+sys.setrecursionlimit(80000)
 
 
 def order():

@@ -40,7 +40,7 @@ RANGES = {
     "Stated": {"x": "d.items", "edges/e": "d.edges", "recovery/e": "d.edges"},
     "ValidOfAccepted": {"s": "given.texts", "st": "(readSheet(s).setup,)"},
     "FirstNo": {"before after": "[(asked[:i], asked[i + 1:]) for i in range(len(asked))]"},
-    "NoAtLine": {"above line below": "[(l[:i], l[i], l[i + 1:]) for l in [linesOf(text)] for i in range(len(l))]", "place": "places(linesOf(text))"},
+    "NoAtLine": {"above line below": "[((), (120,), ()), *((l[:i], l[i], l[i + 1:]) for l in [linesOf(text)] for i in range(len(l)))]", "place": "places(linesOf(text))"},
     "NoAtEnd": {"place": "places(linesOf(text))"},
     "RefusalLaw": {"s": "given.texts", "q": "given.numbers", "k": "given.lines"},
     "RefusalUnique": {"s": "given.texts", **{q: "given.numbers" for q in ("q", "q′")}, **{k: "given.lines" for k in ("k", "k′")}},

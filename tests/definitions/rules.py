@@ -1,7 +1,8 @@
 """Alterations by rule: of each definition every one that a rule makes. < and ≤, × and ⊎, true and false are exchanged, and so are their sisters that
 compute; a condition, a negation or a field is dropped; a number is one higher; two arguments of one type, or the sides of an operator, change places.
 Head lines, types of values and patterns stay as they are, so that the altered definition is one. A law holds of everything, which is proved, and so does
-what follows from it by its form alone; such alterations of laws are not made, since no example could notice them."""
+what follows from it by its form alone; such alterations of laws are not made, since no example could notice them. Where by its form a law says more than
+before, and no example notices it, the law could perhaps say more, which is no fault of it."""
 import files
 import translate
 
@@ -9,13 +10,14 @@ SISTERS = {"<": "≤", "≤": "<", "×": "⊎", "⊎": "×", "&&": "||", "||": "
 WORDS = {"true": "false", "false": "true", "ltb": "leb", "leb": "ltb"}
 SIDES = {"<", "≤", "-", "++"}
 BOTTOM = ("var", "⊥")
+MORE = ", so that the law says more"
 # The types of the arguments of what the definitions do not define.
 GIVEN = {"eqb": ["ℕ", "ℕ"], "ltb": ["ℕ", "ℕ"], "leb": ["ℕ", "ℕ"], "take": ["ℕ", "List"], "drop": ["ℕ", "List"], "cond": ["Bool", "A", "A"], "min": ["ℕ", "ℕ"], "max": ["ℕ", "ℕ"]}
 GIVEN = {name: [("var", t) for t in types] for name, types in GIVEN.items()}
 # With their arguments exchanged these say the same.
 # Laws with arguments, which are proved of all of them, or of all that a law in the same file names.
 LAWS = set("Duality QuickAgrees NoEasierRoute Meaning ReportMeaning UnmixedPrints PoolingLaw RenamesLowest RegisterAfter Demand1 Demand2 Demand3Reached".split())
-SYMMETRIC = set("eqb min max bitAnd bitOr Iff Meets SameMultiset SameName SameEdge SameAttempt sameText sameEdge sameThree".split())
+SYMMETRIC = set("eqb min max bitAnd bitOr Iff Full question3 isMeeting Meets SameMultiset SameName SameEdge SameAttempt sameText sameEdge sameThree".split())
 
 
 def show(e, tight=False):
@@ -60,33 +62,41 @@ class Rules:
         return [a for _, a, implicit in (translate.telescope(d["type"])[0] if d["kind"] == "fun" else d["params"]) if not implicit]
 
     def here(self, e, sign):
-        """What the rules make of the expression itself. `sign` is 1 where what follows from it makes the law weaker, and -1 where it makes it stronger."""
+        """What the rules make of the expression itself, and whether a law then says more by its form. `sign` is 1 where what follows from the expression
+        makes a law weaker, -1 where it makes it stronger, and 0 where it is not known, or where there is no law."""
         k = e[0]
         if k == "num":
-            yield ("num", e[1] + 1)
+            yield ("num", e[1] + 1), False
         if k == "var" and e[1] in WORDS:
-            yield ("var", WORDS[e[1]])
-        if k == "op" and e[1] in SISTERS and sign != {"<": 1, "×": 1, "≤": -1, "⊎": -1}.get(e[1], 2) and not (e[1] == "×" and self.t.is_data(e, set())):
-            yield ("op", SISTERS[e[1]], *e[2:])
+            yield ("var", WORDS[e[1]]), False
+        if k == "op" and e[1] in SISTERS and not (e[1] == "×" and self.t.is_data(e, set())):
+            weaker = {"<": 1, "×": 1, "≤": -1, "⊎": -1}.get(e[1], 0) * sign
+            if weaker != 1:
+                yield ("op", SISTERS[e[1]], *e[2:]), weaker == -1
         if k == "op" and (e[1] == "&&" or (e[1] == "×" and sign != 1)):
-            yield e[2]
-            yield e[3]
+            yield e[2], sign == -1
+            yield e[3], sign == -1
         if k == "op" and e[1] in SIDES and e[2] != e[3]:
-            yield ("op", e[1], e[3], e[2], *e[4:])
+            yield ("op", e[1], e[3], e[2], *e[4:]), False
         if k == "arr" and (e[2] == BOTTOM or sign != -1):
-            yield e[1] if e[2] == BOTTOM else e[2]
+            yield (e[1], False) if e[2] == BOTTOM else (e[2], sign == 1)
         if k == "app":
-            types = self.arguments(e[1])
-            args = [x for x in e[2] if x[0] != "named"]
-            for i in range(min(len(args), len(types))):
-                for j in range(i + 1, min(len(args), len(types))):
-                    if types[i] == types[j] and args[i] != args[j] and len(args) == len(e[2]):
-                        yield ("app", e[1], [*args[:i], args[j], *args[i + 1:j], args[i], *args[j + 1:]])
+            yield from ((new, False) for new in self.exchanged(e))
+
+    def exchanged(self, e):
+        """An application with two arguments of one type exchanged."""
+        types, args = self.arguments(e[1]), e[2]
+        if any(x[0] == "named" for x in args):
+            return
+        for i in range(min(len(args), len(types))):
+            for j in range(i + 1, min(len(args), len(types))):
+                if types[i] == types[j] and args[i] != args[j]:
+                    yield ("app", e[1], [*args[:i], args[j], *args[i + 1:j], args[i], *args[j + 1:]])
 
     def within(self, e, sign=0):
-        """All alterations of an expression, each with what is altered and what it becomes."""
-        for new in self.here(e, sign):
-            yield new, e, new
+        """All alterations of an expression, each with what is altered, what it becomes, and whether a law then says more."""
+        for new, more in self.here(e, sign):
+            yield new, e, new, more
         k = e[0]
         if k == "app":
             yield from self.placed(e[1], lambda x: ("app", x, e[2]) if x[0] != "app" else e)
@@ -108,8 +118,8 @@ class Rules:
                 yield from self.placed(e[2], lambda x: (*e[:2], x, *e[3:]), sign if k == "sigma" else -sign)
 
     def placed(self, e, put, sign=0):
-        for new, old, now in self.within(e, sign):
-            yield put(new), old, now
+        for new, old, now, more in self.within(e, sign):
+            yield put(new), old, now, more
 
     def of(self, d):
         """All alterations of a definition: a sentence, and the altered definition."""
@@ -117,8 +127,8 @@ class Rules:
         sign = int(d["name"] in LAWS or (self.t.is_prop(d["name"]) and not self.t.arity[d["name"]]))
         if d["kind"] == "fun":
             for i, (patterns, body) in enumerate(d["clauses"]):
-                for new, old, now in self.within(body, sign):
-                    yield f"`{show(old)}` to `{show(now)}`" + (f" in clause {i + 1}" if len(d["clauses"]) > 1 else ""), {**d, "clauses": [*d["clauses"][:i], (patterns, new), *d["clauses"][i + 1:]]}
+                for new, old, now, more in self.within(body, sign):
+                    yield f"`{show(old)}` to `{show(now)}`" + (f" in clause {i + 1}" if len(d["clauses"]) > 1 else "") + MORE * more, {**d, "clauses": [*d["clauses"][:i], (patterns, new), *d["clauses"][i + 1:]]}
         elif not self.t.defs[d["name"]]["data"]:
             yield from self.of_fields(d, sign)
 
@@ -127,9 +137,9 @@ class Rules:
             if d["kind"] == "record" and self.t.is_data(a, self.types):
                 continue
             put = lambda x, i=i, name=name: {**d, "fields": [*d["fields"][:i], (name, x), *d["fields"][i + 1:]]}
-            for new, old, now in self.within(a, sign):
+            for new, old, now, more in self.within(a, sign):
                 if d["kind"] == "record" or translate.telescope(new)[1] == translate.telescope(a)[1]:
-                    yield f"`{show(old)}` to `{show(now)}` in {name}", put(new)
+                    yield f"`{show(old)}` to `{show(now)}` in {name}" + MORE * more, put(new)
             if len(d["fields"]) > 1 and not sign:
                 yield f"{name} dropped", {**d, "fields": [*d["fields"][:i], *d["fields"][i + 1:]]}
 

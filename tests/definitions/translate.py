@@ -299,6 +299,8 @@ class Translator:
         return repr(tuple(e[1].encode()))
 
     def operation(self, e, scope):
+        if e[1] == "/" and e[3][0] == "op" and e[3][1:3] == ("^", ("num", 2)):
+            return f"({self.E(e[2], scope)} >> {self.E(e[3][3], scope)})"
         o, a, b = e[1], self.E(e[2], scope), self.E(e[3], scope)
         if o == "∷":
             return f"({a},)" if b == "()" else f"({a}, *{b})"

@@ -1,11 +1,14 @@
 """The files that must be believed, as docs/TRUST.md lists them: by part, in reading order, with what each says of itself.
 
-scripts/definitions.py prints these files, and scripts/index.py holds the list to them. The text of a file's row is the first sentence of
-the file's own first comment, so that there is one place where it is written.
+scripts/definitions.py prints these files, scripts/index.py holds the list to them, and tests/definitions asks examples of them; what a
+definition is, scripts/antt.py reads for all three. The text of a file's row is the first sentence of the file's own first comment, so that
+there is one place where it is written.
 """
 import functools
 import re
 from pathlib import Path
+
+import antt
 
 ROOT = Path(__file__).resolve().parent.parent
 TRUST = ROOT / "docs" / "TRUST.md"
@@ -13,7 +16,7 @@ PART = re.compile(r"^\| \*\*(.+)\*\* \| \| \|$")
 ROW = re.compile(r"^\| `([\w/]+\.antt)` \| \d+ \| .* \|$")
 USED = re.compile(r"^use Rattle·(\w+?)(?:·specs)?\.specs\.([\w.-]+)", re.M)
 BROUGHT = re.compile(r"^use Rattle·(\w+?)(?:·specs)?\.specs\.(\w+)\.\{(.*)\}", re.M)
-HEAD = re.compile(r"^(?:(?:unfoldable|abbrev) )?pub (?:record |data )?([^\s:(]+)(?=[\s:(])", re.M)
+BRINGS = re.compile(r"^use (\w+)(?:::(\w+))?::([A-Z]\w*);", re.M)
 SENTENCE = re.compile(r"(.*?\.)(?= |$)")
 
 
@@ -91,13 +94,43 @@ def types(file):
     return list(dict.fromkeys(found))
 
 
+def declaration(path, name):
+    """A struct or an enum of a source file, with the comment above it."""
+    found = re.search(rf"^(?://.*\n|#\[.*\n)*pub (?:struct|enum) {name}\b(?:.*;$| \{{\n(?:.*\n)*?\}}$)", path.read_text(encoding="utf-8"), re.M)
+    if not found:
+        raise SystemExit(f"no type {name} in {path.relative_to(ROOT)}")
+    return found[0]
+
+
+def source(crate, module):
+    return ROOT / "crates" / crate / "src" / f"{module}.rt"
+
+
+def named_in(crate, module, name):
+    """The types of the project that a type's fields name: those of its own source file, and those that the file brings in."""
+    path = source(crate, module)
+    text = path.read_text(encoding="utf-8")
+    words = re.findall(r"\b[A-Z]\w*", re.sub(r"//.*", "", declaration(path, name)))
+    here = {word: (crate, module, word) for word in re.findall(r"^pub (?:struct|enum) (\w+)", text, re.M)}
+    for home, part, word in re.findall(r"\b(\w+)(?:::(\w+))?::([A-Z]\w*)", declaration(path, name)) + BRINGS.findall(text):
+        here[word] = (crate if home == "crate" else home, part or "lib", word)
+    return [here[word] for word in dict.fromkeys(words) if word in here and word != name]
+
+
+def with_parts(wanted, told):
+    """The wanted types that are not told yet, each behind the types of its fields; they are told then."""
+    found = []
+    for one in wanted:
+        if one not in told:
+            told.add(one)
+            found += with_parts(named_in(*one), told) + [one]
+    return found
+
+
 @functools.cache
 def definitions(file):
     """The definitions of a file, each with its text, without comments."""
-    text = re.sub(r"--.*", "", read(file))
-    heads = list(HEAD.finditer(text))
-    ends = [head.start() for head in heads[1:]] + [len(text)]
-    return {head[1]: text[head.start() : end] for head, end in zip(heads, ends)}
+    return antt.texts(read(file))
 
 
 def owner(file, name):
@@ -149,8 +182,17 @@ def statement_faults():
     return found + [f"docs/TRUST.md lists {file}, and no statement there cites its {name}" for file, name in uncited(roots)]
 
 
+def not_read(file):
+    """Why the file cannot be read as definitions, if so: what is asked of examples is made from what is read."""
+    try:
+        antt.read(read(file), f"crates/{file}")
+    except antt.Refused as e:
+        return [str(e)]
+    return []
+
+
 def faults():
-    """What is wrong with the list: a file that is not there, a row that is not the file's own, a file before one that it uses."""
+    """What is wrong with the list: a file that is not there or not read, a row that is not the file's own, a file before one that it uses."""
     found, above = [], set()
     text = TRUST.read_text(encoding="utf-8").split("\n")
     for file in listed():
@@ -159,6 +201,7 @@ def faults():
             continue
         if row_of(file) not in text:
             found.append(f"docs/TRUST.md: the row of {file} is not its line count and first sentence (index.py --write puts it right)")
+        found += not_read(file)
         if not first_sentence(file):
             found.append(f"{file} does not begin with a sentence that says what it holds")
         found += [f"docs/TRUST.md lists {file} before {used}, which it uses" for used in sorted(uses(file) - above) if used != file]

@@ -6,15 +6,13 @@ bring names in are left out. What the definitions cannot say of themselves is ad
 that names it, each type of the code, with the types of its fields.
 """
 import itertools
-import re
 import signal
 import textwrap
 
-from belief import ROOT, first_sentence, header, parts, read, types
+from belief import ROOT, declaration, first_sentence, header, parts, read, source, types, with_parts
 
 WIDTH = 140
 RULE = "=" * WIDTH
-BRINGS = re.compile(r"^use (\w+)(?:::(\w+))?::([A-Z]\w*);", re.M)
 LEGEND = """\
 How to read it
     f : A → B → C   f makes a C of an A and a B; where C is Type 0, f is a statement about them. Behind -- and // stands a comment
@@ -36,39 +34,6 @@ def definitions(file):
     """The text of a file without its first comment and its `use` lines."""
     lines = read(file).splitlines()[len(header(file)) :]
     return "\n".join(line for line in lines if not line.startswith(("use ", "pub mod "))).strip()
-
-
-def declaration(path, name):
-    """A struct or an enum of a source file, with the comment above it."""
-    found = re.search(rf"^(?://.*\n|#\[.*\n)*pub (?:struct|enum) {name}\b(?:.*;$| \{{\n(?:.*\n)*?\}}$)", path.read_text(encoding="utf-8"), re.M)
-    if not found:
-        raise SystemExit(f"definitions: no type {name} in {path.relative_to(ROOT)}")
-    return found[0]
-
-
-def source(crate, module):
-    return ROOT / "crates" / crate / "src" / f"{module}.rt"
-
-
-def named_in(crate, module, name):
-    """The types of the project that a type's fields name: those of its own source file, and those that the file brings in."""
-    path = source(crate, module)
-    text = path.read_text(encoding="utf-8")
-    words = re.findall(r"\b[A-Z]\w*", re.sub(r"//.*", "", declaration(path, name)))
-    here = {word: (crate, module, word) for word in re.findall(r"^pub (?:struct|enum) (\w+)", text, re.M)}
-    for home, part, word in re.findall(r"\b(\w+)(?:::(\w+))?::([A-Z]\w*)", declaration(path, name)) + BRINGS.findall(text):
-        here[word] = (crate if home == "crate" else home, part or "lib", word)
-    return [here[word] for word in dict.fromkeys(words) if word in here and word != name]
-
-
-def with_parts(wanted, told):
-    """The wanted types that are not told yet, each behind the types of its fields; they are told then."""
-    found = []
-    for one in wanted:
-        if one not in told:
-            told.add(one)
-            found += with_parts(named_in(*one), told) + [one]
-    return found
 
 
 def block(number, file, told):

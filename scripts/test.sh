@@ -10,6 +10,9 @@ trap 'rm -rf "$log" "$memory"' EXIT
 
 bash scripts/quick.sh
 
+echo "test: the examples of the definitions"
+python3 tests/definitions/alter.py --examples
+
 # For every crate and edit that it checks the prover lays out thousands of small files. In memory that takes a tenth less time;
 # a folder there is taken if programs run in it, since some of what follows runs its own.
 if memory=$(mktemp -d /dev/shm/test.XXXXXX 2> /dev/null) && cp "$(type -P true)" "$memory" && "$memory/true" 2> /dev/null; then

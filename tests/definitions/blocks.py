@@ -1,31 +1,38 @@
-"""The data files of alterations: a comment on top, then blocks parted by empty lines. A block is a line `file name` and lines `key: text`."""
+"""The data files of alterations by hand: a comment on top, then blocks parted by empty lines. A block is a line `file name`, and for each alteration
+lines `old: text`, `new: text`, `seen: example`; or a line `none: why there is none`."""
 import pathlib
 import re
 
 HERE = pathlib.Path(__file__).resolve().parent
 ROOT = HERE.parents[1]
-KEYS = ["old", "new", "py-name", "py-old", "py-new", "none", "seen"]
+KEYS = ["old", "new", "none", "seen"]
 
 
 def read(path):
+    """The alterations, each with its file and name."""
     found = []
     for part in path.read_text().split("\n\n"):
         lines = [line for line in part.split("\n") if line and not line.startswith("#")]
         if not lines:
             continue
         file, name = lines[0].split()
-        block = {"file": file, "name": name}
         for line in lines[1:]:
             key, text = line.split(": ", 1)
             assert key in KEYS, line
-            block[key] = text
-        found.append(block)
+            if key in ("old", "none"):
+                found.append({"file": file, "name": name})
+            found[-1][key] = text
     return found
 
 
 def write(path, found):
     top = path.read_text().split("\n\n")[0]
-    parts = [f"{b['file']} {b['name']}\n" + "\n".join(f"{k}: {b[k]}" for k in KEYS if k in b) for b in found]
+    parts, last = [], None
+    for b in found:
+        if (b["file"], b["name"]) != last:
+            parts.append(f"{b['file']} {b['name']}")
+            last = (b["file"], b["name"])
+        parts[-1] += "".join(f"\n{k}: {b[k]}" for k in KEYS if k in b)
     path.write_text("\n\n".join([top] + parts) + "\n")
 
 

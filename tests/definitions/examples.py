@@ -3,9 +3,27 @@ wrong answer. The setups are read from sheets."""
 import itertools
 from collections import namedtuple
 
-from executables import Account, Attempt, Credential, Doc, EdgeRow, Graph, ItemRow, Made, Record, Registered, Rows, Setup, Step, Vertex, emptyGraph
-from executables import lessRecovery, never
-from executables import Pooled, pooled, readSheet, render, setupOf, text, unusedVertex, wordsOf
+from made import Asked, definitions, plain
+
+THE = Asked(definitions())
+Attempt, Doc, EdgeRow, Graph, ItemRow, Made, Record, Registered, Rows, Setup, Step, Vertex, Pooled = (
+    getattr(THE, n) for n in "Attempt Doc EdgeRow Graph ItemRow Made Record Registered Rows Setup Step Vertex Pooled".split()
+)
+Account, Credential, emptyGraph, never, unusedVertex = "Account", "Credential", THE.emptyGraph, THE.never, THE.unusedVertex
+lessRecovery, pooled, readSheet, setupOf = THE.lessRecovery, THE.pooled, THE.readSheet, THE.setupOf
+
+
+def render(d):
+    return list(THE.render(d))
+
+
+def wordsOf(s):
+    return list(THE.wordsOf(s))
+
+
+def text(lines):
+    return [b for line in lines for b in line.encode() + b"\n"]
+
 
 H1, H2 = "name kind start loss rank", "from to colour rec"
 BENCH = [H1, "ordpw c 1 2 0", "mailpw c 1 1 0", "token c 3 2 0", "mail a - - 1", "order a - - 3", "", H2]
@@ -320,6 +338,7 @@ def of_setups(D):
         ("not without recovery: no edge", lambda: D.WithoutRecovery(bench, emptyGraph), False),
         ("not without recovery: 63 places", lambda: D.WithoutRecovery(bench, Graph(lessRecovery(bench).rows[:63])), False),
         ("initial set: bench", lambda: D.ChosenSet(False, bench, 7), True),
+        ("not initial set: three others", lambda: D.ChosenSet(False, bench, 11), False),
         ("not initial set: bench less one", lambda: D.ChosenSet(False, bench, 3), False),
         ("not initial set: with item 70", lambda: D.ChosenSet(False, bench, 7 + 2**70), False),
     ]
@@ -344,6 +363,8 @@ def of_well_formed(D):
         ("not well formed: no item", lambda: D.WellFormed(EMPTY), False),
         ("not well formed: 65 items", lambda: D.WellFormed(all_items(0)._replace(count=65)), False),
         ("not well formed: rank 10", lambda: D.WellFormed(RANK_10), False),
+        ("not well formed: rank 1 at 5, the first place not in use", lambda: D.WellFormed(with_vertex(bench, 5, unusedVertex._replace(rank=1))), False),
+        ("not well formed: an edge to 5", lambda: D.WellFormed(bench._replace(graph=with_row(G, 5, 0, 1))), False),
         ("not well formed: rank 1 at 63", lambda: D.WellFormed(with_vertex(bench, 63, unusedVertex._replace(rank=1))), False),
         ("not well formed: an edge from 5", lambda: D.WellFormed(bench._replace(graph=with_row(G, 4, 0, 37))), False),
         ("not well formed: an edge to 63", lambda: D.WellFormed(bench._replace(graph=with_row(G, 63, 0, 1))), False),
@@ -362,6 +383,7 @@ def of_parts(D):
         ("not inside: item 63", lambda: D.Inside(bench, 2**63 + 1), False),
         ("once: 4, 3", lambda: D.Once([4, 3]), True),
         ("not once: 4, 3, 4", lambda: D.Once([4, 3, 4]), False),
+        ("not once: 3, 4, 4", lambda: D.Once([3, 4, 4]), False),
         ("lists exactly: 1, 2", lambda: D.ListsExactly(lambda x: x in (2, 1), [1, 2]), True),
         ("not lists exactly: one too many", lambda: D.ListsExactly(lambda x: x == 1, [1, 2]), False),
         ("not lists exactly: one missing", lambda: D.ListsExactly(lambda x: x in (2, 1), [1]), False),
@@ -370,6 +392,9 @@ def of_parts(D):
         ("not smallest: 7 of 3 and 7", lambda: D.Smallest(lambda x: x in (3, 7), 7), False),
         ("not smallest: without the property", lambda: D.Smallest(lambda x: x in (3, 7), 1), False),
         ("full: all zero", lambda: D.Full(0, 0, 0, 0), True),
+        ("points: of a blank", lambda: D.points(None) == 0, True),
+        ("sum over: item 64 is none", lambda: D.sumOver(lambda v: 1, 2**64 + 2**63) == 1, True),
+        ("question 1: 16,384 bytes, and one more", lambda: D.question1([10] * 16384) and not D.question1([10] * 16385), True),
     ]
 
 
@@ -473,6 +498,7 @@ def of_scores(D):
         ("not B5: score 0", lambda: D.Score(False, bench, G, ORDER, 0), False),
         ("not B5: score 4", lambda: D.Score(False, bench, G, ORDER, 4), False),
         ("not B5: never", lambda: D.Score(False, bench, G, ORDER, never), False),
+        ("not least over: a sum of never", lambda: D.LeastOver(lambda x: x == 1, lambda x: never, never), False),
         ("score over B3", lambda: D.ScoreOver(False, bench, [2, 5], 1), True),
         ("not score over B3: 4", lambda: D.ScoreOver(False, bench, [2, 5], 4), False),
         ("not score over B3: 0", lambda: D.ScoreOver(False, bench, [2, 5], 0), False),
@@ -486,9 +512,9 @@ def of_scores(D):
 def of_sums(D):
     """Sums of the largest values."""
     return [
-        ("sums hold: 14 initial of 4,000,000,000", lambda: D.SumsHold([all_items(14, start=4000000000)]), True),
-        ("sums hold: 14 losable of 4,000,000,000", lambda: D.SumsHold([all_items(14, loss=4000000000)]), True),
-        ("sums hold: values of 2^62 are out of range", lambda: D.SumsHold([all_items(14, start=2**62)]), True),
+        ("sums hold: 14 initial of 4,000,000,000", lambda: D.among(setups=[all_items(14, start=4000000000)])(D.SumsHold), True),
+        ("sums hold: 14 losable of 4,000,000,000", lambda: D.among(setups=[all_items(14, loss=4000000000)])(D.SumsHold), True),
+        ("sums hold: values of 2^62 are out of range", lambda: D.among(setups=[all_items(14, start=2**62)])(D.SumsHold), True),
     ]
 
 
@@ -500,6 +526,10 @@ def of_marks(D):
         ("counts as: repeated", lambda: D.CountsAs(False, bench, G, ORDER, [2], 2, "Repeated"), True),
         ("not counts as: right, where repeated", lambda: D.CountsAs(False, bench, G, ORDER, [2], 2, "Right"), False),
         ("counts as: shut for a vertex outside", lambda: D.CountsAs(False, bench, G, ORDER, [], 10, "Shut"), True),
+        ("not counts as: shut, where repeated", lambda: D.CountsAs(False, bench, G, ORDER, [10], 10, "Shut"), False),
+        ("not counts as: loose, where repeated", lambda: D.CountsAs(False, bench, G, ORDER, [6], 6, "Loose"), False),
+        ("not counts as: loose, where right", lambda: D.CountsAs(False, bench, G, ORDER, [], 2, "Loose"), False),
+        ("not counts as: right, where loose", lambda: D.CountsAs(False, bench, G, ORDER, [], 6, "Right"), False),
         ("not counts as: loose, where shut", lambda: D.CountsAs(False, bench, G, ORDER, [], 10, "Loose"), False),
         ("not counts as: shut, where loose", lambda: D.CountsAs(False, bench, G, ORDER, [], 6, "Shut"), False),
         ("marked: B7's marks", lambda: D.MarkedAs(False, bench, G, ORDER, [], [2, 2, 6, 4], ["Right", "Repeated", "Loose", "Shut"]), True),
@@ -539,7 +569,7 @@ def of_way_calls(D):
     """The call for the way in."""
     way = lambda *a: way_call(D, bench, *a)
     return [
-        ("written: to the front", lambda: D.written([7, 8], LENT) == [7, 8, 92, 93, 94], True),
+        ("written: to the front", lambda: D.written([7, 8], LENT) == (7, 8, 92, 93, 94), True),
         ("call: way, B6", lambda: way(ORDER, 2, 0, [1, 2], [9, 9, 9], [3, 4, 9], [9, 9], [0, 1]), True),
         ("not call: way, items for colours", lambda: way(ORDER, 2, 0, [1, 2], [9, 9, 9], [0, 1, 9], [9, 9], [3, 4]), False),
         ("not call: way, a place behind changed", lambda: way(ORDER, 2, 0, [1, 2], [9, 9, 9], [3, 4, 0], [9, 9], [0, 1]), False),
@@ -566,7 +596,7 @@ def of_quick(D):
     call = lambda *a: quick_call(D, bench, *a)
     outcomes = [ended(D, 0, [y, h]) for y in (0, 1) for h in (2, 10, 26)] + [ended(D, 0, [r, n]) for r in (2, 26) for n in (1, 2, 3)]
     outcomes += [ended(D, n, []) for n in (12, 13, 14)]
-    agrees = lambda s, target, set_: D.QuickAgrees(s, target, set_, outcomes)
+    agrees = lambda s, target, set_: D.among(outcomes=outcomes)(lambda: D.QuickAgrees(s, target, set_))
     return [
         ("held at the stop: mail", lambda: D.HeldAtStop(bench.graph, MAIL, 7, 15), True),
         ("not held at the stop: order too", lambda: D.HeldAtStop(bench.graph, MAIL, 7, 31), False),
@@ -591,6 +621,7 @@ def of_quick(D):
         ("agrees: no", lambda: agrees(bench, 0, 2), True),
         ("agrees: 14", lambda: agrees(bench, ORDER, 32), True),
         ("agrees: 12", lambda: agrees(EMPTY, 0, 32), True),
+        ("agrees: 13 far beyond the count", lambda: agrees(bench, 6, 2), True),
         ("agrees: 13, where the closure answers", lambda: agrees(bench, 5, 2), True),
     ]
 
@@ -607,6 +638,7 @@ def of_base_calls(D):
         ("not call: lists, 15 with equal room", lambda: bases_call(D, bench, ORDER, 15, [], LENT[:4], LENT[:4]), False),
         ("call: lists, 15", lambda: bases_call(D, bench, ORDER, 15, [], LENT[:3], LENT[:3]), True),
         ("not call: lists, 15 with a place changed", lambda: bases_call(D, bench, ORDER, 15, [], LENT[:3], [2, 5, 3]), False),
+        ("not are bases: one lockout set missing", lambda: D.AreBases(bench, ORDER, D.Bases([2, 5], [3])), False),
         ("call: lists, 13", lambda: bases_call(D, bench, 5, 13, [], [], []), True),
         ("not call: lists, 15 before 13", lambda: bases_call(D, bench, 5, 15, [], [], []), False),
         ("call: lists, 12", lambda: bases_call(D, EMPTY, 5, 12, [], [9], [9]), True),
@@ -620,6 +652,7 @@ def of_score_calls(D):
         ("call: score, B5", lambda: score_call(D, False, bench, ORDER, 0, [1]), True),
         ("call: risk, B5", lambda: score_call(D, True, bench, ORDER, 0, [3]), True),
         ("not call: score, never", lambda: score_call(D, False, bench, ORDER, 0, [never]), False),
+        ("is score: order's score and risk", lambda: D.IsScore(False, bench, ORDER, 1) and D.IsScore(True, bench, ORDER, 3), True),
         ("call: score, 13", lambda: score_call(D, False, bench, 5, 13, []), True),
         ("not call: score, 13 inside", lambda: score_call(D, False, bench, ORDER, 13, []), False),
         ("call: score, 12", lambda: score_call(D, False, EMPTY, 0, 12, []), True),
@@ -629,6 +662,7 @@ def of_score_calls(D):
         ("call: marks, one twice", lambda: marks_call(D, False, bench, ORDER, [2, 2], 0, [1, 1, 0, 0, 1]), True),
         ("call: marks, loose and shut", lambda: marks_call(D, False, bench, ORDER, [6, 7, 4], 0, [0, 0, 1, 2, 2]), True),
         ("not call: marks, full early", lambda: marks_call(D, False, bench, ORDER, [2], 0, [1, 0, 0, 0, 0]), False),
+        ("not are marks: 2 right of B7", lambda: D.AreMarks(False, bench, ORDER, [2, 2, 6, 4], D.Marks(2, 0, 1, 1, 0)), False),
         ("call: marks, 13", lambda: marks_call(D, False, bench, 5, [2], 13, []), True),
         ("not call: marks, 13 inside", lambda: marks_call(D, False, bench, ORDER, [2], 13, []), False),
         ("call: marks, 12", lambda: marks_call(D, False, EMPTY, 0, [2], 12, []), True),
@@ -659,6 +693,9 @@ def of_attackers(D):
         ("not of base: all three", lambda: D.OfBase(bench, APART, ORDER, 5), False),
         ("in score: the lower", lambda: D.KindInScore(bench, UNLIKE, ORDER, 1), True),
         ("not in score: the higher", lambda: D.KindInScore(bench, UNLIKE, ORDER, 4), False),
+        ("gets in: anybody, where no kinds are told", lambda: D.GetsIn(bench, [], ORDER, 0), True),
+        ("attacker: of kinds that are not told", lambda: D.attackerOf([], 3) == 0, True),
+        ("largest over: item 64 is none", lambda: D.largestOver(lambda v: v, 2**64 + 2) == 1, True),
         ("gets in: remote expert", lambda: D.GetsIn(bench, APART, ORDER, 2), True),
         ("not gets in: remote with some skill", lambda: D.GetsIn(bench, APART, ORDER, 1), False),
         ("not gets in: by items that do not start", lambda: D.GetsIn(bench, UNREAD, ORDER, 0), False),
@@ -671,11 +708,15 @@ def of_attackers(D):
         ("not score by kinds: none", lambda: D.AttackerScore(bench, UNLIKE, ORDER, 0), False),
         ("fit: 255 where nothing starts", lambda: D.EntriesFit(bench, APART), True),
         ("not fit: 6", lambda: D.EntriesFit(bench, six), False),
-        ("six kinds", lambda: D.SixKinds(asked), True),
-        ("nobody in", lambda: D.NobodyIn(asked), True),
+        ("fit: 5 everywhere", lambda: D.EntriesFit(bench, [5] * 5), True),
+        ("not fit: 6, where nothing can be lost", lambda: D.EntriesFit(ring, [6] * 6), False),
+        ("not agree: where nothing can be lost", lambda: D.AgreeAtInitial(ring, [0] * 6, [1] * 6), False),
+        ("score at most: nobody and nobody", lambda: D.KindsAtMost(0, 0), True),
+        ("six kinds", lambda: D.among(asked=asked)(D.SixKinds), True),
+        ("nobody in", lambda: D.among(asked=asked)(D.NobodyIn), True),
         ("score at most: remote some, and those above", lambda: D.KindsAtMost(2, 20), True),
         ("not score at most: the other way round", lambda: D.KindsAtMost(20, 2), False),
-        ("sound: order and mail", lambda: D.KindsSound(bench, APART, ORDER, MAIL, 20, 4), True),
+        ("sound: order and mail", lambda: D.among(asked=[(bench, APART, ORDER, MAIL, 20, 4)])(D.KindsSound), True),
         ("call: kinds for order", call(bench, ORDER, APART, 0, [20]), True),
         ("not call: kinds, all who get in", call(bench, ORDER, APART, 0, [52]), False),
         ("call: kinds, 12", call(EMPTY, 0, [], 12, []), True),
@@ -686,7 +727,7 @@ def of_attackers(D):
         ("agree: where nothing starts", lambda: D.AgreeAtInitial(bench, APART, [1, 2, 3, 0, 5]), True),
         ("not agree: at token", lambda: D.AgreeAtInitial(bench, APART, [1, 2, 4, 255, 255]), False),
         ("not agree: another length", lambda: D.AgreeAtInitial(bench, APART, [1, 2, 3]), False),
-        ("others unread", lambda: D.OthersUnread(bench, ORDER, lists, outcomes), True),
+        ("others unread", lambda: D.among(targets=[(bench, ORDER)], kinds=lists, outcomes=outcomes)(D.OthersUnread), True),
     ]
 
 
@@ -712,9 +753,9 @@ def of_forecasts(D):
         ("not forecast: the list's length", lambda: D.Forecast(bench, ORDER, 7, 2), False),
         ("not forecast: more than the ways", lambda: D.Forecast(bench, ORDER, 7, 4), False),
         ("not forecast: of other items", lambda: D.Forecast(bench, ORDER, 5, 2), False),
-        ("forecast holds", lambda: D.ForecastHolds(asked), True),
-        ("longest base", lambda: D.LongestBase([bench]), True),
-        ("counted once", lambda: D.CountedOnce(bench, ORDER), True),
+        ("forecast holds", lambda: D.among(asked=asked)(D.ForecastHolds), True),
+        ("longest base", lambda: D.among(setups=[bench])(D.LongestBase), True),
+        ("counted once", lambda: D.among(targets=[(bench, ORDER)])(D.CountedOnce), True),
         ("call: forecast for order", lambda: forecast_call(D, bench, ORDER, 0, [3]), True),
         ("not call: forecast of 3432", lambda: forecast_call(D, bench, ORDER, 0, [3432]), False),
         ("call: forecast, 13", lambda: forecast_call(D, bench, 5, 13, []), True),
@@ -750,9 +791,9 @@ def of_cuts(D):
         ("duality: mail", lambda: D.Duality(bench, MAIL, [2]), True),
         ("not duality: one missing", lambda: D.Duality(bench, ORDER, [3]), False),
         ("not duality: no set", lambda: D.Duality(bench, ORDER, []), False),
-        ("duality holds", lambda: D.DualityHolds(asked), True),
-        ("cuts meet base", lambda: D.CutsMeetBase(asked), True),
-        ("longest cuts", lambda: D.LongestCuts(asked), True),
+        ("duality holds", lambda: D.among(asked=asked)(D.DualityHolds), True),
+        ("cuts meet base", lambda: D.among(asked=asked)(D.CutsMeetBase), True),
+        ("longest cuts", lambda: D.among(asked=asked)(D.LongestCuts), True),
         ("call: cut sets of order", lambda: call(0, [2], lent, [3, 6, 92]), True),
         ("call: cut sets of order, with equal room", lambda: call(0, [2], LENT[:2], [3, 6]), True),
         ("not call: cut sets in another order", lambda: call(0, [2], lent, [6, 3, 92]), False),
@@ -810,17 +851,17 @@ def of_bags(D):
         ("not place by place: more values", lambda: D.PlaceByPlace([1, 0], [1]), False),
         ("descending", lambda: D.Descending([3, 1, 1, 0]), True),
         ("not descending", lambda: D.Descending([1, 3]), False),
-        ("pairing counts", lambda: D.PairingCounts(lists), True),
-        ("pairing sorts", lambda: D.PairingSorts(lists), True),
-        ("reflexive", lambda: D.Reflexive(lists), True),
-        ("transitive", lambda: D.Transitive(few), True),
-        ("antisymmetric", lambda: D.Antisymmetric(lists), True),
-        ("order free", lambda: D.OrderFree([[], [0], [1], [0, 1], [1, 0], [1, 1], [5] * 15]), True),
-        ("one at most answer", lambda: D.OneAtMostAnswer(few), True),
-        ("arranges", lambda: D.Arranges(lists), True),
-        ("one arrangement", lambda: D.OneArrangement(lists), True),
-        ("fourteen places", lambda: D.FourteenPlaces(lists + [[5] * 14, [5] * 15]), True),
-        ("written apart", lambda: D.WrittenApart(lists), True),
+        ("pairing counts", lambda: D.among(lists=lists)(D.PairingCounts), True),
+        ("pairing sorts", lambda: D.among(lists=lists)(D.PairingSorts), True),
+        ("reflexive", lambda: D.among(lists=lists)(D.Reflexive), True),
+        ("transitive", lambda: D.among(lists=few)(D.Transitive), True),
+        ("antisymmetric", lambda: D.among(lists=lists)(D.Antisymmetric), True),
+        ("order free", lambda: D.among(lists=[[], [0], [1], [0, 1], [1, 0], [1, 1], [5] * 15])(D.OrderFree), True),
+        ("one at most answer", lambda: D.among(lists=few)(D.OneAtMostAnswer), True),
+        ("arranges", lambda: D.among(lists=lists)(D.Arranges), True),
+        ("one arrangement", lambda: D.among(lists=lists)(D.OneArrangement), True),
+        ("fourteen places", lambda: D.among(lists=lists + [[5] * 14, [5] * 15])(D.FourteenPlaces), True),
+        ("written apart", lambda: D.among(lists=lists)(D.WrittenApart), True),
     ]
 
 
@@ -842,13 +883,13 @@ def of_bag_scores(D):
         ("bag score: t", lambda: D.MultisetScore(bags, t, [4, 3]), True),
         ("not bag score: the second of 2", lambda: D.MultisetScore(bags, t, [8, 3]), False),
         ("not bag score: one missing", lambda: D.MultisetScore(bags, t, [4]), False),
-        ("covered", lambda: D.Covered(asked), True),
-        ("each listed", lambda: D.EachListed(asked), True),
-        ("bags apart", lambda: D.BagsApart(asked), True),
-        ("are bags", lambda: D.AreBags([(bags, t)]), True),
-        ("bags no longer", lambda: D.NoLonger([(bags, t, [4, 3], [4, 8, 16, 3])]), True),
-        ("longest score", lambda: D.LongestScore(asked), True),
-        ("forecast enough for bags", lambda: D.ForecastEnough([(bags, t, 31, 10, [4, 3])]), True),
+        ("covered", lambda: D.among(asked=asked)(D.Covered), True),
+        ("each listed", lambda: D.among(asked=asked)(D.EachListed), True),
+        ("bags apart", lambda: D.among(asked=asked)(D.BagsApart), True),
+        ("are bags", lambda: D.among(targets=[(bags, t)])(D.AreBags), True),
+        ("bags no longer", lambda: D.among(asked=[(bags, t, [4, 3], [4, 8, 16, 3])])(D.NoLonger), True),
+        ("longest score", lambda: D.among(asked=asked)(D.LongestScore), True),
+        ("forecast enough for bags", lambda: D.among(asked=[(bags, t, 31, 10, [4, 3])])(D.ForecastEnough), True),
         ("score at most: more bags", lambda: D.BagScoreAtMost(bags, [4, 3], [16]), True),
         ("not score at most: none", lambda: D.BagScoreAtMost(bags, [], [16]), False),
         ("call: bags of t", lambda: call(0, [2], lent, rows + [9], room, [1, 2, 7]), True),
@@ -863,10 +904,10 @@ def of_bag_scores(D):
         ("call: bags, 12", lambda: call(12, [], lent, lent, room, room, s=EMPTY), True),
         ("not call: bags, 13 for 12", lambda: call(13, [], lent, lent, room, room, s=EMPTY), False),
         ("not call: bags, a place behind changed", lambda: call(0, [2], lent, rows + [0], room, [1, 2, 7]), False),
-        ("places each", lambda: D.PlacesEach(asked), True),
+        ("places each", lambda: D.among(asked=asked)(D.PlacesEach), True),
         ("one answer: bags of t", lambda: D.OneAnswer(D.bagsCall(bags, t, lent, room)), True),
-        ("settled: bags of t", lambda: D.Settles(D.bagsCall(bags, t, lent, room), outcomes[0], outcomes), True),
-        ("settled: bags of t, 15", lambda: D.Settles(D.bagsCall(bags, t, short, room), ended(D, 15, [], short, room), outcomes), True),
+        ("settled: bags of t", lambda: D.among(outcomes=outcomes)(lambda: D.Settles(D.bagsCall(bags, t, lent, room), outcomes[0])), True),
+        ("settled: bags of t, 15", lambda: D.among(outcomes=outcomes)(lambda: D.Settles(D.bagsCall(bags, t, short, room), ended(D, 15, [], short, room))), True),
         ("settled: {1} at most {1, 2}", lambda: D.SettledYesNo(D.BagAtMost([1], [1, 2]), True), True),
         ("not settled: {1, 1} at most {2}", lambda: D.SettledYesNo(D.BagAtMost([1, 1], [2]), True), False),
         ("settled: {1, 1} not at most {2}", lambda: D.SettledYesNo(D.BagAtMost([1, 1], [2]), False), True),
@@ -879,10 +920,10 @@ def of_soundness(D):
     asked = [(False, bench, G, a, b) for a in (MAIL, ORDER) for b in (MAIL, ORDER)]
     bases = {MAIL: [2], ORDER: [2, 5]}
     lists = [[], [1], [4], [1, 4], [2]]
-    sums = lambda: D.sumThenLeast(False, bench, lists)
+    sums = lambda: D.sumThenLeast(False, bench)
     # values of sets that fall as the set grows, and a score that is the largest value
-    falls = lambda: D.Scheme(lambda a, b: a <= b, lambda x: 9 - D.sumOf(False, bench, x), D.leastValue, lists)
-    most = lambda: D.Scheme(lambda a, b: a <= b, lambda x: D.sumOf(False, bench, x), lambda l: max(l, default=0), lists)
+    falls = lambda: D.Scheme(lambda: range(99), lambda a, b: a <= b, lambda x: 9 - D.sumOf(False, bench, x), D.leastValue)
+    most = lambda: D.Scheme(lambda: range(99), lambda a, b: a <= b, lambda x: D.sumOf(False, bench, x), lambda l: max(l, default=0))
     both = [(a, b, bases[a], bases[b]) for a in (MAIL, ORDER) for b in (MAIL, ORDER)]
     risks = {MAIL: 1, ORDER: 3}
     held = lambda s: lambda i: D.Member(s, i)
@@ -897,9 +938,9 @@ def of_soundness(D):
         ("not smallest closed: ordpw too", lambda: D.SmallestClosed(access, 2, 27), False),
         ("not smallest closed: without mailpw", lambda: D.SmallestClosed(access, 2, 0), False),
         ("not smallest closed: not closed", lambda: D.SmallestClosed(access, 2, 2), False),
-        ("access is smallest", lambda: D.AccessIsSmallest([(G, s, t) for s in (0, 2, 4, 5) for t in sets]), True),
-        ("lockout is smallest", lambda: D.LockoutIsSmallest([(G, s, t) for s in (0, 1, 2, 3) for t in sets]), True),
-        ("one closure", lambda: all(D.OneClosure(loss, G, s) for loss in (False, True) for s in (0, 2, 5)), True),
+        ("access is smallest", lambda: D.among(asked=[(G, s, t) for s in (0, 2, 4, 5) for t in sets])(D.AccessIsSmallest), True),
+        ("lockout is smallest", lambda: D.among(asked=[(G, s, t) for s in (0, 1, 2, 3) for t in sets])(D.LockoutIsSmallest), True),
+        ("one closure", lambda: all(D.among(asked=[(loss, G, s)])(D.OneClosure) for loss in (False, True) for s in (0, 2, 5)), True),
         ("chosen only: ordpw and token", lambda: D.ChosenOnly(False, bench, 5), True),
         ("not chosen only: mail", lambda: D.ChosenOnly(False, bench, 8), False),
         ("base at most: order and mail", lambda: D.BaseAtMost(False, bench, G, ORDER, MAIL), True),
@@ -908,30 +949,30 @@ def of_soundness(D):
         ("each contains: mail's, order's", lambda: D.EachContains([2], [2, 5]), True),
         ("each contains: a larger one", lambda: D.EachContains([3], [2]), True),
         ("not each contains: order's, mail's", lambda: D.EachContains([2, 5], [2]), False),
-        ("bases compared", lambda: D.BasesCompared([(False, bench, G, a, b, bases[a], bases[b]) for a in bases for b in bases]), True),
-        ("target sets compared", lambda: D.TargetSetsCompared(asked), True),
-        ("minimal within", lambda: D.MinimalWithin(False, bench, G, ORDER), True),
-        ("one base", lambda: D.OneBase(False, bench, G, ORDER), True),
+        ("bases compared", lambda: D.among(asked=[(False, bench, G, a, b, bases[a], bases[b]) for a in bases for b in bases])(D.BasesCompared), True),
+        ("target sets compared", lambda: D.among(asked=asked)(D.TargetSetsCompared), True),
+        ("minimal within", lambda: D.among(asked=[(False, bench, G, ORDER)])(D.MinimalWithin), True),
+        ("one base", lambda: D.among(asked=[(False, bench, G, ORDER)])(D.OneBase), True),
         ("among", lambda: D.Among([1, 4], 4), True),
         ("not among", lambda: D.Among([1, 4], 2), False),
-        ("each above: 4 above 1", lambda: D.EachAbove(lambda a, b: a <= b, [4], [1, 5]), True),
-        ("not each above: 1 above 4", lambda: D.EachAbove(lambda a, b: a <= b, [1], [4]), False),
+        ("each above: 4 above 1", lambda: D.EachAbove(lambda: range(9), lambda a, b: a <= b, [4], [1, 5]), True),
+        ("not each above: 1 above 4", lambda: D.EachAbove(lambda: range(9), lambda a, b: a <= b, [1], [4]), False),
         ("grows with sets: sums", lambda: D.GrowsWithSets(sums(), False, bench), True),
         ("not grows with sets: what falls", lambda: D.GrowsWithSets(falls(), False, bench), False),
-        ("grows with values: the least", lambda: D.GrowsWithValues(sums()), True),
-        ("not grows with values: the largest", lambda: D.GrowsWithValues(most()), False),
-        ("sound scheme: sums", lambda: D.Sound(sums(), False, bench, G, both), True),
-        ("not sound scheme: the largest", lambda: D.Sound(most(), False, bench, G, both), False),
-        ("conditions suffice", lambda: D.ConditionsSuffice([sums(), falls(), most()], False, bench, G, both), True),
+        ("grows with values: the least", lambda: D.among(lists=lists)(lambda: D.GrowsWithValues(sums())), True),
+        ("not grows with values: the largest", lambda: D.among(lists=lists)(lambda: D.GrowsWithValues(most())), False),
+        ("sound scheme: sums", lambda: D.among(asked=both)(lambda: D.Sound(sums(), False, bench, G)), True),
+        ("not sound scheme: the largest", lambda: D.among(asked=both)(lambda: D.Sound(most(), False, bench, G)), False),
+        ("conditions suffice", lambda: D.among(schemes=[sums(), falls(), most()], graphs=[(False, bench, G)], asked=both, lists=lists)(D.ConditionsSuffice), True),
         ("least value", lambda: D.leastValue([4, 1, 2]) == 1, True),
         ("least value of none", lambda: D.leastValue([]) == D.never, True),
         ("sums of start values, and of loss values", lambda: [D.sumThenLeast(loss, bench).evalSet(3) for loss in (False, True)] == [2, 3], True),
-        ("score is least", lambda: D.ScoreIsLeast([(False, bench, G, ORDER, 1, [2, 5]), (True, bench, G, ORDER, 3, [3, 6]), (False, bench, G, 5, D.never, [])]), True),
-        ("sum meets both", lambda: D.SumMeetsBoth(False, bench, lists), True),
-        ("sum then least sound", lambda: D.SumThenLeastSound(False, bench, G, both), True),
+        ("score is least", lambda: D.among(asked=[(False, bench, G, ORDER, 1, [2, 5]), (True, bench, G, ORDER, 3, [3, 6]), (False, bench, G, 5, D.never, [])])(D.ScoreIsLeast), True),
+        ("sum meets both", lambda: D.among(ways=[(False, bench)], lists=lists)(D.SumMeetsBoth), True),
+        ("sum then least sound", lambda: D.among(graphs=[(False, bench, G)], asked=both)(D.SumThenLeastSound), True),
         ("score by: order", lambda: D.scoreBy(sums(), [2, 5]) == 1, True),
-        ("scores sound", lambda: D.ScoresSound([(True, bench, G, a, b, risks[a], risks[b]) for a in risks for b in risks]), True),
-        ("kinds sound by bases", lambda: D.AttackersSound(bench, APART, ORDER, MAIL, 20, 4), True),
+        ("scores sound", lambda: D.among(asked=[(True, bench, G, a, b, risks[a], risks[b]) for a in risks for b in risks])(D.ScoresSound), True),
+        ("kinds sound by bases", lambda: D.among(asked=[(bench, APART, ORDER, MAIL, 20, 4)])(D.AttackersSound), True),
         ("a colour: mail's first", lambda: D.HasColour(G, MAIL, 0), True),
         ("not a colour: mail's second", lambda: D.HasColour(G, MAIL, 1), False),
         ("concludes: order from mailpw", lambda: D.Concludes(D.accessClauses(G), lambda x: D.variablesOf(held(2), x), D.vertex(ORDER)), True),
@@ -940,17 +981,17 @@ def of_soundness(D):
         ("not satisfies: mailpw alone", lambda: D.Satisfies(D.accessClauses(G), lambda y: y == D.vertex(1)), False),
         ("entails: mail from mailpw", lambda: D.Entails(D.accessClauses(G), lambda x: D.variablesOf(held(2), x), D.vertex(MAIL)), True),
         ("not entails: mail from token", lambda: D.Entails(D.accessClauses(G), lambda x: D.variablesOf(held(4), x), D.vertex(MAIL)), False),
-        ("access by clauses", lambda: all(D.AccessByClauses(G, s) for s in (0, 1, 2, 4, 5)), True),
-        ("lockout by clauses", lambda: all(D.LockoutByClauses(G, s) for s in (0, 1, 2, 3, 6)), True),
-        ("access entailed", lambda: all(D.AccessEntailed(G, s, v) for s in (0, 2) for v in (MAIL, ORDER)), True),
-        ("lockout entailed", lambda: all(D.LockoutEntailed(G, s, v) for s in (3, 5) for v in (MAIL, ORDER)), True),
+        ("access by clauses", lambda: all(D.among(asked=[(G, held(s))])(D.AccessByClauses) for s in (0, 1, 2, 4, 5)), True),
+        ("lockout by clauses", lambda: all(D.among(asked=[(G, held(s))])(D.LockoutByClauses) for s in (0, 1, 2, 3, 6)), True),
+        ("access entailed", lambda: all(D.among(asked=[(G, s, v)])(D.AccessEntailed) for s in (0, 2) for v in (MAIL, ORDER)), True),
+        ("lockout entailed", lambda: all(D.among(asked=[(G, s, v)])(D.LockoutEntailed) for s in (3, 5) for v in (MAIL, ORDER)), True),
     ]
 
 
 def of_sound_bags(D):
     """Document 003's theorem 4, of t and of what opens it."""
     t = 5
-    return [("bags sound by bases", lambda: D.MultisetsSound([(bags, t, b, [4, 3], [x]) for b, x in ((2, 4), (3, 8), (4, 16), (0, 1))]), True)]
+    return [("bags sound by bases", lambda: D.among(asked=[(bags, t, b, [4, 3], [x]) for b, x in ((2, 4), (3, 8), (4, 16), (0, 1))])(D.MultisetsSound), True)]
 
 
 def of_next_sets(D):
@@ -987,20 +1028,20 @@ def of_next_sets(D):
         ("tells: the second set", lambda: D.Tells(bench, ORDER, 2, D.Shown(5)), True),
         ("not tells: no more too early", lambda: D.Tells(bench, ORDER, 2, D.End), False),
         ("is next: the end", lambda: D.IsNext(bench, ORDER, 5, D.End), True),
-        ("next values: a set, and the end", lambda: D.nextValues(D.Shown(5)) == [1, 5] and D.nextValues(D.End) == [0], True),
+        ("next values: a set, and the end", lambda: D.nextValues(D.Shown(5)) == (1, 5) and D.nextValues(D.End) == (0,), True),
         ("walk: order's list", lambda: D.Walk(bench, ORDER, 0, [2, 5]), True),
         ("not walk: the first set alone", lambda: D.Walk(bench, ORDER, 0, [2]), False),
-        ("whole walk", lambda: D.WholeWalk([bench, drawn]), True),
+        ("whole walk", lambda: D.among(setups=[bench, drawn])(D.WholeWalk), True),
         ("shown: two sets of one drawing", lambda: D.Showing(ORDER, 0, [bench, bench], [2, 5]), True),
         ("shown: the second set of another drawing", lambda: D.Showing(ORDER, 0, [bench, drawn], [2, 5]), True),
         ("not shown: a set that is not in the list any more", lambda: D.Showing(ORDER, 0, [drawn], [2]), False),
         ("not shown: a set that has come in before the last", lambda: D.Showing(ORDER, 0, [drawn, bench], [5, 2]), False),
-        ("shown rise", lambda: D.ShownRise(walks), True),
-        ("shown end", lambda: D.ShownEnd(7, walks), True),
+        ("shown rise", lambda: D.among(walks=walks)(D.ShownRise), True),
+        ("shown end", lambda: D.among(initial=[7], walks=walks)(D.ShownEnd), True),
         ("keep initial: bench and drawn", lambda: D.KeepInitial(7, [bench, drawn]), True),
         ("not keep initial: all items", lambda: D.KeepInitial(31, [bench]), False),
-        ("drawing alone: with a mark less", lambda: D.DrawingAlone(bench, unmarked, after), True),
-        ("drawing alone: another drawing", lambda: D.DrawingAlone(bench, drawn, after), True),
+        ("drawing alone: with a mark less", lambda: D.among(drawings=[(bench, unmarked)], asked=after)(D.DrawingAlone), True),
+        ("drawing alone: another drawing", lambda: D.among(drawings=[(bench, drawn)], asked=after)(D.DrawingAlone), True),
     ]
 
 
@@ -1116,7 +1157,7 @@ def of_register(D):
         ("register after: the day", lambda: D.RegisterAfter(bench, back, 2, [R_ANOTHER, R_NONE, R_LOCKS]), True),
         ("not register after: the first place again", lambda: D.RegisterAfter(bench, back, 2, [R_ANY, R_ANOTHER, R_NONE]), False),
         ("not register after: a count beyond the slice", lambda: D.RegisterAfter(bench, back, 3, [R_ANOTHER, R_NONE]), False),
-        ("register law", lambda: D.RegisterLaw(bench, SLICE, logs + [back]), True),
+        ("register law", lambda: D.among(slices=[(bench, SLICE)], logs=logs + [back])(D.RegisterLaw), True),
         ("hands back: the slice, and the count", lambda: D.handsBack(2, [R_ANY], 25) == D.RegisterOutcome(Registered(25, 2), [R_ANY]), True),
         ("keeps used: one, and what is behind", lambda: D.keepsUsed([R_ONE], [R_BOTH, R_ANY]) == D.RegisterOutcome(Registered(0, 1), [R_ONE, R_ANY]), True),
         ("not call: hand-in, 13 before 12", lambda: in_any(13, 1, (1, [R_ANY]), [R_ANY], (EMPTY, *one[1:])), False),
@@ -1126,18 +1167,18 @@ def of_register(D):
         ("not call: withdraw, 27 and a record changed", lambda: left(1, 8, 27, 1, [R_ONE, R_ANOTHER], [R_ONE, R_ANY]), False),
         ("enters: behind", lambda: D.Enters(bench, 1, 7, ORDER, False, (2, 6), [R_ANY, R_BOTH], D.withSlice(Registered(0, 2), [R_ANY, R_ONE])), True),
         ("not enters: another record", lambda: D.Enters(bench, 1, 7, ORDER, False, (2, 6), [R_ANY, R_BOTH], D.withSlice(Registered(0, 2), [R_ANY, R_BOTH])), False),
-        ("settled: hand-in", lambda: D.SettledHandIn(*one, Registered(0, 1), [R_BOTH, R_ANY], [R_ONE, R_ANY], outcomes), True),
-        ("settled: hand-in, 26", lambda: D.SettledHandIn(*one, Registered(26, 1), [R_ANY], [R_ANY], outcomes), True),
-        ("settled: hand-in, 13", lambda: D.SettledHandIn(bench, 1, 7, 5, False, (2,), Registered(13, 1), [R_ANY], [R_ANY], outcomes), True),
-        ("settled: hand-in, 12", lambda: D.SettledHandIn(EMPTY, 1, 7, 5, False, (2,), Registered(12, 1), [R_ANY], [R_ANY], outcomes), True),
-        ("settled: hand-in, 25", lambda: D.SettledHandIn(bench, 2, 7, 5, False, (2,), Registered(25, 2), [R_ANY], [R_ANY], outcomes), True),
-        ("not settled: hand-in, 27", lambda: D.SettledHandIn(*one, Registered(27, 1), [R_ANY], [R_ANY], []), False),
-        ("not settled: hand-in, the old slice", lambda: D.SettledHandIn(*one, Registered(0, 1), [R_BOTH, R_ANY], [R_BOTH, R_ANY], outcomes), False),
-        ("settled: withdrawal", lambda: D.SettledWithdrawal(1, 7, Registered(0, 0), [R_ONE, R_ANY], [R_ONE, R_ANY], outcomes), True),
-        ("settled: withdrawal, 27", lambda: D.SettledWithdrawal(1, 8, Registered(27, 1), [R_ONE, R_ANY], [R_ONE, R_ANY], outcomes), True),
-        ("settled: withdrawal, 25", lambda: D.SettledWithdrawal(3, 7, Registered(25, 3), [R_ONE, R_ANY], [R_ONE, R_ANY], outcomes), True),
-        ("not settled: withdrawal, 26", lambda: D.SettledWithdrawal(1, 8, Registered(26, 1), [R_ONE], [R_ONE], []), False),
-        ("not settled: withdrawal, 27 of one who has", lambda: D.SettledWithdrawal(1, 7, Registered(27, 1), [R_ONE, R_ANY], [R_ONE, R_ANY], outcomes), False),
+        ("settled: hand-in", lambda: D.among(registers=outcomes)(lambda: D.SettledHandIn(*one, Registered(0, 1), [R_BOTH, R_ANY], [R_ONE, R_ANY])), True),
+        ("settled: hand-in, 26", lambda: D.among(registers=outcomes)(lambda: D.SettledHandIn(*one, Registered(26, 1), [R_ANY], [R_ANY])), True),
+        ("settled: hand-in, 13", lambda: D.among(registers=outcomes)(lambda: D.SettledHandIn(bench, 1, 7, 5, False, (2,), Registered(13, 1), [R_ANY], [R_ANY])), True),
+        ("settled: hand-in, 12", lambda: D.among(registers=outcomes)(lambda: D.SettledHandIn(EMPTY, 1, 7, 5, False, (2,), Registered(12, 1), [R_ANY], [R_ANY])), True),
+        ("settled: hand-in, 25", lambda: D.among(registers=outcomes)(lambda: D.SettledHandIn(bench, 2, 7, 5, False, (2,), Registered(25, 2), [R_ANY], [R_ANY])), True),
+        ("not settled: hand-in, 27", lambda: D.among(registers=[])(lambda: D.SettledHandIn(*one, Registered(27, 1), [R_ANY], [R_ANY])), False),
+        ("not settled: hand-in, the old slice", lambda: D.among(registers=outcomes)(lambda: D.SettledHandIn(*one, Registered(0, 1), [R_BOTH, R_ANY], [R_BOTH, R_ANY])), False),
+        ("settled: withdrawal", lambda: D.among(registers=outcomes)(lambda: D.SettledWithdrawal(1, 7, Registered(0, 0), [R_ONE, R_ANY], [R_ONE, R_ANY])), True),
+        ("settled: withdrawal, 27", lambda: D.among(registers=outcomes)(lambda: D.SettledWithdrawal(1, 8, Registered(27, 1), [R_ONE, R_ANY], [R_ONE, R_ANY])), True),
+        ("settled: withdrawal, 25", lambda: D.among(registers=outcomes)(lambda: D.SettledWithdrawal(3, 7, Registered(25, 3), [R_ONE, R_ANY], [R_ONE, R_ANY])), True),
+        ("not settled: withdrawal, 26", lambda: D.among(registers=[])(lambda: D.SettledWithdrawal(1, 8, Registered(26, 1), [R_ONE], [R_ONE])), False),
+        ("not settled: withdrawal, 27 of one who has", lambda: D.among(registers=outcomes)(lambda: D.SettledWithdrawal(1, 7, Registered(27, 1), [R_ONE, R_ANY], [R_ONE, R_ANY])), False),
     ]
 
 
@@ -1151,18 +1192,20 @@ def of_living(D):
     IN, ADD, OFF = D.TakeIn(1), D.AddEdge(0, MAIL, 0, False), D.RemoveEdge(MAIL, ORDER, 1)
     setups = [bench, TAKEN, TRAPPED, both, stale, kept, LESS, left, marked]
     answers = [D.Redrawing(n, t) for n in (0, 12, 13) for t in (bench, TAKEN, stale, both)]
-    runs = [(text(BENCH), calls, numbers, setups) for calls, numbers in (([], []), ([IN], [0]), ([IN, ADD], [0, 0]), ([IN, ADD, ADD], [0, 0, 19]), ([OFF], [0]), ([IN, D.TakeIn(MAIL)], [0, 0]))]
-    runs += [(text(BENCH), [IN, D.AddEdge(0, MAIL, 0, True)], [0, 0], setups)]
+    on_way = [*setups, EMPTY]
+    runs = [(text(BENCH), calls, numbers) for calls, numbers in (([], []), ([IN], [0]), ([IN, ADD], [0, 0]), ([IN, ADD, ADD], [0, 0, 19]), ([OFF], [0]), ([IN, D.TakeIn(MAIL)], [0, 0]))]
+    runs += [(text(BENCH), [IN, D.AddEdge(0, MAIL, 0, True)], [0, 0])]
     words = wordsOf(bench)
     long = words + [7]
     held, trapped = wordsOf(TAKEN), wordsOf(TRAPPED)
-    lives = lambda call, n, entry, exit: D.Redrew(call, n, entry, exit, setups)
+    lives = lambda call, n, entry, exit: D.among(setups=setups)(lambda: D.Redrew(call, n, entry, exit))
     five = REFUSED["refused 5"][0]
     none = wordsOf(EMPTY)
-    stays = [(five, [IN, ADD], [12, 12], [EMPTY]), (five, [], [], [EMPTY]), (text(BENCH), [IN], [0], setups), (text(BENCH), [], [], setups)]
+    stays = [(five, [IN, ADD], [12, 12]), (five, [], []), (text(BENCH), [IN], [0]), (text(BENCH), [], [])]
     kind2 = words[:1] + [2] + words[2:]
-    lived = [(text(BENCH), 0, 0, [9] * 1284, words + [9], calls, numbers, exit + [9], [x + [9] for x in (words, held, trapped)], setups) for calls, numbers, exit in (([], [], words), ([IN], [0], held), ([IN, ADD, ADD], [0, 0, 19], trapped))]
-    lived += [(five, 5, 2, [9] * 1283, none, [IN], [12], none, [none, words], [EMPTY, bench]), (text(BENCH), 15, 0, [9], [9], [IN], [12], [9], [[9], [8]], setups)]
+    lived = [(text(BENCH), 0, 0, [9] * 1284, words + [9], calls, numbers, exit + [9]) for calls, numbers, exit in (([], [], words), ([IN], [0], held), ([IN, ADD, ADD], [0, 0, 19], trapped))]
+    lived += [(five, 5, 2, [9] * 1283, none, [IN], [12], none), (text(BENCH), 15, 0, [9], [9], [IN], [12], [9])]
+    on_words = [x + [9] for x in (words, held, trapped)] + [none, words, [9], [8]]
     asked = [(("Closure", 2), ended(D, 0, [26, 3])), (("ScoreOf", False, ORDER), ended(D, 0, [1])), (("BothBases", ORDER, []), ended(D, 15, [], [])), (("WayTo", ORDER, 2, [9, 9], [9, 9]), ended(D, 0, [1, 2], [3, 4], [0, 1])), (("NextSet", ORDER, 2), ended(D, 0, [1, 5]))]
     handed = [(0, 7, ORDER, False, [2], Registered(n, 0), [], []) for n in (12, 13, 26)] + [(0, 7, ORDER, False, (2, 5), Registered(0, 1), [R_ANY], [R_BOTH])]
     changes = [(v, n, entry, exit) for v in (1, 2) for n in (0, 13) for entry, exit in ((held, held), (held, words), (words, words))] + [(MAIL, 0, held, wordsOf(both))]
@@ -1205,7 +1248,7 @@ def of_living(D):
         ("not add: 20 for 19", lambda: living_call(D, D.AddEdge(1, MAIL, 0, False), bench, 20, bench), False),
         ("not add: 12 for 7", lambda: living_call(D, D.AddEdge(4, 3, 0, False), full, 12, full), False),
         ("add: colour 7", lambda: living_call(D, D.AddEdge(0, MAIL, 7, False), bench, 0, bench._replace(graph=with_row(bench.graph, MAIL, 7, 1))), True),
-        ("one answer: add to an item that is not there", lambda: D.OneLivingAnswer(D.AddEdge(MAIL, 5, 0, False), bench, answers), True),
+        ("one answer: add to an item that is not there", lambda: D.among(calls=[D.AddEdge(MAIL, 5, 0, False)], setups=[bench], redrawings=answers)(D.OneLivingAnswer), True),
         ("not remove: unmarked, and 20", lambda: living_call(D, D.RemoveEdge(1, MAIL, 0), bench, 20, bench), False),
         ("add: 7", lambda: living_call(D, D.AddEdge(4, 3, 0, False), full, 7, full), True),
         ("add: 19 before 7", lambda: living_call(D, D.AddEdge(3, 3, 0, False), full, 19, full), True),
@@ -1218,17 +1261,17 @@ def of_living(D):
         ("remove: 12", lambda: living_call(D, OFF, stale, 12, stale), True),
         ("remove: 13 of the second end", lambda: living_call(D, D.RemoveEdge(MAIL, 5, 0), bench, 13, bench), True),
         ("remove: 18", lambda: living_call(D, D.RemoveEdge(0, MAIL, 8), bench, 18, bench), True),
-        ("one answer: take in", lambda: D.OneLivingAnswer(IN, bench, answers), True),
-        ("nothing changes", lambda: D.NothingChanges([bench, TAKEN, both], [D.Redrawing(n, t) for n in (0, 13) for t in (bench, TAKEN, both)]), True),
-        ("ran: three calls, the last refused", lambda: D.Ran(bench, [IN, ADD, ADD], [0, 0, 19], TRAPPED, setups), True),
-        ("not ran: another number", lambda: D.Ran(bench, [IN, ADD], [0, 19], TRAPPED, setups), False),
-        ("not ran: a call without a number", lambda: D.Ran(bench, [IN], [], TAKEN, setups), False),
+        ("one answer: take in", lambda: D.among(calls=[IN], setups=[bench], redrawings=answers)(D.OneLivingAnswer), True),
+        ("nothing changes", lambda: D.among(setups=[bench, TAKEN, both], redrawings=[D.Redrawing(n, t) for n in (0, 13) for t in (bench, TAKEN, both)])(D.NothingChanges), True),
+        ("ran: three calls, the last refused", lambda: D.among(setups=setups)(lambda: D.Ran(bench, [IN, ADD, ADD], [0, 0, 19], TRAPPED)), True),
+        ("not ran: another number", lambda: D.among(setups=setups)(lambda: D.Ran(bench, [IN, ADD], [0, 19], TRAPPED)), False),
+        ("not ran: a call without a number", lambda: D.among(setups=setups)(lambda: D.Ran(bench, [IN], [], TAKEN)), False),
         ("left by: an accepted call", lambda: D.leftBy([ADD], [0], D.drawingOf(bench)).Edges(0, MAIL, 0), True),
         ("not left by: a refused call", lambda: D.leftBy([ADD], [19], D.drawingOf(bench)).Edges(0, MAIL, 0), False),
-        ("opened always", lambda: D.OpenedAlways(runs, setups), True),
-        ("reached: by two calls", lambda: D.Reached(TRAPPED, runs), True),
-        ("not reached: stale", lambda: D.Reached(stale, runs), False),
-        ("question 12: setups, sheets and calls", lambda: D.Question12(setups, runs), True),
+        ("opened always", lambda: D.among(runs=runs, ends=setups, setups=on_way)(D.OpenedAlways), True),
+        ("reached: by two calls", lambda: D.among(runs=runs, setups=on_way)(lambda: D.Reached(TRAPPED)), True),
+        ("not reached: stale", lambda: D.among(runs=runs, setups=on_way)(lambda: D.Reached(stale)), False),
+        ("question 12: setups, sheets and calls", lambda: D.among(setups=setups, runs=runs)(D.Question12), True),
         ("only holding: bench and the mail password held", lambda: D.OnlyHolding(bench, TAKEN), True),
         ("not only holding: another graph", lambda: D.OnlyHolding(TAKEN, TRAPPED), False),
         ("not only holding: stale", lambda: D.OnlyHolding(bench, stale), False),
@@ -1238,13 +1281,13 @@ def of_living(D):
         ("take out: 13", lambda: living_call(D, D.TakeOut(5), bench, 13, bench), True),
         ("not take in: another number", lambda: living_call(D, IN, bench, 13, TAKEN), False),
         ("back: the setup as it was", lambda: D.back(stale, 12) == D.Redrawing(12, stale), True),
-        ("refused stays", lambda: D.RefusedStays(stays, [EMPTY, bench]), True),
-        ("opened always: a refused text", lambda: D.OpenedAlways(stays, [EMPTY]), True),
+        ("refused stays", lambda: D.among(runs=stays, ends=[EMPTY, bench], setups=on_way)(D.RefusedStays), True),
+        ("opened always: a refused text", lambda: D.among(runs=stays, ends=[EMPTY], setups=on_way)(D.OpenedAlways), True),
         ("contracts: order and mail out of rank", lambda: D.Fulfils(D.contractOf(("OutOfRank", ORDER, MAIL), bench), ended(D, 0, [1])), True),
         ("contracts: the next set", lambda: D.Fulfils(D.contractOf(("NextSet", ORDER, 2), bench), ended(D, 0, [1, 5])), True),
-        ("contracts: of each request", lambda: [D.numbers(D.contractOf(q, bench)) for q, _ in asked] == [[12, 14], [12, 13], [12, 13, 15], [12, 13, 14, 15], [12, 13, 21]], True),
-        ("no heed", lambda: D.NoHeed([bench, TAKEN, TRAPPED], asked, handed), True),
-        ("no heed: what only one of two drawings answers", lambda: D.NoHeed([TAKEN, TRAPPED], asked[:1], handed[:1]), True),
+        ("contracts: of each request", lambda: [D.numbers(D.contractOf(q, bench)) for q, _ in asked] == [(12, 14), (12, 13), (12, 13, 15), (12, 13, 14, 15), (12, 13, 21)], True),
+        ("no heed", lambda: D.among(setups=[bench, TAKEN, TRAPPED], requests=asked, hand_ins=handed)(D.NoHeed), True),
+        ("no heed: what only one of two drawings answers", lambda: D.among(setups=[TAKEN, TRAPPED], requests=asked[:1], hand_ins=handed[:1])(D.NoHeed), True),
         ("redrew: take in", lambda: lives(IN, 0, words, held), True),
         ("redrew: take in, with words behind", lambda: lives(IN, 0, long, held + [7]), True),
         ("not redrew: a word behind changed", lambda: lives(IN, 0, long, held + [0]), False),
@@ -1257,25 +1300,26 @@ def of_living(D):
         ("not redrew: 15 before 12", lambda: lives(IN, 15, words[:-1], words[:-1]), False),
         ("redrew: a kind of 2 is 12", lambda: lives(IN, 12, kind2, kind2), True),
         ("not redrew: a kind of 2 taken for an account", lambda: lives(IN, 0, kind2, held), False),
-        ("no word changes", lambda: D.NoWordChanges(changes, setups), True),
-        ("made on: three calls, the last refused", lambda: D.MadeOn(words, [IN, ADD, ADD], [0, 0, 19], trapped, [words, held, trapped], setups), True),
-        ("not made on: another number", lambda: D.MadeOn(words, [IN, ADD], [0, 19], trapped, [words, held, trapped], setups), False),
-        ("not made on: a call without a number", lambda: D.MadeOn(words, [IN], [], words, [words], setups), False),
+        ("no word changes", lambda: D.among(asked=changes, setups=setups)(D.NoWordChanges), True),
+        ("made on: three calls, the last refused", lambda: D.among(words=[words, held, trapped], setups=setups)(lambda: D.MadeOn(words, [IN, ADD, ADD], [0, 0, 19], trapped)), True),
+        ("not made on: another number", lambda: D.among(words=[words, held, trapped], setups=setups)(lambda: D.MadeOn(words, [IN, ADD], [0, 19], trapped)), False),
+        ("not made on: a call without a number", lambda: D.among(words=[words], setups=setups)(lambda: D.MadeOn(words, [IN], [], words)), False),
         ("shows: the mail password held", lambda: D.Shows(bench, D.after(IN, D.drawingOf(bench)), held), True),
         ("not shows: nothing held", lambda: D.Shows(bench, D.drawingOf(bench), held), False),
         ("not shows: stale", lambda: D.Shows(bench, D.after(IN, D.drawingOf(bench)), wordsOf(stale)), False),
-        ("lives in words", lambda: D.LivesInWords(lived), True),
-        ("settled call: take in", lambda: D.SettledLiving(IN, bench, D.Redrawing(0, TAKEN), answers), True),
-        ("settled call: 13", lambda: D.SettledLiving(D.TakeIn(5), bench, D.Redrawing(13, bench), answers), True),
-        ("settled call: 19", lambda: D.SettledLiving(D.AddEdge(1, MAIL, 0, True), bench, D.Redrawing(19, bench), answers), True),
-        ("not settled call: 20 of adding", lambda: D.SettledLiving(ADD, bench, D.Redrawing(20, bench), []), False),
-        ("not settled call: another number", lambda: D.SettledLiving(D.TakeIn(5), bench, D.Redrawing(12, bench), answers), False),
-        ("not settled call: 13, and another setup", lambda: D.SettledLiving(D.TakeIn(5), bench, D.Redrawing(13, TAKEN), []), False),
+        ("lives in words", lambda: D.among(lived=lived, words=on_words, setups=on_way)(D.LivesInWords), True),
+        ("settled call: take in", lambda: D.among(redrawings=answers)(lambda: D.SettledLiving(IN, bench, D.Redrawing(0, TAKEN))), True),
+        ("settled call: 13", lambda: D.among(redrawings=answers)(lambda: D.SettledLiving(D.TakeIn(5), bench, D.Redrawing(13, bench))), True),
+        ("settled call: 19", lambda: D.among(redrawings=answers)(lambda: D.SettledLiving(D.AddEdge(1, MAIL, 0, True), bench, D.Redrawing(19, bench))), True),
+        ("not settled call: 20 of adding", lambda: D.among(redrawings=[])(lambda: D.SettledLiving(ADD, bench, D.Redrawing(20, bench))), False),
+        ("not settled call: another number", lambda: D.among(redrawings=answers)(lambda: D.SettledLiving(D.TakeIn(5), bench, D.Redrawing(12, bench))), False),
+        ("not settled call: 13, and another setup", lambda: D.among(redrawings=[])(lambda: D.SettledLiving(D.TakeIn(5), bench, D.Redrawing(13, TAKEN))), False),
     ]
 
 
 def of_findings(D):
-    """Findings."""
+    """Findings; `strong` has an account that is ranked above another, and stronger."""
+    strong = read([H1, "a c 1 - 0", "b c 5 - 0", "low a - - 1", "high a - - 3", "", H2, "a low 0 0", "b high 0 0"])
     return [
         ("backdoor: order", lambda: backdoor_call(D, bench, ORDER, 0, [1]), True),
         ("not backdoor: order has none", lambda: backdoor_call(D, bench, ORDER, 0, [0]), False),
@@ -1302,6 +1346,11 @@ def of_findings(D):
         ("not backdoor: by mail's scores", lambda: D.Backdoor(bench, MAIL, 1, 1), False),
         ("not a backdoor: by other scores", lambda: D.Backdoor(bench, MAIL, 0, 1), False),
         ("ineffective: mail's risks", lambda: D.IneffectiveRecovery(bench, MAIL, 1, 1), True),
+        ("not ineffective: order's risks, the other way round", lambda: D.IneffectiveRecovery(bench, ORDER, 2, 3), False),
+        ("not ineffective: by other risks", lambda: D.IneffectiveRecovery(bench, MAIL, 0, 5), False),
+        ("not inconsistent: by another score of the lower", lambda: D.Inconsistent(bench, ORDER, MAIL, 1, 5), False),
+        ("not out of rank: stronger, whatever the risks are", lambda: D.isOutOfRank(strong, 3, 2), False),
+        ("not inconsistent: stronger", lambda: D.Inconsistent(strong, 3, 2, 5, 1), False),
         ("not ineffective: order's risks", lambda: D.IneffectiveRecovery(bench, ORDER, 3, 2), False),
         ("inconsistent: order and mail", lambda: D.Inconsistent(bench, ORDER, MAIL, 1, 1), True),
         ("not inconsistent: mail and order", lambda: D.Inconsistent(bench, MAIL, ORDER, 1, 1), False),
@@ -1332,13 +1381,15 @@ def of_contracts(D):
     """Questions in their order; and a contract by hand: 7 and 8, written to a lent list."""
     no, yes = lambda n: D.Question(n, lambda: False), lambda n: D.Question(n, lambda: True)
     asks = lambda questions, o: D.Asks(lambda q: q, questions, lambda p: p == 0, o)
-    toy = lambda lent, *questions: D.Contract([lent], list(questions), [[7, 8], [8, 7], [7]], lambda a: a == [7, 8], lambda a: [len(a)], lambda a: [a])
-    open_ = lambda lent: D.Contract([lent], [], [[7, 8], [8, 7]], lambda a: True, lambda a: [len(a)], lambda a: [a])
+    toy = lambda lent, *questions: D.Contract([lent], list(questions), lambda: [(7, 8), (8, 7), (7,)], lambda a: a == (7, 8), lambda a: (len(a),), lambda a: (a,))
+    open_ = lambda lent: D.Contract([lent], [], lambda: [(7, 8), (8, 7)], lambda a: True, lambda a: (len(a),), lambda a: (a,))
+    tell = lambda *questions: D.telling(lambda: [7], list(questions), lambda a: True, lambda a: (a,))
+    loose = D.Contract([LENT[:1]], [], lambda: [(), (7, 8)], lambda a: True, lambda a: (), lambda a: (a,))
     two, one = LENT[:2], LENT[:1]
     right, other, short = ended(D, 0, [2], [7, 8]), ended(D, 0, [2], [8, 7]), ended(D, 15, [], two)
     told = lambda n, f, x, c=toy(two): D.Told(c, n, f, [x])
     results = [(n, f, [x]) for n in (0, 13, 15) for f in ([2, 0], [0, 0], [0, 2]) for x in (two, [7, 8])]
-    settled = lambda numbers, call, o, among: D.Settled(lambda p: p, lambda q: q, numbers, call, o, among)
+    settled = lambda numbers, call, o, among: D.Settled(lambda: among, lambda p: p, lambda q: q, numbers, call, o)
     return [
         ("asks: no question", lambda: asks([], 0), True),
         ("asks: a no", lambda: asks([yes(12), no(13), no(14)], 13), True),
@@ -1358,15 +1409,15 @@ def of_contracts(D):
         ("refuses: no values", lambda: D.refuses(13) == D.Reply(13, []), True),
         ("ends: the reply, and the lists", lambda: D.ends(D.gives([]), [one]) == D.Outcome(D.gives([]), [one]), True),
         ("turns away: the lists as they were", lambda: D.turnsAway([one, two], 13) == ended(D, 13, [], one, two), True),
-        ("all written: to the front of each", lambda: D.allWritten([LENT, two], [[7], [8, 9]]) == [[7] + LENT[1:], [8, 9]], True),
-        ("all written: a list to which nothing is written", lambda: D.allWritten([LENT, two], [[7]]) == [[7] + LENT[1:], two], True),
-        ("all written: nothing to write", lambda: D.allWritten([LENT], []) == [LENT], True),
+        ("all written: to the front of each", lambda: D.allWritten([LENT, two], [[7], [8, 9]]) == plain([[7] + LENT[1:], [8, 9]]), True),
+        ("all written: a list to which nothing is written", lambda: D.allWritten([LENT, two], [[7]]) == plain([[7] + LENT[1:], two]), True),
+        ("all written: nothing to write", lambda: D.allWritten([LENT], []) == plain([LENT]), True),
         ("room: as many places", lambda: D.Room([two, one], [[7, 8], [7]]), True),
         ("not room: one too few in the second", lambda: D.Room([two, one], [[7], [7, 8]]), False),
         ("not room: one too few in the first", lambda: D.Room([one, two], [[7, 8], [7]]), False),
         ("room: nothing to write", lambda: D.Room([one], []), True),
         ("asks 15: no room", lambda: D.asks15([one], [[7, 8]]).number == 15 and not D.asks15([one], [[7, 8]]).Yes(), True),
-        ("telling: no list, and nothing written", lambda: D.telling([], [7], lambda a: True, lambda a: [a]).lent == [] and D.telling([], [7], lambda a: True, lambda a: [a]).writes(7) == [], True),
+        ("telling: no list, and nothing written", lambda: tell().lent == () and tell().writes(7) == (), True),
         ("fulfils: the right answer, written", lambda: D.Fulfils(toy(two), right), True),
         ("fulfils: the places behind kept", lambda: D.Fulfils(toy(LENT), ended(D, 0, [2], [7, 8] + LENT[2:])), True),
         ("not fulfils: a place behind changed", lambda: D.Fulfils(toy(LENT), ended(D, 0, [2], [7, 8, 0] + LENT[3:])), False),
@@ -1380,15 +1431,15 @@ def of_contracts(D):
         ("fulfils: a no comes before 15", lambda: D.Fulfils(toy(one, yes(12), no(13)), ended(D, 13, [], one)), True),
         ("not fulfils: 15 before a no", lambda: D.Fulfils(toy(one, yes(12), no(13)), ended(D, 15, [], one)), False),
         ("not fulfils: a no with a place changed", lambda: D.Fulfils(toy(two, no(12)), ended(D, 12, [], [7, 8])), False),
-        ("not fulfils: no right answer", lambda: D.Fulfils(D.Contract([two], [], [[7, 8]], lambda a: False, lambda a: [], lambda a: [a]), right), False),
-        ("numbers: with a lent list", lambda: D.numbers(toy(one, yes(12), yes(13))) == [12, 13, 15], True),
-        ("numbers: without one", lambda: D.numbers(D.telling([yes(12)], [], lambda a: True, lambda a: [])) == [12] and D.roomNumber([]) == [] and D.roomNumber([one]) == [15], True),
-        ("settles: the answer", lambda: D.Settles(toy(two), right, [right, other, short]), True),
-        ("settles: 15", lambda: D.Settles(toy(one), ended(D, 15, [], one), [right, other, short]), True),
-        ("not settles: another answer", lambda: D.Settles(toy(two), other, [right, other, short]), False),
-        ("not settles: 13, which is not asked", lambda: D.Settles(toy(two), ended(D, 13, [], two), [other]), False),
-        ("not settles: 15 with a place changed", lambda: D.Settles(toy(one), ended(D, 15, [], [7]), []), False),
-        ("not settles: two answers", lambda: D.Settles(open_(two), right, [right, other]), False),
+        ("not fulfils: no right answer", lambda: D.Fulfils(D.Contract([two], [], lambda: [(7, 8)], lambda a: False, lambda a: (), lambda a: (a,)), right), False),
+        ("numbers: with a lent list", lambda: D.numbers(toy(one, yes(12), yes(13))) == (12, 13, 15), True),
+        ("numbers: without one", lambda: D.numbers(tell(yes(12))) == (12,) and D.roomNumber([]) == () and D.roomNumber([one]) == (15,), True),
+        ("settles: the answer", lambda: D.among(outcomes=[right, other, short])(lambda: D.Settles(toy(two), right)), True),
+        ("settles: 15", lambda: D.among(outcomes=[right, other, short])(lambda: D.Settles(toy(one), ended(D, 15, [], one))), True),
+        ("not settles: another answer", lambda: D.among(outcomes=[right, other, short])(lambda: D.Settles(toy(two), other)), False),
+        ("not settles: 13, which is not asked", lambda: D.among(outcomes=[other])(lambda: D.Settles(toy(two), ended(D, 13, [], two))), False),
+        ("not settles: 15 with a place changed", lambda: D.among(outcomes=[])(lambda: D.Settles(toy(one), ended(D, 15, [], [7]))), False),
+        ("not settles: two answers", lambda: D.among(outcomes=[right, other])(lambda: D.Settles(open_(two), right)), False),
         ("one answer: by hand", lambda: D.OneAnswer(toy(two)), True),
         ("not one answer: two are right", lambda: D.OneAnswer(open_(two)), False),
         ("told: the value, and a 0 behind it", lambda: told(0, [2, 0], [7, 8]), True),
@@ -1401,24 +1452,25 @@ def of_contracts(D):
         ("not told no: 0", lambda: D.ToldNo(toy(one, yes(0)), 0, [0, 0], [one]), False),
         ("not told no: a field", lambda: D.ToldNo(toy(one), 15, [0, 1], [one]), False),
         ("not told no: a place changed", lambda: D.ToldNo(toy(one), 15, [0, 0], [[7]]), False),
-        ("settled told: the answer", lambda: D.SettledTold(toy(two), 0, [2, 0], [[7, 8]], results), True),
-        ("settled told: 15", lambda: D.SettledTold(toy(one), 15, [0, 0], [one], results), True),
-        ("not settled told: another struct tells of it", lambda: D.SettledTold(toy(two), 0, [0, 2], [[7, 8]], results), False),
-        ("not settled told: another end of the list", lambda: D.SettledTold(toy(two), 0, [2, 0], [two], results), False),
-        ("not settled told: 13", lambda: D.SettledTold(toy(two), 13, [0, 0], [two], []), False),
+        ("settled told: the answer", lambda: D.among(told=results)(lambda: D.SettledTold(toy(two), 0, [2, 0], [[7, 8]])), True),
+        ("settled told: 15", lambda: D.among(told=results)(lambda: D.SettledTold(toy(one), 15, [0, 0], [one])), True),
+        ("not settled told: another struct tells of it", lambda: D.among(told=results)(lambda: D.SettledTold(toy(two), 0, [0, 2], [[7, 8]])), False),
+        ("not settled told: another end of the list", lambda: D.among(told=results)(lambda: D.SettledTold(toy(two), 0, [2, 0], [two])), False),
+        ("not settled told: 0 and 15 tell of it alike", lambda: D.among(told=[(n, [0, 0], [one]) for n in (0, 15)])(lambda: D.SettledTold(loose, 0, [0, 0], [one])), False),
+        ("not settled told: 13", lambda: D.among(told=[])(lambda: D.SettledTold(toy(two), 13, [0, 0], [two])), False),
         ("asks 12, 13, 14: bench", lambda: D.asks12(bench).Yes() and D.asks13(bench, 4).Yes() and D.asks14(bench, 31).Yes(), True),
         ("not asks 12: no item", lambda: D.asks12(EMPTY).Yes(), False),
         ("not asks 13: the count", lambda: D.asks13(bench, 5).Yes(), False),
         ("not asks 14: item 5", lambda: D.asks14(bench, 32).Yes(), False),
         ("replies: closure and lost set", lambda: [D.closureReply(("Opened", 26, 3)), D.closureReply(("Refused", 14)), D.lostReply(("Lost", 10)), D.lostReply(("Refused", 12))] == [D.gives([26, 3]), D.refuses(14), D.gives([10]), D.refuses(12)], True),
-        ("replies: way", lambda: [D.wayReply(("Steps", 2)), D.wayReply(("Shut",)), D.wayReply(("Refused", 15))] == [D.gives([1, 2]), D.gives([0]), D.refuses(15)], True),
+        ("replies: way", lambda: [D.wayReply(("Steps", 2)), D.wayReply("Shut"), D.wayReply(("Refused", 15))] == [D.gives([1, 2]), D.gives([0]), D.refuses(15)], True),
         ("replies: quick", lambda: [D.quickReply(("Yes", 26)), D.quickReply(("No", 2)), D.quickReply(("Refused", 14))] == [D.gives([1, 26]), D.gives([0, 2]), D.refuses(14)], True),
         ("replies: lists, score, risk", lambda: [D.basesReply(("Counts", 2, 3)), D.basesReply(("Refused", 15)), D.scoreReply(("Score", 1)), D.scoreReply(("Refused", 13)), D.riskReply(("Risk", 3)), D.riskReply(("Refused", 12))] == [D.gives([2, 3]), D.refuses(15), D.gives([1]), D.refuses(13), D.gives([3]), D.refuses(12)], True),
         ("replies: marks", lambda: [D.marksReply(("Marked", D.Marks(1, 2, 3, 4, 5))), D.marksReply(("Refused", 13))] == [D.gives([1, 2, 3, 4, 5]), D.refuses(13)], True),
         ("replies: findings", lambda: [D.findingReply(("Is", True)), D.findingReply(("Is", False)), D.findingReply(("Refused", 13))] == [D.gives([1]), D.gives([0]), D.refuses(13)], True),
         ("replies: forecast, cut sets, kinds, bags", lambda: [f((kind, 9)) for f, kind in ((D.forecastReply, "Sets"), (D.cutsReply, "Sets"), (D.attackerReply, "Attackers"), (D.bagsReply, "Multisets"))] == [D.gives([9])] * 4, True),
         ("replies: their refusals", lambda: [f(("Refused", 13)) for f in (D.forecastReply, D.cutsReply, D.attackerReply, D.bagsReply)] == [D.refuses(13)] * 4, True),
-        ("replies: next", lambda: [D.nextReply(("Set", 5)), D.nextReply(("NoMoreSets",)), D.nextReply(("Refused", 21))] == [D.gives([1, 5]), D.gives([0]), D.refuses(21)], True),
+        ("replies: next", lambda: [D.nextReply(("Set", 5)), D.nextReply("NoMoreSets"), D.nextReply(("Refused", 21))] == [D.gives([1, 5]), D.gives([0]), D.refuses(21)], True),
     ]
 
 
@@ -1426,7 +1478,7 @@ def of_told(D):
     """What C is told."""
     score = lambda target, n, x: D.Told(D.scoreCall(False, bench, target), n, x, [])
     way = lambda set_, n, x, a, b: D.Told(D.wayCall(bench, ORDER, set_, [9, 9], [8, 8]), n, x, [a, b])
-    runs = [(text(BENCH), [], [], [])]
+    runs = [(text(BENCH), [], [])]
     return [
         ("told: score 1", lambda: score(ORDER, 0, [1]), True),
         ("not told: another score", lambda: score(ORDER, 0, [3]), False),
@@ -1437,9 +1489,9 @@ def of_told(D):
         ("told: way, B6", lambda: way(2, 0, [1, 2], [3, 4], [0, 1]), True),
         ("told: way, shut", lambda: way(4, 0, [0, 0], [9, 9], [8, 8]), True),
         ("not told: way, shut in two steps", lambda: way(4, 0, [0, 2], [9, 9], [8, 8]), False),
-        ("check: bench", lambda: D.asksReached(bench, runs).Yes(), True),
-        ("not check: no item", lambda: D.asksReached(EMPTY, runs).Yes(), False),
-        ("check: 12", lambda: D.asksReached(EMPTY, runs).number == 12, True),
+        ("check: bench", lambda: D.among(runs=runs, setups=[])(lambda: D.asksReached(bench).Yes()), True),
+        ("not check: no item", lambda: D.among(runs=runs, setups=[])(lambda: D.asksReached(EMPTY).Yes()), False),
+        ("check: 12", lambda: D.asksReached(EMPTY).number == 12, True),
     ]
 
 
@@ -1463,7 +1515,7 @@ def of_words(D):
         ("spelt: the mail password held", lambda: D.spelt(held) == TAKEN, True),
         ("setup in words", lambda: D.setupIn(words) == bench and D.setupIn(wordsOf(EMPTY)) == EMPTY, True),
         ("setup in words: none", lambda: D.setupIn(kind2) == EMPTY and D.setupIn(words[:-1]) == EMPTY, True),
-        ("strict", lambda: D.Strict(lists, [bench, TAKEN, EMPTY], [[], [7]]), True),
+        ("strict", lambda: D.among(words=lists, setups=[bench, TAKEN, EMPTY], rests=[[], [7]])(D.Strict), True),
     ]
 
 
@@ -1502,7 +1554,7 @@ def of_readings(D):
         ("not holds name: its first bytes", lambda: D.HoldsName(sheet, MAIL, D.NamePart(69, 3)), False),
         ("asks sheet: bench", lambda: D.asksSheet(sheet).Yes(), True),
         ("asks sheet: its own number", lambda: D.asksSheet(five).number == 5 and not D.asksSheet(five).Yes(), True),
-        ("read back", lambda: D.ReadBack([sheet, five], [0, 5, 15], [0, 2], lent(1283), [lent(1283), words, none]), True),
+        ("read back", lambda: D.among(texts=[sheet, five], numbers=[0, 5, 15], lines=[0, 2], entries=[lent(1283)], exits=[lent(1283), words, none])(D.ReadBack), True),
     ]
 
 
@@ -1511,8 +1563,9 @@ def of_demands(D):
     outcomes = [ended(D, n, v) for n in (0, 12, 13, 14) for v in ([], [0], [1], [2], [26], [26, 2], [26, 3])]
     lists = [ended(D, n, v, x) for n, v, x in ((0, [2, 2], [2, 5, 3, 6]), (0, [2, 2], [5, 2, 3, 6]), (0, [0, 0], LENT[:4]), (15, [], LENT[:4]), (13, [], LENT[:4]))]
     ways = [ended(D, n, v, x, y) for n, v, x, y in ((0, [1, 2], [3, 4], [0, 1]), (0, [1, 2], [3, 4], [9, 9]), (0, [0], [9, 9], [9, 9]), (15, [], [9, 9], [9, 9]))]
-    call = lambda q, o, s=bench: D.SettledOn(s, D.MadeCall(q, o), outcomes + lists + ways)
-    docs, runs = [BENCH_DOC, DOC], [(t, [], [], []) for t in (text(BENCH), render(DOC))]
+    call = lambda q, o, s=bench: D.among(outcomes=outcomes + lists + ways)(lambda: D.SettledOn(s, D.MadeCall(q, o)))
+    docs, runs = [BENCH_DOC, DOC], [(t, [], []) for t in (text(BENCH), render(DOC))]
+    on_way = [bench]
     five, over = REFUSED["refused 5"][0], REFUSED["refused 11"][0]
     right = D.accepted(bench)
     readings = [right, D.accepted(EMPTY), right._replace(line=1), D.refused(5, 2), D.refused(2, 5), D.refused(11, 4)]
@@ -1534,43 +1587,46 @@ def of_demands(D):
         ("not settled: lists in another order", lambda: call(("BothBases", ORDER, LENT[:4]), lists[1]), False),
         ("fulfilled: score of order", lambda: D.FulfilledOn(bench, D.MadeCall(("ScoreOf", False, ORDER), ended(D, 0, [1]))), True),
         ("not fulfilled: the risk", lambda: D.FulfilledOn(bench, D.MadeCall(("ScoreOf", False, ORDER), ended(D, 0, [3]))), False),
-        ("settled: question 12 of bench", lambda: D.SettledYesNo(D.Reached(bench, runs), True), True),
-        ("not settled: question 12 of no item is yes", lambda: D.SettledYesNo(D.Reached(EMPTY, runs), True), False),
-        ("settled: reading of bench", lambda: D.SettledReading(text(BENCH), right, docs, readings), True),
-        ("settled: reading, refused 5 in line 2", lambda: D.SettledReading(five, D.refused(5, 2), docs, readings), True),
-        ("settled: reading, refused 11 in line 4", lambda: D.SettledReading(over, D.refused(11, 4), docs, readings), True),
-        ("not settled: bench refused", lambda: D.SettledReading(text(BENCH), D.refused(5, 2), docs, readings), False),
-        ("settled: name of mail", lambda: D.SettledName(text(BENCH), MAIL, 100, list(b"mail"), 169, docs, names), True),
-        ("settled: name of no item", lambda: D.SettledName(text(BENCH), 5, 100, [], 100, docs, names), True),
-        ("settled: name in a refused sheet", lambda: D.SettledName(five, 0, 100, [], 100, docs, names), True),
-        ("not settled: the name of another item", lambda: D.SettledName(text(BENCH), MAIL, 100, list(b"ordpw"), 126, docs, names), False),
-        ("not named: other bytes at the name's place", lambda: D.Named(text(BENCH), MAIL, 100, list(b"mall"), 169, docs), False),
-        ("settled: the portal's number for order", lambda: D.SettledPortal(False, text(BENCH), ORDER, 1, numbers), True),
-        ("settled: the portal's number for no item", lambda: D.SettledPortal(False, text(BENCH), 5, never + 13, numbers), True),
-        ("settled: the portal's number for refused 5", lambda: D.SettledPortal(True, five, 0, never + 5, numbers), True),
-        ("demand 3: reached, and 15", lambda: D.Demand3Reached(bench, ORDER, [D.MadeCall(("BothBases", ORDER, []), ended(D, 15, [], []))], runs), True),
-        ("not demand 3: reached, and 13", lambda: D.Demand3Reached(bench, ORDER, [D.MadeCall(("ScoreOf", False, ORDER), ended(D, 13, []))], runs), False),
-        ("demand 3: not reached, and 12", lambda: D.Demand3Reached(EMPTY, ORDER, [D.MadeCall(("ScoreOf", False, ORDER), ended(D, 12, []))], runs), True),
-        ("demand 3: no item, and 13", lambda: D.Demand3Reached(bench, 5, [D.MadeCall(("ScoreOf", False, 5), ended(D, 13, []))], runs), True),
+        ("settled: question 12 of bench", lambda: D.SettledYesNo(D.among(runs=runs, setups=on_way)(lambda: D.Reached(bench)), True), True),
+        ("not settled: question 12 of no item is yes", lambda: D.SettledYesNo(D.among(runs=runs, setups=on_way)(lambda: D.Reached(EMPTY)), True), False),
+        ("settled: reading of bench", lambda: D.among(docs=docs, readings=readings)(lambda: D.SettledReading(text(BENCH), right)), True),
+        ("settled: reading, refused 5 in line 2", lambda: D.among(docs=docs, readings=readings)(lambda: D.SettledReading(five, D.refused(5, 2))), True),
+        ("settled: reading, refused 11 in line 4", lambda: D.among(docs=docs, readings=readings)(lambda: D.SettledReading(over, D.refused(11, 4))), True),
+        ("not settled: bench refused", lambda: D.among(docs=docs, readings=readings)(lambda: D.SettledReading(text(BENCH), D.refused(5, 2))), False),
+        ("settled: name of mail", lambda: D.among(docs=docs, parts=names)(lambda: D.SettledName(text(BENCH), MAIL, 100, list(b"mail"), 169)), True),
+        ("settled: name of no item", lambda: D.among(docs=docs, parts=names)(lambda: D.SettledName(text(BENCH), 5, 100, [], 100)), True),
+        ("settled: name in a refused sheet", lambda: D.among(docs=docs, parts=names)(lambda: D.SettledName(five, 0, 100, [], 100)), True),
+        ("not settled: the name of another item", lambda: D.among(docs=docs, parts=names)(lambda: D.SettledName(text(BENCH), MAIL, 100, list(b"ordpw"), 126)), False),
+        ("not named: other bytes at the name's place", lambda: D.among(docs=docs)(lambda: D.Named(text(BENCH), MAIL, 100, list(b"mall"), 169)), False),
+        ("settled: the portal's number for order", lambda: D.among(numbers=numbers)(lambda: D.SettledPortal(False, text(BENCH), ORDER, 1)), True),
+        ("settled: the portal's number for no item", lambda: D.among(numbers=numbers)(lambda: D.SettledPortal(False, text(BENCH), 5, never + 13)), True),
+        ("settled: the portal's number for refused 5", lambda: D.among(numbers=numbers)(lambda: D.SettledPortal(True, five, 0, never + 5)), True),
+        ("demand 3: reached, and 15", lambda: D.among(runs=runs, setups=[bench])(lambda: D.Demand3Reached(bench, ORDER, [D.MadeCall(("BothBases", ORDER, []), ended(D, 15, [], []))])), True),
+        ("not demand 3: reached, and 13", lambda: D.among(runs=runs, setups=[bench])(lambda: D.Demand3Reached(bench, ORDER, [D.MadeCall(("ScoreOf", False, ORDER), ended(D, 13, []))])), False),
+        ("demand 3: not reached, and 12", lambda: D.among(runs=runs, setups=[bench])(lambda: D.Demand3Reached(EMPTY, ORDER, [D.MadeCall(("ScoreOf", False, ORDER), ended(D, 12, []))])), True),
+        ("demand 3: no item, and 13", lambda: D.among(runs=runs, setups=[bench])(lambda: D.Demand3Reached(bench, 5, [D.MadeCall(("ScoreOf", False, 5), ended(D, 13, []))])), True),
     ]
 
 
-Among = namedtuple("Among", "outcomes runs docs read numbers handIns withdrawals pools livings told lived names words readings papers")
-Asked = namedtuple(
-    "Asked", "report quick routes scores prints sums fresh opened stays words nothing reached unheeded walk renaming valid enough text pooling register"
-)
+# What the calls of both demands answer, in one row.
+Two = namedtuple("Two", "closure lost way quick backdoor idle pair forecast cuts attackers next bags lists formed compared reading score risk")
+
+
+def answered(D, r):
+    """The same as the code has it."""
+    sets, findings = D.SetAnswers(r.closure, r.lost, r.way, r.quick), D.FindingAnswers(r.backdoor, r.idle, r.pair, r.formed)
+    return D.AnswersStruct(sets, r.lists, findings, D.SheetAnswers(r.reading, r.score, r.risk), r.forecast, r.cuts, r.attackers, r.next, D.BagAnswers(r.compared, r.bags))
 
 
 def of_both_demands(D):
     """Demands 1 and 2 whole: of an input that is answered and of ones that are refused, and with one answer replaced."""
     sheet, five, lent, out = text(BENCH), REFUSED["refused 5"][0], [9, 9], LENT[:4]
-    no = ("Refused", 13)
     three = D.AllAnswers(("Counts", 2, 2), ("Score", 1), ("Risk", 3), ("Marked", D.Marks(1, 0, 0, 0, 1)), ("Marked", D.Marks(2, 0, 0, 0, 0)))
-    yes = D.TwoAnswers(
+    yes = Two(
         *[("Opened", 26, 3), ("Lost", 10), ("Steps", 2), ("Yes", 26), ("Is", True), ("Is", False), ("Is", True), ("Sets", 3), ("Sets", 2), ("Attackers", 20)],
         *[("Set", 5), ("Multisets", 1), three, True, True, D.accepted(bench), 1, 3],
     )
-    calls = D.TwoAnswers._fields[:12]
+    calls = Two._fields[:12]
     refused = lambda q: {**{n: ("Refused", q) for n in calls}, "lists": D.AllAnswers(*[("Refused", q)] * 5)}
     outside = yes._replace(**refused(13), reading=D.refused(5, 2), score=never + 5, risk=never + 5)._replace(closure=("Refused", 14), lost=("Refused", 14))
     set_outside = yes._replace(risk=1, next=("Refused", 21), **{n: ("Refused", 14) for n in ("closure", "lost", "way", "quick")})
@@ -1584,43 +1640,58 @@ def of_both_demands(D):
     registers = [D.withSlice(a, x) for a, x in REGISTERS]
     first, second, both = (render(d) for d in (*LABS, pooled(*LABS)))
     bytes_ = [35] * len(both)
-    pools = [(first, second, bytes_, LABS, [(Pooled(0, 0, 0, len(both)), both), (Pooled(24, 0, 0, 0), bytes_)])]
+    ends = [(Pooled(0, 0, 0, len(both)), both), (Pooled(24, 0, 0, 0), bytes_)]
     changed = [D.Redrawing(0, TAKEN), D.Redrawing(0, bench), D.Redrawing(13, bench)]
-    runs = [(sheet, [], [], []), (sheet, [D.TakeIn(1)], [0], [bench, TAKEN])]
-    words, held = wordsOf(bench), wordsOf(TAKEN)
-    told = [(("ScoreOf", False, ORDER), bench, [(0, [1], []), (0, [3], []), (13, [0], [])])]
-    lived = [(D.TakeIn(1), words, [bench, TAKEN], [(0, [], [held]), (0, [], [words]), (13, [], [words])])]
-    named = [(sheet, MAIL, [(0, [69, 4], []), (0, [4, 69], []), (13, [0, 0], [])])]
-    reading = [(sheet, [9] * 1283, [(n, l, x) for n in (0, 15) for l in (0, 1) for x in ([9] * 1283, words)])]
-    rest = {"Start": [1, 2, 3], "Middle": [3], "End": []}
-    asked = [(("Closure", 2), ended(D, 0, [26, 3])), (("ScoreOf", True, ORDER), ended(D, 0, [3]))]
-    papers = Asked(
-        report=(rest.get, [1, 2, 3], lambda c: True, list(rest), [[[1, 2], [3]], [[3]]]),
-        quick=[(bench, ORDER, 2, [ended(D, 14, [])])],
-        routes=[(bench, lessRecovery(bench)), (bench, bench.graph)],
-        scores=[(bench, ORDER, 1, 4), (bench, ORDER, 4, 1)],
-        prints=[sheet],
-        sums=[bench],
-        fresh=[sheet, five],
-        opened=(runs, [bench, TAKEN]),
-        stays=([(five, [D.TakeIn(1)], [12], [EMPTY])], [EMPTY, bench]),
-        words=[(sheet, 0, 0, [9] * 1283, words, [D.TakeIn(1)], [0], held, [words, held], [bench, TAKEN])],
-        nothing=([bench, TAKEN], changed),
-        reached=([bench, TAKEN, EMPTY], runs),
-        unheeded=([bench, TAKEN], asked, []),
-        walk=[bench],
-        renaming=(LABS, [list(b"g")]),
-        valid=LABS,
-        enough=LABS,
-        text=(first, second, [(Pooled(0, 0, 0, len(both)), bytes_, both)], LABS),
-        pooling=([(first, second, both)], LABS),
-        register=(bench, SLICE, [afternoon(*DAY)]),
-    )
-    among = Among(
-        *[outcomes, runs, [BENCH_DOC, DOC], readings, [0, 1, 3, 13, never, never + 5, never + 13]],
-        *[[((bench, 1, 7, ORDER, False, (2, 6)), [R_BOTH, R_ANY], registers)], [((1, 7), [R_ONE, R_ANY], registers)], pools],
-        *[[(D.TakeIn(1), bench, changed)], told, lived, named, [words, wordsOf(EMPTY)], reading, papers],
-    )
+    words, held, none = wordsOf(bench), wordsOf(TAKEN), wordsOf(EMPTY)
+    score = lambda n, x: (("ScoreOf", False, ORDER), bench, n, x, [])
+    in_words = lambda n, x: (D.TakeIn(1), words, n, [], [x])
+    named = lambda n, x: (sheet, MAIL, n, x, [])
+    only = text([H1, "only a 5 - 0", "", H2])
+    report = THE.Report("Start", None)
+    lists, scores, pairs = (list(THE.restOf(lambda v: THE.nameOf(only, v), alone, c)) for c in ("Start", ("Scores", 0), ("Pairs", 0)))
+    of_calls = {
+        "outcomes": outcomes,
+        "readings": readings,
+        "docs": [BENCH_DOC, DOC, *LABS],
+        "numbers": [0, 1, 3, 13, never, never + 5, never + 13],
+        "registers": registers,
+        "handed_in": [(bench, 1, 7, ORDER, False, (2, 6), o.answer, [R_BOTH, R_ANY], o.slice_) for o in registers],
+        "withdrawn": [(1, 7, o.answer, [R_ONE, R_ANY], o.slice_) for o in registers],
+        "pooled": [(first, second, r, bytes_, exit) for r, exit in ends],
+        "ends": ends,
+        "redrawn": [(D.TakeIn(1), bench, r) for r in changed],
+        "redrawings": changed,
+        "setups": [bench, TAKEN, EMPTY],
+        "runs": [(sheet, [], []), (sheet, [D.TakeIn(1)], [0]), (five, [D.TakeIn(1)], [12])],
+    }
+    for_c = {
+        "called": [score(0, [1]), score(0, [3]), score(13, [0])],
+        "changed": [in_words(0, held), in_words(0, words), in_words(13, words)],
+        "named": [named(0, [69, 4]), named(0, [4, 69]), named(13, [0, 0])],
+        "told": [(n, x, l) for n in (0, 13) for x in ([1], [3], [0], [], [69, 4], [4, 69], [0, 0]) for l in ([], [held], [words])],
+        "words": [words, held, none],
+        "entries": [(sheet, [9] * 1283)],
+        "read": [(n, l, x) for n in (0, 15) for l in (0, 1) for x in ([9] * 1283, words)],
+    }
+    papers = {
+        "begun": [(only, report, [0], [1], [0], [1])],
+        "parts": [[lists[: -len(scores)], scores], [lists], [scores]],
+        "cursors": ["Start", ("Scores", 0), "End"],
+        "quick": [(bench, ORDER, 2)],
+        "routes": [(bench, lessRecovery(bench)), (bench, bench.graph)],
+        "compared": [(bench, ORDER, 1, 4), (bench, ORDER, 4, 1)],
+        "sheets": [sheet],
+        "texts": [sheet, five],
+        "lived": [(sheet, 0, 0, [9] * 1283, words, [D.TakeIn(1)], [0], held), (five, 5, 2, [9] * 1283, none, [D.TakeIn(1)], [12], none)],
+        "requests": [(("Closure", 2), ended(D, 0, [26, 3])), (("ScoreOf", True, ORDER), ended(D, 0, [3]))],
+        "hand_ins": [(0, 7, ORDER, False, [2], Registered(26, 0), [], [])],
+        "names": [list(b"g")],
+        "labs": [(first, second, both)],
+        "slices": [(bench, SLICE)],
+        "logs": [afternoon(*DAY)],
+    }
+    # the setups at which the lists of calls end, where the papers' sentences are asked, and the buffers, where the demands are
+    sentences, demands = {**of_calls, **for_c, **papers, "ends": [bench, TAKEN, EMPTY]}, {**of_calls, **for_c}
     listed = [out, [2, 5, 3, 6], lent, [3, 6], [9] * 14, one_bag, [9], [1]]
     untouched = [lent, lent, lent, lent, out, out, lent, lent, [9] * 14, [9] * 14, [9], [9]]
     no_way, way = [lent, lent, lent, lent, *listed], [lent, [3, 4], lent, [0, 1], *listed]
@@ -1645,13 +1716,16 @@ def of_both_demands(D):
     ]
 
     def demand(f, a, r):
-        sheet_, item_, s, set_, target, other_, lists = a
-        return f(sheet_, item_, s, D.allMade(set_, target, other_, [2], [3, 6], APART, *lists[:4], *lists[4:6], *lists[6:8], *lists[8:], r), [2], [3, 6], r, among)
+        sheet_, item_, s, set_, target, other_, lists_ = a
+        made_ = D.allMade(set_, target, other_, [2], [3, 6], APART, *lists_, answered(D, r))
+        return f(sheet_, item_, s, made_, [2], [3, 6], answered(D, r))
 
     both_demands = [
-        (f"{'' if ok else 'not '}demand {n}: {name}", lambda f=f, a=a, r=r: demand(f, a, r), ok) for n, f in ((1, D.Demand1), (2, D.Demand2)) for name, a, r, ok in inputs
+        (f"{'' if ok else 'not '}demand {n}: {name}", lambda f=f, a=a, r=r, g=g: D.among(**g)(lambda: demand(f, a, r)), ok)
+        for n, f, g in ((1, D.Demand1, demands), (2, D.Demand2, sentences))
+        for name, a, r, ok in inputs
     ]
-    return both_demands + [("settled for C", lambda: D.SettledForC(among), True), ("the papers' sentences", lambda: D.Papers(among), True)]
+    return both_demands + [("settled for C", lambda: D.among(**demands)(D.SettledForC), True), ("the papers' sentences", lambda: D.among(**sentences)(D.Papers), True)]
 
 
 def of_ring(D):
@@ -1660,6 +1734,7 @@ def of_ring(D):
         ("B8", lambda: D.Base(False, ring, ring.graph, 5, [5, 6, 9, 10]), True),
         ("not B8: one set", lambda: D.Base(False, ring, ring.graph, 5, [5]), False),
         ("B8: closure from device, pwd_manager", lambda: D.AccessFrom(ring.graph, 6, 63), True),
+        ("counted: the ring's four", lambda: D.CountedSet(ring, 5, 15), True),
         ("keep initial: the ring's four", lambda: D.KeepInitial(15, [ring]), True),
     ]
 
@@ -1668,7 +1743,7 @@ def of_one(D):
     """One or two items."""
     return [
         ("score by kinds: nobody", lambda: D.AttackerScore(closed, [255], 0, 0), True),
-        ("nobody in: where nothing opens it", lambda: D.NobodyIn([(closed, [255], 0, r) for r in (0, 1)]), True),
+        ("nobody in: where nothing opens it", lambda: D.among(asked=[(closed, [255], 0, r) for r in (0, 1)])(D.NobodyIn), True),
         ("score by kinds: the target itself", lambda: D.AttackerScore(alone, [5], 0, 32), True),
         ("B9", lambda: D.Score(False, alone, alone.graph, 0, 5), True),
         ("B10", lambda: D.Score(False, closed, closed.graph, 0, 2**62), True),
@@ -1685,10 +1760,24 @@ def of_one(D):
 
 
 def of_spare(D):
-    """What executable definitions mean."""
+    """What executable definitions mean, and some of them alone."""
+    joined = read([H1, "a c 1 1 0", "b c 1 1 0", "t a - - 0", "", H2, "a t 0 0", "b t 0 0"])
+    line = read([H1, "a c 1 - 0", "b a - - 0", "c a - - 0", "d a - - 0", "", H2, "a b 0 0", "b c 0 0", "c d 0 0"])
     return [
-        ("meaning: the executable definitions", lambda: D.Meaning(spare, spare.graph, [[1, 2, 1], [3, 4], []]), True),
+        ("meaning: two that are needed together", lambda: D.among(handed=[[3], [1]])(lambda: D.Meaning(joined, joined.graph)), True),
+        ("way: three steps, the last item last", lambda: D.wayOf(4, line.graph, 3, 1) == tuple(Step(v, 0) for v in (1, 2, 3)), True),
+        ("lowest: none below 0, none below 2", lambda: (D.lowest(lambda i: False, 0), D.lowest(lambda i: False, 2)) == (0, 2), True),
+        ("colour of: 8 where there is none", lambda: D.colourOf(emptyGraph.rows[0], 3) == 8, True),
+        ("count of: 1 where nothing can be added", lambda: D.countOf(False, 0, emptyGraph, 0, 5) == 1, True),
+        ("sets up to: of two vertices", lambda: [D.setsUpTo(lambda v: True, 2, k) for k in (0, 2)] == [(0,), (0, 1, 2, 3)], True),
+        ("numbers from: 3 and 4", lambda: D.numbersFrom(3, 2) == (3, 4), True),
+        ("no easier route: useful recovery", lambda: D.NoEasierRoute(useful), True),
+        ("meaning: the executable definitions", lambda: D.among(handed=[[1, 2, 1], [3, 4], []])(lambda: D.Meaning(spare, spare.graph)), True),
         ("report meaning", lambda: D.ReportMeaning(spare), True),
+        ("graph of: its own, and that without recovery", lambda: D.GraphOf(spare, spare.graph) and D.GraphOf(spare, lessRecovery(spare)), True),
+        ("not graph of: an edge from beyond the count", lambda: D.GraphOf(spare, with_row(spare.graph, 1, 0, 8)), False),
+        ("not graph of: an edge to beyond the count", lambda: D.GraphOf(spare, with_row(spare.graph, 3, 0, 1)), False),
+        ("not graph of: 63 places", lambda: D.GraphOf(spare, Graph(spare.graph.rows[:63])), False),
         ("without recovery: a mixed colour", lambda: D.WithoutRecovery(mixed, with_row(mixed.graph, MAIL, 1, 0)), True),
         ("not without recovery: the marked edge alone", lambda: D.WithoutRecovery(mixed, with_row(mixed.graph, MAIL, 1, 2)), False),
         ("not without recovery: all colours of the vertex", lambda: D.WithoutRecovery(mixed, emptyGraph), False),
@@ -1701,6 +1790,9 @@ def of_spare(D):
         ("not idle: recovery by a mixed colour is", lambda: idle_call(D, useful, MAIL, 0, [1]), False),
         ("without marked: a mixed colour", lambda: D.WithoutMarked(mixed, with_row(mixed.graph, MAIL, 1, 2)), True),
         ("not without marked: the whole colour", lambda: D.WithoutMarked(mixed, with_row(mixed.graph, MAIL, 1, 0)), False),
+        ("not without marked: 63 places", lambda: D.WithoutMarked(mixed, Graph(THE.lessMarked(mixed).rows[:63])), False),
+        ("graphs without recovery: 64 places", lambda: [len(f(mixed).rows) for f in (D.lessMarked, D.lessRecovery)] == [64, 64], True),
+        ("unmixed: bench", lambda: D.Unmixed(bench), True),
         ("not unmixed: a mixed colour", lambda: D.Unmixed(mixed), False),
         ("unmixed: colours with and without recovery", lambda: D.Unmixed(spare), True),
         ("unmixed prints: a mixed colour", lambda: D.UnmixedPrints(text(MIXED)), True),
@@ -1733,45 +1825,77 @@ def of_rows(D):
     ]
 
 
+def of_bytes(D):
+    """Bytes and fields at their bounds."""
+    among = lambda test, bytes_: [b for b in range(256) if test(b)] == sorted(bytes_)
+    return [
+        ("digits", lambda: among(D.isDigit, b"0123456789"), True),
+        ("bytes of a name", lambda: among(D.isNameByte, b"0123456789_abcdefghijklmnopqrstuvwxyz"), True),
+        ("bytes of a text", lambda: among(D.isTextByte, [10, *range(32, 127)]), True),
+        ("not number: nothing", lambda: D.isNumber([]), False),
+        ("decimal: the last 20 digits", lambda: D.decimal(10**20 + 7) == tuple(b"00000000000000000007"), True),
+        ("number in: as many as there are, for a name that is not there", lambda: D.numberIn(DOC.items, list(b"zz")) == 2, True),
+    ]
+
+
 def of_stated(D):
     """What rows state."""
     used = with_vertex(bench, 5, Vertex(Account, None, None, 0))
+    fields = zip("kind start loss rank".split(), (Vertex(Account, 1, 2, 3), Vertex(Credential, 2, 2, 3), Vertex(Credential, 1, 1, 3), Vertex(Credential, 1, 2, 2)))
     return [
+        ("joins: ordpw and order", lambda: D.Joins(BENCH_DOC, 0, ORDER, 0, edge("ordpw", "order")), True),
+        ("not joins: a row that is not there", lambda: D.Joins(BENCH_DOC, 0, MAIL, 5, edge("ordpw", "mail", 5)), False),
         ("stated: bench", lambda: D.Stated(BENCH_DOC, bench), True),
         ("not stated: another start", lambda: D.Stated(BENCH_DOC, with_vertex(bench, 0, Vertex(Credential, 2, 2, 0))), False),
+        ("not stated: 63 vertices", lambda: D.Stated(BENCH_DOC, bench._replace(vertices=bench.vertices[:63])), False),
+        ("not stated: 6 items", lambda: D.Stated(BENCH_DOC, bench._replace(count=6)), False),
+        ("not stated: something opened", lambda: D.Stated(BENCH_DOC, bench._replace(opened=24)), False),
+        ("has fields", lambda: D.HasFields(item("a", 1, 2, 3), Vertex(Credential, 1, 2, 3)), True),
+        *((f"not has fields: another {n}", lambda v=v: D.HasFields(item("a", 1, 2, 3), v), False) for n, v in fields),
         ("not stated: a place in use", lambda: D.Stated(BENCH_DOC, used), False),
         ("not stated: an item held", lambda: D.Stated(BENCH_DOC, bench._replace(held=2)), False),
         ("not stated: an edge more", lambda: D.Stated(BENCH_DOC, bench._replace(graph=with_row(bench.graph, MAIL, 0, 3))), False),
         ("not stated: no recovery edge", lambda: D.Stated(BENCH_DOC, bench._replace(recovery=with_row(bench.recovery, ORDER, 1, 0))), False),
-        ("stated by rows", lambda: D.StatedByRows([DOC, one_item(), SAME_NAMES]), True),
-        ("stated once", lambda: D.StatedUnique([BENCH_DOC, DOC], [bench, setupOf(DOC)]), True),
+        ("stated by rows", lambda: D.among(docs=[DOC, one_item(), SAME_NAMES])(D.StatedByRows), True),
+        ("stated once", lambda: D.among(docs=[BENCH_DOC, DOC], setups=[bench, setupOf(DOC)])(D.StatedUnique), True),
     ]
 
 
 def of_meaning(D):
     """What reading a sheet means."""
     return [
-        ("accepted of valid", lambda: D.AcceptedOfValid(DOCS), True),
-        ("valid of accepted", lambda: D.ValidOfAccepted(TEXTS + [render(d) for d in DOCS], DOCS + [BENCH_DOC]), True),
+        ("accepted of valid", lambda: D.among(docs=DOCS)(D.AcceptedOfValid), True),
+        ("valid of accepted", lambda: D.among(texts=TEXTS + [render(d) for d in DOCS], docs=DOCS + [BENCH_DOC])(D.ValidOfAccepted), True),
         ("only yeses", lambda: D.OnlyYeses([D.Asked(4, True), D.Asked(5, True)]), True),
         ("not only yeses: the second", lambda: D.OnlyYeses([D.Asked(4, True), D.Asked(5, False)]), False),
         ("first no: 5", lambda: D.FirstNo([D.Asked(4, True), D.Asked(5, False), D.Asked(6, False)], 5), True),
         ("not first no: 6 behind 5", lambda: D.FirstNo([D.Asked(4, True), D.Asked(5, False), D.Asked(6, False)], 6), False),
         ("not first no: 4, a yes", lambda: D.FirstNo([D.Asked(4, True), D.Asked(5, False)], 4), False),
-        ("refusal law", lambda: D.RefusalLaw(TEXTS, NUMBERS, LINES), True),
-        ("refusal unique", lambda: D.RefusalUnique(TEXTS[:6] + TEXTS[10:11], NUMBERS, LINES), True),
+        ("refusal law", lambda: D.among(texts=TEXTS, numbers=NUMBERS, lines=LINES)(D.RefusalLaw), True),
+        ("refusal unique", lambda: D.among(texts=TEXTS[:6] + TEXTS[10:11], numbers=NUMBERS, lines=LINES)(D.RefusalUnique), True),
+        ("with row, with item: behind the others", lambda: (D.withRow(DOC, MANY[0]).edges[-1], D.withItem(DOC, item("z")).items[-1]) == (MANY[0], item("z")), True),
+        ("questions: of an item row, and of an edge row", lambda: [[a.number for a in f(DOC, [])] for f in (D.itemQuestions, D.edgeQuestions)] == [[4, 5, 6, 7], [4, 5, 8, 9, 7]], True),
+        ("question 11: the second header", lambda: [D.question11(p) for p in ("AtFirstHeader", "AmongItems", "AtSecondHeader", "AmongEdges")] == [False, False, False, True], True),
+        ("not too long: 16,384 bytes", lambda: D.TooLong([10] * 16384, 1, 0), False),
+        ("not no text: too long", lambda: D.NoText([0] * 16385, 2, 0), False),
+        ("not refused 11: bench", lambda: D.NoAtEnd(text(BENCH), 11, 13), False),
+        ("not refused 3: too long", lambda: D.NoAtLine([10] * 16385, 3, 1), False),
+        ("not refused 3: no text", lambda: D.NoAtLine([110, 1, 10], 3, 1), False),
+        ("name begins: mail", lambda: D.NameBegins(text(BENCH), text(BENCH)[:69], list(b"mail"), MAIL), True),
+        ("not name begins: other bytes", lambda: D.NameBegins(text(BENCH), text(BENCH)[:69], list(b"mall"), MAIL), False),
+        ("not name begins: the same bytes in the row above", lambda: D.NameBegins(text(BENCH), text(BENCH)[:40], list(b"mail"), MAIL), False),
         ("accepted: bench", lambda: D.Accepted(text(BENCH)), True),
         ("not accepted: refused 5", lambda: D.Accepted(REFUSED["refused 5"][0]), False),
-        ("refused: with 5 in line 2", lambda: D.Refused(REFUSED["refused 5"][0], NUMBERS, LINES), True),
-        ("refused: with 11 in line 4", lambda: D.Refused(REFUSED["refused 11"][0], NUMBERS, LINES), True),
-        ("refused: with 1 in line 0", lambda: D.Refused(REFUSED["refused 1"][0], NUMBERS, LINES), True),
-        ("not refused: bench", lambda: D.Refused(text(BENCH), NUMBERS, LINES), False),
+        ("refused: with 5 in line 2", lambda: D.among(numbers=NUMBERS, lines=LINES)(lambda: D.Refused(REFUSED["refused 5"][0])), True),
+        ("refused: with 11 in line 4", lambda: D.among(numbers=NUMBERS, lines=LINES)(lambda: D.Refused(REFUSED["refused 11"][0])), True),
+        ("refused: with 1 in line 0", lambda: D.among(numbers=NUMBERS, lines=LINES)(lambda: D.Refused(REFUSED["refused 1"][0])), True),
+        ("not refused: bench", lambda: D.among(numbers=NUMBERS, lines=LINES)(lambda: D.Refused(text(BENCH))), False),
         ("empty setup", lambda: D.EmptySetup(), True),
-        ("accepted or refused", lambda: D.AcceptedOrRefused(TEXTS, NUMBERS, LINES), True),
-        ("question 12: setups and sheets", lambda: D.Question12Sheets([bench, setupOf(DOC), EMPTY, RANK_10, TAKEN], TEXTS), True),
-        ("fresh: nothing is held", lambda: D.FreshHoldsNothing(TEXTS), True),
-        ("names of rows", lambda: D.NamesOfRows(DOCS), True),
-        ("name places", lambda: D.NamePlaces(DOCS), True),
+        ("accepted or refused", lambda: D.among(texts=TEXTS, numbers=NUMBERS, lines=LINES)(D.AcceptedOrRefused), True),
+        ("question 12: setups and sheets", lambda: D.among(setups=[bench, setupOf(DOC), EMPTY, RANK_10, TAKEN], texts=TEXTS)(D.Question12Sheets), True),
+        ("fresh: nothing is held", lambda: D.among(texts=TEXTS)(D.FreshHoldsNothing), True),
+        ("names of rows", lambda: D.among(docs=DOCS)(D.NamesOfRows), True),
+        ("name places", lambda: D.among(docs=DOCS)(D.NamePlaces), True),
     ]
 
 
@@ -1800,28 +1924,27 @@ def of_written_rows(D):
 
 
 def of_whole(D):
-    """The report's parts."""
-    rest = {"Start": [1, 2, 3], "Middle": [3], "End": []}
-    parts = [[[1, 2], [3]], [[1, 2, 3]], [[1, 2]], [[3]], []]
+    """The report of a sheet with one item, in parts; and that of a refused sheet. What is known at a place is left open here."""
+    sheet, refused = text([H1, "only a 5 - 0", "", H2]), REFUSED["refused 5"][0]
+    name, row = lambda v: THE.nameOf(sheet, v), ("Refused", 5, 2)
+    lists, scores, pairs = (list(THE.restOf(name, alone, c)) for c in ("Start", ("Scores", 0), ("Pairs", 0)))
+    cut = [lists[: -len(scores)], scores[: -len(pairs)] if pairs else scores, pairs]
+    cursors = ["Start", ("Scores", 0), ("Pairs", 0), row, "End"]
+    at = lambda c: THE.Report(c, None)
+    begun = lambda sheet_, c, *tables: D.Begun(sheet_, at(c), *tables)
+    to_end = lambda c, parts: D.among(cursors=cursors)(lambda: D.PartsToEnd(name, alone, c, parts))
+    parts = [cut, [lists], cut[:1], cut[1:], [cut[0] + cut[1], cut[2]], [list(b"refused 5 2\n")], []]
+    starts = [(sheet_, at(c), [0], [1], *kept) for sheet_ in (sheet, refused) for c in cursors for kept in (([0], [1]), ([0], [2]))]
     return [
-        ("whole: begun at the start", lambda: D.Begun(rest.get, [1, 2, 3], lambda c: True, "Start"), True),
-        ("not whole: begun in the middle", lambda: D.Begun(rest.get, [1, 2, 3], lambda c: True, "Middle"), False),
-        ("not whole: with nothing known", lambda: D.Begun(rest.get, [1, 2, 3], lambda c: False, "Start"), False),
-        (
-            "whole: a refused sheet whose tables are kept",
-            lambda: D.Begun(rest.get, [1, 2, 3], lambda c: True, "Start", True, ([0], [1]), ([0], [1])),
-            True,
-        ),
-        (
-            "not whole: a refused sheet whose tables are written",
-            lambda: D.Begun(rest.get, [1, 2, 3], lambda c: True, "Start", True, ([0], [1]), ([0], [2])),
-            False,
-        ),
-        ("whole: two parts to the end", lambda: D.PartsToEnd(rest.get, list(rest), "Start", [[1, 2], [3]]), True),
-        ("not whole: one part, and not the end", lambda: D.PartsToEnd(rest.get, list(rest), "Start", [[1, 2]]), False),
-        ("not whole: another part", lambda: D.PartsToEnd(rest.get, list(rest), "Start", [[1], [3]]), False),
-        ("whole: texts in one", lambda: D.inOne([[1, 2], [3]]) == [1, 2, 3], True),
-        ("whole report", lambda: D.WholeReport(rest.get, [1, 2, 3], lambda c: True, list(rest), parts), True),
+        ("whole: begun at the start", lambda: begun(sheet, "Start", [0], [1], [5], [6]), True),
+        ("not whole: begun in the middle", lambda: begun(sheet, ("Scores", 0), [0], [1], [5], [6]), False),
+        ("whole: a refused sheet whose tables are kept", lambda: begun(refused, row, [0], [1], [0], [1]), True),
+        ("not whole: a refused sheet whose tables are written", lambda: begun(refused, row, [0], [1], [0], [2]), False),
+        ("whole: two parts to the end", lambda: to_end("Start", cut), True),
+        ("not whole: one part, and not the end", lambda: to_end("Start", cut[:1]), False),
+        ("not whole: another part", lambda: to_end("Start", [cut[0][:-1], *cut[1:]]), False),
+        ("whole: texts in one", lambda: D.inOne([[1, 2], [3]]) == (1, 2, 3), True),
+        ("whole report", lambda: D.among(begun=starts, parts=parts, cursors=cursors)(D.WholeReport), True),
     ]
 
 
@@ -1880,25 +2003,25 @@ def of_pools(D):
         ("agree: a storeroom", lambda: D.Agree(first.items, second.items), True),
         ("not agree: another rank", lambda: D.Agree(first.items, ranked.items), False),
         ("fits: both", lambda: D.Fits(pooled(first, second)), True),
-        ("call: pooled", lambda: D.PoolCall(a, b, yes, lent, end, docs), True),
-        ("not call: pooled, another length", lambda: D.PoolCall(a, b, Pooled(0, 0, 0, 1), lent, end, docs), False),
-        ("call: pool, 22", lambda: D.PoolCall(a, r, no(22), lent, lent, docs), True),
-        ("not call: pool, 22 and written", lambda: D.PoolCall(a, r, no(22), lent, end, docs), False),
-        ("call: pool, 22 before 23", lambda: D.PoolCall(f, render(ranked_five), no(22), lent, lent, [five, ranked_five]), True),
-        ("call: pool, 23", lambda: D.PoolCall(f, f, no(23), lent, lent, docs), True),
-        ("call: pool, 24", lambda: D.PoolCall(a, b, no(24), lent[:10], lent[:10], docs), True),
-        ("call: pool, the first refused", lambda: D.PoolCall(bad, [], no(4, 1, 2), lent, lent, docs), True),
-        ("call: pool, the second refused", lambda: D.PoolCall(a, bad, no(4, 2, 2), lent, lent, docs), True),
+        ("call: pooled", lambda: D.among(docs=docs)(lambda: D.PoolCall(a, b, yes, lent, end)), True),
+        ("not call: pooled, another length", lambda: D.among(docs=docs)(lambda: D.PoolCall(a, b, Pooled(0, 0, 0, 1), lent, end)), False),
+        ("call: pool, 22", lambda: D.among(docs=docs)(lambda: D.PoolCall(a, r, no(22), lent, lent)), True),
+        ("not call: pool, 22 and written", lambda: D.among(docs=docs)(lambda: D.PoolCall(a, r, no(22), lent, end)), False),
+        ("call: pool, 22 before 23", lambda: D.among(docs=[five, ranked_five])(lambda: D.PoolCall(f, render(ranked_five), no(22), lent, lent)), True),
+        ("call: pool, 23", lambda: D.among(docs=docs)(lambda: D.PoolCall(f, f, no(23), lent, lent)), True),
+        ("call: pool, 24", lambda: D.among(docs=docs)(lambda: D.PoolCall(a, b, no(24), lent[:10], lent[:10])), True),
+        ("call: pool, the first refused", lambda: D.among(docs=docs)(lambda: D.PoolCall(bad, [], no(4, 1, 2), lent, lent)), True),
+        ("call: pool, the second refused", lambda: D.among(docs=docs)(lambda: D.PoolCall(a, bad, no(4, 2, 2), lent, lent)), True),
         ("renames: into an item without edges", lambda: D.RenamesLowest([], five.edges, list(b"g"), 0), True),
         ("renames: 1 and 2 to 0 and 1", lambda: D.RenamesLowest([], loops(1, 2), list(b"g"), 2), True),
         ("renames: past the first sheet's 0", lambda: D.RenamesLowest(loops(0), loops(1), list(b"g"), 1), True),
-        ("renaming", lambda: D.Renaming([*docs, wide], names), True),
-        ("pooled valid", lambda: D.PooledValid(docs), True),
-        ("enough: the longest names", lambda: D.AlwaysEnough(long), True),
-        ("is pooled: a storeroom", lambda: D.IsPooled(a, b, both, docs), True),
-        ("not is pooled: ten colours", lambda: D.IsPooled(f, f, render(pooled(five, five)), docs), False),
-        ("not is pooled: another rank", lambda: D.IsPooled(a, r, render(pooled(first, ranked)), docs), False),
-        ("pooled text", lambda: D.PooledText(a, r, [(no(22), lent, lent)], docs) and D.PooledText(a, b, [(yes, lent, end)], docs), True),
+        ("renaming", lambda: D.among(docs=[*docs, wide], names=names)(D.Renaming), True),
+        ("pooled valid", lambda: D.among(docs=docs)(D.PooledValid), True),
+        ("enough: the longest names", lambda: D.among(docs=long)(D.AlwaysEnough), True),
+        ("is pooled: a storeroom", lambda: D.among(docs=docs)(lambda: D.IsPooled(a, b, both)), True),
+        ("not is pooled: ten colours", lambda: D.among(docs=docs)(lambda: D.IsPooled(f, f, render(pooled(five, five)))), False),
+        ("not is pooled: another rank", lambda: D.among(docs=docs)(lambda: D.IsPooled(a, r, render(pooled(first, ranked)))), False),
+        ("pooled text", lambda: D.among(pooled=[(a, r, *x) for x in [(no(22), lent, lent)]], docs=docs)(D.PooledText) and D.among(pooled=[(a, b, *x) for x in [(yes, lent, end)]], docs=docs)(D.PooledText), True),
         ("same item: g of both", lambda: D.SameItem(a, b, 1, 0), True),
         ("same item: h of both", lambda: D.SameItem(b, both, 1, 2), True),
         ("by name: h of the second", lambda: D.ByName(b, both, lambda i: i == 1)(2), True),
@@ -1909,27 +2032,27 @@ def of_pools(D):
         ("not pooling law: the second sheet's item lost", lambda: D.PoolingLaw(w, z, w), False),
         ("not pooling law: the first sheet's edge lost", lambda: D.PoolingLaw(a, n, n), False),
         ("not pooling law: the second sheet's edge lost", lambda: D.PoolingLaw(n, a, n), False),
-        ("pooling", lambda: D.Pooling(asked, docs), True),
-        ("printed: a storeroom", lambda: D.Printed(a, b, both, [], [(yes, lent, end)], docs), True),
-        ("not printed: a sheet and a line", lambda: D.Printed(a, b, both, [10], [(yes, lent, end)], docs), False),
-        ("not printed: 22 and a sheet", lambda: D.Printed(a, r, both, text(["pool: refused 0 22 0"]), [(no(22), lent, lent)], docs), False),
-        ("printed: the second refused", lambda: D.Printed(a, bad, [], text(["pool: refused 2 4 2"]), [(no(4, 2, 2), lent, lent)], docs), True),
-        ("not printed: 24", lambda: D.Printed(a, b, [], text(["pool: refused 0 24 0"]), [(no(24), lent[:10], lent[:10])], docs), False),
-        ("determined: pooled", lambda: D.PoolDetermined(a, b, lent, answers, docs), True),
-        ("settled: pooled", lambda: D.SettledPool(a, b, yes, lent, end, docs, answers), True),
-        ("settled: pool, 22", lambda: D.SettledPool(a, r, no(22), lent, lent, docs, answers), True),
-        ("not settled: pool, 22 as an answer", lambda: D.PoolAnswered(a, b, no(22)._replace(size=len(both)), lent, end, docs), False),
-        ("not settled: pooled, changed behind", lambda: D.PoolAnswered(a, b, yes, lent, both + [0, 0], docs), False),
-        ("not settled: pooled, with a line", lambda: D.PoolAnswered(a, b, yes._replace(line=1), lent, end, docs), False),
-        ("not settled: pooled, where another buffer meets the contract", lambda: D.SettledPool(a, b, yes, lent, both + [0, 0], docs, answers), False),
+        ("pooling", lambda: D.among(labs=asked, docs=docs)(D.Pooling), True),
+        ("printed: a storeroom", lambda: D.among(printed=[(yes, lent, end)], docs=docs)(lambda: D.Printed(a, b, both, [])), True),
+        ("not printed: a sheet and a line", lambda: D.among(printed=[(yes, lent, end)], docs=docs)(lambda: D.Printed(a, b, both, [10])), False),
+        ("not printed: 22 and a sheet", lambda: D.among(printed=[(no(22), lent, lent)], docs=docs)(lambda: D.Printed(a, r, both, text(["pool: refused 0 22 0"]))), False),
+        ("printed: the second refused", lambda: D.among(printed=[(no(4, 2, 2), lent, lent)], docs=docs)(lambda: D.Printed(a, bad, [], text(["pool: refused 2 4 2"]))), True),
+        ("not printed: 24", lambda: D.among(printed=[(no(24), lent[:10], lent[:10])], docs=docs)(lambda: D.Printed(a, b, [], text(["pool: refused 0 24 0"]))), False),
+        ("determined: pooled", lambda: D.among(lent=[(a, b, lent)], ends=answers, docs=docs)(D.PoolDetermined), True),
+        ("settled: pooled", lambda: D.among(docs=docs, ends=answers)(lambda: D.SettledPool(a, b, yes, lent, end)), True),
+        ("settled: pool, 22", lambda: D.among(docs=docs, ends=answers)(lambda: D.SettledPool(a, r, no(22), lent, lent)), True),
+        ("not settled: pool, 22 as an answer", lambda: D.among(docs=docs)(lambda: D.PoolAnswered(a, b, no(22)._replace(size=len(both)), lent, end)), False),
+        ("not settled: pooled, changed behind", lambda: D.among(docs=docs)(lambda: D.PoolAnswered(a, b, yes, lent, both + [0, 0])), False),
+        ("not settled: pooled, with a line", lambda: D.among(docs=docs)(lambda: D.PoolAnswered(a, b, yes._replace(line=1), lent, end)), False),
+        ("not settled: pooled, where another buffer meets the contract", lambda: D.among(docs=docs, ends=answers)(lambda: D.SettledPool(a, b, yes, lent, both + [0, 0])), False),
         ("not settled: pool, 22 of a sheet", lambda: D.PoolRefusal(no(22, 1, 2), lent, lent), False),
         ("not settled: pool, 4 of neither sheet", lambda: D.PoolRefusal(no(4), lent, lent), False),
         ("not settled: pool, 22 with a length", lambda: D.PoolRefusal(no(22)._replace(size=1), lent, lent), False),
-        ("not call: pool, 23 before 22", lambda: D.PoolCall(f, render(ranked_five), no(23), lent, lent, [five, ranked_five]), False),
-        ("not call: pool, 24 with equal room", lambda: D.PoolCall(a, b, no(24), lent[:-2], lent[:-2], docs), False),
-        ("call: pooled, with equal room", lambda: D.PoolCall(a, b, yes, lent[:-2], both, docs), True),
-        ("not call: pooled, changed behind", lambda: D.PoolCall(a, b, yes, lent, both + [0, 0], docs), False),
-        ("not call: pool, the second refused, and the first named", lambda: D.PoolCall(a, bad, no(4, 1, 2), lent, lent, docs), False),
+        ("not call: pool, 23 before 22", lambda: D.among(docs=[five, ranked_five])(lambda: D.PoolCall(f, render(ranked_five), no(23), lent, lent)), False),
+        ("not call: pool, 24 with equal room", lambda: D.among(docs=docs)(lambda: D.PoolCall(a, b, no(24), lent[:-2], lent[:-2])), False),
+        ("call: pooled, with equal room", lambda: D.among(docs=docs)(lambda: D.PoolCall(a, b, yes, lent[:-2], both)), True),
+        ("not call: pooled, changed behind", lambda: D.among(docs=docs)(lambda: D.PoolCall(a, b, yes, lent, both + [0, 0])), False),
+        ("not call: pool, the second refused, and the first named", lambda: D.among(docs=docs)(lambda: D.PoolCall(a, bad, no(4, 1, 2), lent, lent)), False),
         ("not settled: pool, 12", lambda: D.PoolRefusal(no(12, 1, 2), lent, lent), False),
         ("settled: pool, the second refused", lambda: D.PoolRefusal(no(4, 2, 2), lent, lent), True),
         ("not settled: pool, 22 and written", lambda: D.PoolRefusal(no(22), lent, end), False),
@@ -1941,7 +2064,7 @@ def of_saves(D):
     a, b = item("a", 1), item("g", rank=1, kind=Account)
     drawn = Doc([a, b], [edge("a", "g", 0), edge("g", "g", 0), edge("a", "g", 1, True)])
     turned, swapped = drawn._replace(edges=drawn.edges[1:] + drawn.edges[:1]), drawn._replace(edges=[drawn.edges[1], drawn.edges[0], drawn.edges[2]])
-    other, unmarked = Doc([item("z", 1), b], [edge("z", "g", 0), edge("g", "g", 0), edge("z", "g", 1, True)]), drawn._replace(edges=drawn.edges[:2] + [edge("a", "g", 1)])
+    other, unmarked = Doc([item("z", 1), b], [edge("z", "g", 0), edge("g", "g", 0), edge("z", "g", 1, True)]), drawn._replace(edges=(*drawn.edges[:2], edge("a", "g", 1)))
     more = Doc([a, b, item("h")], [])
     sheet, first, three = render(turned), render(Doc([a, b], [])), render(more)
     s, small = setupOf(drawn), setupOf(Doc([a], []))
@@ -1949,7 +2072,7 @@ def of_saves(D):
     docs = [drawn, turned, swapped, other, unmarked, more, Doc([a], [])]
     saved = render(drawn)
     lent = [35] * (len(saved) + 2)
-    call = lambda n, v, exit, sheet_=sheet, s_=s, out=lent: D.Fulfils(D.saveCall(sheet_, s_, out, docs), ended(D, n, v, exit))
+    call = lambda n, v, exit, sheet_=sheet, s_=s, out=lent: D.among(docs=docs)(lambda: D.Fulfils(D.saveCall(sheet_, s_, out), ended(D, n, v, exit)))
     bad = text([H1, "a c - -"])
     sheets, setups = [sheet, first, three, bad, render(Doc([a], []))], [s, held, small, EMPTY]
     results = [(n, size, exit) for n in (0, 15) for size in (0, len(saved), len(saved) + 1) for exit in (saved + [35, 35], lent)]
@@ -1981,18 +2104,18 @@ def of_saves(D):
         ("not call: save, 13 before 12", lambda: call(13, [], lent, render(Doc([a], [])), s._replace(opened=1)), False),
         ("call: save, the sheet's number", lambda: call(4, [], lent, bad, EMPTY), True),
         ("not call: save, 12 before the sheet's number", lambda: call(12, [], lent, bad, EMPTY), False),
-        ("saved there", lambda: D.SavedThere(sheets, setups, docs), True),
-        ("saved unique", lambda: D.SavedUnique(sheets, setups, docs), True),
+        ("saved there", lambda: D.among(sheets=sheets, setups=setups, docs=docs)(D.SavedThere), True),
+        ("saved unique", lambda: D.among(sheets=sheets, setups=setups, docs=docs)(D.SavedUnique), True),
         ("sheet of: what is saved", lambda: D.IsSheetOf(sheet, held, saved), True),
         ("not sheet of: other names", lambda: D.IsSheetOf(sheet, s, render(other)), False),
         ("not sheet of: another setup", lambda: D.IsSheetOf(sheet, s, render(unmarked)), False),
         ("not sheet of: no sheet", lambda: D.IsSheetOf(sheet, EMPTY, bad), False),
         ("save bytes: 64 names of 16 bytes, 14 values of ten digits each, 256 edges", lambda: D.saveBytes == len(render(LONGEST)), True),
         ("sheet of: the longest", lambda: D.IsSheetOf(render(LONGEST), setupOf(LONGEST), render(LONGEST)), True),
-        ("saved reads", lambda: D.SavedReads(sheets, setups, docs), True),
-        ("saved text", lambda: D.SavedText(sheet, s, lent, results, docs), True),
-        ("saved back", lambda: D.SavedBack([sheet, saved], setups, docs), True),
-        ("saved again", lambda: D.SavedAgain(sheets, setups, docs), True),
+        ("saved reads", lambda: D.among(sheets=sheets, setups=setups, docs=docs)(D.SavedReads), True),
+        ("saved text", lambda: D.among(lent=[(sheet, s, lent)], saved=results, docs=docs)(D.SavedText), True),
+        ("saved back", lambda: D.among(sheets=[sheet, saved], setups=setups, docs=docs)(D.SavedBack), True),
+        ("saved again", lambda: D.among(sheets=sheets, setups=setups, docs=docs)(D.SavedAgain), True),
     ]
 
 
@@ -2002,7 +2125,7 @@ GROUPS = {
     "sums": [of_sums],
     "bench": [of_derivations, of_passes, of_ways, of_bases, of_scores, of_marks, of_set_calls, of_way_calls, of_base_calls, of_score_calls, of_demand3]
     + [of_quick, of_forecasts, of_cuts, of_attackers, of_next_sets, of_register, of_living, of_findings, of_portal, of_contracts, of_told, of_words, of_readings, of_demands, of_both_demands, of_soundness],
-    "rows": [of_valid_rows, of_rows, of_stated, of_meaning, of_refusals],
+    "rows": [of_valid_rows, of_rows, of_bytes, of_stated, of_meaning, of_refusals],
     "spare": [of_spare],
     "pool": [of_pools, of_saves],
     "ring": [of_ring],
@@ -2047,11 +2170,9 @@ def outcomes(D, wanted=lambda name: True, first=None):
                 yield name, answer
 
 
-if __name__ == "__main__":
-    import time
+def of_equations(D):
+    """The examples that are computed, of Examples.txt."""
+    return [(f"computed {name.removeprefix('example·')}", getattr(D, name), True) for name in D._made.equations]
 
-    import definitions
 
-    t = time.time()
-    wrong = list(outcomes(definitions))
-    print(wrong, sum(len(v) for v in examples(definitions).values()), "examples", round(time.time() - t, 1), "s")
+GROUPS["rows"].append(of_equations)

@@ -1,5 +1,5 @@
 # `make` alone says what there is. `make test` proves and tests everything; its last line is the verdict.
-.PHONY: help test quick report pool gemzuleg definitions prove lib install fuzz bench mutate alter check-contracts clean
+.PHONY: help test quick report pool gemzuleg definitions prove lib install uninstall dist fuzz bench mutate alter check-contracts clean
 
 ALONE = @bash scripts/alone.sh
 
@@ -9,6 +9,8 @@ help:
 	@echo 'make pool       pools two sheets: FIRST=file SECOND=file'
 	@echo 'make lib        makes the library for C in build/lib, with include/portal.h'
 	@echo 'make install    command, library, header, programs, manual pages and completion to PREFIX=/usr/local'
+	@echo 'make uninstall  takes these away again'
+	@echo 'make dist       a tarball and a Debian package in build/dist, which need no kit'
 	@echo 'make definitions  prints every definition that must be believed'
 	@echo 'make quick      layout, contracts, rows, map, index and header, in seconds'
 	@echo 'make test       the gate: proves every crate, tries the edits that must fail, runs all tests (half an hour)'
@@ -59,6 +61,14 @@ PREFIX = /usr/local
 install:
 	$(ALONE) install rt python3 cargo gcc ar -- bash scripts/install.sh "$(PREFIX)"
 
+# Takes away what `make install` put there.
+uninstall:
+	@bash scripts/install.sh --uninstall "$(PREFIX)"
+
+# A tarball and a Debian package in build/dist: static programs that need no kit.
+dist:
+	$(ALONE) dist rt python3 cargo gcc ar git -- bash scripts/dist.sh
+
 # Fresh inputs against the brute force: make fuzz, make fuzz SECONDS=600, make fuzz SEED=7 to repeat a run.
 SECONDS = 60
 fuzz:
@@ -80,4 +90,4 @@ check-contracts:
 	@python3 scripts/contracts.py
 
 clean:
-	$(ALONE) clean -- rm -rf target build/bench build/bin build/cargo build/dist build/lib build/report.log build/pool.log build/lib.log
+	$(ALONE) clean -- rm -rf target build/bench build/bin build/cargo build/cargo-static build/dist build/lib build/report.log build/pool.log build/lib.log

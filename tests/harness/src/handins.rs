@@ -15,10 +15,10 @@ type Outcome = Result<(), Box<Difference>>;
 
 /// The fewest of the gate's lines, by what they came to: each number from each field.
 pub const ENDS: [(&str, usize); 22] = [
-    ("open", 3_000),
-    ("lock", 3_000),
+    ("open", 2_000),
+    ("lock", 2_000),
     ("no sets", 300),
-    ("withdrawn", 1_000),
+    ("withdrawn", 500),
     ("2 of 0", 300),
     ("4 of 1", 100),
     ("4 of 2", 100),
@@ -31,7 +31,7 @@ pub const ENDS: [(&str, usize); 22] = [
     ("5 of 4", 500),
     ("8 of 4", 200),
     ("6 of 4", 100),
-    ("7 of 0", 2),
+    ("7 of 0", 1),
     ("15", 3_000),
     ("a refused sheet", 100),
     ("entered", 1_000),

@@ -73,15 +73,19 @@ pub struct Counts {
     /// Lists of calls that change a setup, and such calls on all graphs of two items.
     pub lives: u64,
     pub steps: u64,
+    /// Hand-in lines.
+    pub lines: u64,
     pub reports: u64,
 }
 
 impl fmt::Display for Counts {
     fn fmt(&self, out: &mut fmt::Formatter<'_>) -> fmt::Result {
-        let Counts { tiny, random, bounds, damaged, texts, setups, lives, steps, reports } = self;
+        let Counts { tiny, random, bounds, damaged, texts, setups, lives, steps, lines, reports } =
+            self;
         write!(out, "{tiny} tiny sheets, {random} random ones, {bounds} at the bounds, ")?;
         write!(out, "{damaged} damaged, {texts} other texts, {setups} setups as plain numbers, ")?;
-        write!(out, "{lives} lists of calls that change one, {steps} such calls on tiny ones; ")?;
+        write!(out, "{lives} lists of calls that change one, {steps} such calls on tiny ones, ")?;
+        write!(out, "{lines} hand-in lines; ")?;
         write!(out, "{reports} whole reports")
     }
 }
@@ -230,9 +234,10 @@ impl Run {
 
     /// Hand-ins by name: lines at the bounds and at random; each number must come from each field.
     pub fn handins(&mut self) -> Outcome {
-        let mut ends = Ends::default();
-        compare_handin_bounds(&mut self.rng, &mut ends)?;
-        compare_handins(&mut self.rng, LINES, &mut ends)?;
+        let (mut rng, mut ends) = (self.rng.clone(), Ends::default());
+        compare_handin_bounds(&mut rng, &mut ends)?;
+        compare_handins(&mut rng, LINES, &mut ends)?;
+        self.counts.lines += LINES as u64;
         let too_few = ends.too_few(&ENDS);
         assert!(too_few.is_empty(), "too few lines: {too_few:?} of {ends:?}");
         Ok(())
@@ -307,6 +312,7 @@ impl Run {
         compare_pools(&mut self.rng, 40)?;
         compare_saved_lives(&mut self.rng, 20)?;
         compare_handins(&mut self.rng, 200, &mut Ends::default())?;
+        self.counts.lines += 200;
         for case in damaged::damaged_sheets(self.rng.number(), 11) {
             self.counts.damaged += 1;
             self.sheet(&case, MANY, false)?;

@@ -76,30 +76,30 @@ pub fn line(rng: &mut Rng, calls: &Calls, names: &[String]) -> Vec<u8> {
 
 /// The line with one thing wrong, or perhaps still right.
 pub fn damaged(rng: &mut Rng, names: &[String], line: &[u8]) -> Vec<u8> {
-    let text = String::from_utf8(line.to_vec()).expect("plain bytes");
-    let mut fields: Vec<String> = text.split(' ').map(str::to_string).collect();
+    let mut fields: Vec<Vec<u8>> = line.split(|&byte| byte == b' ').map(<[u8]>::to_vec).collect();
     let at = rng.below(fields.len());
     let bad = match at {
         0 => (*rng.pick(&STUDENTLIKE)).to_string(),
-        1 if rng.chance(1, 2) => format!("{}z", fields[1]),
+        1 if rng.chance(1, 2) => format!("{}z", rng.pick(names)),
         1 => (*rng.pick(&NAMELIKE)).to_string(),
         2 => (*rng.pick(&WAYLIKE)).to_string(),
         _ => bad_set(rng, names),
     };
     match rng.below(9) {
-        0..=3 => fields[at] = bad,
-        4 => fields[at] = String::new(),
+        0..=3 => fields[at] = bad.into_bytes(),
+        4 => fields[at] = Vec::new(),
         5 => fields.truncate(at),
-        6 => fields.insert(at, String::new()),
-        7 => fields.push(bad_set(rng, names)),
+        6 => fields.insert(at, Vec::new()),
+        7 => fields.push(bad_set(rng, names).into_bytes()),
         _ => {
             let mut bytes = line.to_vec();
-            let place = rng.below(bytes.len());
-            bytes[place] = *rng.pick(&[0, 9, 10, 13, 31, 32, 43, 45, 126, 127, 128, 255]);
+            let place = rng.below(bytes.len() + 1);
+            let odd = *rng.pick(&[0, 9, 10, 13, 31, 32, 43, 45, 126, 127, 128, 255]);
+            bytes.splice(place..(place + 1).min(line.len()), [odd]);
             return bytes;
         }
     }
-    fields.join(" ").into_bytes()
+    fields.join(&b' ')
 }
 
 /// Lines at the bounds: no byte, one space, as many sets as may be, and one more.

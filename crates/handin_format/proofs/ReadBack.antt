@@ -1,7 +1,6 @@
 -- The names of a set, written: they are read back as that set, and how long they are.
 -- Assumes nothing.
 use mathlib.Core.Path.{_≡_, refl, sym, ap, _∙_, subst}
-use mathlib.Core.Bool.{true, false}
 use mathlib.Core.List.{List, [], _∷_, _++_, map}
 use mathlib.Core.Logic.{_⊎_, inl, inr, ⊎-elim}
 use Prim.Native.Nat.{ℕ, zero, suc, _*_, _≤_, _<_}
@@ -25,11 +24,11 @@ use Rattle.sheet_format.proofs.Fields.{name-length}
 use Rattle.sheet_format.proofs.Lists.{each-map}
 use Rattle.sheet_format.proofs.Stated.{at-place, name-in, stands-number}
 use Rattle.sheet.proofs.Names.{names-of-rows}
-use Rattle.report_text.specs.Rows.{joined, setText}
+use Rattle.report_text.specs.Rows.{joined}
 use Rattle.report_text.proofs.Items.{set-text}
 use Rattle.handin_format.specs.Sets.{joinedBy, namesText, setNamed, someSet, setNames, setFrom}
 use Rattle.handin_format.specs.Entries.{ValidNames}
-use Rattle.handin_format.specs.Meaning.{NamedRows, OneOf, SetReadBack, setBytes, SetEnough}
+use Rattle.handin_format.specs.Meaning.{OneOf, SetReadBack, setBytes, SetEnough}
 use Rattle.handin_format.proofs.Sets.{known-name, named-members, names-read}
 
 -- ---- names joined, by their numbers

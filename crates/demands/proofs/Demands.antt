@@ -31,7 +31,7 @@ use Rattle.portal_living.proofs.Lists.{lives-in-words}
 use Rattle.handin_format.proofs.Afternoon.{lines-law}
 use Rattle.handin_format.proofs.Sets.{set-of-names}
 use Rattle.handin_format.proofs.Lines.{line-of-entry, entry-of-line}
-use Rattle.handin_format.proofs.ReadBack.{set-read-back}
+use Rattle.handin_format.proofs.ReadBack.{set-read-back, set-enough}
 use Rattle.handin_format.proofs.Marks.{line-marks, register-marks}
 use Rattle.answers.specs.Demand3.{Demand3}
 use Rattle.answers.specs.declared.AllAnswers.{AllAnswers}
@@ -73,6 +73,7 @@ papers =
       entryOfLine = entry-of-line;
       setOfNames = set-of-names;
       setReadBack = set-read-back;
+      setEnough = set-enough;
       lineMarks = line-marks;
       registerMarks = register-marks;
     }

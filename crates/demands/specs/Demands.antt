@@ -43,7 +43,7 @@ use Rattle.handin_format.specs.declared.NamedSet.{NamedSet}
 use Rattle.handin_format.specs.declared.LineAnswer.{LineAnswer}
 use Rattle.handin_format.specs.Calls.{ReadSetCall, writeSetCall, ReadLineCall, EnterCall}
 use Rattle.handin_format.specs.Afternoon.{LinesLaw}
-use Rattle.handin_format.specs.Meaning.{LineOfEntry, EntryOfLine, SetOfNames, SetReadBack}
+use Rattle.handin_format.specs.Meaning.{LineOfEntry, EntryOfLine, SetOfNames, SetReadBack, SetEnough}
 use Rattle.handin_format.specs.Marks.{LineMarks, RegisterMarks}
 use Rattle.demands.specs.declared.Answers.{Answers}
 use Rattle.demands.specs.Sheets.{Reads, SettledReading, SettledPortal}
@@ -128,12 +128,14 @@ pub record Papers : Type 0 where
   -- 12: after every list of calls on the class register its records are those of the latest accepted attempts
   pub register : RegisterLaw
   -- hand-ins by name: after every list of lines the register holds what the lines say; a line is accepted exactly where it is the written form of a valid entry,
-  -- and says what that states; a set of names has the items with these names, and a written set is read back
+  -- and says what that states; a set of names has the items with these names; a written set is read back, and 1,087 bytes are always
+  -- enough for it
   pub lines : LinesLaw
   pub lineOfEntry : LineOfEntry
   pub entryOfLine : EntryOfLine
   pub setOfNames : SetOfNames
   pub setReadBack : SetReadBack
+  pub setEnough : SetEnough
   -- a line's record has full marks exactly where the sets that it names are those of demand 3, each one time, and no other
   pub lineMarks : LineMarks
   pub registerMarks : RegisterMarks

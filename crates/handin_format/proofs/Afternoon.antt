@@ -1,10 +1,9 @@
 -- The theorem over every list of lines: they are an afternoon of the calls that they say.
 -- Assumes nothing.
 use mathlib.Core.Path.{_≡_, refl, sym, _∙_, ap, subst}
-use mathlib.Core.Bool.{Bool, true, false, cond}
 use mathlib.Core.List.{List, [], _∷_}
 use mathlib.Core.Logic.{_⊎_, inl, inr, ⊎-elim}
-use Prim.Native.Nat.{ℕ, _≤_, _<_}
+use Prim.Native.Nat.{ℕ, _≤_}
 use lib.Dec.{eqb}
 use lib.ListN.{length, take}
 use borrow.Author.Tests.{eqb-true, eqb-false, ne-eqb}
@@ -14,8 +13,7 @@ use Rattle.questions.specs.Asks.{Asks}
 use Rattle.questions.specs.Questions.{asks12, asks13}
 use Rattle.questions.proofs.Asks.{ask-no}
 use Rattle.sheet_format.specs.declared.Reading.{Reading}
-use Rattle.sheet_format.specs.Rows.{ItemRow, Doc, Valid, render, setupOf}
-use Rattle.sheet_format.specs.Read.{readSheet}
+use Rattle.sheet_format.specs.Rows.{Doc, Valid, render, setupOf}
 use Rattle.sheet_format.proofs.Meaning.{accepted-of-valid, rows-unique}
 use Rattle.records.specs.declared.Record.{Record}
 use Rattle.records.specs.declared.Registered.{Registered}
@@ -25,7 +23,7 @@ use Rattle.register.specs.Afternoon.{RegisterCall, HandIn, Withdraw, Made, Meet
 use Rattle.register.proofs.Afternoon.{register-law}
 use Rattle.handin_format.specs.Lines.{lineNo, lineCall}
 use Rattle.handin_format.specs.Calls.{asksLine, EntersLine, EnterCall}
-use Rattle.handin_format.specs.Afternoon.{EnteredLine, sliceAfterLines, usedAfterLines, LinesEntered, madeBy, callsMade, LinesLaw}
+use Rattle.handin_format.specs.Afternoon.{EnteredLine, sliceAfterLines, usedAfterLines, LinesEntered, callsMade, LinesLaw}
 
 -- a call with too large a count is refused with 25, whatever call it is
 overfull-meets : (s : Setup) (c : RegisterCall) (used : ℕ) (a : Registered) (entry exit : List Record) → (used ≤ length entry → ⊥)

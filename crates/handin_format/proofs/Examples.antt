@@ -8,7 +8,6 @@ use Prim.Native.Nat.{ℕ, _+_, _^_, _≤_}
 use Prim.Native.String.{String}
 use native.Mathlib.Omega.{arith}
 use lib.ListN.{length}
-use Rattle.vertex_set.specs.Order.{Listed}
 use Rattle.setup.specs.declared.Kind.the-variants.{Credential, Account}
 use Rattle.setup.specs.declared.Value.the-variants.{Blank, Of}
 use Rattle.questions.specs.Asks.{Asks}
@@ -24,14 +23,11 @@ use Rattle.records.specs.declared.Record.{Record}
 use Rattle.records.specs.declared.Registered.{Registered}
 use Rattle.records.specs.Records.{RegisterOutcome}
 use Rattle.register.specs.Afternoon.{RegisterCall, HandIn, Withdraw}
-use Rattle.handin_format.specs.declared.SetField.{SetField}
-use Rattle.handin_format.specs.declared.NamedSet.{NamedSet}
 use Rattle.handin_format.specs.declared.LineAnswer.{LineAnswer}
-use Rattle.handin_format.specs.Sets.{setFrom, withNames, withName, partsOf, noSet, someSet}
-use Rattle.handin_format.specs.Lines.{LineNo, lineNo, firstNoOf, lineQuestions, fieldQuestions, setQuestions, fieldsThere, fieldsFilled, isWay, isStudent, isLineByte, lineCall, callOfFields}
-use Rattle.handin_format.specs.Calls.{ReadSetCall, LineOutcome, withSets, ReadLineCall, EnterCall}
-use Rattle.handin_format.proofs.Unique.{lineNumbers, LineComes, line-no-sheet, line-no, line-short, line-told, reading-comes, EnterComes, enter-overfull, enter-no-sheet, enter-no-line, enter-no-place, enter-done, enter-comes}
-use Rattle.handin_format.proofs.Afternoon.{line-comes}
+use Rattle.handin_format.specs.Sets.{setFrom, withNames, withName, partsOf, someSet}
+use Rattle.handin_format.specs.Lines.{lineNo, firstNoOf, lineQuestions, fieldQuestions, setQuestions, fieldsThere, fieldsFilled, isWay, isStudent, isLineByte, lineCall, callOfFields}
+use Rattle.handin_format.specs.Calls.{LineOutcome, withSets, ReadLineCall, EnterCall}
+use Rattle.handin_format.proofs.Unique.{LineComes, line-no-sheet, line-no, line-short, line-told, reading-comes, EnterComes, enter-overfull, enter-no-sheet, enter-no-line, enter-no-place, enter-done, enter-comes}
 
 -- the item rows of document 01's sheet
 abbrev bench : List ItemRow

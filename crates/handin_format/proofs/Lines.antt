@@ -1,9 +1,9 @@
 -- Lines: the written form of a valid entry is accepted, and every accepted line is one.
 -- Assumes nothing.
 use mathlib.Core.Path.{_≡_, refl, sym, ap, ap₂, _∙_, subst}
-use mathlib.Core.Bool.{Bool, true, false, cond, not, _&&_, _||_}
+use mathlib.Core.Bool.{Bool, true, false, not}
 use mathlib.Core.List.{List, [], _∷_, _++_, map}
-use mathlib.Core.Logic.{_⊎_, inl, inr, ⊎-elim}
+use mathlib.Core.Logic.{_⊎_, ⊎-elim}
 use Prim.Native.Nat.{ℕ, suc, _≤_}
 use native.Mathlib.Omega.{arith}
 use lib.Dec.{eqb, leb}
@@ -13,7 +13,7 @@ use Rattle.vertex_set.proofs.Cases.{byTest, false-true}
 use Rattle.vertex_set.proofs.Decisions.{and-both, or-parts, or-left, or-right, yes-of}
 use Rattle.setup.specs.Bounds.{largest}
 use Rattle.sheet_format.specs.Text.{fieldsOf, isEmpty, sameText, all}
-use Rattle.sheet_format.specs.Fields.{isDigit, isNameByte, isName, isNumberTo, numberOf, decimal, dash}
+use Rattle.sheet_format.specs.Fields.{isDigit, isNameByte, isName, numberOf, decimal}
 use Rattle.sheet_format.specs.Rows.{ItemRow, Each, Known, numberIn}
 use Rattle.sheet_format.specs.Questions.{isKnown}
 use Rattle.sheet_format.proofs.Lists.{each-append, each-right, each-map, each-image}
@@ -22,13 +22,13 @@ use Rattle.sheet_format.proofs.Numbers.{value-decimal, number-to, to-number}
 use Rattle.sheet_format.proofs.Lines.{Without, spaced, fields-spaced, spaced-fields}
 use Rattle.sheet_format.proofs.Fields.{Visible, Plain, visible-without, name-plain, decimal-plain}
 use Rattle.report_text.specs.Rows.{wayText}
-use Rattle.register.specs.Afternoon.{RegisterCall, HandIn, Withdraw}
+use Rattle.register.specs.Afternoon.{HandIn, Withdraw}
 use Rattle.handin_format.specs.declared.SetField.{SetField}
 use Rattle.handin_format.specs.Sets.{joinedBy, namesText, setNamed, setFrom}
 use Rattle.handin_format.specs.Entries.{NamedAttempt, LineEntry, HandsIn, Withdraws, withdrawText, entryText, mostHanded, ValidNames, ValidAttempt, ValidEntry, stated}
-use Rattle.handin_format.specs.Lines.{FieldAsked, askOf, isLineByte, fieldsFilled, fieldsThere, isStudent, isWay, setQuestions, fieldQuestions, lineQuestions, LineNo, firstNoOf, lineNo, callOfFields, lineCall}
+use Rattle.handin_format.specs.Lines.{FieldAsked, askOf, isLineByte, fieldsFilled, fieldsThere, isStudent, isWay, setQuestions, fieldQuestions, lineQuestions, firstNoOf, lineNo, callOfFields, lineCall}
 use Rattle.handin_format.specs.Meaning.{NamedRows, LineOfEntry, EntryOfLine}
-use Rattle.handin_format.proofs.Sets.{known-name, names-read, NamesRead, set-read}
+use Rattle.handin_format.proofs.Sets.{known-name, names-read, set-read}
 
 -- ---- questions, one after the other
 

@@ -1,7 +1,6 @@
 -- The theorems of specs/Marks: what a line's record says.
 -- Assumes nothing.
 use mathlib.Core.Path.{_≡_, refl, sym, ap, _∙_, subst}
-use mathlib.Core.Bool.{true, false, cond}
 use mathlib.Core.List.{List, [], _∷_, map}
 use mathlib.Core.Logic.{_⊎_, inl, inr, ⊎-elim}
 use Prim.Native.Nat.{ℕ}
@@ -12,7 +11,6 @@ use Rattle.vertex_set.specs.Set.{Iff}
 use Rattle.vertex_set.specs.Order.{Listed, Once}
 use Rattle.vertex_set.proofs.Cases.{byTest}
 use Rattle.vertex_set.proofs.Decisions.{iff-trans}
-use Rattle.setup.specs.declared.Setup.{Setup}
 use Rattle.bases.specs.Marks.{IsBaseOnce}
 use Rattle.sheet_format.specs.Rows.{Doc, Each, Apart, Valid, numberIn, render, setupOf}
 use Rattle.records.specs.declared.Record.{Record}
@@ -22,9 +20,9 @@ use Rattle.register.specs.Afternoon.{Attempt, RegisterCall, HandIn, Withdraw, M
 use Rattle.register.proofs.Outcomes.{answer-number, hand-in-outcome, hand-in-no}
 use Rattle.handin_format.specs.Sets.{setNamed}
 use Rattle.handin_format.specs.Entries.{NamedAttempt, LineEntry, HandsIn, Withdraws, ValidAttempt, ValidEntry, entryText, stated}
-use Rattle.handin_format.specs.Lines.{lineNo, lineCall}
+use Rattle.handin_format.specs.Lines.{lineNo}
 use Rattle.handin_format.specs.Calls.{EnterCall}
-use Rattle.handin_format.specs.Afternoon.{EnteredLine, sliceAfterLines, usedAfterLines, LinesEntered, callsMade}
+use Rattle.handin_format.specs.Afternoon.{EnteredLine, sliceAfterLines, usedAfterLines, callsMade}
 use Rattle.handin_format.specs.Meaning.{NamedRows}
 use Rattle.handin_format.specs.Marks.{Sought, NamesSought, NamedRecord, LineTaken, LineMarks, HandedByLine, RecordOfLine, RegisterMarks}
 use Rattle.handin_format.proofs.Lines.{line-of-entry, entry-of-line}

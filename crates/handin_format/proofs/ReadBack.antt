@@ -1,33 +1,35 @@
--- The names of a set, written: they are read back as that set.
+-- The names of a set, written: they are read back as that set, and how long they are.
 -- Assumes nothing.
 use mathlib.Core.Path.{_≡_, refl, sym, ap, _∙_, subst}
-use mathlib.Core.Bool.{true, false}
 use mathlib.Core.List.{List, [], _∷_, _++_, map}
 use mathlib.Core.Logic.{_⊎_, inl, inr, ⊎-elim}
-use Prim.Native.Nat.{ℕ, zero, suc, _<_}
+use Prim.Native.Nat.{ℕ, zero, suc, _*_, _≤_, _<_}
 use native.Mathlib.Omega.{arith}
 use lib.Dec.{eqb}
-use lib.ListN.{length}
+use lib.Count.{ones-le}
+use lib.ListN.{length, length-append, length-map}
 use borrow.Author.Tests.{eqb-true, eqb-false}
 use Rattle.vertex_set.specs.Set.{Iff, Member}
 use Rattle.vertex_set.specs.Order.{Listed}
 use Rattle.vertex_set.proofs.Cases.{byTest}
-use Rattle.vertex_set.proofs.Places.{places, listed-places, sorted-places}
-use Rattle.vertex_set.proofs.Sets.{some-member, one-set}
+use Rattle.vertex_set.proofs.Places.{places, length-places, listed-places, sorted-places}
+use Rattle.vertex_set.proofs.Sets.{some-member, one-set, bounded-by-members}
 use Rattle.vertex_set.proofs.Sorted.{Sorted}
 use Rattle.setup.specs.Calls.{Inside}
 use Rattle.sheet_format.specs.Fields.{dash}
 use Rattle.sheet_format.specs.Rows.{ItemRow, Doc, Each, Apart, Known, Valid, numberIn, render, setupOf}
 use Rattle.sheet_format.specs.Names.{nameOf}
 use Rattle.sheet_format.specs.Stated.{StandsAt}
+use Rattle.sheet_format.proofs.Fields.{name-length}
+use Rattle.sheet_format.proofs.Lists.{each-map}
 use Rattle.sheet_format.proofs.Stated.{at-place, name-in, stands-number}
 use Rattle.sheet.proofs.Names.{names-of-rows}
-use Rattle.report_text.specs.Rows.{joined, setText}
+use Rattle.report_text.specs.Rows.{joined}
 use Rattle.report_text.proofs.Items.{set-text}
 use Rattle.handin_format.specs.Sets.{joinedBy, namesText, setNamed, someSet, setNames, setFrom}
 use Rattle.handin_format.specs.Entries.{ValidNames}
-use Rattle.handin_format.specs.Meaning.{NamedRows, OneOf, SetReadBack}
-use Rattle.handin_format.proofs.Sets.{named-members, names-read}
+use Rattle.handin_format.specs.Meaning.{OneOf, SetReadBack, setBytes, SetEnough}
+use Rattle.handin_format.proofs.Sets.{known-name, named-members, names-read}
 
 -- ---- names joined, by their numbers
 
@@ -48,6 +50,23 @@ stands-known : (xs : List ItemRow) (i : ℕ) (x : ItemRow) → StandsAt xs i x �
 stands-known [] i x h = absurd h
 stands-known (y ∷ ys) zero x h = inl (ap (λ (z : ItemRow). z .name) h)
 stands-known (y ∷ ys) (suc i) x h = inr (stands-known ys i x h)
+
+-- ---- how long names are
+
+abbrev Short : List ℕ → Type 0
+Short n = length n ≤ 16
+
+names-length : (n : List ℕ) (ns : List (List ℕ)) → Each Short (n ∷ ns) → length (joinedBy 43 (n ∷ ns)) < 17 * suc (length ns)
+names-length n [] h = let a = h .0 in omega arith
+names-length n (m ∷ ns) h =
+    let a = h .0 in
+    let b = names-length m ns (h .1) in
+    let l = length-append n (43 ∷ joinedBy 43 (m ∷ ns)) in
+    omega arith
+
+text-length : (ns : List (List ℕ)) → Each Short ns → length ns ≤ 64 → length (namesText ns) ≤ setBytes
+text-length [] h b = omega arith
+text-length (n ∷ ns) h b = let l = names-length n ns h in omega arith
 
 -- ---- the names of a sheet's items
 
@@ -133,6 +152,23 @@ module _ (d : Doc) (v : Valid d) where
     read-back =
         ap (setFrom (d .items)) names-are
         ∙ names-read (d .items) (record { valid = v .items; names = v .names }) (map name (places 64 x)) names-valid ∙ ap someSet set-back
+
+    few : length (map name (places 64 x)) ≤ 64
+    few =
+        let b = bounded-by-members 64 x (λ i m. let l = inside i m in let n = v .most in omega arith) in
+        let m = length-map (places 64 x) name in
+        let k = length-places 64 x b in
+        let o = ones-le 64 x b in
+        omega arith
+
+    short : length (setNames name x) ≤ setBytes
+    short =
+        subst (λ (l : List ℕ). length l ≤ setBytes) (sym names-are)
+        (text-length (map name (places 64 x))
+        (each-map (Known (d .items)) Short (λ n k. name-length n (known-name (d .items) (v .items) n k)) (map name (places 64 x)) (names-valid .known)) few)
+
+pub set-enough : SetEnough
+set-enough = short
 
 pub set-read-back : SetReadBack
 set-read-back = read-back

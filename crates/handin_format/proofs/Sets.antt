@@ -1,22 +1,22 @@
 -- Sets by name: what is written is read, and what is read is written; and which items a set of names has.
 -- Assumes nothing.
 use mathlib.Core.Path.{_≡_, refl, sym, ap, ap₂, _∙_, subst}
-use mathlib.Core.Bool.{Bool, true, false, cond, _&&_}
-use mathlib.Core.List.{List, [], _∷_, _++_, map, head-eq-of-cons-eq}
+use mathlib.Core.Bool.{true, false, _&&_}
+use mathlib.Core.List.{List, [], _∷_, _++_, head-eq-of-cons-eq}
 use mathlib.Core.Logic.{_⊎_, inl, inr, ⊎-elim}
-use Prim.Native.Nat.{ℕ, zero, suc, _/_, _%_, _^_, _≤_}
+use Prim.Native.Nat.{ℕ, zero, suc, _/_, _%_, _^_}
 use native.Mathlib.Omega.{arith}
 use lib.Bits.{bitOr, or-zero-l, or-zero-r}
 use lib.Dec.{eqb, leb}
 use lib.ListN.{length}
-use borrow.Author.Tests.{eqb-true, eqb-false, ne-eqb}
+use borrow.Author.Tests.{eqb-true, ne-eqb}
 use Rattle.vertex_set.specs.Set.{Iff, Member}
 use Rattle.vertex_set.proofs.Cases.{byTest, false-true}
 use Rattle.vertex_set.proofs.Decisions.{and-parts, yes-of, no-of}
 use Rattle.vertex_set.proofs.Sets.{in-or, in-one, none-in-zero, one-set, member-decided}
 use Rattle.sheet_format.specs.Text.{grow, sameText, all}
 use Rattle.sheet_format.specs.Fields.{isName, isNameByte, isDigit, dash}
-use Rattle.sheet_format.specs.Rows.{ItemRow, Each, Apart, Known, ValidItem, SameName, numberIn}
+use Rattle.sheet_format.specs.Rows.{ItemRow, Each, Apart, Known, ValidItem, numberIn}
 use Rattle.sheet_format.specs.Stated.{StandsAt}
 use Rattle.sheet_format.specs.Questions.{isKnown}
 use Rattle.sheet_format.proofs.Lists.{each-map}

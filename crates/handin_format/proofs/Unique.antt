@@ -1,21 +1,20 @@
 -- What each call comes to, with the numbers of its refusals; and that its contract leaves one outcome.
 -- Assumes nothing.
-use mathlib.Core.Path.{_≡_, refl, sym, ap, _∙_, subst}
-use mathlib.Core.Bool.{Bool, true, false, not, cond}
-use mathlib.Core.List.{List, [], _∷_, _++_, map}
+use mathlib.Core.Path.{_≡_, refl, sym, _∙_, subst}
+use mathlib.Core.Bool.{Bool, true, false, cond}
+use mathlib.Core.List.{List, [], _∷_}
 use mathlib.Core.Logic.{_⊎_, inl, inr, ⊎-elim}
 use Prim.Native.Nat.{ℕ, suc, _/_, _%_, _^_}
 use lib.Bits.{bitOr}
 use lib.Dec.{eqb, leb}
-use lib.ListN.{length, take}
+use lib.ListN.{length}
 use borrow.Author.Tests.{eqb-false}
 use Rattle.vertex_set.specs.Order.{Listed}
 use Rattle.vertex_set.proofs.Cases.{byTest}
 use Rattle.setup.specs.declared.Setup.{Setup}
 use Rattle.questions.specs.Asks.{Asks}
 use Rattle.questions.proofs.Asks.{asks-once}
-use Rattle.formed.specs.WellFormed.{WellFormed}
-use Rattle.sheet_format.specs.Text.{fieldsOf, isEmpty, sameText, all}
+use Rattle.sheet_format.specs.Text.{fieldsOf, sameText}
 use Rattle.sheet_format.specs.Fields.{isName, dash}
 use Rattle.sheet_format.specs.Rows.{ItemRow, Doc, Each, Valid, numberIn, render, setupOf}
 use Rattle.sheet_format.specs.Questions.{isKnown}
@@ -34,9 +33,9 @@ use Rattle.register.proofs.Unique.{one-hand-in, one-withdrawal}
 use Rattle.handin_format.specs.declared.SetField.{SetField}
 use Rattle.handin_format.specs.declared.NamedSet.{NamedSet}
 use Rattle.handin_format.specs.declared.LineAnswer.{LineAnswer}
-use Rattle.handin_format.specs.Sets.{namesText, setNamed, noSet, someSet, partsOf, withName, withNames, setFrom}
-use Rattle.handin_format.specs.Entries.{LineEntry, HandsIn, Withdraws, withdrawText, entryText, mostHanded, ValidNames, ValidEntry, stated}
-use Rattle.handin_format.specs.Lines.{FieldAsked, askOf, isLineByte, fieldsFilled, fieldsThere, isStudent, isWay, setQuestions, fieldQuestions, lineQuestions, firstNoOf, lineNo, lineCall}
+use Rattle.handin_format.specs.Sets.{noSet, someSet, partsOf, withName, withNames, setFrom}
+use Rattle.handin_format.specs.Entries.{LineEntry, HandsIn, Withdraws, mostHanded, ValidEntry, stated}
+use Rattle.handin_format.specs.Lines.{FieldAsked, askOf, fieldsFilled, fieldsThere, setQuestions, fieldQuestions, lineQuestions, firstNoOf, lineNo, lineCall}
 use Rattle.handin_format.specs.Calls.{asksSet, setRefused, setTold, ReadsSet, ReadSetCall, asksLine, asksPlaces, LineOutcome, withSets, lineRefused, tellsCall, TellsCall, ReadsLine, ReadLineCall, EntersLine, EnterCall}
 use Rattle.handin_format.specs.Meaning.{NamedRows, NamesSet, LineSays}
 use Rattle.handin_format.proofs.Sets.{set-read}

@@ -3,7 +3,8 @@
 use mathlib.Core.Path.{_≡_}
 use mathlib.Core.List.{List, [], _∷_}
 use mathlib.Core.Logic.{_⊎_}
-use Prim.Native.Nat.{ℕ}
+use Prim.Native.Nat.{ℕ, _≤_}
+use lib.ListN.{length}
 use Rattle.vertex_set.specs.Set.{Iff, Member}
 use Rattle.setup.specs.Calls.{Inside}
 use Rattle.sheet_format.specs.Rows.{ItemRow, Doc, Each, Apart, ValidItem, SameName, Valid, numberIn, render, setupOf}
@@ -46,6 +47,14 @@ abbrev pub SetReadBack : Type 0
 SetReadBack =
     (d : Doc) → Valid d → (x : ℕ) → Inside (setupOf d) x
     → setFrom (d .items) (setNames (nameOf (render d)) x) ≡ someSet x
+
+-- 64 names of 16 bytes, and 63 signs between them.
+abbrev pub setBytes : ℕ
+setBytes = 1087
+
+-- The names of such a set have always room in so many bytes.
+abbrev pub SetEnough : Type 0
+SetEnough = (d : Doc) → Valid d → (x : ℕ) → Inside (setupOf d) x → length (setNames (nameOf (render d)) x) ≤ setBytes
 
 -- ---- of a sheet's bytes
 

@@ -22,6 +22,10 @@ pub use results::{
 };
 pub use system::{end_with_the_reader, was_closed};
 
+/// Sets that are always enough for one list of a target.
+pub const MAX_LIST: usize = 3_432;
+/// The places that a bag has.
+pub const BAG_PLACES: usize = 14;
 /// How many words a setup has.
 pub const WORDS: usize = OPENED + 1;
 /// Where among them the held set stands.
@@ -36,14 +40,10 @@ pub const NEVER: u64 = 1 << 62;
 pub const POOL_BYTES: usize = 12_526;
 /// Bytes that are always enough for a saved sheet: no sheet has more.
 pub const SAVE_BYTES: usize = 11_626;
-/// Bytes that are always enough for the names of a set: 64 of 16 bytes, and 63 signs.
+/// Bytes that are always enough for the names of a set.
 pub const SET_BYTES: usize = 1_087;
-/// The most sets of a hand-in line: as many as 14 items have subsets.
+/// The most sets of one hand-in line.
 pub const MAX_HANDED: usize = 16_384;
-/// Sets that are always enough for one list of a target.
-pub const MAX_LIST: usize = 3_432;
-/// The places that a bag has.
-pub const BAG_PLACES: usize = 14;
 /// The version of the header that this crate was written for.
 pub const VERSION: u64 = 40000;
 
@@ -235,24 +235,23 @@ pub fn write_sheet(sheet: &[u8], setup: &[u64], out: &mut [u8]) -> WriteSheetRes
     unsafe { linked::portal_write_sheet(text, length, words, count, out.as_mut_ptr(), out.len()) }
 }
 
-/// The set that names joined by `+` name on the sheet; `-` is the empty one. 1 to 11 with text 1 and
-/// the line; 5, 8, 6 with text 2.
+/// The set that names joined by `+` name on a sheet. 1 to 11 of the sheet with its line; 5, 8, 6.
 pub fn read_set(sheet: &[u8], text: &[u8]) -> ReadSetResult {
     standin::read_set(sheet, text)
 }
 
-/// The names of a set, rising, joined by `+`, or `-`, to a buffer. 1 to 11, 14, 15.
+/// The names of a set, joined by `+`, to a buffer. 1 to 11 of the sheet; 14, 15.
 pub fn write_set(sheet: &[u8], set: u64, out: &mut [u8]) -> WriteSetResult {
     standin::write_set(sheet, set, out)
 }
 
-/// What a hand-in line says, without its LF; its sets go to the list. 1 to 11 with text 1 and the line;
-/// 2, 4, 5, 8, 6, 7 with text 2 and the field; 15.
+/// What a hand-in line says, its sets to a list. 1 to 11 of the sheet with its line; 2, 4, 5, 6, 7, 8
+/// of the line with its field; 15.
 pub fn read_line(sheet: &[u8], line: &[u8], sets: &mut [u64]) -> ReadLineResult {
     standin::read_line(sheet, line, sets)
 }
 
-/// The line taken to the register. 25; 1 to 11 of the sheet; 2, 4, 5, 8, 6, 7 of the line; 26 or 27.
+/// A hand-in line taken to the register. 25; 1 to 11 of the sheet; 2, 4, 5, 6, 7, 8 of the line; 26, 27.
 pub fn enter_line(
     sheet: &[u8],
     line: &[u8],

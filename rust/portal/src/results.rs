@@ -68,9 +68,9 @@ results! {
     }
     /// A set by its names.
     ReadSetResult {
-        /// Whose the number is: 1 the sheet's, 2 that of the names.
+        /// Whose the refusal's number is: 1 for the sheet, 2 for the names; 0 where there is none.
         text,
-        /// The line of a refused sheet; else 0.
+        /// The line of a refused sheet.
         place,
         /// The set.
         set,
@@ -82,19 +82,19 @@ results! {
     }
     /// What a hand-in line says.
     ReadLineResult {
-        /// Whose the number is: 1 the sheet's, 2 the line's.
+        /// Whose the refusal's number is: 1 for the sheet, 2 for the line; 0 for 15, and where there is none.
         text,
-        /// The line of a refused sheet, or the field of a refused line, from 1 on; 0 for all of it.
+        /// The line of a refused sheet, or the field of a refused line, from 1 on; 0 for the whole text.
         place,
         /// 1 for a withdrawal, and 0 for a hand-in.
         withdraws,
-        /// Whose it is.
+        /// The student.
         student,
-        /// The item that is to be opened or locked.
+        /// The target's number.
         target,
-        /// 1 for lock, and 0 for open.
+        /// 1 for lockout sets, and 0 for opening sets.
         lock,
-        /// How many sets were written.
+        /// How many sets stand in the list.
         count,
     }
     /// What a set opens.

@@ -202,7 +202,7 @@ REPORT = (ROOT / "examples/document.report").read_bytes()
 (at / "libexec/gemzuleg").mkdir(parents=True)
 shutil.copy(BIN / "report", at / "libexec/gemzuleg")
 hold("report in libexec", run(["report", "bench.sheet"], program=alone / "gemzuleg"), 0, REPORT, b"")
-for name, script in (("fails", "#!/bin/sh\ncat; exit 1\n"), ("prints nonsense", "#!/bin/sh\necho refused 2 0\n"), ("prints nothing", "#!/bin/sh\n")):
+for name, script in (("fails", "#!/bin/sh\ncat > /dev/null; echo target way; exit 1\n"), ("prints nonsense", "#!/bin/sh\necho refused 2 0\n"), ("prints nothing", "#!/bin/sh\n")):
     (alone / "report").write_text(script)
     (alone / "report").chmod(0o755)
     fails(f"a report that {name}", ["report", "bench.sheet"], lambda e: e.endswith(b"/report: it gave no report\n"), program=alone / "gemzuleg")

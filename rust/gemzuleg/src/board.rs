@@ -50,12 +50,12 @@ pub fn reach(lab: &Lab, set: u64) -> Answer<String> {
         for item in items(added) {
             let (name, pass) = (lab.name(item)?, pass.to_string());
             match complete(lab, item, held) {
-                Some(colour) if pass != "0" => {
+                Some(colour) => {
                     let recovery = yes_no(lab.recovery(item, colour) != 0);
                     let needs = lab.names(lab.row(item, colour))?;
                     table.row(&[&name, &pass, &colour.to_string(), &needs, recovery]);
                 }
-                _ => table.row(&[&name, &pass, "-", "-", "-"]),
+                None => table.row(&[&name, &pass, "-", "-", "-"]),
             }
         }
         held |= added;
@@ -79,8 +79,7 @@ pub fn lose(lab: &Lab, set: u64) -> Answer<String> {
     for (pass, &added) in rounds.iter().enumerate() {
         for item in items(added) {
             let rows = lab.colours(item).fold(0, |set, colour| set | lab.row(item, colour));
-            let lacks = if pass == 0 { 0 } else { rows & lost };
-            table.row(&[&lab.name(item)?, &pass.to_string(), &lab.names(lacks)?]);
+            table.row(&[&lab.name(item)?, &pass.to_string(), &lab.names(rows & lost)?]);
         }
         lost |= added;
     }

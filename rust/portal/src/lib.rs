@@ -22,6 +22,10 @@ pub use results::{
 };
 pub use system::{end_with_the_reader, was_closed};
 
+/// Sets that are always enough for one list of a target.
+pub const MAX_LIST: usize = 3_432;
+/// The places that a bag has.
+pub const BAG_PLACES: usize = 14;
 /// How many words a setup has.
 pub const WORDS: usize = OPENED + 1;
 /// Where among them the held set stands.
@@ -36,14 +40,10 @@ pub const NEVER: u64 = 1 << 62;
 pub const POOL_BYTES: usize = 11_626;
 /// Bytes that are always enough for a saved sheet: no sheet has more.
 pub const SAVE_BYTES: usize = 11_626;
-/// Bytes that are always enough for the names of a set: 64 of 16 bytes, and 63 signs.
+/// Bytes that are always enough for the names of a set.
 pub const SET_BYTES: usize = 1_087;
-/// The most sets of a hand-in line: as many as 14 items have subsets.
+/// The most sets of one hand-in line.
 pub const MAX_HANDED: usize = 16_384;
-/// Sets that are always enough for one list of a target.
-pub const MAX_LIST: usize = 3_432;
-/// The places that a bag has.
-pub const BAG_PLACES: usize = 14;
 /// The version of the header that this crate was written for.
 pub const VERSION: u64 = 40100;
 

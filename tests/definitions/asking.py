@@ -11,7 +11,7 @@ from made import antt
 
 Example = collections.namedtuple("Example", "name world group expected used seconds")
 # How long an example may take of an altered definition, and all of them together.
-ONE, ALL = 4, 6
+ONE, ALL = 4, 5
 
 
 class Late(BaseException):
@@ -91,10 +91,12 @@ def of_name(name):
 
 
 def noticing(candidates, new, first=()):
-    """The first example with another answer, with the definitions replaced by these; else how many had none."""
+    """The first example with another answer, with the definitions replaced by these; else how many had none. A law is also noticed to be another one
+    where no candidate passes its conditions any more."""
     began, none, asked = time.time(), 0, {}
     value = any(not D._made.t.is_prop(n) for n in new)
-    with D._made.replaced(new):
+    law = all(RULES.is_law(n) for n in new)
+    with D._made.replaced(new, law) as places:
         for e in sorted(candidates, key=lambda e: e.name not in first):
             if time.time() - began > ALL:
                 return None, f"late after {round(ALL)} s"
@@ -111,10 +113,13 @@ def noticing(candidates, new, first=()):
             if seen == (not e.expected):
                 return e.name, ""
             none += isinstance(seen, str)
+        missed = sorted(places - D._made.names["_reached"]) if candidates else []
+    if missed:
+        return f"nothing passes the conditions of {missed[0]}", ""
     return None, f"{len(candidates)} asked, {none} of them without an answer"
 
 
-QUESTIONS = {}
+QUESTIONS, RULES = {}, rules.Rules(D._made.t)
 
 
 def by_rule(task):

@@ -11,7 +11,8 @@ from made import antt
 
 Example = collections.namedtuple("Example", "name world group expected used seconds")
 # How long an example may take of an altered definition, and all of them together.
-ONE, ALL = 4, 5
+ONE, ALL = 5, 20
+SLOW = 1.5
 
 
 class Late(BaseException):
@@ -85,9 +86,10 @@ def measure():
 
 
 def of_name(name):
-    """The examples that use a definition, the fastest first."""
+    """The examples that use a definition, the fastest first; slow ones, which use half of all definitions, only where there are no others."""
     users = D._made.users(name)
-    return sorted((e for e in EVERY if e.used & users), key=lambda e: e.seconds)
+    found = sorted((e for e in EVERY if e.used & users), key=lambda e: e.seconds)
+    return [e for e in found if e.seconds < SLOW] or found
 
 
 def noticing(candidates, new, first=()):

@@ -1596,6 +1596,7 @@ def of_demands(D):
     on_way = [bench]
     five, over = REFUSED["refused 5"][0], REFUSED["refused 11"][0]
     right = D.accepted(bench)
+    unsettled = [("accepted in line 1", right._replace(line=1)), ("12", D.refused(12, 0)), ("refused, and a setup", D.refused(5, 2)._replace(setup=bench))]
     readings = [right, D.accepted(EMPTY), right._replace(line=1), D.refused(5, 2), D.refused(2, 5), D.refused(11, 4)]
     names = [(list(b"ordpw"), 126), (list(b"mail"), 169), (list(b"mail"), 100), ([], 100), ([], 0)]
     numbers = [0, 1, 3, 13, never, never + 12, never + 13, never + 5]
@@ -1626,6 +1627,15 @@ def of_demands(D):
         ("settled: name of no item", lambda: D.among(docs=docs, parts=names)(lambda: D.SettledName(text(BENCH), 5, 100, [], 100)), True),
         ("settled: name in a refused sheet", lambda: D.among(docs=docs, parts=names)(lambda: D.SettledName(five, 0, 100, [], 100)), True),
         ("not settled: the name of another item", lambda: D.among(docs=docs, parts=names)(lambda: D.SettledName(text(BENCH), MAIL, 100, list(b"ordpw"), 126)), False),
+        ("settled: the portal's never", lambda: D.among(numbers=[])(lambda: D.SettledPortal(False, text(BENCH), ORDER, never)), True),
+        ("not settled: the portal's number with 12", lambda: D.among(numbers=[])(lambda: D.SettledPortal(False, text(BENCH), ORDER, never + 12)), False),
+        *((f"not settled: reading, {n}", lambda r=r: D.among(docs=docs, readings=[])(lambda: D.SettledReading(text(BENCH), r)), False) for n, r in unsettled),
+        ("named: ordpw", lambda: D.among(docs=docs)(lambda: D.Named(text(BENCH), 0, 100, list(b"ordpw"), 126)), True),
+        ("named: no item", lambda: D.among(docs=docs)(lambda: D.Named(text(BENCH), 5, 100, [], 100)), True),
+        ("not settled: no part at another place", lambda: D.among(docs=docs, parts=[])(lambda: D.SettledName(five, 0, 100, [], 0)), False),
+        ("not settled: the name at another place", lambda: D.among(docs=docs, parts=names)(lambda: D.SettledName(text(BENCH), MAIL, 100, list(b"mail"), 100)), False),
+        ("not settled: another name at its place", lambda: D.among(docs=docs, parts=names)(lambda: D.SettledName(text(BENCH), MAIL, 100, list(b"mall"), 169)), False),
+        ("not reads: refused, and a setup", lambda: D.among(docs=docs)(lambda: D.Reads(five, D.refused(5, 2)._replace(setup=bench))), False),
         ("not named: other bytes at the name's place", lambda: D.among(docs=docs)(lambda: D.Named(text(BENCH), MAIL, 100, list(b"mall"), 169)), False),
         ("settled: the portal's number for order", lambda: D.among(numbers=numbers)(lambda: D.SettledPortal(False, text(BENCH), ORDER, 1)), True),
         ("settled: the portal's number for no item", lambda: D.among(numbers=numbers)(lambda: D.SettledPortal(False, text(BENCH), 5, never + 13)), True),
@@ -2054,6 +2064,7 @@ def of_pools(D):
         ("not printed: refused without a line", lambda: printed(a, bad, [], [], no(4, 2, 2), lent), False),
         ("printed: the second refused in line 3", lambda: printed(a, REFUSED["refused 6"][0], [], text(["pool: refused 2 6 3"]), no(6, 2, 3), lent), True),
         ("pool bytes: as the header has them", lambda: D.poolBytes == 12526, True),
+        ("not rows of: rows that are not valid", lambda: D.RowsOf(a, odd[0][1]), False),
         ("fits: at each bound", lambda: D.Fits(items_with(64, 14, 14)) and D.Fits(Doc([g], [edge("g", "g", 7)] * 256)), True),
         ("call: pool, the second refused in line 3", lambda: D.among(docs=docs)(lambda: D.PoolCall(a, REFUSED["refused 6"][0], no(6, 2, 3), lent, lent)), True),
         ("call: pooled", lambda: D.among(docs=docs)(lambda: D.PoolCall(a, b, yes, lent, end)), True),

@@ -85,6 +85,11 @@ def measure():
         EVERY[:] = [e for found in many.imap_unordered(measured, range(len(groups()))) for e in found]
 
 
+def list_all():
+    """All examples, by their names alone."""
+    EVERY[:] = [Example(name, world, at, expected, frozenset(), 0) for at, (world, group) in enumerate(groups()) for name, _, expected in group(D)]
+
+
 def of_name(name):
     """The examples that use a definition, the fastest first; slow ones, which use half of all definitions, only where there are no others."""
     users = D._made.users(name)
@@ -92,7 +97,7 @@ def of_name(name):
     return [e for e in found if e.seconds < SLOW] or found
 
 
-def noticing(candidates, new, first=()):
+def noticing(candidates, new, first=(), one=ONE):
     """The first example with another answer, with the definitions replaced by these; else how many had none. A law is also noticed to be another one
     where no candidate passes its conditions any more."""
     began, none, asked = time.time(), 0, {}
@@ -111,7 +116,7 @@ def noticing(candidates, new, first=()):
                     asked[e.group] = {}
                 if not value:
                     QUESTIONS[e.group] = asked[e.group]
-            seen = answer(asked[e.group][e.name], ONE) if e.name in asked[e.group] else "no question"
+            seen = answer(asked[e.group][e.name], one) if e.name in asked[e.group] else "no question"
             if seen == (not e.expected):
                 return e.name, ""
             none += isinstance(seen, str)

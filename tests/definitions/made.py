@@ -162,10 +162,11 @@ class Asked:
     def __getattr__(self, name):
         found = self._made.names[translate.py(name)]
         self._made.names["_used"].add(name)
-        return functools.partial(self._asked, name, found) if callable(found) else found
+        return functools.partial(self._asked, name) if callable(found) else found
 
-    def _asked(self, name, found, *args):
-        args, arity = tuple(map(plain, args)), self._made.t.arity.get(name, 0)
+    def _asked(self, name, *args):
+        # looked up when it is called, since it may be altered by then
+        found, args, arity = self._made.names[translate.py(name)], tuple(map(plain, args)), self._made.t.arity.get(name, 0)
         return self._made.names["_Part"](found, arity, args) if len(args) < arity else found(*args)
 
     def among(self, **looked):

@@ -11,7 +11,8 @@ from made import antt
 
 Example = collections.namedtuple("Example", "name world group expected used seconds")
 # How long an example may take of an altered definition, and all of them together.
-ONE, ALL = 4, 6
+ONE, ALL = 5, 20
+SLOW = 1.5
 
 
 class Late(BaseException):
@@ -84,17 +85,25 @@ def measure():
         EVERY[:] = [e for found in many.imap_unordered(measured, range(len(groups()))) for e in found]
 
 
+def list_all():
+    """All examples, by their names alone."""
+    EVERY[:] = [Example(name, world, at, expected, frozenset(), 0) for at, (world, group) in enumerate(groups()) for name, _, expected in group(D)]
+
+
 def of_name(name):
-    """The examples that use a definition, the fastest first."""
+    """The examples that use a definition, the fastest first; slow ones, which use half of all definitions, only where there are no others."""
     users = D._made.users(name)
-    return sorted((e for e in EVERY if e.used & users), key=lambda e: e.seconds)
+    found = sorted((e for e in EVERY if e.used & users), key=lambda e: e.seconds)
+    return [e for e in found if e.seconds < SLOW] or found
 
 
-def noticing(candidates, new, first=()):
-    """The first example with another answer, with the definitions replaced by these; else how many had none."""
+def noticing(candidates, new, first=(), one=ONE):
+    """The first example with another answer, with the definitions replaced by these; else how many had none. A law is also noticed to be another one
+    where no candidate passes its conditions any more."""
     began, none, asked = time.time(), 0, {}
     value = any(not D._made.t.is_prop(n) for n in new)
-    with D._made.replaced(new):
+    law = all(RULES.is_law(n) for n in new)
+    with D._made.replaced(new, law) as places:
         for e in sorted(candidates, key=lambda e: e.name not in first):
             if time.time() - began > ALL:
                 return None, f"late after {round(ALL)} s"
@@ -107,14 +116,17 @@ def noticing(candidates, new, first=()):
                     asked[e.group] = {}
                 if not value:
                     QUESTIONS[e.group] = asked[e.group]
-            seen = answer(asked[e.group][e.name], ONE) if e.name in asked[e.group] else "no question"
+            seen = answer(asked[e.group][e.name], one) if e.name in asked[e.group] else "no question"
             if seen == (not e.expected):
                 return e.name, ""
             none += isinstance(seen, str)
+        missed = sorted(places - D._made.names["_reached"]) if candidates else []
+    if missed:
+        return f"nothing passes the conditions of {missed[0]}", ""
     return None, f"{len(candidates)} asked, {none} of them without an answer"
 
 
-QUESTIONS = {}
+QUESTIONS, RULES = {}, rules.Rules(D._made.t)
 
 
 def by_rule(task):

@@ -1,5 +1,5 @@
-"""The data files of alterations by hand: a comment on top, then blocks parted by empty lines. A block is a line `file name`, and for each alteration
-lines `old: text`, `new: text`, `seen: example`; or a line `none: why there is none`."""
+"""The data files of alterations by hand: a comment on top, an empty line, then blocks. A block is a line `file name`, and below it, deeper, for each
+alteration lines `old: text`, `new: text`, `seen: example`; or a line `none: why there is none`."""
 import pathlib
 import re
 
@@ -11,17 +11,15 @@ KEYS = ["old", "new", "none", "seen"]
 def read(path):
     """The alterations, each with its file and name."""
     found = []
-    for part in path.read_text().split("\n\n"):
-        lines = [line for line in part.split("\n") if line and not line.startswith("#")]
-        if not lines:
+    for line in path.read_text().split("\n"):
+        if not line.startswith(" "):
+            file, name = line.split() if line and not line.startswith("#") else ("", "")
             continue
-        file, name = lines[0].split()
-        for line in lines[1:]:
-            key, text = line.split(": ", 1)
-            assert key in KEYS, line
-            if key in ("old", "none"):
-                found.append({"file": file, "name": name})
-            found[-1][key] = text
+        key, text = line[2:].split(": ", 1)
+        assert key in KEYS and file, line
+        if key in ("old", "none"):
+            found.append({"file": file, "name": name})
+        found[-1][key] = text
     return found
 
 
@@ -32,8 +30,8 @@ def write(path, found):
         if (b["file"], b["name"]) != last:
             parts.append(f"{b['file']} {b['name']}")
             last = (b["file"], b["name"])
-        parts[-1] += "".join(f"\n{k}: {b[k]}" for k in KEYS if k in b)
-    path.write_text("\n\n".join([top] + parts) + "\n")
+        parts[-1] += "".join(f"\n  {k}: {b[k]}" for k in KEYS if k in b)
+    path.write_text(top + "\n\n" + "\n".join(parts) + "\n")
 
 
 def source(file):

@@ -46,7 +46,7 @@ def asked(task):
     candidates = asking.of_name(b["name"]) if record else [e for e in asking.EVERY if e.name == b.get("seen")]
     try:
         new = asking.D._made.changed(b["file"], blocks.altered(b))
-        return b, *asking.noticing(candidates, new)
+        return b, *asking.noticing(candidates, new, one=asking.ONE if record else asking.ALL * 3)
     except antt.Refused as e:
         return b, None, str(e)
 
@@ -75,5 +75,5 @@ def main(words=(), record=False):
 if __name__ == "__main__":
     chosen = [w for w in sys.argv[1:] if not w.startswith("--")]
     if chosen != ["typed"]:
-        asking.measure()
+        asking.measure() if "--record" in sys.argv else asking.list_all()
     sys.exit(1 if (typed() if chosen == ["typed"] else main(chosen, "--record" in sys.argv)) else 0)

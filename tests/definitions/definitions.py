@@ -101,8 +101,9 @@ def places(lines):
 
 
 def functions(places, values):
-    """Functions on numbers, tried on the first places; elsewhere 0."""
-    return (_Lam("function", t, 1, lambda i, t=t: t[i] if i < len(t) else 0) for t in itertools.product(range(values), repeat=places))
+    """Functions on numbers, tried on the first places, that which leaves them as they are first; elsewhere 0."""
+    every = itertools.chain([tuple(range(places))], itertools.product(range(values), repeat=places))
+    return (_Lam("function", t, 1, lambda i, t=t: t[i] if i < len(t) else 0) for t in every)
 
 
 def variables():

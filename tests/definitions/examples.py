@@ -677,7 +677,7 @@ APART, UNLIKE, UNREAD = [1, 2, 3, 255, 255], [4, 1, 0, 255, 255], [5, 5, 5, 0, 0
 
 def of_attackers(D):
     """Scores by kinds of attacker for order and mail."""
-    asked = [(bench, k, t, r) for k in (APART, UNLIKE) for t in (MAIL, ORDER) for r in (0, 1, 2, 4, 16, 18, 20, 64)]
+    asked = [(bench, k, t, r) for k in (APART, UNLIKE) for t in (MAIL, ORDER) for r in (0, 1, 2, 4, 16, 18, 20, 64)] + [(bench, APART, 0, 70)]
     outcomes = [ended(D, n, v) for n, v in ((0, [2]), (0, [20]), (0, [4]), (12, []), (13, []), (16, []), (17, []), (0, []))]
     lists = [APART, [1, 2, 3, 0, 5], [1, 2, 3], [1, 2, 6, 0, 0], UNLIKE]
     six = [6, 0, 0, 0, 0]
@@ -733,7 +733,7 @@ def of_attackers(D):
 
 def of_forecasts(D):
     """Forecasts for order, which mailpw reaches through mail and along a recovery edge, and for mail."""
-    asked = [(bench, t, c, n) for t in (MAIL, ORDER) for c in range(32) for n in (0, 1, 2, 3)]
+    asked = [(bench, t, c, n) for t in (MAIL, ORDER) for c in range(32) for n in (0, 1, 2, 3)] + [(chain, 2, 3, n) for n in (0, 1, 2, 3)]
     return [
         ("antichain: mailpw, and ordpw with token", lambda: D.Antichain([2, 5]), True),
         ("not antichain: the same twice", lambda: D.Antichain([2, 2]), False),
@@ -814,6 +814,8 @@ def of_cuts(D):
 def of_few_cuts(D):
     """Cut sets where one opens the next, where two open each other, and where nothing opens the target."""
     return [
+        ("duality: alone", lambda: D.Duality(alone, 0, [1]), True),
+        ("forecast: of two items", lambda: D.Forecast(chain, 2, 3, 2), True),
         ("cut list: opened again", lambda: D.CutList(chain, 2, [3]), True),
         ("not cut list: the second alone, as if it were taken out", lambda: D.CutList(chain, 2, [2]), False),
         ("duality: opened again", lambda: D.Duality(chain, 2, [3]), True),
@@ -841,6 +843,8 @@ def of_bags(D):
         ("not pairing: 0 is a value", lambda: D.Pairing([3, 0], [4]), False),
         ("pairing: nothing", lambda: D.Pairing([], []), True),
         ("at most: bags", lambda: D.BagAtMost([1], [1, 2]), True),
+        ("at most: 14 here, and 14 there", lambda: D.BagAtMost([5] * 14, [5] * 14), True),
+        ("values over: item 64 is none", lambda: D.valuesOver(lambda v: v, 2**64 + 2) == (1,), True),
         ("not at most: 15 there", lambda: D.BagAtMost([], [5] * 15), False),
         ("not at most: 15 here", lambda: D.BagAtMost([5] * 15, []), False),
         ("same multiset: turned", lambda: D.SameMultiset([1, 2, 1], [2, 1, 1]), True),
@@ -891,6 +895,7 @@ def of_bag_scores(D):
         ("longest score", lambda: D.among(asked=asked)(D.LongestScore), True),
         ("forecast enough for bags", lambda: D.among(asked=[(bags, t, 31, 10, [4, 3])])(D.ForecastEnough), True),
         ("score at most: more bags", lambda: D.BagScoreAtMost(bags, [4, 3], [16]), True),
+        ("not score at most: a bag above", lambda: D.BagScoreAtMost(bags, [16], [4]), False),
         ("not score at most: none", lambda: D.BagScoreAtMost(bags, [], [16]), False),
         ("call: bags of t", lambda: call(0, [2], lent, rows + [9], room, [1, 2, 7]), True),
         ("not call: lengths of the other", lambda: call(0, [2], lent, rows + [9], room, [2, 1, 7]), False),
@@ -923,8 +928,11 @@ def of_soundness(D):
     sums = lambda: D.sumThenLeast(False, bench)
     # values of sets that fall as the set grows, and a score that is the largest value
     falls = lambda: D.Scheme(lambda: range(99), lambda a, b: a <= b, lambda x: 9 - D.sumOf(False, bench, x), D.leastValue)
+    falls_with_mail = lambda: D.Scheme(lambda: range(99), lambda a, b: a <= b, lambda x: 0 if x & 8 else 1, D.leastValue)
     most = lambda: D.Scheme(lambda: range(99), lambda a, b: a <= b, lambda x: D.sumOf(False, bench, x), lambda l: max(l, default=0))
     both = [(a, b, bases[a], bases[b]) for a in (MAIL, ORDER) for b in (MAIL, ORDER)]
+    # with a list that is no base, for each, and with targets of which neither base is at most the other
+    both += [(ORDER, MAIL, [7], [2]), (ORDER, MAIL, [2, 5], [0]), (2, ORDER, [4], [2, 5])]
     risks = {MAIL: 1, ORDER: 3}
     held = lambda s: lambda i: D.Member(s, i)
     return [
@@ -940,7 +948,7 @@ def of_soundness(D):
         ("not smallest closed: not closed", lambda: D.SmallestClosed(access, 2, 2), False),
         ("access is smallest", lambda: D.among(asked=[(G, s, t) for s in (0, 2, 4, 5) for t in sets])(D.AccessIsSmallest), True),
         ("lockout is smallest", lambda: D.among(asked=[(G, s, t) for s in (0, 1, 2, 3) for t in sets])(D.LockoutIsSmallest), True),
-        ("one closure", lambda: all(D.among(asked=[(loss, G, s)])(D.OneClosure) for loss in (False, True) for s in (0, 2, 5)), True),
+        ("one closure", lambda: all(D.among(asked=[(loss, G, s)])(D.OneClosure) for loss in (False, True) for s in (0, 2, 5, 26)), True),
         ("chosen only: ordpw and token", lambda: D.ChosenOnly(False, bench, 5), True),
         ("not chosen only: mail", lambda: D.ChosenOnly(False, bench, 8), False),
         ("base at most: order and mail", lambda: D.BaseAtMost(False, bench, G, ORDER, MAIL), True),
@@ -951,13 +959,14 @@ def of_soundness(D):
         ("not each contains: order's, mail's", lambda: D.EachContains([2, 5], [2]), False),
         ("bases compared", lambda: D.among(asked=[(False, bench, G, a, b, bases[a], bases[b]) for a in bases for b in bases])(D.BasesCompared), True),
         ("target sets compared", lambda: D.among(asked=asked)(D.TargetSetsCompared), True),
-        ("minimal within", lambda: D.among(asked=[(False, bench, G, ORDER)])(D.MinimalWithin), True),
+        ("minimal within", lambda: D.among(asked=[(False, bench, G, target) for target in (MAIL, ORDER)])(D.MinimalWithin), True),
         ("one base", lambda: D.among(asked=[(False, bench, G, ORDER)])(D.OneBase), True),
         ("among", lambda: D.Among([1, 4], 4), True),
         ("not among", lambda: D.Among([1, 4], 2), False),
         ("each above: 4 above 1", lambda: D.EachAbove(lambda: range(9), lambda a, b: a <= b, [4], [1, 5]), True),
         ("not each above: 1 above 4", lambda: D.EachAbove(lambda: range(9), lambda a, b: a <= b, [1], [4]), False),
         ("grows with sets: sums", lambda: D.GrowsWithSets(sums(), False, bench), True),
+        ("grows with sets: of initial vertices alone", lambda: D.GrowsWithSets(falls_with_mail(), False, bench), True),
         ("not grows with sets: what falls", lambda: D.GrowsWithSets(falls(), False, bench), False),
         ("grows with values: the least", lambda: D.among(lists=lists)(lambda: D.GrowsWithValues(sums())), True),
         ("not grows with values: the largest", lambda: D.among(lists=lists)(lambda: D.GrowsWithValues(most())), False),
@@ -1108,6 +1117,8 @@ def of_register(D):
         ("not call: withdraw, one behind the used ones", lambda: left(1, 8, 0, 0, [R_ONE, R_ANOTHER], [R_ONE, R_ANOTHER]), False),
         ("call: withdraw, 25", lambda: left(2, 7, 25, 2, [R_ONE], [R_ONE]), True),
         ("afternoon", lambda: D.Afternoon(bench, SLICE, back), True),
+        ("not afternoon: an earlier call with another record", lambda: D.Afternoon(bench, SLICE, afternoon(("HandIn", BOTH, 0, [R_ONE, R_ANY, R_ANY], 1), ("HandIn", ANOTHER, 0, [R_ONE, R_ANOTHER, R_ANY], 2))), False),
+        ("record: one set twice", lambda: D.RecordOf(bench, 7, ORDER, False, (2, 2), Record(7, 4, 0, 1, 1, 0, 0, 1)), True),
         ("not afternoon: from another count", lambda: D.Afternoon(bench, SLICE, afternoon(("HandIn", BOTH, 0, [R_ANY, R_BOTH, R_ANY], 2))), False),
         ("not afternoon: a slice not handed on", lambda: D.Afternoon(bench, SLICE, afternoon(DAY[0], ("HandIn", ANOTHER, 0, [R_ONE, R_ANOTHER, R_ANY], 2))), False),
         ("not afternoon: a withdrawal that hands in", lambda: D.MeetsCall(bench, ("Withdraw", 7), 0, [], Registered(26, 0), []), False),
@@ -1189,6 +1200,12 @@ def of_living(D):
     stale, kept = TAKEN._replace(opened=2), TAKEN._replace(graph=TRAPPED.graph)
     left = LESS._replace(recovery=bench.recovery)
     full = all_items(0)._replace(graph=Graph(tuple(Rows(((15 if v < 64 else 0,) + (0,) * 7)) for v in range(64))))
+    edges_, marks_ = lambda d: d.Edges, lambda d: d.Marks
+    only = lambda p: [(f, v, c) for f in range(6) for v in range(6) for c in range(3) if p(f, v, c)]
+    unmarked = bench._replace(recovery=with_row(bench.recovery, ORDER, 1, 0))
+    apart = [("the first stale", stale, bench), ("one item more", bench, bench._replace(count=6)), ("another start", bench, with_vertex(bench, 0, Vertex(Credential, 2, 2, 0))), ("a mark less", bench, unmarked)]
+    short = bench._replace(graph=Graph(bench.graph.rows[:63]))
+    other = [("another count", bench, bench._replace(count=4)), ("another vertex", bench, RANK_10), ("a graph of 63 places", short, short)]
     IN, ADD, OFF = D.TakeIn(1), D.AddEdge(0, MAIL, 0, False), D.RemoveEdge(MAIL, ORDER, 1)
     setups = [bench, TAKEN, TRAPPED, both, stale, kept, LESS, left, marked]
     answers = [D.Redrawing(n, t) for n in (0, 12, 13) for t in (bench, TAKEN, stale, both)]
@@ -1270,8 +1287,16 @@ def of_living(D):
         ("not left by: a refused call", lambda: D.leftBy([ADD], [19], D.drawingOf(bench)).Edges(0, MAIL, 0), False),
         ("opened always", lambda: D.among(runs=runs, ends=setups, setups=on_way)(D.OpenedAlways), True),
         ("reached: by two calls", lambda: D.among(runs=runs, setups=on_way)(lambda: D.Reached(TRAPPED)), True),
+        ("not reached: by a refused sheet", lambda: D.among(runs=stays, setups=on_way)(lambda: D.Reached(EMPTY)), False),
+        *((f"not redrawn: {n}", lambda s=s, t=t: D.Redrawn(s, D.drawingOf(s), t), False) for n, s, t in other),
         ("not reached: stale", lambda: D.among(runs=runs, setups=on_way)(lambda: D.Reached(stale)), False),
         ("question 12: setups, sheets and calls", lambda: D.among(setups=setups, runs=runs)(D.Question12), True),
+        ("contracts: what is lent", lambda: [D.contractOf(q, bench).lent for q in (("WayTo", ORDER, 2, [9], [8]), ("Bags", ORDER, [9], [8]))] == [((9,), (8,))] * 2, True),
+        ("contracts: the way in, and a quick yes", lambda: all(D.Fulfils(D.contractOf(q, bench), o) for q, o in ((asked[3]), (("QuickYes", ORDER, 2), ended(D, 0, [1, 26])))), True),
+        ("after: exactly the edge that is added, and its mark", lambda: [only(f(D.after(D.AddEdge(0, MAIL, 2, True), D.drawingOf(EMPTY)))) for f in (edges_, marks_)] == [[(0, MAIL, 2)]] * 2, True),
+        ("after: exactly the edge that is removed", lambda: only(edges_(D.after(OFF, D.drawingOf(bench)))) == only(edges_(D.drawingOf(LESS))), True),
+        ("after: and its mark", lambda: only(marks_(D.after(OFF, D.drawingOf(bench)))) == [], True),
+        *((f"not only holding: {n}", lambda s=s, t=t: D.OnlyHolding(s, t), False) for n, s, t in apart),
         ("only holding: bench and the mail password held", lambda: D.OnlyHolding(bench, TAKEN), True),
         ("not only holding: another graph", lambda: D.OnlyHolding(TAKEN, TRAPPED), False),
         ("not only holding: stale", lambda: D.OnlyHolding(bench, stale), False),
@@ -1305,6 +1330,7 @@ def of_living(D):
         ("not made on: another number", lambda: D.among(words=[words, held, trapped], setups=setups)(lambda: D.MadeOn(words, [IN, ADD], [0, 19], trapped)), False),
         ("not made on: a call without a number", lambda: D.among(words=[words], setups=setups)(lambda: D.MadeOn(words, [IN], [], words)), False),
         ("shows: the mail password held", lambda: D.Shows(bench, D.after(IN, D.drawingOf(bench)), held), True),
+        ("not shows: an edge less", lambda: D.Shows(bench, D.drawingOf(bench), wordsOf(LESS)), False),
         ("not shows: nothing held", lambda: D.Shows(bench, D.drawingOf(bench), held), False),
         ("not shows: stale", lambda: D.Shows(bench, D.after(IN, D.drawingOf(bench)), wordsOf(stale)), False),
         ("lives in words", lambda: D.among(lived=lived, words=on_words, setups=on_way)(D.LivesInWords), True),
@@ -1499,7 +1525,7 @@ def of_words(D):
     """Words that say a setup, and words that say none."""
     words, held = wordsOf(bench), wordsOf(TAKEN)
     kind2, last2 = words[:1] + [2] + words[2:], words[:253] + [2] + words[254:]
-    rank2 = words[:4] + [2] + words[5:]
+    rank2, row2 = words[:4] + [2] + words[5:], words[:257] + [6] + words[258:]
     lists = [words, words + [7], words[:-1], [], kind2, last2, rank2, held]
     return [
         ("says: bench", lambda: D.SaysSetup(words) and D.saysSetup(words), True),
@@ -1508,6 +1534,8 @@ def of_words(D):
         ("not says: a kind of 2", lambda: D.SaysSetup(kind2) or D.saysSetup(kind2), False),
         ("not says: the last place's kind is 2", lambda: D.SaysSetup(last2) or D.saysSetup(last2), False),
         ("says: a rank of 2", lambda: D.SaysSetup(rank2) and D.saysSetup(rank2), True),
+        ("word at: 0 behind the end", lambda: D.wordAt([7], 1) == 0, True),
+        ("says: a row of two vertices behind the last kind", lambda: D.SaysSetup(row2) and D.saysSetup(row2), True),
         ("kinds said: of the first place", lambda: D.kindsSaid(1, [0, 1]), True),
         ("not kinds said: of the second", lambda: D.kindsSaid(2, [0, 1, 0, 0, 0, 2]), False),
         ("kinds said: of one place, whatever the second is", lambda: D.kindsSaid(1, [0, 1, 0, 0, 0, 2]), True),
@@ -1554,7 +1582,7 @@ def of_readings(D):
         ("not holds name: its first bytes", lambda: D.HoldsName(sheet, MAIL, D.NamePart(69, 3)), False),
         ("asks sheet: bench", lambda: D.asksSheet(sheet).Yes(), True),
         ("asks sheet: its own number", lambda: D.asksSheet(five).number == 5 and not D.asksSheet(five).Yes(), True),
-        ("read back", lambda: D.among(texts=[sheet, five], numbers=[0, 5, 15], lines=[0, 2], entries=[lent(1283)], exits=[lent(1283), words, none])(D.ReadBack), True),
+        ("read back", lambda: D.among(texts=[sheet, five], numbers=[0, 5, 15], lines=[0, 2], entries=[lent(1283), lent(10)], exits=[lent(1283), lent(10), words, none])(D.ReadBack), True),
     ]
 
 
@@ -1568,10 +1596,12 @@ def of_demands(D):
     on_way = [bench]
     five, over = REFUSED["refused 5"][0], REFUSED["refused 11"][0]
     right = D.accepted(bench)
+    unsettled = [("accepted in line 1", right._replace(line=1)), ("12", D.refused(12, 0)), ("refused, and a setup", D.refused(5, 2)._replace(setup=bench))]
     readings = [right, D.accepted(EMPTY), right._replace(line=1), D.refused(5, 2), D.refused(2, 5), D.refused(11, 4)]
     names = [(list(b"ordpw"), 126), (list(b"mail"), 169), (list(b"mail"), 100), ([], 100), ([], 0)]
     numbers = [0, 1, 3, 13, never, never + 12, never + 13, never + 5]
     return [
+        ("the sheet's numbers: 1 to 11", lambda: D.sheetNumbers == tuple(range(1, 12)), True),
         ("every: all small", lambda: D.Every(lambda x: x < 3, [1, 2]), True),
         ("not every: the second", lambda: D.Every(lambda x: x < 3, [1, 3]), False),
         ("made: a request, its reply, its lists", lambda: D.made(("Lost", 2), D.gives([10]), [[9]]) == D.MadeCall(("Lost", 2), ended(D, 0, [10], [9])), True),
@@ -1597,6 +1627,15 @@ def of_demands(D):
         ("settled: name of no item", lambda: D.among(docs=docs, parts=names)(lambda: D.SettledName(text(BENCH), 5, 100, [], 100)), True),
         ("settled: name in a refused sheet", lambda: D.among(docs=docs, parts=names)(lambda: D.SettledName(five, 0, 100, [], 100)), True),
         ("not settled: the name of another item", lambda: D.among(docs=docs, parts=names)(lambda: D.SettledName(text(BENCH), MAIL, 100, list(b"ordpw"), 126)), False),
+        ("settled: the portal's never", lambda: D.among(numbers=[])(lambda: D.SettledPortal(False, text(BENCH), ORDER, never)), True),
+        ("not settled: the portal's number with 12", lambda: D.among(numbers=[])(lambda: D.SettledPortal(False, text(BENCH), ORDER, never + 12)), False),
+        *((f"not settled: reading, {n}", lambda r=r: D.among(docs=docs, readings=[])(lambda: D.SettledReading(text(BENCH), r)), False) for n, r in unsettled),
+        ("named: ordpw", lambda: D.among(docs=docs)(lambda: D.Named(text(BENCH), 0, 100, list(b"ordpw"), 126)), True),
+        ("named: no item", lambda: D.among(docs=docs)(lambda: D.Named(text(BENCH), 5, 100, [], 100)), True),
+        ("not settled: no part at another place", lambda: D.among(docs=docs, parts=[])(lambda: D.SettledName(five, 0, 100, [], 0)), False),
+        ("not settled: the name at another place", lambda: D.among(docs=docs, parts=names)(lambda: D.SettledName(text(BENCH), MAIL, 100, list(b"mail"), 100)), False),
+        ("not settled: another name at its place", lambda: D.among(docs=docs, parts=names)(lambda: D.SettledName(text(BENCH), MAIL, 100, list(b"mall"), 169)), False),
+        ("not reads: refused, and a setup", lambda: D.among(docs=docs)(lambda: D.Reads(five, D.refused(5, 2)._replace(setup=bench))), False),
         ("not named: other bytes at the name's place", lambda: D.among(docs=docs)(lambda: D.Named(text(BENCH), MAIL, 100, list(b"mall"), 169)), False),
         ("settled: the portal's number for order", lambda: D.among(numbers=numbers)(lambda: D.SettledPortal(False, text(BENCH), ORDER, 1)), True),
         ("settled: the portal's number for no item", lambda: D.among(numbers=numbers)(lambda: D.SettledPortal(False, text(BENCH), 5, never + 13)), True),
@@ -1735,6 +1774,9 @@ def of_ring(D):
         ("not B8: one set", lambda: D.Base(False, ring, ring.graph, 5, [5]), False),
         ("B8: closure from device, pwd_manager", lambda: D.AccessFrom(ring.graph, 6, 63), True),
         ("counted: the ring's four", lambda: D.CountedSet(ring, 5, 15), True),
+        ("transversal: where nothing can be lost", lambda: D.Transversal(ring, [5], 5), True),
+        ("of initial: the ring's four", lambda: D.OfInitial(ring, 15), True),
+        ("not keep initial: the second setup's are others", lambda: D.KeepInitial(15, [ring, bench]), False),
         ("keep initial: the ring's four", lambda: D.KeepInitial(15, [ring]), True),
     ]
 
@@ -1939,6 +1981,7 @@ def of_whole(D):
         ("whole: begun at the start", lambda: begun(sheet, "Start", [0], [1], [5], [6]), True),
         ("not whole: begun in the middle", lambda: begun(sheet, ("Scores", 0), [0], [1], [5], [6]), False),
         ("whole: a refused sheet whose tables are kept", lambda: begun(refused, row, [0], [1], [0], [1]), True),
+        ("not whole: a refused sheet whose first table is written", lambda: begun(refused, row, [0], [1], [5], [1]), False),
         ("not whole: a refused sheet whose tables are written", lambda: begun(refused, row, [0], [1], [0], [2]), False),
         ("whole: two parts to the end", lambda: to_end("Start", cut), True),
         ("not whole: one part, and not the end", lambda: to_end("Start", cut[:1]), False),
@@ -1999,10 +2042,31 @@ def of_pools(D):
     beyond += [("15 losses", Doc([item(f"n{i}", None, 1) for i in range(15)], [])), ("257 edges", Doc([g], [edge("g", "g")] * 257)), ("a ninth colour", Doc([g], [edge("g", "g", 8)]))]
     long = [LONG_NAMES, LONG_NAMES._replace(edges=LONG_NAMES.edges * 2)]
     z, w = render(Doc([item("z")], [])), render(Doc([g], []))
+    # rows that are written as the first sheet is, and as the second is, with a line's end in a name
+    odd = [("first", Doc([item("a c 1 - 0\ng", rank=1, kind=Account)], first.edges), second), ("second", first, Doc([item("g a - - 1\nh", 2)], second.edges))]
+
+    printed = lambda first_, second_, out, said, answer, exit: D.among(printed=[(answer, lent, exit)], docs=docs)(lambda: D.Printed(first_, second_, out, said))
+
+    def by_rows(f, d, e):
+        t = render(pooled(d, e))
+        return D.among(docs=[d, e])(lambda: f(a, b, [35] * len(t), D.withBuffer(Pooled(0, 0, 0, len(t)), t)))
+
     return [(f"not fits: {what}", lambda d=d: D.Fits(d), False) for what, d in beyond] + [
         ("agree: a storeroom", lambda: D.Agree(first.items, second.items), True),
         ("not agree: another rank", lambda: D.Agree(first.items, ranked.items), False),
         ("fits: both", lambda: D.Fits(pooled(first, second)), True),
+        *((f"not call: pooled by rows of the {n} that are not valid", lambda d=d, e=e: by_rows(D.PoolsRows, d, e), False) for n, d, e in odd),
+        *((f"not is pooled: by rows of the {n} that are not valid", lambda d=d, e=e: D.among(docs=[d, e])(lambda: D.IsPooled(a, b, render(pooled(d, e)))), False) for n, d, e in odd),
+        ("not is pooled: another first sheet", lambda: D.among(docs=docs)(lambda: D.IsPooled(f, b, both)), False),
+        ("not is pooled: another second sheet", lambda: D.among(docs=docs)(lambda: D.IsPooled(a, f, both)), False),
+        ("not printed: the answer of another call", lambda: printed(a, b, [], text(["pool: refused 0 22 0"]), no(22), lent), False),
+        ("not printed: another sheet", lambda: printed(a, b, a, [], yes, end), False),
+        ("not printed: refused without a line", lambda: printed(a, bad, [], [], no(4, 2, 2), lent), False),
+        ("printed: the second refused in line 3", lambda: printed(a, REFUSED["refused 6"][0], [], text(["pool: refused 2 6 3"]), no(6, 2, 3), lent), True),
+        ("pool bytes: as the header has them", lambda: D.poolBytes == 12526, True),
+        ("not rows of: rows that are not valid", lambda: D.RowsOf(a, odd[0][1]), False),
+        ("fits: at each bound", lambda: D.Fits(items_with(64, 14, 14)) and D.Fits(Doc([g], [edge("g", "g", 7)] * 256)), True),
+        ("call: pool, the second refused in line 3", lambda: D.among(docs=docs)(lambda: D.PoolCall(a, REFUSED["refused 6"][0], no(6, 2, 3), lent, lent)), True),
         ("call: pooled", lambda: D.among(docs=docs)(lambda: D.PoolCall(a, b, yes, lent, end)), True),
         ("not call: pooled, another length", lambda: D.among(docs=docs)(lambda: D.PoolCall(a, b, Pooled(0, 0, 0, 1), lent, end)), False),
         ("call: pool, 22", lambda: D.among(docs=docs)(lambda: D.PoolCall(a, r, no(22), lent, lent)), True),
@@ -2111,9 +2175,8 @@ def of_saves(D):
         ("not sheet of: another setup", lambda: D.IsSheetOf(sheet, s, render(unmarked)), False),
         ("not sheet of: no sheet", lambda: D.IsSheetOf(sheet, EMPTY, bad), False),
         ("save bytes: 64 names of 16 bytes, 14 values of ten digits each, 256 edges", lambda: D.saveBytes == len(render(LONGEST)), True),
-        ("sheet of: the longest", lambda: D.IsSheetOf(render(LONGEST), setupOf(LONGEST), render(LONGEST)), True),
         ("saved reads", lambda: D.among(sheets=sheets, setups=setups, docs=docs)(D.SavedReads), True),
-        ("saved text", lambda: D.among(lent=[(sheet, s, lent)], saved=results, docs=docs)(D.SavedText), True),
+        ("saved text", lambda: D.among(lent=[(sheet, s, lent), (three, s, lent)], saved=results, docs=docs)(D.SavedText), True),
         ("saved back", lambda: D.among(sheets=[sheet, saved], setups=setups, docs=docs)(D.SavedBack), True),
         ("saved again", lambda: D.among(sheets=sheets, setups=setups, docs=docs)(D.SavedAgain), True),
     ]

@@ -118,14 +118,15 @@ class Definitions:
         return found
 
     @contextlib.contextmanager
-    def replaced(self, new):
-        """The definitions with these in place of those of their names."""
-        before = {}
+    def replaced(self, new, counted=False):
+        """The definitions with these in place of those of their names; where it is counted, the quantifiers that are to be reached."""
+        before, places = {}, set()
         try:
             for name, d in new.items():
-                self.alter(name, d, before)
+                places |= self.alter(name, d, before, counted)
             self.names["cache"].clear()
-            yield
+            self.names["_reached"].clear()
+            yield places
         finally:
             self.names.update(before)
             self.names["cache"].clear()
@@ -134,11 +135,12 @@ class Definitions:
                 state.clear()
                 state.update(x)
 
-    def alter(self, name, d, before):
+    def alter(self, name, d, before, counted):
         if d["kind"] == "record":
             d["data"], d["implicit"] = self.t.defs[name]["data"], self.t.defs[name]["implicit"]
         self.t.take({name: d})
-        text = self.t.definition(d)
+        text = self.t.definition(d, counted)
+        places = set(self.t.places)
         if self.t.looking != self.known["looking"]:
             # what rests on it may now hang on what is looked among as well
             self.t.looking |= set(self.t.defs)
@@ -148,6 +150,7 @@ class Definitions:
         exec(text, self.names)
         for n in again:
             exec(self.texts[n], self.names)
+        return places
 
 
 class Asked:
@@ -158,10 +161,12 @@ class Asked:
 
     def __getattr__(self, name):
         found = self._made.names[translate.py(name)]
-        return functools.partial(self._asked, name, found) if callable(found) else found
+        self._made.names["_used"].add(name)
+        return functools.partial(self._asked, name) if callable(found) else found
 
-    def _asked(self, name, found, *args):
-        args, arity = tuple(map(plain, args)), self._made.t.arity.get(name, 0)
+    def _asked(self, name, *args):
+        # looked up when it is called, since it may be altered by then
+        found, args, arity = self._made.names[translate.py(name)], tuple(map(plain, args)), self._made.t.arity.get(name, 0)
         return self._made.names["_Part"](found, arity, args) if len(args) < arity else found(*args)
 
     def among(self, **looked):

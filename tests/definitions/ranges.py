@@ -198,6 +198,6 @@ RANGES = {
     "Papers": {"quick/s target set": "given.quick", "routes/s g": "given.routes", "scores/s v r r′": "given.compared"},
 }
 # Functions whose answers are kept, though they run over no range: what they compute is asked for again and again.
-KEPT = set("readSheet render linesOf setupOf baseOf targetSetsOf scoreOf closureOf wordsOf setupIn reportOf sumOf edgeCount chosenCount nameOf nameStart".split())
+KEPT = set("sameText readSheet render setupOf baseOf targetSetsOf scoreOf closureOf wordsOf setupIn reportOf sumOf edgeCount chosenCount nameOf nameStart".split())
 # Quantifiers that no example reaches, and why.
 NEVER = {}

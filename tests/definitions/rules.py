@@ -15,9 +15,11 @@ MORE = ", so that the law says more"
 GIVEN = {"eqb": ["ℕ", "ℕ"], "ltb": ["ℕ", "ℕ"], "leb": ["ℕ", "ℕ"], "take": ["ℕ", "List"], "drop": ["ℕ", "List"], "cond": ["Bool", "A", "A"], "min": ["ℕ", "ℕ"], "max": ["ℕ", "ℕ"]}
 GIVEN = {name: [("var", t) for t in types] for name, types in GIVEN.items()}
 # With their arguments exchanged these say the same.
+# Arguments that are only compared with each other.
+COMPARED = {"IsEdge": {(0, 3), (1, 4), (2, 5)}, "OnlyHolding": {(0, 1)}, "Begun": {(2, 4), (3, 5)}}
 # Laws with arguments, which are proved of all of them, or of all that a law in the same file names.
 LAWS = set("Duality QuickAgrees NoEasierRoute Meaning ReportMeaning UnmixedPrints PoolingLaw RenamesLowest RegisterAfter Demand1 Demand2 Demand3Reached".split())
-SYMMETRIC = set("eqb min max bitAnd bitOr Iff Full question3 isMeeting Meets SameMultiset SameName SameEdge SameAttempt sameText sameEdge sameThree".split())
+SYMMETRIC = set("eqb min max bitAnd bitOr Iff Full question3 isMeeting Agree Meets SameMultiset SameName SameEdge SameAttempt sameText sameEdge sameThree".split())
 
 
 def show(e, tight=False):
@@ -49,6 +51,9 @@ def show(e, tight=False):
 class Rules:
     def __init__(self, t):
         self.t = t
+
+    def is_law(self, name):
+        return name in LAWS or (self.t.is_prop(name) and not self.t.arity[name])
 
     def arguments(self, f):
         """The types of a definition's arguments, as far as they are known."""
@@ -90,7 +95,7 @@ class Rules:
             return
         for i in range(min(len(args), len(types))):
             for j in range(i + 1, min(len(args), len(types))):
-                if types[i] == types[j] and args[i] != args[j]:
+                if types[i] == types[j] and args[i] != args[j] and (i, j) not in COMPARED.get(head(e[1]), ()):
                     yield ("app", e[1], [*args[:i], args[j], *args[i + 1:j], args[i], *args[j + 1:]])
 
     def within(self, e, sign=0):
@@ -113,6 +118,11 @@ class Rules:
         elif k in ("op", "arr", "let", "sigma", "pi"):
             for at in {"op": (2, 3), "arr": (1, 2), "let": (2, 3), "sigma": (3,), "pi": (3,)}[k]:
                 below = 0 if k == "let" or (k == "op" and e[1] not in "×⊎") else -sign if k == "arr" and at == 1 else sign
+                if k == "op" and e[1] in "<≤" and e[at][0] == "num" and sign:
+                    # a bound one higher: behind the sign it says less, before it more
+                    if (at == 2) == (sign == 1):
+                        yield (*e[:at], ("num", e[at][1] + 1), *e[at + 1:]), e[at], ("num", e[at][1] + 1), True
+                    continue
                 yield from self.placed(e[at], lambda x, at=at: (*e[:at], x, *e[at + 1:]), below)
             if k in ("pi", "sigma") and not self.t.is_data(e[2], self.types):
                 yield from self.placed(e[2], lambda x: (*e[:2], x, *e[3:]), sign if k == "sigma" else -sign)
@@ -124,7 +134,7 @@ class Rules:
     def of(self, d):
         """All alterations of a definition: a sentence, and the altered definition."""
         self.types = {n for n, _, implicit in d.get("params", ()) if implicit}
-        sign = int(d["name"] in LAWS or (self.t.is_prop(d["name"]) and not self.t.arity[d["name"]]))
+        sign = int(self.is_law(d["name"]))
         if d["kind"] == "fun":
             for i, (patterns, body) in enumerate(d["clauses"]):
                 for new, old, now, more in self.within(body, sign):
@@ -142,6 +152,10 @@ class Rules:
                     yield f"`{show(old)}` to `{show(now)}` in {name}" + MORE * more, put(new)
             if len(d["fields"]) > 1 and not sign:
                 yield f"{name} dropped", {**d, "fields": [*d["fields"][:i], *d["fields"][i + 1:]]}
+
+
+def head(e):
+    return e[1] if e[0] == "var" else None
 
 
 def head_is_type(e):

@@ -48,6 +48,10 @@ python3 tests/command/faults.py
 echo "test: course days through the command, beside the brute force"
 (cd tests && cargo run --release --quiet -p day -- gate)
 
+echo "test: the package"
+echo "$(git rev-parse HEAD) $verdict" > build/verdict
+bash tests/dist/run.sh
+
 echo "test: the examples' reports"
 bash scripts/examples.sh
 

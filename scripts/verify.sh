@@ -1,10 +1,10 @@
 #!/bin/bash
-# Prints VERIFY.md, which goes with a package: which commit it is made of, with which kit, what the gate said, and how to make the same bytes.
+# Prints VERIFY.md, which goes with a package: which commit it is made of, with which kit, what the prover said, and how to make the same bytes.
 # verify.sh VERSION COMMIT
 set -euo pipefail
 cd "$(dirname "$0")/.."
 
-# The gate leaves its verdict with the commit that it was of.
+# The gate leaves the prover's verdict, with the commit that it was of.
 verdict='not run by whoever made this package'
 if [[ -r build/verdict ]]; then
     read -r commit line < build/verdict
@@ -15,7 +15,7 @@ cat << END
 
 - Commit: $2
 - Rattle kit: $(cat kit.txt)
-- The gate on this commit (\`.ci/run\`: every crate proved, every must-fail edit refused, all tests): $verdict
+- The prover on this commit (\`rt ci\`, in the gate: every crate proved, every must-fail edit refused): $verdict
 - Linux on x86-64. The programs are static: they need no library, no kit, no compiler.
 
 ## To make the same bytes

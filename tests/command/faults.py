@@ -249,7 +249,7 @@ PLAIN = b"name kind start loss rank\nordpw c 1 2 0\norder a - - 3\n\nfrom to col
 for name, text in (("commas", CSV), ("semicolons", CSV.replace(b",", b";")), ("a mark", b"\xef\xbb\xbf" + PLAIN), ("a mark and commas", b"\xef\xbb\xbf" + CSV),
                    ("tabs", PLAIN.replace(b" ", b"\t")), ("UTF-16, little", b"\xff\xfe" + PLAIN.decode().encode("utf-16-le")),
                    ("UTF-16, big", b"\xfe\xff" + PLAIN.decode().encode("utf-16-be")), ("spaces", PLAIN.replace(b" ", b"  ").replace(b"\n", b" \n")),
-                   ("empty lines last", PLAIN + b"\n \n\r\n"), ("no last line end", PLAIN[:-1]), ("itself", PLAIN)):
+                   ("empty lines last", PLAIN + b"\n \n\r\n"), ("spaces behind a Windows line end", PLAIN.replace(b"\n", b" \r \r\n")), ("no last line end", PLAIN[:-1]), ("itself", PLAIN)):
     hold(f"tidy, {name}", run(["tidy", "-"], give=text), 0, PLAIN, b"")
 hold("tidy leaves commas in hand-ins", run(["tidy", "-"], give=b"7  order\topen a,b\r\n"), 0, b"7 order open a,b\n", b"")
 hold("tidy leaves empty lines inside", run(["tidy", "-"], give=b"a\n\n\nb"), 0, b"a\n\n\nb\n", b"")

@@ -24,7 +24,7 @@ fn narrow(text: &[u8]) -> Vec<u8> {
 /// The line with tabs and spaces mended: one space between fields, none at the ends, no carriage
 /// return last.
 pub fn mend_line(line: &[u8]) -> Vec<u8> {
-    let end = line.iter().rposition(|&byte| byte != b'\r').map_or(0, |last| last + 1);
+    let end = line.iter().rposition(|byte| !b" \t\r".contains(byte)).map_or(0, |last| last + 1);
     let fields = line[..end].split(|&byte| byte == b' ' || byte == b'\t');
     let fields: Vec<&[u8]> = fields.filter(|field| !field.is_empty()).collect();
     fields.join(&b' ')

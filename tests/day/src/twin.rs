@@ -370,7 +370,7 @@ fn taken(file: &[u8]) -> Vec<(usize, Vec<u8>)> {
         }
     }
     let mended = lines.into_iter().map(|mut line| {
-        while line.last() == Some(&b'\r') {
+        while matches!(line.last(), Some(b'\r' | b' ' | b'\t')) {
             line.pop();
         }
         let mut out: Vec<u8> = Vec::new();

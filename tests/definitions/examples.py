@@ -520,6 +520,7 @@ def of_sums(D):
 
 def of_marks(D):
     """Marks."""
+    more = zip("right repeated shut loose missing".split(), ((2, 1, 1, 1, 0), (1, 2, 1, 1, 1), (1, 1, 2, 1, 1), (1, 1, 1, 2, 1), (1, 1, 1, 1, 2)))
     return [
         ("smaller: of {mailpw, token}", lambda: D.SmallerDerives(False, G, ORDER, 6), True),
         ("not smaller: of {mailpw}", lambda: D.SmallerDerives(False, G, ORDER, 2), False),
@@ -538,6 +539,8 @@ def of_marks(D):
         ("B7", lambda: D.Counts(False, bench, G, ORDER, [2, 2, 6, 4], 1, 1, 1, 1, 1), True),
         ("not B7: 2 right", lambda: D.Counts(False, bench, G, ORDER, [2, 2, 6, 4], 2, 0, 1, 1, 0), False),
         ("not B7: nothing missing", lambda: D.Counts(False, bench, G, ORDER, [2, 2, 6, 4], 1, 1, 1, 1, 0), False),
+        *((f"not B7: one more {n}", lambda c=c: D.Counts(False, bench, G, ORDER, [2, 2, 6, 4], *c), False) for n, c in more),
+        ("not counts: all right", lambda: D.Counts(False, bench, G, ORDER, [2, 2, 6, 4], 4, 0, 0, 0, 0), False),
         ("counts: loose and shut", lambda: D.Counts(False, bench, G, ORDER, [6, 7, 4], 0, 0, 1, 2, 2), True),
         ("base once: in any order", lambda: D.IsBaseOnce(False, bench, G, ORDER, [5, 2]), True),
         ("not base once: twice", lambda: D.IsBaseOnce(False, bench, G, ORDER, [5, 2, 5]), False),
@@ -1355,6 +1358,7 @@ def of_findings(D):
         ("not idle: mail is not", lambda: idle_call(D, bench, MAIL, 0, [0]), False),
         ("not idle: order is", lambda: idle_call(D, bench, ORDER, 0, [1]), False),
         ("out of rank: order, mail", lambda: pair_call(D, bench, ORDER, MAIL, 0, [1]), True),
+        ("not out of rank: order, mail are not", lambda: pair_call(D, bench, ORDER, MAIL, 0, [0]), False),
         ("not out of rank: mail, order", lambda: pair_call(D, bench, MAIL, ORDER, 0, [1]), False),
         ("not out of rank: order, order", lambda: pair_call(D, bench, ORDER, ORDER, 0, [1]), False),
         ("finding: 13 of the second", lambda: pair_call(D, bench, MAIL, 5, 13, []), True),
@@ -1414,7 +1418,7 @@ def of_contracts(D):
     two, one = LENT[:2], LENT[:1]
     right, other, short = ended(D, 0, [2], [7, 8]), ended(D, 0, [2], [8, 7]), ended(D, 15, [], two)
     told = lambda n, f, x, c=toy(two): D.Told(c, n, f, [x])
-    results = [(n, f, [x]) for n in (0, 13, 15) for f in ([2, 0], [0, 0], [0, 2]) for x in (two, [7, 8])]
+    results = [(n, f, [x]) for n in (0, 13, 15) for f in ([2, 0], [0, 0], [0, 2], [2]) for x in (two, [7, 8])]
     settled = lambda numbers, call, o, among: D.Settled(lambda: among, lambda p: p, lambda q: q, numbers, call, o)
     return [
         ("asks: no question", lambda: asks([], 0), True),
@@ -1563,6 +1567,7 @@ def of_readings(D):
         ("not reading: a place too few, and 0", lambda: D.ReadingCall(sheet, 0, 0, lent(1282), lent(1282)), False),
         ("not reading: 15 with a place changed", lambda: D.ReadingCall(sheet, 15, 0, lent(1282), words[:1282]), False),
         ("reading: refused 5 in line 2", lambda: D.ReadingCall(five, 5, 2, lent(1283), none), True),
+        ("not reading: refused 5 in another line", lambda: D.ReadingCall(five, 5, 3, lent(1283), none), False),
         ("not reading: number for line", lambda: D.ReadingCall(five, 2, 5, lent(1283), none), False),
         ("not reading: refused, and the words as they were", lambda: D.ReadingCall(five, 5, 2, lent(1283), lent(1283)), False),
         ("reading: refused 5 without room", lambda: D.ReadingCall(five, 5, 2, [], []), True),
@@ -1627,6 +1632,7 @@ def of_demands(D):
         ("settled: name of no item", lambda: D.among(docs=docs, parts=names)(lambda: D.SettledName(text(BENCH), 5, 100, [], 100)), True),
         ("settled: name in a refused sheet", lambda: D.among(docs=docs, parts=names)(lambda: D.SettledName(five, 0, 100, [], 100)), True),
         ("not settled: the name of another item", lambda: D.among(docs=docs, parts=names)(lambda: D.SettledName(text(BENCH), MAIL, 100, list(b"ordpw"), 126)), False),
+        ("not settled: the portal's number, where another is right", lambda: D.among(numbers=numbers)(lambda: D.SettledPortal(False, text(BENCH), ORDER, 3)), False),
         ("settled: the portal's never", lambda: D.among(numbers=[])(lambda: D.SettledPortal(False, text(BENCH), ORDER, never)), True),
         ("not settled: the portal's number with 12", lambda: D.among(numbers=[])(lambda: D.SettledPortal(False, text(BENCH), ORDER, never + 12)), False),
         *((f"not settled: reading, {n}", lambda r=r: D.among(docs=docs, readings=[])(lambda: D.SettledReading(text(BENCH), r)), False) for n, r in unsettled),
@@ -1786,6 +1792,7 @@ def of_one(D):
     return [
         ("score by kinds: nobody", lambda: D.AttackerScore(closed, [255], 0, 0), True),
         ("nobody in: where nothing opens it", lambda: D.among(asked=[(closed, [255], 0, r) for r in (0, 1)])(D.NobodyIn), True),
+        ("nobody in: not where it opens itself", lambda: D.among(asked=[(alone, [5], 0, 32)])(D.NobodyIn), True),
         ("score by kinds: the target itself", lambda: D.AttackerScore(alone, [5], 0, 32), True),
         ("B9", lambda: D.Score(False, alone, alone.graph, 0, 5), True),
         ("B10", lambda: D.Score(False, closed, closed.graph, 0, 2**62), True),
@@ -1804,10 +1811,11 @@ def of_one(D):
 def of_spare(D):
     """What executable definitions mean, and some of them alone."""
     joined = read([H1, "a c 1 1 0", "b c 1 1 0", "t a - - 0", "", H2, "a t 0 0", "b t 0 0"])
-    line = read([H1, "a c 1 - 0", "b a - - 0", "c a - - 0", "d a - - 0", "", H2, "a b 0 0", "b c 0 0", "c d 0 0"])
+    line = read([H1, "a c 1 - 0", *(f"{n} a - - 0" for n in "bcde"), "", H2, *(f"{f} {t} 0 0" for f, t in ("ab", "bc", "cd", "de"))])
     return [
         ("meaning: two that are needed together", lambda: D.among(handed=[[3], [1]])(lambda: D.Meaning(joined, joined.graph)), True),
-        ("way: three steps, the last item last", lambda: D.wayOf(4, line.graph, 3, 1) == tuple(Step(v, 0) for v in (1, 2, 3)), True),
+        ("way: four steps, the last item last", lambda: D.wayOf(5, line.graph, 4, 1) == tuple(Step(v, 0) for v in (1, 2, 3, 4)), True),
+        ("marks from: right, then loose", lambda: D.marksFrom([2, 3], [2], [], [2, 3]) == ("Right", "Loose"), True),
         ("lowest: none below 0, none below 2", lambda: (D.lowest(lambda i: False, 0), D.lowest(lambda i: False, 2)) == (0, 2), True),
         ("colour of: 8 where there is none", lambda: D.colourOf(emptyGraph.rows[0], 3) == 8, True),
         ("count of: 1 where nothing can be added", lambda: D.countOf(False, 0, emptyGraph, 0, 5) == 1, True),

@@ -1,8 +1,8 @@
 -- From a line that was read to the task that it gives the register.
 -- Assumes nothing.
-use mathlib.Core.Path.{_≡_, refl, sym, ap, _∙_, subst}
+use mathlib.Core.Path.{_≡_, sym, ap, _∙_, subst}
 use mathlib.Core.Bool.{true, false}
-use mathlib.Core.List.{List, map}
+use mathlib.Core.List.{List}
 use Prim.Native.Nat.{ℕ, _≤_}
 use native.Mathlib.Omega.{arith}
 use lib.ListN.{length, take, drop, length-map}
@@ -12,7 +12,7 @@ use Rattle.written.proofs.Writing.{wrote-front}
 use Rattle.setup.specs.declared.Setup.{Setup}
 use Rattle.records.specs.declared.Task.{Task}
 use Rattle.records.specs.Inner.{Attempts, leaving}
-use Rattle.register.specs.Afternoon.{RegisterCall, HandIn, Withdraw}
+use Rattle.register.specs.Afternoon.{RegisterCall}
 use Rattle.sheet_format.specs.declared.Reading.{Reading}
 use Rattle.sheet_format.specs.Rows.{ItemRow, Doc, Valid, render, setupOf}
 use Rattle.sheet_format.specs.Read.{readSheet}
@@ -22,11 +22,11 @@ use Rattle.sheet_lines.specs.declared.item_keys.Keys.{Keys}
 use Rattle.sheet_lines.specs.Inner.Keys.{SheetKeys}
 use Rattle.sheet_lines.proofs.Accepted.{accepts-of, setup-of, count-of, rows-of-text}
 use Rattle.handin_format.specs.Sets.{setFrom}
-use Rattle.handin_format.specs.Lines.{LineNo, lineNo, lineCall}
+use Rattle.handin_format.specs.Lines.{LineNo, lineNo}
 use Rattle.handin_lines.specs.declared.lines.LineRead.{LineRead}
 use Rattle.handin_lines.specs.Inner.Splitting.{splitFrom}
 use Rattle.handin_lines.specs.Inner.Sets.{setsFrom, PutsSets}
-use Rattle.handin_lines.specs.Inner.Lines.{callRead, SaysCall, ChecksLine}
+use Rattle.handin_lines.specs.Inner.Lines.{callRead, ChecksLine}
 use Rattle.handin_lines.specs.Inner.Tasks.{CanHandOver, HandsOver, TaskFor, TaskOfLine}
 
 -- ---- the sets, handed in

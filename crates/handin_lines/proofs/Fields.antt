@@ -1,8 +1,8 @@
 -- The fields of a line from the left: student, target, way, sets; and the call that they say.
 -- Assumes nothing.
 use mathlib.Core.Path.{_≡_, refl, sym, ap, _∙_}
-use mathlib.Core.Bool.{Bool, true, false, cond, _||_}
-use mathlib.Core.List.{List, [], _∷_, _++_, map}
+use mathlib.Core.Bool.{Bool, true, false, cond}
+use mathlib.Core.List.{List, [], _∷_, _++_}
 use mathlib.Core.Logic.{⊎-elim}
 use Prim.Native.Nat.{ℕ, suc, _+_, _≤_, _<_}
 use native.Mathlib.Omega.{arith}
@@ -21,7 +21,7 @@ use Rattle.sheet_rows.specs.Inner.NameKeys.{NameKeys}
 use Rattle.report_text.specs.Rows.{wayText}
 use Rattle.handin_format.specs.Sets.{setFrom}
 use Rattle.handin_format.specs.Entries.{mostHanded}
-use Rattle.handin_format.specs.Lines.{FieldAsked, askOf, isStudent, isWay, setQuestions, fieldQuestions, LineNo, firstNoOf, lineNo, callOfFields, lineCall}
+use Rattle.handin_format.specs.Lines.{FieldAsked, askOf, isStudent, isWay, setQuestions, fieldQuestions, LineNo, firstNoOf, callOfFields, lineCall}
 use Rattle.handin_lines.specs.declared.by_name.ItemField.{ItemField}
 use Rattle.handin_lines.specs.declared.sets.Checked.{Checked}
 use Rattle.handin_lines.specs.declared.lines.Form.{Form}
@@ -30,7 +30,7 @@ use Rattle.handin_lines.specs.declared.lines.LineRead.{LineRead}
 use Rattle.handin_lines.specs.Inner.Splitting.{splitFrom}
 use Rattle.handin_lines.specs.Inner.Naming.{itemFrom, NamesItem}
 use Rattle.handin_lines.specs.Inner.Sets.{setsFrom, ChecksSets, handedQuestions, ChecksHanded}
-use Rattle.handin_lines.specs.Inner.Lines.{noLine, partOf, FieldsCut, FormOf, ReadsWay, attemptQuestions, attemptRead, ChecksAttempt, callRead, SaysCall, ChecksLine}
+use Rattle.handin_lines.specs.Inner.Lines.{noLine, partOf, FormOf, ReadsWay, attemptQuestions, attemptRead, ChecksAttempt, callRead, SaysCall, ChecksLine}
 use Rattle.handin_lines.proofs.Splitting.{split-over}
 
 -- ---- way

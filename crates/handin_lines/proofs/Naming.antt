@@ -3,14 +3,12 @@
 use mathlib.Core.Path.{_≡_, refl, sym, ap, _∙_}
 use mathlib.Core.List.{List, [], _∷_}
 use mathlib.Core.Bool.{true, false, cond}
-use Prim.Native.Nat.{ℕ, suc, _+_, _-_, _*_, _/_, _%_, _^_, _≤_, _<_}
+use Prim.Native.Nat.{ℕ, _+_, _-_, _*_, _/_, _%_, _^_, _≤_, _<_}
 use native.Mathlib.Omega.{arith}
-use native.Mathlib.Nat.{not-suc-le-zero}
 use lib.Bits.{bitOr}
-use lib.ListN.{length, getD, take, drop, length-drop}
-use lib.Seq.{drop-drop}
-use lib.Dec.{eqb, ltb, leb, leb·suc-suc}
-use borrow.Author.Tests.{lt-ltb, le-ltb, le-leb, lt-leb, leb-true, leb-false, eq-eqb, ne-eqb}
+use lib.ListN.{length, take, drop}
+use lib.Dec.{eqb, ltb}
+use borrow.Author.Tests.{lt-ltb, le-ltb, eq-eqb, ne-eqb}
 use Rattle.sheet_format.specs.Fields.{isName}
 use Rattle.sheet_format.specs.Rows.{ItemRow, numberIn}
 use Rattle.sheet_format.specs.Questions.{isKnown}
@@ -20,7 +18,7 @@ use Rattle.sheet_rows.specs.Inner.NameKeys.{NameKeys, placeOf}
 use Rattle.sheet_rows.proofs.Tables.{table-place, known-test}
 use Rattle.vertex_set.proofs.Cases.{byTest}
 use Rattle.vertex_set.proofs.Sets.{shifted-one}
-use Rattle.sheet_format.specs.Text.{grow, sameText}
+use Rattle.sheet_format.specs.Text.{sameText}
 use Rattle.sheet_format.specs.Fields.{dash}
 use Rattle.sheet_fields.specs.Inner.Parts.{until}
 use Rattle.handin_lines.specs.declared.by_name.ItemField.{ItemField}
@@ -28,7 +26,7 @@ use Rattle.handin_lines.specs.Inner.Splitting.{splitFrom}
 use Rattle.handin_lines.specs.Inner.Naming.{noItem, itemFrom, NamesItem, TakesName, ReadsNames}
 use Rattle.handin_lines.proofs.Splitting.{parts-split, split-at, split-over}
 use Rattle.handin_format.specs.declared.SetField.{SetField}
-use Rattle.handin_format.specs.Sets.{noSet, someSet, partsOf, withName, withNames, setFrom}
+use Rattle.handin_format.specs.Sets.{noSet, someSet, withName, withNames, setFrom}
 
 -- ---- an item by its name
 

@@ -1,11 +1,10 @@
 -- The sets among the fields of a line: their questions, one by one, and what is written of them.
 -- Assumes nothing.
 use mathlib.Core.Path.{_≡_, refl, sym, ap, _∙_}
-use mathlib.Core.List.{List, [], _∷_, _++_, map}
+use mathlib.Core.List.{List, [], _∷_}
 use Prim.Native.Nat.{ℕ, suc, _+_, _-_, _≤_, _<_}
 use native.Mathlib.Omega.{arith}
-use lib.ListN.{length, take, drop, set, length-map, length-set}
-use lib.Dec.{eqb}
+use lib.ListN.{length, take, drop, set, length-set}
 use borrow.Author.Tests.{eq-eqb, ne-eqb}
 use Rattle.written.specs.Inner.{Wrote}
 use Rattle.written.proofs.Writing.{Writing, wrote-one, writing-none, writing-part, writing-end}

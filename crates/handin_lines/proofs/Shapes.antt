@@ -1,6 +1,6 @@
 -- The form of a line: its bytes, no empty field, none missing.
 -- Assumes nothing.
-use mathlib.Core.Path.{_≡_, refl, sym, ap, _∙_}
+use mathlib.Core.Path.{_≡_, refl, ap, _∙_}
 use mathlib.Core.Bool.{true, false}
 use mathlib.Core.List.{List, [], _∷_, _++_}
 use Prim.Native.Nat.{ℕ, suc, _+_, _-_, _≤_, _<_}
@@ -17,7 +17,7 @@ use Rattle.handin_format.specs.Entries.{withdrawText}
 use Rattle.handin_format.specs.Lines.{FieldAsked, isLineByte, fieldsFilled, fieldsThere, fieldQuestions, LineNo, firstNoOf, lineQuestions, lineNo}
 use Rattle.handin_lines.specs.declared.lines.Form.{Form}
 use Rattle.handin_lines.specs.Inner.Splitting.{splitFrom}
-use Rattle.handin_lines.specs.Inner.Lines.{noForm, partOf, FirstEmpty, AttemptPlaces, AttemptFields, FieldsCut, CutsFields, FormOf}
+use Rattle.handin_lines.specs.Inner.Lines.{noForm, partOf, FirstEmpty, CutsFields, FormOf}
 use Rattle.handin_lines.proofs.Splitting.{split-at, split-over, fields-split}
 
 -- ---- a byte of a line

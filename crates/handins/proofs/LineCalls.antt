@@ -1,12 +1,10 @@
 -- Reading a line, and taking it to the register.
 -- Assumes nothing.
-use mathlib.Core.Path.{_≡_, refl, sym, ap, subst, _∙_}
-use mathlib.Core.Bool.{true, false}
+use mathlib.Core.Path.{_≡_, refl, sym, ap, _∙_}
 use mathlib.Core.List.{List, [], _∷_}
 use mathlib.Core.Logic.{_⊎_, inl, inr, ⊎-elim}
 use Prim.Native.Nat.{ℕ, _≤_, _<_}
 use native.Mathlib.Omega.{arith}
-use lib.Dec.{eqb}
 use lib.ListN.{length}
 use Rattle.vertex_set.proofs.Cases.{byTest, less-or, same-or}
 use Rattle.written.proofs.Writing.{wrote-front}
@@ -16,7 +14,7 @@ use Rattle.questions.specs.Asks.{Asks}
 use Rattle.records.specs.declared.Record.{Record}
 use Rattle.records.specs.declared.Registered.{Registered}
 use Rattle.records.specs.declared.Task.{Task}
-use Rattle.records.specs.Records.{RegisterOutcome, withSlice, handsBack}
+use Rattle.records.specs.Records.{withSlice, handsBack}
 use Rattle.records.specs.Inner.{outcomeOf, Leaves}
 use Rattle.register.specs.Afternoon.{RegisterCall, HandIn, Withdraw, MeetsCall}
 use Rattle.register.proofs.Calls.{over, turned, withdraws, hands-in}
@@ -28,13 +26,12 @@ use Rattle.sheet_lines.specs.Inner.Keys.{SheetKeys}
 use Rattle.sheet_lines.proofs.Accepted.{accepts-of, rows-of-text}
 use Rattle.handin_format.specs.declared.LineAnswer.{LineAnswer}
 use Rattle.handin_format.specs.Lines.{LineNo, lineNo, lineCall}
-use Rattle.handin_format.specs.Calls.{answerOf, handedOf, withSets, lineRefused, tellsCall, TellsCall, ReadLineCall, EnterCall}
+use Rattle.handin_format.specs.Calls.{answerOf, handedOf, withSets, lineRefused, TellsCall, ReadLineCall, EnterCall}
 use Rattle.handin_lines.specs.declared.lines.LineRead.{LineRead}
 use Rattle.handin_lines.specs.Inner.Splitting.{splitFrom}
 use Rattle.handin_lines.specs.Inner.Sets.{setsFrom, PutsSets}
 use Rattle.handin_lines.specs.Inner.Lines.{callRead, SaysCall, ChecksLine}
 use Rattle.handin_lines.specs.Inner.Tasks.{TaskFor, TaskOfLine}
-use Rattle.handin_lines.proofs.Splitting.{split-over}
 use Rattle.handin_lines.proofs.Entering.{keys-are, sets-many}
 use Rattle.handins.specs.Inner.{unreadLine}
 

@@ -4,12 +4,11 @@ use mathlib.Core.Path.{_≡_, refl, sym, ap, subst, _∙_}
 use mathlib.Core.Bool.{true}
 use mathlib.Core.List.{List, [], _∷_}
 use mathlib.Core.Logic.{_⊎_, inl, inr, ⊎-elim}
-use Prim.Native.Nat.{ℕ, _≤_, _<_}
+use Prim.Native.Nat.{ℕ, _<_}
 use native.Mathlib.Omega.{arith}
 use lib.ListN.{length}
 use borrow.Author.Tests.{eq-eqb, ne-eqb}
 use Rattle.vertex_set.specs.Set.{Member}
-use Rattle.setup.specs.declared.Setup.{Setup}
 use Rattle.setup.specs.Calls.{written}
 use Rattle.questions.specs.Asks.{Asks}
 use Rattle.questions.specs.Contract.{Outcome, gives, ends, turnsAway, Room, Fulfils}

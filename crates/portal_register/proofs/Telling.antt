@@ -6,9 +6,9 @@ use mathlib.Core.Logic.{inl, inr, ⊎-elim}
 use Prim.Native.Nat.{ℕ}
 use Rattle.questions.specs.Asks.{Asks}
 use Rattle.handin_format.specs.declared.LineAnswer.{LineAnswer}
-use Rattle.handin_format.specs.Calls.{LineOutcome, withSets, ReadLineCall}
+use Rattle.handin_format.specs.Calls.{withSets, ReadLineCall}
 use Rattle.portal_register.specs.declared.ReadLineResult.{ReadLineResult}
-use Rattle.portal_register.specs.Lines.{inNumbers, LineTold, toldInNumbers, TellLineCall}
+use Rattle.portal_register.specs.Lines.{inNumbers, toldInNumbers, TellLineCall}
 
 pub line-told : (sheet line : List ℕ) (a : LineAnswer) (r : ReadLineResult) (entry exit : List ℕ) → ReadLineCall sheet line a entry exit → r ≡ inNumbers a
     → TellLineCall sheet line r entry exit

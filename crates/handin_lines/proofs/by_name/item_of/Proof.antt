@@ -1,7 +1,5 @@
 use borrow.Author.Needs.{needs}
-use mathlib.Core.Path.{_≡_, sym}
 use Rattle.handin_lines.proofs.Naming.{item-unnamed, item-known, item-unknown}
-use Rattle.handin_lines.specs.Inner.Naming.{NamesItem}
 use Rattle.handin_lines.proofs.by_name.item_of.Statement.{statement}
 use Rattle.handin_lines.proofs.by_name.item_of.Tie as tie
 

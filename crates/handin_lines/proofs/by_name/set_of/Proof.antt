@@ -1,10 +1,9 @@
 use borrow.Author.Needs.{needs}
-use mathlib.Core.Path.{_≡_, sym, _∙_}
+use mathlib.Core.Path.{sym, _∙_}
 use Prim.Native.Nat.{_+_, _-_, _≤_}
 use native.Mathlib.Omega.{arith}
 use lib.ListN.{length, drop, length-drop}
 use Rattle.sheet_fields.proofs.Cutting.{until-le}
-use Rattle.handin_lines.specs.Inner.Naming.{ReadsNames}
 use Rattle.handin_lines.proofs.Naming.{Reading, reading-first, reading-refused, reading-next, reading-over, set-empty}
 use Rattle.handin_lines.proofs.by_name.set_of.Statement.{statement}
 use Rattle.handin_lines.proofs.by_name.set_of.Tie as tie

@@ -1,5 +1,4 @@
 use borrow.Author.Needs.{needs}
-use mathlib.Core.Path.{_≡_, sym}
 use native.Mathlib.Omega.{arith}
 use Rattle.handin_lines.proofs.Naming.{name-refused, name-there, name-new}
 use Rattle.handin_lines.proofs.by_name.take_name.Statement.{statement}

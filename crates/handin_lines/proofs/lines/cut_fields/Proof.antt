@@ -1,5 +1,4 @@
-use mathlib.Core.Path.{_≡_, sym, _∙_}
-use native.Mathlib.Omega.{arith}
+use mathlib.Core.Path.{sym, _∙_}
 use Rattle.handin_lines.proofs.Shapes.{cut-one, second-inside, cut-more, cut-withdraws, cut-two}
 use borrow.Author.Needs.{needs}
 use Rattle.handin_lines.proofs.lines.cut_fields.Statement.{statement}

@@ -1,4 +1,4 @@
-use mathlib.Core.Path.{_≡_, sym, _∙_}
+use mathlib.Core.Path.{sym, _∙_}
 use Rattle.handin_lines.proofs.Shapes.{form-bytes, form-empty, form-cut}
 use borrow.Author.Needs.{needs}
 use Rattle.handin_lines.proofs.lines.form_of.Statement.{statement}

@@ -1,4 +1,3 @@
-use borrow.Author.Needs.{needs}
 use Rattle.handin_lines.proofs.Shapes.{byte-low, byte-high}
 use Rattle.handin_lines.proofs.lines.is_line_byte.Statement.{statement}
 use Rattle.handin_lines.proofs.lines.is_line_byte.Tie as tie

@@ -1,5 +1,5 @@
 use Rattle.report_text.specs.Rows.{wayText}
-use mathlib.Core.Path.{_≡_, sym, _∙_}
+use mathlib.Core.Path.{sym, _∙_}
 use Rattle.handin_lines.proofs.Fields.{way-lock, way-other}
 use borrow.Author.Needs.{needs}
 use Rattle.handin_lines.proofs.lines.way_of.Statement.{statement}

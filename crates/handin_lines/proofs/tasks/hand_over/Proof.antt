@@ -1,7 +1,6 @@
 -- `handin_lines::tasks::hand_over` meets its contract: the sets stand in a list of their own, and its first places are marked.
 use borrow.Author.Needs.{needs}
 use mathlib.Core.Path.{sym}
-use native.Mathlib.Omega.{arith}
 use lib.Seq.{length-take-le}
 use Rattle.handin_lines.proofs.Entering.{hands-over}
 use Rattle.handin_lines.proofs.tasks.hand_over.Statement.{statement}

@@ -5,7 +5,6 @@ use native.Mathlib.Omega.{arith}
 use Prim.Native.Nat.{_≤_}
 use lib.ListN.{length}
 use Rattle.sheet_lines.proofs.Accepted.{accepts-of, lines-there}
-use Rattle.handin_lines.specs.Inner.Tasks.{CanHandOver}
 use Rattle.handin_lines.proofs.Entering.{task-no-sheet, task-no-line, task-leaves, can-hand-over, task-hands-over}
 use Rattle.handin_lines.proofs.tasks.task_of.Statement.{statement}
 use Rattle.handin_lines.proofs.tasks.task_of.Tie as tie

@@ -91,10 +91,10 @@ def list_all():
 
 
 def of_name(name):
-    """The examples that use a definition, the fastest first; slow ones, which use half of all definitions, only where there are no others."""
+    """The examples that use a definition, the fastest first. A law is asked of slow ones, which use half of all definitions, only where there are no others."""
     users = D._made.users(name)
     found = sorted((e for e in EVERY if e.used & users), key=lambda e: e.seconds)
-    return [e for e in found if e.seconds < SLOW] or found
+    return [e for e in found if e.seconds < SLOW or not RULES.is_law(name)] or found
 
 
 def noticing(candidates, new, first=(), one=ONE):

@@ -16,7 +16,7 @@ GIVEN = {"eqb": ["ℕ", "ℕ"], "ltb": ["ℕ", "ℕ"], "leb": ["ℕ", "ℕ"], "t
 GIVEN = {name: [("var", t) for t in types] for name, types in GIVEN.items()}
 # With their arguments exchanged these say the same.
 # Arguments that are only compared with each other.
-COMPARED = {"IsEdge": {(0, 3), (1, 4), (2, 5)}, "OnlyHolding": {(0, 1)}, "Begun": {(2, 4), (3, 5)}}
+COMPARED = {"IsEdge": {(0, 3), (1, 4), (2, 5)}, "OnlyHolding": {(0, 1)}, "Begun": {(2, 4), (3, 5)}, "PoolRefusal": {(1, 2)}}
 # Laws with arguments, which are proved of all of them, or of all that a law in the same file names.
 LAWS = set("Duality QuickAgrees NoEasierRoute Meaning ReportMeaning UnmixedPrints PoolingLaw RenamesLowest RegisterAfter Demand1 Demand2 Demand3Reached".split())
 SYMMETRIC = set("eqb min max bitAnd bitOr Iff Full question3 isMeeting Agree Meets SameMultiset SameName SameEdge SameAttempt sameText sameEdge sameThree".split())

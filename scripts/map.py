@@ -1,9 +1,9 @@
 #!/usr/bin/env python3
-"""Holds crates.txt, the map of the crates, to the sources, and README.md's picture of the layers to crates.txt.
+"""Holds crates.txt, the map of the crates, to the sources, and docs/MAP.md's picture of the layers to crates.txt.
 
     map.py            checks: every crate stands below its heading with a line that says what it holds, behind the crates that it
-                      depends on; it depends on just those that its files name; README.md shows the picture made from it, and the
-                      column `crate` of its tables names crates alone
+                      depends on; it depends on just those that its files name; docs/MAP.md shows the picture made from it, and the
+                      columns `crate` of its tables and README.md's name crates alone
     map.py --write    writes the dependencies and the picture
 """
 import re
@@ -50,7 +50,7 @@ def named_by(crate, names):
 
 
 def picture(layers):
-    """The layers, the uppermost first, as a text for README.md. A dot marks an inner crate."""
+    """The layers, the uppermost first, as a text for docs/MAP.md. A dot marks an inner crate."""
     width = max(len(name) for _, crates in layers for name, *_ in crates) + 2
     lines = []
     for heading, crates in reversed(layers):
@@ -75,7 +75,7 @@ def faults_of(layers):
 
 
 def strangers(readme, names):
-    """What the columns `crate` of README.md's tables have in backquotes that is no crate: a table ends with the first line that is no row."""
+    """What the columns `crate` of a page's tables have in backquotes that is no crate: a table ends with the first line that is no row."""
     column, found = None, []
     for line in readme.splitlines():
         cells = [cell.strip() for cell in line.split("|")] if line.startswith("|") else []
@@ -89,11 +89,11 @@ def strangers(readme, names):
 
 
 def with_picture(readme, layers):
-    """README.md with the picture between its two marks."""
+    """The page with the picture between its two marks."""
     before, _, rest = readme.partition(BEGIN)
     _, mark, after = rest.partition(END)
     if not mark:
-        sys.exit("map: README.md has no place for the picture")
+        sys.exit("map: docs/MAP.md has no place for the picture")
     return before + BEGIN + "\n" + picture(layers) + "\n" + END + after
 
 
@@ -108,18 +108,18 @@ def write(layers):
             deps = [name for name in names if name in used] + sorted(used & KIT)
             lines[at] = " ".join([f"{found[1]}:", *deps]) + f"  # {found[3] or ''}{(found[4] or '').strip()}".rstrip()
     (ROOT / "crates.txt").write_text("\n".join(lines) + "\n", encoding="utf-8")
-    readme = ROOT / "README.md"
-    readme.write_text(with_picture(readme.read_text(encoding="utf-8"), layers), encoding="utf-8")
+    page = ROOT / "docs" / "MAP.md"
+    page.write_text(with_picture(page.read_text(encoding="utf-8"), layers), encoding="utf-8")
 
 
 def main(words):
     if "--write" in words:
         write(read_map())
     layers = read_map()
-    readme = (ROOT / "README.md").read_text(encoding="utf-8")
+    pages = {name: (ROOT / name).read_text(encoding="utf-8") for name in ("README.md", "docs/MAP.md")}
     names = {name for _, crates in layers for name, *_ in crates}
-    faults = faults_of(layers) + ["README.md's picture is not that of crates.txt"] * (with_picture(readme, layers) != readme)
-    faults += [f"README.md has {name} in a column of crates, and there is no such crate" for name in strangers(readme, names)]
+    faults = faults_of(layers) + ["docs/MAP.md's picture is not that of crates.txt"] * (with_picture(pages["docs/MAP.md"], layers) != pages["docs/MAP.md"])
+    faults += [f"{page} has {name} in a column of crates, and there is no such crate" for page, text in pages.items() for name in strangers(text, names)]
     for fault in faults:
         print(f"map: {fault}")
     print(f"map: {sum(len(crates) for _, crates in layers)} crates in {len(layers)} layers, {len(faults)} faults")

@@ -21,9 +21,9 @@ mkdir -p "$dist"
 echo "dist: static programs" >&2
 export RUSTFLAGS="-C target-feature=+crt-static --remap-path-prefix=$PWD=/gemzuleg --remap-path-prefix=${CARGO_HOME:-$HOME/.cargo}=/cargo"
 (cd rust && cargo build --release --quiet -p gemzuleg --target x86_64-unknown-linux-gnu --target-dir ../build/cargo-static)
+kit=$(dirname "$(dirname "$(rt doc)")")
 for program in report pool; do
-    IFS=, read -ra parts < <(sed -n 's/^linked .* files=//p' "target/log/$program.out")
-    gcc -static -s -Wl,--build-id=none -o "$dist/$program" "target/obj/$program.o" "${parts[@]:1}"
+    gcc -static -s -Wl,--build-id=none -o "$dist/$program" "target/obj/$program.o" "$kit/lib/libos_c.a"
 done
 
 # ---- lay FOLDER PREFIX: the files below a folder; PREFIX is what the pkg-config file says.

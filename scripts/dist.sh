@@ -17,9 +17,11 @@ bash scripts/gemzuleg.sh
 rm -rf "$dist"
 mkdir -p "$dist"
 
-# ---- static programs. Paths of this folder and of cargo's must not get into them.
+# ---- static programs. Paths of this folder and of cargo's must not get into them. The flags are handed over one by one: a path may have spaces.
 echo "dist: static programs" >&2
-export RUSTFLAGS="-C target-feature=+crt-static --remap-path-prefix=$PWD=/gemzuleg --remap-path-prefix=${CARGO_HOME:-$HOME/.cargo}=/cargo"
+flags=(-C target-feature=+crt-static "--remap-path-prefix=$PWD=/gemzuleg" "--remap-path-prefix=${CARGO_HOME:-$HOME/.cargo}=/cargo")
+CARGO_ENCODED_RUSTFLAGS=$(printf '%s\x1f' "${flags[@]}")
+export CARGO_ENCODED_RUSTFLAGS=${CARGO_ENCODED_RUSTFLAGS%$'\x1f'}
 (cd rust && cargo build --release --quiet -p gemzuleg --target x86_64-unknown-linux-gnu --target-dir ../build/cargo-static)
 kit=$(dirname "$(dirname "$(rt doc)")")
 for program in report pool; do

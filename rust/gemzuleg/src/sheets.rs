@@ -38,9 +38,17 @@ fn counts(lab: &Lab) -> String {
     format!("{} {starting} {losable} {accounts} {arrows} {recovery}", lab.count())
 }
 
+/// The command's own file. Where /proc is not there, the name by which it was called tells it, if that is a path.
+fn own_file() -> io::Result<PathBuf> {
+    std::env::current_exe().or_else(|error| {
+        let called = std::env::args_os().next().map(PathBuf::from);
+        called.filter(|path| path.components().count() > 1).ok_or(error)
+    })
+}
+
 /// Where the proved programs may stand: beside the command, or in ../libexec/gemzuleg.
 fn program(name: &str) -> io::Result<PathBuf> {
-    let own = std::env::current_exe()?;
+    let own = own_file()?;
     let folder = own.parent().ok_or(io::ErrorKind::NotFound)?;
     let beside = folder.join(name);
     Ok(if beside.is_file() { beside } else { folder.join("../libexec/gemzuleg").join(name) })

@@ -1737,7 +1737,7 @@ def of_both_demands(D):
         "logs": [afternoon(*DAY)],
     }
     # the setups at which the lists of calls end, where the papers' sentences are asked, and the buffers, where the demands are
-    sentences, demands = {**of_calls, **for_c, **papers, "ends": [bench, TAKEN, EMPTY]}, {**of_calls, **for_c}
+    sentences, demands = {**of_lines(), **of_calls, **for_c, **papers, **of_drawings(), "ends": [bench, TAKEN, EMPTY]}, {**of_lines(), **of_calls, **for_c}
     listed = [out, [2, 5, 3, 6], lent, [3, 6], [9] * 14, one_bag, [9], [1]]
     untouched = [lent, lent, lent, lent, out, out, lent, lent, [9] * 14, [9] * 14, [9], [9]]
     no_way, way = [lent, lent, lent, lent, *listed], [lent, [3, 4], lent, [0, 1], *listed]
@@ -1974,7 +1974,9 @@ def of_written_rows(D):
     ] + [("not row: " + name, lambda x=x, r=r: D.RowWritten(entry, 2, [7, 8], x, r), False) for name, x, r in wrong]
 
 
-ROOM = [0] * 2**14
+# a list with room for any target's sets, as one that keeps its hash
+ROOM = THE._made.names["_Kept"]([0] * 2**14)
+ROOM.is_plain = True
 
 
 def filled(p, *cursors):
@@ -2256,7 +2258,7 @@ def of_lines():
         "docs": [BENCH_DOC, DOC, *LABS],
         "item_rows": [BENCH_DOC.items, DOC.items, SAME_NAMES.items],
         "line_entries": entries,
-        "named": NAMED,
+        "attempts": NAMED,
         "said": [("HandIn", BOTH), ("HandIn", ONE), ("Withdraw", 7), ("Withdraw", 8)],
         "written": [coded(line) for line, _, _ in HANDED_LINES],
         "names_of": [[coded(n) for n in x.split("+") if x != "-"] for x in ("-", "mailpw", "ordpw+token", "token+ordpw", "pw", "nobody", "token+token")],
@@ -2404,15 +2406,65 @@ def of_handins(D):
     ]
 
 
+def of_drawings():
+    """Document 01's sheet as it is saved, before and after an item was taken in: its rows rise already."""
+    saved = text(BENCH)
+    lent = [35] * (len(saved) + 1)
+    return {"saves": [(n, size, lent, exit) for n, size in ((0, len(saved)), (0, 0), (12, 0)) for exit in ([*saved, 35], lent)] + [(15, 0, [35], [35])]}
+
+
+def of_saved_drawings(D):
+    """What is saved of a setup that was redrawn."""
+    sheet, five = text(BENCH), REFUSED["refused 5"][0]
+    g = {**of_drawings(), "docs": [BENCH_DOC], "setups": [bench, TAKEN, EMPTY], "ends": [bench, TAKEN, EMPTY]}
+    g["runs"] = [(sheet, [], []), (sheet, [D.TakeIn(1)], [0]), (sheet, [D.TakeIn(9)], [13]), (five, [D.TakeIn(1)], [12])]
+    written_, drawn = [*sheet, 35], D.drawingOf(bench)
+    after = D.leftBy([D.TakeIn(1)], [0], drawn)
+    saved = lambda *a: lambda: D.SavedDrawing(bench, *a)
+    return [
+        ("drawing saved", lambda: D.among(**g)(D.DrawingSaved), True),
+        ("let go: nothing held, edges and marks kept", lambda: [(d.Held(1), d.Edges(1, MAIL, 0), d.Marks(MAIL, ORDER, 1), d.Marks(1, MAIL, 0)) for d in (D.letGo(after),)] == [(False, True, True, False)], True),
+        ("saved drawing: with an item held", saved(after, TAKEN, 0, len(sheet), written_), True),
+        ("saved drawing: 15", saved(after, TAKEN, 15, 0, [35]), True),
+        ("not saved drawing: 12", saved(after, TAKEN, 12, 0, [35]), False),
+        ("not saved drawing: other bytes", saved(after, TAKEN, 0, len(sheet), [35, *sheet]), False),
+        ("not saved drawing: of another setup", saved(after, LESS, 0, len(sheet), written_), False),
+        ("not saved drawing: another drawing", saved(D.drawingOf(LESS), TAKEN, 0, len(sheet), written_), False),
+        ("contracts: save", lambda: D.contractOf(("Save", sheet, [35]), TAKEN).lent == ((35,),) and D.numbers(D.contractOf(("Save", five, []), bench)) == (5, 12, 13, 15), True),
+    ]
+
+
+def of_pooled_sets(D):
+    """What opens in the pooled sheet of two labs, of sets as numbers; and of sheets that lost an edge or an item."""
+    a, b, both = (render(d) for d in (*LABS, pooled(*LABS)))
+    bare = render(LABS[0]._replace(edges=[]))
+    return [
+        ("set by name: g and h", lambda: D.SetByName(b, both, 3, 6), True),
+        ("not set by name: the same number", lambda: D.SetByName(b, both, 3, 3), False),
+        ("not set by name: one more", lambda: D.SetByName(b, both, 3, 7), False),
+        *((f"keeps opening sets, {n}", lambda s=s: D.KeepsOpeningSet(s, both) and D.KeepsYes(s, both), True) for n, s in (("the first", a), ("the second", b))),
+        ("not keeps opening sets: an edge lost", lambda: D.KeepsOpeningSet(a, bare), False),
+        ("not keeps yes: an edge lost", lambda: D.KeepsYes(a, bare), False),
+    ]
+
+
+def of_kinds_of_sets(D):
+    """Kinds of sets, and what forecasts lie between, on document 01's sheet."""
+    return [
+        ("kind of set", lambda: D.among(kinds=[APART, UNLIKE, []])(D.KindOfSet), True),
+        ("forecast range", lambda: D.among(targets=[(bench, ORDER), (bench, MAIL), (EMPTY, 0), (closed, 0)])(D.ForecastRange), True),
+    ]
+
+
 GROUPS = {
     "far": [of_sets, of_setups, of_well_formed, of_parts, of_full_marks, of_written_rows, of_whole],
     "one": [of_one, of_few_cuts],
     "sums": [of_sums],
     "bench": [of_derivations, of_passes, of_ways, of_bases, of_scores, of_marks, of_set_calls, of_way_calls, of_base_calls, of_score_calls, of_demand3]
-    + [of_quick, of_forecasts, of_cuts, of_attackers, of_next_sets, of_register, of_living, of_findings, of_portal, of_contracts, of_told, of_words, of_readings, of_demands, of_both_demands, of_soundness, of_handins],
+    + [of_quick, of_forecasts, of_cuts, of_attackers, of_next_sets, of_register, of_living, of_findings, of_portal, of_contracts, of_told, of_words, of_readings, of_demands, of_both_demands, of_soundness, of_handins, of_saved_drawings, of_kinds_of_sets],
     "rows": [of_valid_rows, of_rows, of_bytes, of_stated, of_meaning, of_refusals],
     "spare": [of_spare],
-    "pool": [of_pools, of_saves],
+    "pool": [of_pools, of_saves, of_pooled_sets],
     "ring": [of_ring],
     "bags": [of_bags, of_bag_scores, of_sound_bags],
 }

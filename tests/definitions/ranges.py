@@ -11,7 +11,7 @@ BY_NAME |= {("Bool", ""): "(False, True)", ("Step", ""): "steps()", ("Attempt", 
 BY_NAME |= {("Setup", ""): "given.setups", ("Doc", ""): "given.docs", ("Outcome", ""): "given.outcomes", ("Redrawing", ""): "given.redrawings"}
 BY_NAME |= {("Reading", ""): "given.readings", ("Call", ""): "given.calls", ("List ℕ", "text"): "given.texts", ("List ℕ", "sheet"): "given.sheets"}
 
-BY_NAME |= {("List ItemRow", "items"): "given.item_rows", ("LineEntry", ""): "given.line_entries", ("NamedAttempt", ""): "given.named", ("RegisterCall", ""): "given.said"}
+BY_NAME |= {("List ItemRow", "items"): "given.item_rows", ("LineEntry", ""): "given.line_entries", ("NamedAttempt", ""): "given.attempts", ("RegisterCall", ""): "given.said"}
 BY_NAME |= {(score, "r"): "(0, 5, 2 ** 63)" for score in ("VertexSet", "SecurityScore", "RecoverabilityScore")}
 
 YES_NO, ASKED = {"telling.A": "(False, True)"}, lambda names, **more: {names: "given.asked", **more}
@@ -223,6 +223,6 @@ RANGES = {
 # Which record is meant, where two have the same fields: by the definition that makes it.
 RECORDS = {"withSets": "LineOutcome", "toldInNumbers": "LineTold", "TellLineCall": "LineTold"}
 # Functions whose answers are kept, though they run over no range: what they compute is asked for again and again.
-KEPT = set("sameText readSheet render setupOf baseOf targetSetsOf scoreOf closureOf wordsOf setupIn reportOf sumOf edgeCount chosenCount nameOf nameStart".split())
+KEPT = set("sameText readSheet render setupOf baseOf targetSetsOf scoreOf closureOf wordsOf setupIn reportOf sumOf edgeCount chosenCount nameOf nameStart restOf".split())
 # Quantifiers that no example reaches, and why.
 NEVER = {}

@@ -1719,9 +1719,10 @@ def of_both_demands(D):
         "read": [(n, l, x) for n in (0, 15) for l in (0, 1) for x in ([9] * 1283, words)],
     }
     papers = {
-        "begun": [(only, report, [0], [1], [0], [1])],
+        "begun": [(only, report, [0], [1], [0], [1], ROOM)],
         "parts": [[lists[: -len(scores)], scores], [lists], [scores]],
         "cursors": ["Start", ("Scores", 0), "End"],
+        "fills": [*filled(lists, "End"), *filled(scores, "End"), *filled(lists[: -len(scores)], ("Scores", 0))],
         "quick": [(bench, ORDER, 2)],
         "routes": [(bench, lessRecovery(bench)), (bench, bench.graph)],
         "compared": [(bench, ORDER, 1, 4), (bench, ORDER, 4, 1)],
@@ -1736,7 +1737,7 @@ def of_both_demands(D):
         "logs": [afternoon(*DAY)],
     }
     # the setups at which the lists of calls end, where the papers' sentences are asked, and the buffers, where the demands are
-    sentences, demands = {**of_calls, **for_c, **papers, "ends": [bench, TAKEN, EMPTY]}, {**of_calls, **for_c}
+    sentences, demands = {**of_lines(), **of_calls, **for_c, **papers, **of_drawings(), "ends": [bench, TAKEN, EMPTY]}, {**of_lines(), **of_calls, **for_c}
     listed = [out, [2, 5, 3, 6], lent, [3, 6], [9] * 14, one_bag, [9], [1]]
     untouched = [lent, lent, lent, lent, out, out, lent, lent, [9] * 14, [9] * 14, [9], [9]]
     no_way, way = [lent, lent, lent, lent, *listed], [lent, [3, 4], lent, [0, 1], *listed]
@@ -1973,6 +1974,16 @@ def of_written_rows(D):
     ] + [("not row: " + name, lambda x=x, r=r: D.RowWritten(entry, 2, [7, 8], x, r), False) for name, x, r in wrong]
 
 
+# a list with room for any target's sets, as one that keeps its hash
+ROOM = THE._made.names["_Kept"]([0] * 2**14)
+ROOM.is_plain = True
+
+
+def filled(p, *cursors):
+    """Calls that leave the bytes p in front of a longer buffer, and go on at one of these places."""
+    return [([35] * (len(p) + 1), [*p, 35], THE.StepStruct(c, len(p))) for c in cursors]
+
+
 def of_whole(D):
     """The report of a sheet with one item, in parts; and that of a refused sheet. What is known at a place is left open here."""
     sheet, refused = text([H1, "only a 5 - 0", "", H2]), REFUSED["refused 5"][0]
@@ -1982,9 +1993,11 @@ def of_whole(D):
     cursors = ["Start", ("Scores", 0), ("Pairs", 0), row, "End"]
     at = lambda c: THE.Report(c, None)
     begun = lambda sheet_, c, *tables: D.Begun(sheet_, at(c), *tables)
-    to_end = lambda c, parts: D.among(cursors=cursors)(lambda: D.PartsToEnd(name, alone, c, parts))
     parts = [cut, [lists], cut[:1], cut[1:], [cut[0] + cut[1], cut[2]], [list(b"refused 5 2\n")], []]
-    starts = [(sheet_, at(c), [0], [1], *kept) for sheet_ in (sheet, refused) for c in cursors for kept in (([0], [1]), ([0], [2]))]
+    calls = [call for p in {tuple(p): p for ps in [*parts, [cut[0][:-1]]] for p in ps}.values() for call in filled(p, *cursors)]
+    to_end = lambda c, ps: D.among(cursors=cursors, fills=calls)(lambda: D.Fills(sheet, None, [5], [6], [0], c, ps))
+    fills = lambda p, d, *made_: D.among(fills=made_)(lambda: D.Filled(sheet, None, [5], [6], [0], "Start", p, [0], d))
+    starts = [(sheet_, at(c), [0], [1], *kept, room) for sheet_ in (sheet, refused) for c in cursors for kept, room in ((([0], [1]), ROOM), (([0], [1]), [0]), (([0], [2]), ROOM))]
     return [
         ("whole: begun at the start", lambda: begun(sheet, "Start", [0], [1], [5], [6]), True),
         ("not whole: begun in the middle", lambda: begun(sheet, ("Scores", 0), [0], [1], [5], [6]), False),
@@ -1995,7 +2008,11 @@ def of_whole(D):
         ("not whole: one part, and not the end", lambda: to_end("Start", cut[:1]), False),
         ("not whole: another part", lambda: to_end("Start", [cut[0][:-1], *cut[1:]]), False),
         ("whole: texts in one", lambda: D.inOne([[1, 2], [3]]) == (1, 2, 3), True),
-        ("whole report", lambda: D.among(begun=starts, parts=parts, cursors=cursors)(D.WholeReport), True),
+        ("filled: all of it", lambda: fills(lists, "End", *filled(lists, "End")), True),
+        ("not filled: other bytes in front", lambda: fills(lists[:-1], "End", *filled(lists, "End")), False),
+        ("not filled: goes on elsewhere", lambda: fills(cut[0], "End", *filled(cut[0], ("Scores", 0))), False),
+        ("not filled: a step that leaves out a row", lambda: fills(cut[0], "End", *filled(cut[0], "End")), False),
+        ("whole report", lambda: D.among(begun=starts, parts=parts, cursors=cursors, fills=calls)(D.WholeReport), True),
     ]
 
 
@@ -2048,7 +2065,7 @@ def of_pools(D):
     loops = lambda *cs: [edge("g", "g", c) for c in cs]
     beyond = [("65 items", Doc([item(f"n{i}") for i in range(65)], [])), ("15 starts", Doc([item(f"n{i}", 1) for i in range(15)], []))]
     beyond += [("15 losses", Doc([item(f"n{i}", None, 1) for i in range(15)], [])), ("257 edges", Doc([g], [edge("g", "g")] * 257)), ("a ninth colour", Doc([g], [edge("g", "g", 8)]))]
-    long = [LONG_NAMES, LONG_NAMES._replace(edges=LONG_NAMES.edges * 2)]
+    long = [LONGEST, LONGEST._replace(edges=[])]
     z, w = render(Doc([item("z")], [])), render(Doc([g], []))
     # rows that are written as the first sheet is, and as the second is, with a line's end in a name
     odd = [("first", Doc([item("a c 1 - 0\ng", rank=1, kind=Account)], first.edges), second), ("second", first, Doc([item("g a - - 1\nh", 2)], second.edges))]
@@ -2071,7 +2088,6 @@ def of_pools(D):
         ("not printed: another sheet", lambda: printed(a, b, a, [], yes, end), False),
         ("not printed: refused without a line", lambda: printed(a, bad, [], [], no(4, 2, 2), lent), False),
         ("printed: the second refused in line 3", lambda: printed(a, REFUSED["refused 6"][0], [], text(["pool: refused 2 6 3"]), no(6, 2, 3), lent), True),
-        ("pool bytes: as the header has them", lambda: D.poolBytes == 12526, True),
         ("not rows of: rows that are not valid", lambda: D.RowsOf(a, odd[0][1]), False),
         ("settled: pool, 23, 24, and the first refused", lambda: all(D.PoolRefusal(r, lent, lent) for r in (no(23), no(24), no(4, 1, 2))), True),
         ("not settled: pool, 22 in a line, or of a sheet", lambda: any(D.PoolRefusal(r, lent, lent) for r in (no(22, 0, 2), no(22, 1, 0))), False),
@@ -2094,7 +2110,7 @@ def of_pools(D):
         ("renames: past the first sheet's 0", lambda: D.RenamesLowest(loops(0), loops(1), list(b"g"), 1), True),
         ("renaming", lambda: D.among(docs=[*docs, wide], names=names)(D.Renaming), True),
         ("pooled valid", lambda: D.among(docs=docs)(D.PooledValid), True),
-        ("enough: the longest names", lambda: D.among(docs=long)(D.AlwaysEnough), True),
+        ("enough: the longest names", lambda: D.among(docs=long, labs=[tuple(map(render, (*long, LONGEST)))])(D.AlwaysEnough), True),
         ("is pooled: a storeroom", lambda: D.among(docs=docs)(lambda: D.IsPooled(a, b, both)), True),
         ("not is pooled: ten colours", lambda: D.among(docs=docs)(lambda: D.IsPooled(f, f, render(pooled(five, five)))), False),
         ("not is pooled: another rank", lambda: D.among(docs=docs)(lambda: D.IsPooled(a, r, render(pooled(first, ranked)))), False),
@@ -2187,11 +2203,261 @@ def of_saves(D):
         ("not sheet of: other names", lambda: D.IsSheetOf(sheet, s, render(other)), False),
         ("not sheet of: another setup", lambda: D.IsSheetOf(sheet, s, render(unmarked)), False),
         ("not sheet of: no sheet", lambda: D.IsSheetOf(sheet, EMPTY, bad), False),
-        ("save bytes: 64 names of 16 bytes, 14 values of ten digits each, 256 edges", lambda: D.saveBytes == len(render(LONGEST)), True),
+        ("longest sheet: 64 names of 16 bytes, 14 values of ten digits each, 256 edges", lambda: D.longestSheet == len(render(LONGEST)), True),
+        ("longest sheet: none is longer", lambda: D.among(docs=[LONGEST, LONGEST._replace(edges=LONGEST.edges * 2), drawn])(D.LongestSheet), True),
         ("saved reads", lambda: D.among(sheets=sheets, setups=setups, docs=docs)(D.SavedReads), True),
         ("saved text", lambda: D.among(lent=[(sheet, s, lent), (three, s, lent)], saved=results, docs=docs)(D.SavedText), True),
         ("saved back", lambda: D.among(sheets=[sheet, saved], setups=setups, docs=docs)(D.SavedBack), True),
         ("saved again", lambda: D.among(sheets=sheets, setups=setups, docs=docs)(D.SavedAgain), True),
+    ]
+
+
+# Hand-ins by name, on document 01's sheet. Lines with the number and the field of their first no; sets with number and set.
+ORDERED = "7 order open mailpw ordpw+token"
+HANDED_LINES = [
+    *((line, 0, 0) for line in (ORDERED, "7 order open", "7 order lock -", "4000000000 mail open mailpw", "7 withdraw", "0 withdraw")),
+    *(("7 order open\t", 2, 0), ("7 order open\x7f", 2, 0), ("", 4, 1), ("7", 4, 2), ("7 order", 4, 3), ("7  open", 4, 2), ("7 order open  -", 4, 4), ("x order", 4, 3)),
+    *(("x order open", 5, 1), ("4000000001 order open", 5, 1), ("x withdraw", 5, 1), ("7 or+der open", 5, 2), ("7 nobody shut", 8, 2), ("7 order shut -", 5, 3)),
+    *(("7 order open - token+", 5, 5), ("7 order open nobody -", 8, 4), ("7 order open token token+token", 6, 5), ("7 withdraw open", 8, 2), ("7 open order", 8, 2)),
+]
+HANDED_SETS = [("-", 0, 0), ("ordpw+token", 0, 5), ("token+ordpw", 0, 5), ("mailpw", 0, 2), ("", 5, 0), ("token+", 5, 0), ("-+token", 5, 0), ("nobody+", 8, 0), ("token+token+nobody", 6, 0)]
+NamedAttempt, NamedSet, LineAnswer, LineTold, ReadLineResult, EnteredLine = (getattr(THE, n) for n in "NamedAttempt NamedSet LineAnswer LineTold ReadLineResult EnteredLine".split())
+
+
+def coded(line):
+    return list(line.encode())
+
+
+def by_names(student, target, loss, *sets):
+    return NamedAttempt(student, coded(target), loss, [[coded(n) for n in x.split("+") if x != "-"] for x in sets])
+
+
+N_BOTH, N_ONE, N_LOCKS = by_names(7, "order", False, "mailpw", "ordpw+token"), by_names(7, "order", False, "mailpw", "token+mailpw"), by_names(7, "order", True, "mailpw+ordpw", "mailpw+token")
+N_NONE, N_TWICE = by_names(7, "order", False), by_names(7, "order", False, "mailpw", "ordpw+token", "token+ordpw")
+N_UNKNOWN, N_AGAIN, N_HIGH = by_names(7, "order", False, "nobody"), by_names(7, "order", False, "token+token"), by_names(4000000001, "order", False)
+NAMED = [N_BOTH, N_ONE, N_LOCKS, N_NONE, N_TWICE, by_names(7, "order", True, "-"), by_names(4000000000, "mail", False, "mailpw"), N_UNKNOWN, N_AGAIN, N_HIGH, N_NONE._replace(target=coded("nobody"))]
+# what reading the first line tells, of which the second field is the sheet's or the line's
+SAYS_BOTH, SAYS_LEAVE = LineAnswer(0, 0, 0, False, 7, ORDER, False, 2), LineAnswer(0, 0, 0, True, 7, 0, False, 0)
+
+
+def no_line(number, text_=0, place=0):
+    return LineAnswer(number, text_, place, False, 0, 0, False, 0)
+
+
+def no_told(*answer):
+    return ReadLineResult(*answer, *[0] * (8 - len(answer)))
+
+
+def of_lines():
+    """What the quantifiers of hand-ins by name look among."""
+    sheet, five = text(BENCH), REFUSED["refused 5"][0]
+    entries = [("HandsIn", x) for x in NAMED] + [("Withdraws", k) for k in (0, 7, 4000000001)]
+    day = [EnteredLine(coded(line), Registered(n, used), exit) for line, n, used, exit in (
+        (ORDERED, 0, 1, [R_BOTH, R_ANY]), ("7 nobody open", 8, 1, [R_BOTH, R_ANY]), ("7 order open mailpw token+mailpw", 0, 1, [R_ONE, R_ANY]), ("7 withdraw", 0, 0, [R_ONE, R_ANY]))]
+    days = [(BENCH_DOC, [R_ANY, R_ANY], day[:n][::-1]) for n in range(5)] + [(BENCH_DOC, [R_ANY, R_ANY], [day[2]])]
+    sets = [NamedSet(*a) for a in ((0, 0, 0, 5), (0, 0, 0, 2), (8, 2, 0, 0), (5, 1, 2, 0), (5, 1, 0, 0), (8, 2, 0, 5))]
+    ends = [(SAYS_BOTH, [2, 5, 9]), (SAYS_BOTH, [9, 9, 9]), (SAYS_LEAVE, [9, 9, 9]), (no_line(15), [9]), (no_line(15), [9, 9, 9]), (no_line(8, 2, 2), [9, 9, 9]), (no_line(5, 1, 2), [9, 9, 9])]
+    lines = [coded(line) for line in (ORDERED, "7 withdraw", "7 nobody open")]
+    names = coded("ordpw+token")
+    return {
+        "docs": [BENCH_DOC, DOC, *LABS],
+        "item_rows": [BENCH_DOC.items, DOC.items, SAME_NAMES.items],
+        "line_entries": entries,
+        "attempts": NAMED,
+        "said": [("HandIn", BOTH), ("HandIn", ONE), ("Withdraw", 7), ("Withdraw", 8)],
+        "written": [coded(line) for line, _, _ in HANDED_LINES],
+        "names_of": [[coded(n) for n in x.split("+") if x != "-"] for x in ("-", "mailpw", "ordpw+token", "token+ordpw", "pw", "nobody", "token+token")],
+        "afternoons": days,
+        "marked": [(BENCH_DOC, x, u, a, e, l) for x in (N_BOTH, N_ONE, N_UNKNOWN) for u, a, e, l in (
+            (0, Registered(0, 1), [R_ANY], [R_BOTH]), (1, Registered(0, 1), [R_BOTH], [R_ONE]), (0, Registered(26, 0), [], []), (1, Registered(0, 2), [R_ANY, R_ANY], [R_ANY, R_ONE]))],
+        "line_outcomes": [THE.withSets(a, x) for a, x in ends],
+        "named_sets": sets,
+        "line_ends": ends,
+        "registers": [THE.withSlice(a, x) for a, x in REGISTERS],
+        "written_sets": [(sheet, 5, [35] * 12, n, f, [x]) for n, f in ((0, [11]), (0, [12]), (14, [0]), (15, [0])) for x in ([*names, 35], [35] * 12)],
+        "set_readings": [(t, coded(l), a) for t in (sheet, five) for l in ("ordpw+token", "nobody") for a in sets],
+        "line_readings": [(t, l, a, [9, 9, 9], x) for t in (sheet, five) for l in lines for a, x in ends],
+        "entered": [(sheet, l, 1, a, [R_BOTH, R_ANY], x) for l in lines for a, x in REGISTERS],
+    }
+
+
+def of_handins(D):
+    """Lines, sets by name, and what the calls on them tell."""
+    sheet, five, items, g = text(BENCH), REFUSED["refused 5"][0], BENCH_DOC.items, of_lines()
+    ask = lambda f, *a, **more: lambda: D.among(**{**g, **more})(lambda: f(*a))
+    number = lambda line: tuple(D.lineNo(items, coded(line)))
+    field = lambda l: tuple(D.setFrom(items, coded(l)))
+    reads = lambda l, *a, t=sheet: ask(D.ReadSetCall, t, coded(l), NamedSet(*a))
+    names, lent = coded("ordpw+token"), [35] * 12
+    writes = lambda n, v, exit, x=5, t=sheet, out=lent: ask(lambda: D.Fulfils(D.writeSetCall(t, x, out), ended(D, n, v, exit)))
+    told = lambda line, a, exit, entry=(9, 9, 9), t=sheet: ask(D.ReadLineCall, t, coded(line), a, list(entry), exit)
+    in_c = lambda line, a, exit, entry=(9, 9, 9), t=sheet: ask(D.TellLineCall, t, coded(line), a, list(entry), exit)
+    enters = lambda line, used, n, back, entry, exit, t=sheet: ask(D.EnterCall, t, coded(line), used, Registered(n, back), entry, exit)
+    settled = lambda line, used, n, back, entry, exit, t=sheet: ask(D.SettledEntering, t, coded(line), used, Registered(n, back), entry, exit)
+    by_set = lambda l, *a, t=sheet: ask(D.SettledReadSet, t, coded(l), NamedSet(*a))
+    by_line = lambda line, a, exit, entry=(9, 9, 9), t=sheet: ask(D.SettledReadLine, t, coded(line), a, list(entry), exit)
+    taken = lambda x, used, n, back, entry, exit: ask(D.LineTaken, BENCH_DOC, x, used, Registered(n, back), entry, exit)
+    log = g["afternoons"][3][2]
+    no = [9, 9, 9]
+    fields = lambda n: [coded(f) for f in ("7", "order", "open")] + [coded("-")] * n
+    return [
+        *((f"line: {line!r}", lambda line=line, a=(n, k): number(line) == a, True) for line, n, k in HANDED_LINES),
+        *((f"set: {l!r}", lambda l=l, a=(n, x): field(l) == a, True) for l, n, x in HANDED_SETS),
+        ("line: 16,384 sets", lambda: [D.fieldQuestions(items, fields(n))[-1] for n in (16384, 16385)] == [D.askOf(7, 0, True), D.askOf(7, 0, False)], True),
+        ("line: what it says", lambda: D.lineCall(items, coded(ORDERED)) == ("HandIn", BOTH) and D.lineCall(items, coded("7 withdraw")) == ("Withdraw", 7), True),
+        ("line: lockouts", lambda: D.lineCall(items, coded("7 order lock mailpw+ordpw token+mailpw")) == ("HandIn", LOCKS), True),
+        ("entry: as it is written", lambda: bytes(D.entryText(("HandsIn", N_LOCKS))) == b"7 order lock mailpw+ordpw mailpw+token" and bytes(D.entryText(("Withdraws", 7))) == b"7 withdraw", True),
+        ("entry: what it states", lambda: D.stated(items, ("HandsIn", N_LOCKS)) == ("HandIn", LOCKS) and D.stated(items, ("Withdraws", 7)) == ("Withdraw", 7), True),
+        ("set names: rising, and none", lambda: [bytes(D.setNames(lambda i: items[i].name, x)) for x in (5, 0)] == [b"ordpw+token", b"-"], True),
+        *((f"valid entry: {n}", lambda e=e: D.ValidEntry(items, e), True) for n, e in (("both", ("HandsIn", N_BOTH)), ("the largest student leaves", ("Withdraws", 4000000000)), ("a set twice", ("HandsIn", N_TWICE)))),
+        *((f"not valid entry: {n}", lambda e=e: D.ValidEntry(items, e), False) for n, e in (
+            ("no item", ("HandsIn", N_UNKNOWN)), ("a name twice", ("HandsIn", N_AGAIN)), ("too high a student", ("HandsIn", N_HIGH)), ("no target", ("HandsIn", NAMED[-1])), ("too high a student leaves", ("Withdraws", 4000000001)))),
+        ("valid entry: 16,384 sets, and no more", lambda: [D.ValidAttempt(items, N_NONE._replace(sets=[[]] * n)) for n in (16384, 16385)] == [True, False], True),
+        ("named rows: bench", lambda: D.NamedRows(items), True),
+        ("not named rows: a name twice", lambda: D.NamedRows(SAME_NAMES.items), False),
+        ("not named rows: no name", lambda: D.NamedRows([item("")]), False),
+        ("one of: the second", lambda: D.OneOf([[1], [2]], [2]), True),
+        ("not one of", lambda: D.OneOf([[1], [2]], [3]), False),
+        *((f"law: {f}", ask(getattr(D, f)), True) for f in "LineOfEntry EntryOfLine SetOfNames SetReadBack SetEnough LinesLaw LineMarks RegisterMarks".split()),
+        ("set bytes: 64 names of 16 bytes", lambda: D.setBytes == 64 * 16 + 63, True),
+        ("names set: either order", lambda: all(ask(D.NamesSet, sheet, coded(l), 5)() for l in ("ordpw+token", "token+ordpw")), True),
+        ("not names set: another set", ask(D.NamesSet, sheet, names, 4), False),
+        ("not names set: of another sheet", ask(D.NamesSet, render(DOC), names, 5), False),
+        ("not names set: a name twice", ask(D.NamesSet, sheet, coded("token+token"), 4), False),
+        ("line says: both", ask(D.LineSays, sheet, coded(ORDERED), ("HandIn", BOTH)), True),
+        ("not line says: another attempt", ask(D.LineSays, sheet, coded(ORDERED), ("HandIn", ONE)), False),
+        ("not line says: a line that is refused", ask(D.LineSays, sheet, coded("4000000001 withdraw"), ("Withdraw", 4000000001)), False),
+        ("not line says: of another sheet", ask(D.LineSays, five, coded("7 withdraw"), ("Withdraw", 7)), False),
+        ("call: a set read", reads("ordpw+token", 0, 0, 0, 5), True),
+        ("not call: a set read, another", reads("ordpw+token", 0, 0, 0, 4), False),
+        ("call: a set read, 8", reads("nobody", 8, 2, 0, 0), True),
+        ("not call: a set read, 8 of the sheet", reads("nobody", 8, 1, 0, 0), False),
+        ("call: a set read, the sheet's number and line", reads("nobody", 5, 1, 2, 0, t=five), True),
+        ("not call: a set read, 8 before the sheet's number", reads("nobody", 8, 2, 0, 0, t=five), False),
+        ("call: a set written", writes(0, [11], [*names, 35]), True),
+        ("not call: a set written, another length", writes(0, [12], [*names, 35]), False),
+        ("not call: a set written, not rising", writes(0, [11], [*coded("token+ordpw"), 35]), False),
+        ("call: a set written, 15", writes(15, [], lent[:10], out=lent[:10]), True),
+        ("call: a set written, equal room", writes(0, [11], names, out=lent[:11]), True),
+        ("call: a set written, 14", writes(14, [], lent, x=32), True),
+        ("call: a set written, the sheet's number", writes(5, [], lent, x=32, t=five), True),
+        ("call: a line read", told(ORDERED, SAYS_BOTH, [2, 5, 9]), True),
+        ("not call: a line read, the place behind changed", told(ORDERED, SAYS_BOTH, [2, 5, 0]), False),
+        ("not call: a line read, the other way", told(ORDERED, SAYS_BOTH._replace(loss=True), [2, 5, 9]), False),
+        ("call: a withdrawal read", told("7 withdraw", SAYS_LEAVE, no), True),
+        ("call: a line read, equal room", told(ORDERED, SAYS_BOTH, [2, 5], (9, 9)), True),
+        ("call: a line read, 15", told(ORDERED, no_line(15), [9], (9,)), True),
+        ("not call: a line read, 15 and written", told(ORDERED, no_line(15), [2], (9,)), False),
+        ("call: a line read, 8 in field 2", told("7 nobody shut", no_line(8, 2, 2), no), True),
+        ("not call: a line read, 8 in another field", told("7 nobody shut", no_line(8, 2, 3), no), False),
+        ("call: a line read, the sheet's number and line", told("", no_line(5, 1, 2), no, t=five), True),
+        ("not call: a line read, 4 before the sheet's number", told("", no_line(4, 2, 1), no, t=five), False),
+        ("call: a line for C", in_c(ORDERED, ReadLineResult(0, 0, 0, 0, 7, ORDER, 0, 2), [2, 5, 9]), True),
+        ("call: a withdrawal for C", in_c("7 withdraw", ReadLineResult(0, 0, 0, 1, 7, 0, 0, 0), no), True),
+        ("not call: a line for C, as a withdrawal", in_c(ORDERED, ReadLineResult(0, 0, 0, 1, 7, ORDER, 0, 2), [2, 5, 9]), False),
+        ("call: a line for C, the sheet's number and line", in_c(ORDERED, no_told(5, 1, 2), no, t=five), True),
+        ("not call: a line for C, the list changed", in_c(ORDERED, no_told(5, 1, 2), [2, 5, 9], t=five), False),
+        ("in numbers: lockouts", lambda: D.inNumbers(LineAnswer(1, 2, 3, False, 4, 5, True, 6)) == ReadLineResult(1, 2, 3, 0, 4, 5, 1, 6), True),
+        ("tells line: both", ask(D.TellsLine, sheet, coded(ORDERED), no, LineTold(ReadLineResult(0, 0, 0, 0, 7, ORDER, 0, 2), [2, 5, 9])), True),
+        ("call: a line entered", enters(ORDERED, 0, 0, 1, [R_ANY], [R_BOTH]), True),
+        ("not call: a line entered, another record", enters(ORDERED, 0, 0, 1, [R_ANY], [R_ONE]), False),
+        ("call: a line entered, withdrawn", enters("7 withdraw", 1, 0, 0, [R_BOTH], [R_BOTH]), True),
+        ("call: a line entered, 26", enters(ORDERED, 0, 26, 0, [], []), True),
+        ("call: a line entered, 27", enters("8 withdraw", 1, 27, 1, [R_BOTH], [R_BOTH]), True),
+        ("call: a line entered, 8", enters("7 nobody shut", 0, 8, 0, [], []), True),
+        ("not call: a line entered, 26 before 8", enters("7 nobody shut", 0, 26, 0, [], []), False),
+        ("call: a line entered, the sheet's number", enters("7 nobody shut", 0, 5, 0, [], [], t=five), True),
+        ("call: a line entered, 25", enters("", 1, 25, 1, [], [], t=five), True),
+        ("not call: a line entered, the sheet's number before 25", enters("", 1, 5, 1, [], [], t=five), False),
+        ("lines: entered one after the other", lambda: D.among(**g)(lambda: D.LinesEntered(sheet, [R_ANY, R_ANY], log)), True),
+        ("not lines: the count is not handed on", lambda: D.among(**g)(lambda: D.LinesEntered(sheet, [R_BOTH, R_ANY], [EnteredLine(coded("7 withdraw"), Registered(0, 0), [R_BOTH, R_ANY])])), False),
+        ("not lines: an earlier one", lambda: D.among(**g)(lambda: D.LinesEntered(sheet, [R_ANY], [EnteredLine(coded("x"), Registered(4, 0), [R_BOTH])])), False),
+        ("lines: the calls that were made", lambda: [m.call for m in D.callsMade(items, log)] == [("HandIn", ONE), ("HandIn", BOTH)], True),
+        ("sought: both, and lockouts", lambda: D.NamesSought(BENCH_DOC, N_BOTH) and D.NamesSought(BENCH_DOC, N_LOCKS), True),
+        *((f"not sought: {n}", lambda x=x: D.NamesSought(BENCH_DOC, x), False) for n, x in (("a loose one", N_ONE), ("one left out", N_NONE), ("one in two orders", N_TWICE), ("the other way", N_BOTH._replace(loss=True)))),
+        ("named record: both", lambda: D.NamedRecord(BENCH_DOC, N_BOTH, R_BOTH), True),
+        ("named record: a loose one", lambda: D.NamedRecord(BENCH_DOC, N_ONE, R_ONE), True),
+        ("not named record: another's", lambda: D.NamedRecord(BENCH_DOC, N_ONE, R_BOTH), False),
+        ("line taken: in its place", taken(N_ONE, 1, 0, 1, [R_BOTH, R_ANY], [R_ONE, R_ANY]), True),
+        ("line taken: behind", taken(N_ONE, 1, 0, 2, [R_ANOTHER, R_ANY], [R_ANOTHER, R_ONE]), True),
+        ("not line taken: another record", taken(N_ONE, 1, 0, 1, [R_BOTH, R_ANY], [R_BOTH, R_ANY]), False),
+        ("handed by line: the earlier one", lambda: D.HandedByLine(log, N_BOTH), True),
+        ("not handed by line: refused", lambda: D.HandedByLine([EnteredLine(coded(ORDERED), Registered(26, 0), [])], N_BOTH), False),
+        ("not handed by line: another", lambda: D.HandedByLine(log, N_LOCKS), False),
+        ("record of line: the latest", ask(D.RecordOfLine, BENCH_DOC, log, R_ONE), True),
+        ("not record of line: of none", ask(D.RecordOfLine, BENCH_DOC, log, R_LOCKS), False),
+        ("settled: a set read", by_set("ordpw+token", 0, 0, 0, 5), True),
+        ("settled: a set read, 8", by_set("nobody", 8, 2, 0, 0), True),
+        ("settled: a set read, the sheet's number", by_set("nobody", 5, 1, 2, 0, t=five), True),
+        ("not settled: a set read, another line", by_set("nobody", 5, 1, 0, 0, t=five), False),
+        ("not settled: a set read, another set", by_set("ordpw+token", 0, 0, 0, 2), False),
+        *((f"not settled: a set refused, {n}", lambda a=a: D.SetRefusal(NamedSet(*a)), False) for n, a in (("with a set", (8, 2, 0, 5)), ("with 7", (7, 2, 0, 0)), ("at a place", (8, 2, 1, 0)), ("of no text", (8, 0, 0, 0)))),
+        ("settled: a line read", by_line(ORDERED, SAYS_BOTH, [2, 5, 9]), True),
+        ("settled: a line read, 15", by_line(ORDERED, no_line(15), [9], (9,)), True),
+        ("settled: a line read, 8", by_line("7 nobody open", no_line(8, 2, 2), no), True),
+        ("not settled: a line read, not written", by_line(ORDERED, SAYS_BOTH, no), False),
+        ("not settled: a line read, 15 with room", by_line(ORDERED, no_line(15), no), False),
+        ("line answered: both", ask(D.LineAnswered, sheet, coded(ORDERED), SAYS_BOTH, no, [2, 5, 9]), True),
+        ("not line answered: another line", ask(D.LineAnswered, sheet, coded("7 withdraw"), SAYS_BOTH, no, [2, 5, 9]), False),
+        ("line refusal: of the sheet", lambda: D.LineRefusal(no_line(11, 1, 4), no, no), True),
+        *((f"not line refusal: {n}", lambda a=a, x=x: D.LineRefusal(a, no, x), False) for n, a, x in (
+            ("3", no_line(3, 2, 0), no), ("of no text", no_line(8, 0, 2), no), ("15 of the line", no_line(15, 2, 0), no), ("15 at a place", no_line(15, 0, 1), no), ("the list changed", no_line(15), [2, 9, 9]),
+            ("a student told", no_line(15)._replace(student=7), no), ("an answer", no_line(0), no))),
+        ("settled: a line entered", settled("7 order open mailpw token+mailpw", 1, 0, 1, [R_BOTH, R_ANY], [R_ONE, R_ANY]), True),
+        ("settled: a line entered, 26", settled(ORDERED, 1, 26, 1, [R_ANY], [R_ANY]), True),
+        ("settled: a line entered, 8", ask(D.SettledEntering, sheet, coded("7 nobody open"), 1, Registered(8, 1), [R_ANY], [R_ANY]), True),
+        ("not settled: a line entered, 13", ask(D.SettledEntering, sheet, coded(ORDERED), 1, Registered(13, 1), [R_ANY], [R_ANY], registers=[]), False),
+        ("not settled: a line entered, the old slice", settled("7 order open mailpw token+mailpw", 1, 0, 1, [R_BOTH, R_ANY], [R_BOTH, R_ANY]), False),
+    ]
+
+
+def of_drawings():
+    """Document 01's sheet as it is saved, before and after an item was taken in: its rows rise already."""
+    saved = text(BENCH)
+    lent = [35] * (len(saved) + 1)
+    return {"saves": [(n, size, lent, exit) for n, size in ((0, len(saved)), (0, 0), (12, 0)) for exit in ([*saved, 35], lent)] + [(15, 0, [35], [35])]}
+
+
+def of_saved_drawings(D):
+    """What is saved of a setup that was redrawn."""
+    sheet, five = text(BENCH), REFUSED["refused 5"][0]
+    g = {**of_drawings(), "docs": [BENCH_DOC], "setups": [bench, TAKEN, EMPTY], "ends": [bench, TAKEN, EMPTY]}
+    g["runs"] = [(sheet, [], []), (sheet, [D.TakeIn(1)], [0]), (sheet, [D.TakeIn(9)], [13]), (five, [D.TakeIn(1)], [12])]
+    written_, drawn = [*sheet, 35], D.drawingOf(bench)
+    after = D.leftBy([D.TakeIn(1)], [0], drawn)
+    saved = lambda *a: lambda: D.SavedDrawing(bench, *a)
+    return [
+        ("drawing saved", lambda: D.among(**g)(D.DrawingSaved), True),
+        ("let go: nothing held, edges and marks kept", lambda: [(d.Held(1), d.Edges(1, MAIL, 0), d.Marks(MAIL, ORDER, 1), d.Marks(1, MAIL, 0)) for d in (D.letGo(after),)] == [(False, True, True, False)], True),
+        ("saved drawing: with an item held", saved(after, TAKEN, 0, len(sheet), written_), True),
+        ("saved drawing: 15", saved(after, TAKEN, 15, 0, [35]), True),
+        ("not saved drawing: 12", saved(after, TAKEN, 12, 0, [35]), False),
+        ("not saved drawing: other bytes", saved(after, TAKEN, 0, len(sheet), [35, *sheet]), False),
+        ("not saved drawing: of another setup", saved(after, LESS, 0, len(sheet), written_), False),
+        ("not saved drawing: another drawing", saved(D.drawingOf(LESS), TAKEN, 0, len(sheet), written_), False),
+        ("contracts: save", lambda: D.contractOf(("Save", sheet, [35]), TAKEN).lent == ((35,),) and D.numbers(D.contractOf(("Save", five, []), bench)) == (5, 12, 13, 15), True),
+    ]
+
+
+def of_pooled_sets(D):
+    """What opens in the pooled sheet of two labs, of sets as numbers; and of sheets that lost an edge or an item."""
+    a, b, both = (render(d) for d in (*LABS, pooled(*LABS)))
+    bare = render(LABS[0]._replace(edges=[]))
+    return [
+        ("set by name: g and h", lambda: D.SetByName(b, both, 3, 6), True),
+        ("not set by name: the same number", lambda: D.SetByName(b, both, 3, 3), False),
+        ("not set by name: one more", lambda: D.SetByName(b, both, 3, 7), False),
+        *((f"keeps opening sets, {n}", lambda s=s: D.KeepsOpeningSet(s, both) and D.KeepsYes(s, both), True) for n, s in (("the first", a), ("the second", b))),
+        ("not keeps opening sets: an edge lost", lambda: D.KeepsOpeningSet(a, bare), False),
+        ("not keeps yes: an edge lost", lambda: D.KeepsYes(a, bare), False),
+    ]
+
+
+def of_kinds_of_sets(D):
+    """Kinds of sets, and what forecasts lie between, on document 01's sheet."""
+    return [
+        ("kind of set", lambda: D.among(kinds=[APART, UNLIKE, []])(D.KindOfSet), True),
+        ("forecast range", lambda: D.among(targets=[(bench, ORDER), (bench, MAIL), (EMPTY, 0), (closed, 0)])(D.ForecastRange), True),
     ]
 
 
@@ -2200,10 +2466,10 @@ GROUPS = {
     "one": [of_one, of_few_cuts],
     "sums": [of_sums],
     "bench": [of_derivations, of_passes, of_ways, of_bases, of_scores, of_marks, of_set_calls, of_way_calls, of_base_calls, of_score_calls, of_demand3]
-    + [of_quick, of_forecasts, of_cuts, of_attackers, of_next_sets, of_register, of_living, of_findings, of_portal, of_contracts, of_told, of_words, of_readings, of_demands, of_both_demands, of_soundness],
+    + [of_quick, of_forecasts, of_cuts, of_attackers, of_next_sets, of_register, of_living, of_findings, of_portal, of_contracts, of_told, of_words, of_readings, of_demands, of_both_demands, of_soundness, of_handins, of_saved_drawings, of_kinds_of_sets],
     "rows": [of_valid_rows, of_rows, of_bytes, of_stated, of_meaning, of_refusals],
     "spare": [of_spare],
-    "pool": [of_pools, of_saves],
+    "pool": [of_pools, of_saves, of_pooled_sets],
     "ring": [of_ring],
     "bags": [of_bags, of_bag_scores, of_sound_bags],
 }

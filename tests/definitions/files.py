@@ -10,16 +10,28 @@ import antt
 import belief
 
 USE = re.compile(r"use ([^{ ]+?)\.?(?:\{(.*)\})?(?: as (\S+))?$")
-# What report_writer/Whole cites of the report's steps, with the same type and nothing known: what it says need not be believed.
+# What report_writer/Whole cites of the report's steps, with the same types: nothing is known at a place, and of a step only what it wrote and what it left.
 AT = """-- What is known at a place of the report: nothing, here.
-use mathlib.Core.List.{List}
+use mathlib.Core.Path.{_≡_}
+use mathlib.Core.List.{List, _++_}
 use Prim.Native.Nat.{ℕ}
+use lib.ListN.{take, drop}
 use Rattle.setup.specs.declared.Setup.{Setup}
+use Rattle.sheet_format.specs.Read.{readSheet}
+use Rattle.sheet_format.specs.Names.{nameOf}
 use Rattle.report_facts.specs.declared.Facts.{Facts}
 use Rattle.report_writer.specs.declared.steps.Cursor.{Cursor}
+use Rattle.report_writer.specs.declared.steps.Step.{Step}
+use Rattle.report_writer.specs.Rest.{restOf}
 
 abbrev pub KnownAt : List ℕ → Setup → Facts → List ℕ → List ℕ → List ℕ → Cursor → Type 0
 KnownAt sheet s f opening lockout list c = Unit {0}
+
+abbrev pub leftAt : List ℕ → Cursor → List ℕ
+leftAt sheet c = restOf (nameOf sheet) (readSheet sheet .setup) c
+
+abbrev pub StepTaken : List ℕ → Facts → List ℕ → List ℕ → List ℕ → Cursor → List ℕ → ℕ → List ℕ → List ℕ → Step → Type 0
+StepTaken sheet f opening lockout list c entry at list′ exit r = leftAt sheet c ≡ drop at (take (r .at) exit) ++ leftAt sheet (r .cursor)
 """
 BEFORE = {"report_writer/Whole": ("report_writer/Inner/Steps", AT)}
 

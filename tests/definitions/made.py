@@ -81,7 +81,8 @@ class Definitions:
 
     def unused(self):
         """Entries of the table that no definition has a variable for."""
-        return [f"{name}: {key}" for name, table in ranges.RANGES.items() for key in table if (name, key) not in self.t.used]
+        entries = [(name, key) for name, table in ranges.RANGES.items() for key in table] + [(name, "record") for name in ranges.RECORDS]
+        return [f"{name}: {key}" for name, key in entries if (name, key) not in self.t.used]
 
     def is_value(self, name):
         d = self.t.defs[name]

@@ -11,6 +11,7 @@ BY_NAME |= {("Bool", ""): "(False, True)", ("Step", ""): "steps()", ("Attempt", 
 BY_NAME |= {("Setup", ""): "given.setups", ("Doc", ""): "given.docs", ("Outcome", ""): "given.outcomes", ("Redrawing", ""): "given.redrawings"}
 BY_NAME |= {("Reading", ""): "given.readings", ("Call", ""): "given.calls", ("List ℕ", "text"): "given.texts", ("List ℕ", "sheet"): "given.sheets"}
 
+BY_NAME |= {("List ItemRow", "items"): "given.item_rows", ("LineEntry", ""): "given.line_entries", ("NamedAttempt", ""): "given.attempts", ("RegisterCall", ""): "given.said"}
 BY_NAME |= {(score, "r"): "(0, 5, 2 ** 63)" for score in ("VertexSet", "SecurityScore", "RecoverabilityScore")}
 
 YES_NO, ASKED = {"telling.A": "(False, True)"}, lambda names, **more: {names: "given.asked", **more}
@@ -61,6 +62,7 @@ RANGES = {
     "UnmixedPrints": {"g": "graphs(readSheet(sheet).setup)"},
     # ---- kinds of intruder, the quick yes, forecasts
     "OfBase": {"set": "world.sets"},
+    "KindOfSet": {"kinds": "given.kinds", "t": "KINDS"},
     "KindInScore": {"j": "KINDS"},
     "AtOrAbove": {"attacker": "KINDS"},
     "AttackerScore": {"k": "KINDS", "t": "KINDS"},
@@ -77,6 +79,7 @@ RANGES = {
     "Sperner": {"t": "world.sets"},
     "Foretold": {"counted": "world.sets"},
     "ForecastHolds": ASKED("s target counted n"),
+    "ForecastRange": {"s target": "given.targets", "n": "range(12)"},
     "LongestBase": {"g": "(s.graph,)", "target": "range(s.count)"},
     "CountedOnce": {"s target": "given.targets", "r": "world.sets", "q": "world.sets"},
     "forecastCall": {"telling.A": "range(12)"},
@@ -131,8 +134,10 @@ RANGES = {
     "RenamesLowest": {"b": "range(c + 2)", "k": "range(newColour(es, fs, n, c) + 2)"},
     "Renaming": {"n": "given.names", "c": "range(9)"},
     "IsPooled": {"first": "given.docs", "second": "given.docs"},
+    "AlwaysEnough": {"a b t": "given.labs"},
     "PooledText": {"a b r entry exit": "given.pooled"},
-    "KeepsOpening": {"j": "world.vertices"},
+    **{n: {"j": "world.vertices"} for n in ("KeepsOpening", "SetByName", "KeepsOpeningSet")},
+    "KeepsYes": {"j": "world.vertices", "a": "quickCall(readSheet(s).setup, i, set_).Answer()", "b": "quickCall(readSheet(t).setup, j, x).Answer()"},
     "KeepsItems": {"j": "world.vertices"},
     "Pooling": {"a b t": "given.labs"},
     "PoolDetermined": {"a b entry": "given.lent", "r exit": "given.ends", "r′ exit′": "given.ends"},
@@ -146,6 +151,18 @@ RANGES = {
     "Entry": {"time": "world.times"},
     "RegisterHolds": {"t": "world.times", "times": "itertools.product(world.times, repeat=len(records))"},
     "RegisterLaw": {"s slice": "given.slices", "log": "given.logs"},
+    # ---- hand-ins by name
+    "writeSetCall": {"Answer": "[(), (45, 45), *(setNames(_Part(nameOf, 2, (sheet,)), y) for y in world.sets)]"},
+    **{n: {"d slice log": "given.afternoons"} for n in ("LinesLaw", "RegisterMarks")},
+    "EntryOfLine": {"l": "given.written"},
+    "SetOfNames": {"ns": "given.names_of", "n": "((), *ns, *(x.name for x in items))"},
+    "NamesSet": {"names": "given.names_of"},
+    "LineTaken": {"row": "world.records"},
+    "LineMarks": {"d x used a entry exit": "given.marked"},
+    "TellsLine": {"outcome": "given.line_outcomes"},
+    "SettledReadSet": {"b": "given.named_sets"},
+    "SettledReadLine": {"b other": "given.line_ends"},
+    "SettledEntering": {"Settled.O": "given.registers"},
     # ---- cut sets
     "Duality": {"counted": "world.sets", "n": "range(1, 7)"},
     "DualityHolds": ASKED("s target cuts"),
@@ -157,10 +174,12 @@ RANGES = {
     "OpenedAlways": {**RUNS, "s": "given.ends"},
     "RefusedStays": {**RUNS, "s": "given.ends", "n": "range(28)"},
     "NoHeed": {"q o": "given.requests", "used student target loss handed a entry exit": "given.hand_ins"},
+    "DrawingSaved": {"sheet calls numbers": "given.runs", "s": "given.ends", "number size entry exit": "given.saves"},
     # ---- the report part by part
     "Begun": {"list": "((0,) * 2 ** mostChosen,)"},
-    "PartsToEnd": {"d": "given.cursors"},
-    "WholeReport": {"sheet r opening₀ lockout₀ opening lockout": "given.begun", "parts": "given.parts"},
+    "Filled": {"entry exit step": "given.fills"},
+    "Fills": {"list′": "(list_, (0,))", "d": "given.cursors"},
+    "WholeReport": {"sheet r opening₀ lockout₀ opening lockout list": "given.begun", "parts": "given.parts"},
     # ---- the calls for C
     "SaysSetup": {"v": "range(66)"},
     "Strict": {"words": "given.words", "rest": "given.rests"},
@@ -182,6 +201,7 @@ RANGES = {
         "calls/q s n fields lent": "given.called",
         "living/c words n fields lent": "given.changed",
         "name/text item n fields lent": "given.named",
+        "writeSet/sheet x out n fields lent": "given.written_sets",
         "check/words": "given.words",
         "check/r": "range(16)",
         "Settled.O": "range(16)",
@@ -194,10 +214,15 @@ RANGES = {
         "withdraw/used student a entry exit": "given.withdrawn",
         "pool/first second p entry exit": "given.pooled",
         "living/c t p": "given.redrawn",
+        "readSet/sheet l a": "given.set_readings",
+        "readLine/sheet line a entry exit": "given.line_readings",
+        "enterLine/sheet line used a entry exit": "given.entered",
     },
     "Papers": {"quick/s target set": "given.quick", "routes/s g": "given.routes", "scores/s v r r′": "given.compared"},
 }
+# Which record is meant, where two have the same fields: by the definition that makes it.
+RECORDS = {"withSets": "LineOutcome", "toldInNumbers": "LineTold", "TellLineCall": "LineTold"}
 # Functions whose answers are kept, though they run over no range: what they compute is asked for again and again.
-KEPT = set("sameText readSheet render setupOf baseOf targetSetsOf scoreOf closureOf wordsOf setupIn reportOf sumOf edgeCount chosenCount nameOf nameStart".split())
+KEPT = set("sameText readSheet render setupOf baseOf targetSetsOf scoreOf closureOf wordsOf setupIn reportOf sumOf edgeCount chosenCount nameOf nameStart restOf".split())
 # Quantifiers that no example reaches, and why.
 NEVER = {}

@@ -337,6 +337,9 @@ class Translator:
         if names == ["0"]:
             return self.E(e[1][0][1], scope)
         name = self.records.get(frozenset(names))
+        if self.current in self.R.RECORDS:
+            self.used.add((self.current, "record"))
+            name = self.R.RECORDS[self.current]
         if not name:
             raise Refused(f"{self.current}: {'no record' if name is None else 'more than one record'} with the fields {' '.join(names)}")
         return f"{py(name)}({', '.join(self.field_name(n) + '=' + self.field_value(n, x, scope) for n, x in e[1])})"

@@ -11,7 +11,7 @@ help:
 	@echo 'make install    command, library, header, programs, manual pages and completion to PREFIX=/usr/local'
 	@echo 'make uninstall  takes these away again'
 	@echo 'make dist       a tarball and a Debian package in build/dist, which need no kit'
-	@echo 'make definitions  prints every definition that must be believed'
+	@echo 'make definitions  prints every definition that must be believed; DEMAND=3, CALL=portal_kinds, POINT=9 for what one rests on'
 	@echo 'make quick      layout, contracts, rows, map, index and header, in seconds'
 	@echo 'make test       the gate: proves every crate, tries the edits that must fail, runs all tests (half an hour)'
 	@echo 'make prove      the proofs alone'
@@ -44,9 +44,9 @@ pool:
 gemzuleg:
 	$(ALONE) gemzuleg rt python3 cargo gcc ar -- bash scripts/gemzuleg.sh
 
-# Every definition that must be believed, in reading order, as one text.
+# Every definition that must be believed, in reading order, as one text; DEMAND=3, CALL=portal_kinds or POINT=9, what that rests on.
 definitions:
-	@python3 scripts/definitions.py
+	@python3 scripts/definitions.py $(if $(DEMAND),--demand $(DEMAND)) $(if $(CALL),--call $(CALL)) $(if $(POINT),--point $(POINT))
 
 # The proofs alone: no must-fail edits, no programs, no Rust or C.
 prove:

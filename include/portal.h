@@ -95,7 +95,7 @@ uint64_t portal_version(void);
 /* The numbers for no: the papers' questions. portal_refusal_text has a sentence for each. Later versions have more. */
 enum portal_number {
     PORTAL_ANSWERED = 0,
-    /* of a sheet */
+    /* of a sheet; 2 and 4 to 8 also of names and hand-in lines */
     PORTAL_TOO_LONG = 1,
     PORTAL_NO_TEXT = 2,
     PORTAL_HEADER = 3,
@@ -136,10 +136,10 @@ static inline const char *portal_refusal_text(uint64_t number)
     case PORTAL_TOO_LONG: return "the sheet is too long: at most 16384 bytes";
     case PORTAL_NO_TEXT: return "the text has something else than plain letters, digits and signs (a tab, an accent, a Windows line end), or its last line has no line end";
     case PORTAL_HEADER: return "a header is missing or misspelt: 'name kind start loss rank' at the top, 'from to colour rec' below the empty line";
-    case PORTAL_FIELDS: return "a row has too many fields or too few: five for an item, four for an arrow";
+    case PORTAL_FIELDS: return "a row has too many fields or too few: five for an item, four for an arrow; a hand-in is 'student account way set set ..'";
     case PORTAL_FORM: return "a field is not in its form, or out of its range";
-    case PORTAL_NAME_USED: return "a name is used twice";
-    case PORTAL_BOUND: return "too many: a sheet has at most 64 items, 14 with a start, 14 with a loss, and 256 arrows";
+    case PORTAL_NAME_USED: return "a name is used twice: by two items of a sheet, or in one set";
+    case PORTAL_BOUND: return "too many: a sheet has at most 64 items, 14 with a start, 14 with a loss, and 256 arrows; a hand-in has at most 16384 sets";
     case PORTAL_NAME_UNKNOWN: return "no item has this name";
     case PORTAL_EDGE_TWICE: return "the arrow is there already: the same from, to and colour";
     case PORTAL_NO_ROWS: return "no item stands above the empty line";
@@ -486,7 +486,7 @@ struct portal_write_set_result portal_write_set(const uint8_t *sheet, size_t len
  *
  * One space stands between fields. student is 0 to 4000000000 without leading zeros, target the name of an item, a set as portal_read_set takes
  * it. Refused with the sheet's number, 1 to 11, with text 1 and its line as place; then with the line's first no, text 2 and the field as place:
- * 2 (a byte that is no plain letter, digit or sign; place 0); 4 (the first empty field; else the first that is missing); then the fields from
+ * 2 (a byte outside 32 to 126; place 0); 4 (the first empty field; else the first that is missing); then the fields from
  * the left, 5 for a student, 5 or 8 for a target, 5 for a way, 5, 8 or 6 for a set; 7 for more than PORTAL_MAX_HANDED sets (place 0). Last 15, where
  * the list has fewer places than the line has sets. A refusal leaves the list as it was.
  */

@@ -112,6 +112,11 @@ fails("kinds with an odd byte", ["kinds", "bench.sheet", "-"],
       give=b"name location skill\nt\xc3\xb6ken local none\n")
 fails("kinds with an odd byte at the top", ["kinds", "bench.sheet", "-"],
       b"-:1: only plain letters, digits and signs may stand in a line [2]\n    ?name location skill\n    ^\n", status=1, give=b"\xffname location skill\n")
+for sign, words in ((b",", b"commas"), (b";", b"semicolons")):
+    fails("kinds of a spreadsheet", ["kinds", "bench.sheet", "-"], b"-:1: " + words + b" stand where spaces belong; 'gemzuleg tidy' prints a mended copy [3]\n"
+          b"    " + sign.join((b"name", b"location", b"skill")) + b"\n", status=1, give=kinds.replace(b" ", sign))
+hold("lines that end in a carriage return alone", run(["mark", "bench.sheet", "-"], give=handins.replace(b"\n", b"\r")), 1, REGISTER,
+     lambda e: e.startswith(b"-:1: only plain letters, digits and signs may stand in a line [2]\n") and e.endswith(b"-: 1 of 1 lines refused\n"))
 PACKED = b"-: this is a spreadsheet's or word processor's own file; save it as text [%d]\n"
 fails("a spreadsheet's own file", ["list", "-"], PACKED % 2, status=1, give=b"PK\x03\x04" + bytes(99))
 fails("a large one", ["list", "-"], PACKED % 1, status=1, give=b"PK\x03\x04" + bytes(99_999))

@@ -5,6 +5,7 @@ use crate::handin_words::{self, Words};
 use crate::lab::{items, yes_no, Lab, Way};
 use crate::mending;
 use crate::refusals::Refusal;
+use crate::sheet_words;
 use crate::stop::{answered, hold, Answer};
 use crate::tables::Table;
 
@@ -59,7 +60,7 @@ fn read(lab: &Lab, file: &str) -> Answer<Vec<u8>> {
     let mut header = false;
     for (at, bytes) in mending::mended_lines(&text).enumerate() {
         let line = String::from_utf8_lossy(&bytes);
-        if line.is_empty() || line.starts_with('#') {
+        if line.is_empty() || mending::is_remark(&bytes) {
             continue;
         }
         let found = if !bytes.iter().all(|byte| (32..=126).contains(byte)) {
@@ -70,7 +71,7 @@ fn read(lab: &Lab, file: &str) -> Answer<Vec<u8>> {
             header = true;
             Ok(())
         } else {
-            Err(whole(3, format!("the first line must be: {HEADER}")))
+            Err(whole(3, sheet_words::no_header(&bytes, HEADER)))
         };
         if let Err((number, words)) = found {
             let place = format!("{file}:{}", at + 1);

@@ -71,7 +71,7 @@ pub fn mark(lab: &Lab, file: &str, handins: &[u8], shown: Shown) -> Answer<Marke
     };
     let mut rows = Table::new(EACH);
     for (at, line) in mending::mended_lines(handins).enumerate() {
-        if !line.is_empty() && !line.starts_with(b"#") {
+        if !line.is_empty() && !mending::is_remark(&line) {
             day.take(at + 1, &line, shown, &mut rows)?;
         }
     }

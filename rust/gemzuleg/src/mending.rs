@@ -37,6 +37,12 @@ pub fn mended_lines(text: &[u8]) -> impl Iterator<Item = Vec<u8>> + '_ {
     text.split(|&byte| byte == b'\n').map(mend_line)
 }
 
+/// A line that is passed over as a remark. One with a carriage return within is none: a file whose
+/// lines end in that alone would be one remark, and its hand-ins gone without a word.
+pub fn is_remark(line: &[u8]) -> bool {
+    line.starts_with(b"#") && !line.contains(&b'\r')
+}
+
 /// Spaces for a separator, and none for those that a spreadsheet puts behind the last field.
 fn parted(line: &[u8], separator: u8) -> Vec<u8> {
     let spaced: Vec<u8> =

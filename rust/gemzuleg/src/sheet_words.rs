@@ -141,14 +141,19 @@ fn of_line(text: &[u8], number: u64, line: usize) -> Found {
     }
 }
 
+/// 3, of a first line that is not the header.
+pub fn no_header(line: &[u8], header: &str) -> String {
+    match mending::separator(line) {
+        Some(b',') => format!("commas stand where spaces belong; {TIDY}"),
+        Some(_) => format!("semicolons stand where spaces belong; {TIDY}"),
+        None => format!("the first line must be: {header}"),
+    }
+}
+
 /// 3.
 fn header(lines: &Lines) -> Found {
     if lines.above.is_empty() {
-        match mending::separator(lines.line.as_bytes()) {
-            Some(b',') => Found::line(format!("commas stand where spaces belong; {TIDY}")),
-            Some(_) => Found::line(format!("semicolons stand where spaces belong; {TIDY}")),
-            None => Found::line(format!("the first line must be: {ITEMS}")),
-        }
+        Found::line(no_header(lines.line.as_bytes(), ITEMS))
     } else {
         Found::line(format!("below the empty line must come: {ARROWS}"))
     }

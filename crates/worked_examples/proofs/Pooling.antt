@@ -34,161 +34,24 @@ use Rattle.pool_format.specs.Meaning.{SameItem}
 use Rattle.sheet_format.proofs.Lengths.{rows-short}
 use Rattle.pool_format.proofs.PooledRows.{pooled-valid}
 use Rattle.worked_examples.specs.Sheets.{linesText}
-use Rattle.worked_examples.specs.Pooling.{firstLab, secondLab, bothLabs, otherLab, Storeroom, Disagree, LossNotKept}
-
--- ---- the rows
-
-abbrev badge : ItemRow
-badge = record { name = bytesOf "badge"; kind = Credential; start = Of 2; loss = Of 1; rank = 0 }
-
-abbrev store : ItemRow
-store = record { name = bytesOf "store"; kind = Account; start = Blank; loss = Blank; rank = 1 }
-
-abbrev bench : ItemRow
-bench = record { name = bytesOf "bench"; kind = Account; start = Blank; loss = Blank; rank = 2 }
-
-abbrev pin : ItemRow
-pin = record { name = bytesOf "pin"; kind = Credential; start = Of 1; loss = Of 0; rank = 0 }
-
-abbrev mail : ItemRow
-mail = record { name = bytesOf "mail"; kind = Account; start = Blank; loss = Blank; rank = 3 }
-
-abbrev otherStore : ItemRow
-otherStore = record { name = bytesOf "store"; kind = Account; start = Blank; loss = Blank; rank = 2 }
-
-abbrev first : Doc
-first =
-    record {
-      items = badge ∷ store ∷ bench ∷ [];
-      edges = record { from = badge .name; to = store .name; colour = 0; rec = false } ∷ record { from = store .name; to = bench .name; colour = 0; rec = false } ∷ [];
-    }
-
-abbrev second : Doc
-second =
-    record {
-      items = store ∷ pin ∷ mail ∷ [];
-      edges =
-          record { from = pin .name; to = store .name; colour = 3; rec = false }
-          ∷ record { from = mail .name; to = store .name; colour = 0; rec = true }
-          ∷ record { from = store .name; to = mail .name; colour = 5; rec = false }
-          ∷ [];
-    }
-
-abbrev other : Doc
-other = record { items = otherStore ∷ []; edges = [] }
+use Rattle.worked_examples.specs.Pooling.{firstLab, secondLab, bothLabs, Storeroom, LossNotKept}
+use Rattle.worked_examples.proofs.PoolingRows.{first, second, labs-read}
 
 -- two texts that are not the same
-differ : (s t : List ℕ) → sameText s t ≡ false → s ≡ t → ⊥
+pub differ : (s t : List ℕ) → sameText s t ≡ false → s ≡ t → ⊥
 differ s t h = text-decided s t .no h
 
 valid-first : Valid first
-unfolding isName all isNameByte isDigit startCount lossCount sameText
-valid-first =
-    let items : Each ValidItem (first .items) = (
-      record { name = refl; start = omega arith; loss = omega arith; rank = omega arith },
-      (
-        record { name = refl; start = tt; loss = tt; rank = omega arith },
-        (
-          record { name = refl; start = tt; loss = tt; rank = omega arith },
-          tt,
-        ),
-      ),
-    ) in
-    let edges : Each (ValidEdge (first .items)) (first .edges) = (
-      record { from = inl refl; to = inr (inl refl); colour = omega arith },
-      (
-        record { from = inr (inl refl); to = inr (inr (inl refl)); colour = omega arith },
-        tt,
-      ),
-    ) in
-    let short = rows-short first items edges (omega arith) (omega arith) (omega arith) (omega arith) in
-    record {
-      some = omega arith;
-      most = omega arith;
-      items = items;
-      names = ((differ _ _ refl, (differ _ _ refl, tt)), ((differ _ _ refl, tt), (tt, tt)));
-      starts = omega arith;
-      losses = omega arith;
-      edges = edges;
-      rows = ((λ h. differ _ _ refl (h .0), tt), (tt, tt));
-      many = omega arith;
-      text = omega arith;
-    }
-
-valid-second : Valid second
-unfolding isName all isNameByte isDigit startCount lossCount sameText
-valid-second =
-    let items : Each ValidItem (second .items) = (
-      record { name = refl; start = tt; loss = tt; rank = omega arith },
-      (
-        record { name = refl; start = omega arith; loss = omega arith; rank = omega arith },
-        (
-          record { name = refl; start = tt; loss = tt; rank = omega arith },
-          tt,
-        ),
-      ),
-    ) in
-    let edges : Each (ValidEdge (second .items)) (second .edges) = (
-      record { from = inr (inl refl); to = inl refl; colour = omega arith },
-      (
-        record { from = inr (inr (inl refl)); to = inl refl; colour = omega arith },
-        (
-          record { from = inl refl; to = inr (inr (inl refl)); colour = omega arith },
-          tt,
-        ),
-      ),
-    ) in
-    let short = rows-short second items edges (omega arith) (omega arith) (omega arith) (omega arith) in
-    record {
-      some = omega arith;
-      most = omega arith;
-      items = items;
-      names = ((differ _ _ refl, (differ _ _ refl, tt)), ((differ _ _ refl, tt), (tt, tt)));
-      starts = omega arith;
-      losses = omega arith;
-      edges = edges;
-      rows = ((λ h. differ _ _ refl (h .0), (λ h. differ _ _ refl (h .0), tt)), ((λ h. differ _ _ refl (h .0), tt), (tt, tt)));
-      many = omega arith;
-      text = omega arith;
-    }
-
-valid-other : Valid other
-unfolding isName all isNameByte isDigit startCount lossCount
-valid-other =
-    let items : Each ValidItem (other .items) = (record { name = refl; start = tt; loss = tt; rank = omega arith }, tt) in
-    let short = rows-short other items tt (omega arith) (omega arith) (omega arith) (omega arith) in
-    record {
-      some = omega arith;
-      most = omega arith;
-      items = items;
-      names = (tt, tt);
-      starts = omega arith;
-      losses = omega arith;
-      edges = tt;
-      rows = tt;
-      many = omega arith;
-      text = omega arith;
-    }
-
--- ---- the sheets are theirs
+valid-first = labs-read .first .valid
 
 text-first : linesText firstLab ≡ render first
-unfolding render firstHeader secondHeader itemLines edgeLines decimal digitsIn
-text-first = refl
+text-first = labs-read .first .is
 
-text-second : linesText secondLab ≡ render second
-unfolding render firstHeader secondHeader itemLines edgeLines decimal digitsIn
-text-second = refl
-
-text-other : linesText otherLab ≡ render other
-unfolding render firstHeader secondHeader itemLines edgeLines decimal digitsIn
-text-other = refl
-
-text-both : linesText bothLabs ≡ render (pooled first second)
+pub text-both : linesText bothLabs ≡ render (pooled first second)
 unfolding render firstHeader secondHeader itemLines edgeLines decimal digitsIn pooled remaining recoloured newColour isTaken lowestFree usesColour isKnown sameText
 text-both = refl
 
-agree : Agree (first .items) (second .items)
+pub agree : Agree (first .items) (second .items)
 unfolding sameText
 agree = (
   (λ s. absurd (differ _ _ refl s), (λ s. absurd (differ _ _ refl s), (λ s. absurd (differ _ _ refl s), tt))),
@@ -198,7 +61,7 @@ agree = (
   ),
 )
 
-fits : Fits (pooled first second)
+pub fits : Fits (pooled first second)
 unfolding pooled remaining recoloured newColour isTaken lowestFree usesColour isKnown sameText startCount lossCount
 fits =
     record {
@@ -215,39 +78,18 @@ storeroom =
       first = first;
       second = second;
       validFirst = valid-first;
-      validSecond = valid-second;
+      validSecond = labs-read .second .valid;
       isFirst = text-first;
-      isSecond = text-second;
+      isSecond = labs-read .second .is;
       agree = agree;
       fits = fits;
       text = text-both;
     }
 
--- ---- a disagreement
-
-read-well : (text : List ℕ) (d : Doc) → Valid d → text ≡ render d → readSheet text .number ≡ 0
-read-well text d v e = ap (λ (r : Reading). r .number) (ap readSheet e ∙ accepted-of-valid d v)
-
-apart : Agree (first .items) (other .items) → ⊥
-apart a = let e : _≡_ {A = ℕ} 1 2 = ap (λ (v : Vertex). v .rank) (a .1 .0 .0 refl) in omega arith
-
--- both sheets are read, the rows are theirs, and question 22 is the first that is answered no
-pub disagree : Disagree
-disagree r entry exit c =
-    let a = linesText firstLab in
-    let b = linesText otherLab in
-    let second = after-all (poolRefusal 1 (readSheet a .line) entry) (Asks (poolRefusal 2 (readSheet b .line) entry) (asksSheet b ∷ []) (PoolsRows a b entry)) (asksSheet a ∷ []) _ c
-    (read-well a first valid-first text-first, tt) in
-    let h = after-all (poolRefusal 2 (readSheet b .line) entry) (PoolsRows a b entry) (asksSheet b ∷ []) _ second (read-well b other valid-other text-other, tt) in
-    let d = rows-unique (h .d) first (h .valid) valid-first (sym (h .is) ∙ text-first) in
-    let e = rows-unique (h .e) other (h .validSecond) valid-other (sym (h .isSecond) ∙ text-other) in
-    first-no (poolRefusal 0 0 entry) (λ p. p ≡ poolsText (render (pooled (h .d) (h .e))) entry) [] (asks22 (h .d) (h .e)) (asks23 (h .d) (h .e) ∷ asks24 (h .d) (h .e) entry ∷ []) _
-    (h .told) tt (λ k. apart (subst (λ (x : Doc). Agree (first .items) (x .items)) e (subst (λ (x : Doc). Agree (x .items) (h .e .items)) d k)))
-
 -- ---- a loss that is not kept
 
 valid-both : Valid (pooled first second)
-valid-both = pooled-valid first second valid-first valid-second agree fits
+valid-both = pooled-valid first second valid-first (labs-read .second .valid) agree fits
 
 graph-first : readSheet (linesText firstLab) .setup .graph ≡ setupOf first .graph
 graph-first = ap (λ (r : Reading). r .setup .graph) (ap readSheet text-first ∙ accepted-of-valid first valid-first)

@@ -1,14 +1,19 @@
 -- The sheets' bytes are accepted with the setups that the table has: the reader's definition, computed. So the setups are well formed.
 -- Assumes nothing.
-use mathlib.Core.Path.{refl}
+use mathlib.Core.Path.{_≡_, refl, sym, ap, subst, _∙_}
+use mathlib.Core.List.{List, [], _∷_}
+use Prim.Native.Nat.{ℕ}
 use Rattle.formed.specs.WellFormed.{WellFormed}
 use Rattle.sheet_format.specs.Text.{grow, linesOf, fieldsOf, isEmpty, sameText, all}
 use Rattle.sheet_format.specs.Fields.{isDigit, isNameByte, isName, isNumber, valueBehind, numberOf, isNumberTo, isKind, kindOf, isValue, fieldValue}
-use Rattle.sheet_format.specs.Rows.{firstHeader, secondHeader, startCount, lossCount, numberIn, verticesOf, withEdge, withEdges, recoveryRows, setupOf}
+use Rattle.sheet_format.specs.Rows.{Doc, Valid, render, firstHeader, secondHeader, startCount, lossCount, numberIn, verticesOf, withEdge, withEdges, recoveryRows, setupOf}
 use Rattle.setup.specs.Setup.{emptyGraph}
 use Rattle.sheet_format.specs.Questions.{question1, isTextByte, endsInLF, question2, question3, question10, noneEmpty, question4, question5Item, question5Edge, itemOf, edgeOf, isKnown, question6, question8, sameEdge, isRepeated, question9, question7Item, question7Edge}
-use Rattle.sheet_format.specs.Read.{itemQuestions, edgeQuestions, questionsOf, behind, firstNo, question11, unless, readLines, readSheet}
+use Rattle.sheet_format.specs.Read.{Place, AmongEdges, itemQuestions, edgeQuestions, questionsOf, behind, firstNo, question11, unless, readLines, readSheet}
+use Rattle.sheet_format.specs.Meaning.{start, next, Passed}
+use Rattle.sheet_format.proofs.Meaning.{valid-read}
 use Rattle.sheet_format.proofs.Question12.{yielded-formed}
+use Rattle.save_format.proofs.Meaning.{rows-of}
 use Rattle.worked_examples.specs.Sheets.{Sheet, ReadsSheet, AllRead, AllRefused, linesText, bench, ring, closed, pair, spare, relay, alone, loop, full, halves, figure1, figure6, zeroed, outer, inner, later}
 
 -- One more entry shown.
@@ -30,6 +35,33 @@ all-refused =
 -- question 12: what an accepted sheet yields is well formed
 pub reads-well : (x : Sheet) → ReadsSheet x → WellFormed (x .setup)
 reads-well x e = yielded-formed (linesText (x .lines)) (x .setup) e
+
+-- ---- the rows of an accepted sheet, computed
+
+-- The place behind the lines.
+abbrev behindAll : Place → List (List ℕ) → Place
+behindAll p [] = p
+behindAll p (line ∷ lines) = behindAll (next p line) lines
+
+passed-behind : (p : Place) (lines : List (List ℕ)) (q : Place) → Passed p lines q → behindAll p lines ≡ q
+passed-behind p [] q h = h
+passed-behind p (line ∷ lines) q h = passed-behind (next p line) lines q (h .1)
+
+-- The rows that reading gathers.
+abbrev pub rowsIn : List ℕ → Doc
+rowsIn text = behindAll start (linesOf text) .above
+
+-- They are valid, and the text is their written form.
+pub record HasRows (text : List ℕ) (d : Doc) : Type 0 where
+  pub valid : Valid d
+  pub is : text ≡ render d
+
+pub rows-read : (text : List ℕ) (d : Doc) → readSheet text .number ≡ 0 → rowsIn text ≡ d → HasRows text d
+rows-read text d z e =
+    let r = rows-of text z in
+    let p : Passed start (linesOf text) (record { phase = AmongEdges; above = r .0 }) = subst (λ (t : List ℕ). Passed start (linesOf t) (record { phase = AmongEdges; above = r .0 })) (sym (r .2)) (valid-read (r .0) (r .1) .passed) in
+    let same : r .0 ≡ d = sym (ap (λ (q : Place). q .above) (passed-behind start (linesOf text) _ p)) ∙ e in
+    record { valid = subst Valid same (r .1); is = r .2 ∙ ap render same }
 
 -- ---- one by one
 

@@ -25,12 +25,20 @@ _gemzuleg() {
     local now=${COMP_WORDS[COMP_CWORD]} last=${COMP_WORDS[COMP_CWORD - 1]} command=${COMP_WORDS[1]} place=0 i
     COMPREPLY=()
     if ((COMP_CWORD == 1)); then
-        _gemzuleg_words 'example check tidy report list routes harden kinds bags mark class why reach lose pool graph explain --help --version' "$now"
+        _gemzuleg_words 'example check tidy paper report list routes harden kinds bags mark class why reach lose pool graph explain --help --version' "$now"
         return
     fi
     case $command in
         mark) [[ $now == -* ]] && { _gemzuleg_words '--each --why --missing' "$now"; return; } ;;
-        class) [[ $now == -* ]] && { _gemzuleg_words '--summary' "$now"; return; } ;;
+        class)
+            [[ $now == -* ]] && { _gemzuleg_words '--summary --papers' "$now"; return; }
+            [[ $last == --papers ]] && { compopt -o filenames 2> /dev/null; mapfile -t COMPREPLY < <(compgen -d -- "$now"); return; }
+            ;;
+        paper)
+            [[ $now == -* ]] && { _gemzuleg_words '--answers --reach --kinds' "$now"; return; }
+            [[ $last == --reach ]] && { _gemzuleg_words "$(_gemzuleg_names)" "$now"; return; }
+            [[ $last == --kinds ]] && { _gemzuleg_files kinds "$now"; return; }
+            ;;
         graph)
             [[ $now == -* ]] && { _gemzuleg_words '--reach --lose' "$now"; return; }
             [[ $last == --reach || $last == --lose ]] && { _gemzuleg_words "$(_gemzuleg_names)" "$now"; return; }
@@ -38,7 +46,7 @@ _gemzuleg() {
     esac
     # the place among the words that are no options
     for ((i = 2; i <= COMP_CWORD; i++)); do
-        [[ ${COMP_WORDS[i]} == --* ]] || place=$((place + 1))
+        [[ ${COMP_WORDS[i]} == --* || ${COMP_WORDS[i - 1]} =~ ^--(reach|lose|kinds|papers)$ ]] || place=$((place + 1))
     done
     case $command:$place in
         example:1) _gemzuleg_words 'sheet handins kinds' "$now" ;;

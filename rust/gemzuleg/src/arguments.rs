@@ -9,7 +9,7 @@ use std::ffi::OsString;
 pub const HELP: &str = include_str!("help.txt");
 
 /// A command: its name, the fewest and most words behind it, what they are, which of them are files,
-/// and its options, those that take a set last.
+/// and its options, those that take a word last.
 struct Shape {
     name: &'static str,
     fewest: usize,
@@ -17,19 +17,24 @@ struct Shape {
     words: &'static str,
     files: usize,
     options: &'static [&'static str],
-    with_set: &'static [&'static str],
+    with_word: &'static [&'static str],
 }
 
 const fn shape(name: &'static str, fewest: usize, most: usize, words: &'static str) -> Shape {
-    Shape { name, fewest, most, words, files: 1, options: &[], with_set: &[] }
+    Shape { name, fewest, most, words, files: 1, options: &[], with_word: &[] }
 }
 
 const ANY: usize = usize::MAX;
 
-const SHAPES: [Shape; 17] = [
+const SHAPES: [Shape; 18] = [
     Shape { files: 0, ..shape("example", 0, 1, "[sheet|handins|kinds]") },
     Shape { files: ANY, ..shape("check", 1, ANY, "SHEET..") },
     shape("tidy", 1, 1, "FILE"),
+    Shape {
+        options: &["--answers"],
+        with_word: &["--reach", "--kinds"],
+        ..shape("paper", 1, ANY, "SHEET [ACCOUNT..]")
+    },
     shape("report", 1, 1, "SHEET"),
     shape("list", 1, 3, "SHEET [ACCOUNT [WAY]]"),
     shape("routes", 1, 2, "SHEET [ACCOUNT]"),
@@ -41,12 +46,17 @@ const SHAPES: [Shape; 17] = [
         options: &["--each", "--why", "--missing"],
         ..shape("mark", 1, 2, "SHEET [HANDINS]")
     },
-    Shape { files: ANY, options: &["--summary"], ..shape("class", 1, ANY, "SHEET..") },
+    Shape {
+        files: ANY,
+        options: &["--summary"],
+        with_word: &["--papers"],
+        ..shape("class", 1, ANY, "SHEET..")
+    },
     shape("why", 4, ANY, "SHEET ACCOUNT WAY SET.."),
     shape("reach", 2, 2, "SHEET SET"),
     shape("lose", 2, 2, "SHEET SET"),
     Shape { files: 2, ..shape("pool", 2, 2, "SHEET SHEET") },
-    Shape { with_set: &["--reach", "--lose"], ..shape("graph", 1, 1, "SHEET") },
+    Shape { with_word: &["--reach", "--lose"], ..shape("graph", 1, 1, "SHEET") },
     Shape { files: 0, ..shape("explain", 0, ANY, "[NUMBER..]") },
 ];
 
@@ -57,7 +67,7 @@ pub struct Asked {
     /// Its words.
     pub words: Vec<String>,
     options: Vec<String>,
-    sets: Vec<(String, String)>,
+    given: Vec<(String, String)>,
 }
 
 /// What the arguments ask for.
@@ -78,9 +88,9 @@ impl Asked {
         self.options.iter().any(|given| given == option)
     }
 
-    /// The set that was given with an option, and the option.
-    pub fn set(&self) -> Option<(&str, &str)> {
-        self.sets.first().map(|(option, set)| (option.as_str(), set.as_str()))
+    /// The word that was given with an option.
+    pub fn given(&self, option: &str) -> Option<&str> {
+        self.given.iter().find(|(name, _)| name == option).map(|(_, word)| word.as_str())
     }
 }
 
@@ -119,19 +129,28 @@ pub fn parse(arguments: impl Iterator<Item = OsString>) -> Answer<Request> {
     Ok(Request::Command(asked))
 }
 
+/// What stands behind an option that takes a word.
+fn wanted(option: &str) -> &'static str {
+    match option {
+        "--kinds" => "FILE",
+        "--papers" => "DIR",
+        _ => "SET",
+    }
+}
+
 /// Words and options apart.
 fn sort(shape: &Shape, mut rest: impl Iterator<Item = String>) -> Answer<Asked> {
     let (command, words) = (shape.name, Vec::new());
-    let mut asked = Asked { command, words, options: Vec::new(), sets: Vec::new() };
+    let mut asked = Asked { command, words, options: Vec::new(), given: Vec::new() };
     while let Some(word) = rest.next() {
         if word == "--" {
             asked.words.extend(rest);
             break;
         }
-        if shape.with_set.contains(&word.as_str()) {
+        if shape.with_word.contains(&word.as_str()) {
             match rest.next() {
-                Some(set) => asked.sets.push((word, set)),
-                None => return wrong(format!("{word} wants a SET")),
+                Some(next) => asked.given.push((word, next)),
+                None => return wrong(format!("{word} wants a {}", wanted(&word))),
             }
         } else if shape.options.contains(&word.as_str()) {
             asked.options.push(word);
@@ -145,7 +164,7 @@ fn sort(shape: &Shape, mut rest: impl Iterator<Item = String>) -> Answer<Asked> 
     Ok(asked)
 }
 
-/// As many words as the command takes, standard input for one file, and one option with a set.
+/// As many words as the command takes, standard input for one file, and each word once.
 fn check(shape: &Shape, asked: &Asked) -> Answer<()> {
     let count = asked.words.len();
     if count < shape.fewest || count > shape.most {
@@ -155,8 +174,24 @@ fn check(shape: &Shape, asked: &Asked) -> Answer<()> {
     if files.filter(|word| *word == "-").count() > 1 {
         return wrong("standard input can be one file only".to_string());
     }
-    if asked.sets.len() > 1 {
+    once(asked)
+}
+
+/// Of what takes a word one is enough; and nothing may tell an answer among the exercises.
+fn once(asked: &Asked) -> Answer<()> {
+    let times = |option: &str| asked.given.iter().filter(|(name, _)| name == option).count();
+    if times("--reach") + times("--lose") > 1 {
         return wrong("--reach or --lose, and one of them".to_string());
     }
-    Ok(())
+    for option in ["--kinds", "--papers"] {
+        if times(option) > 1 {
+            return wrong(format!("{option} once, please"));
+        }
+    }
+    match asked.given.first() {
+        Some((option, _)) if asked.command == "paper" && !asked.has("--answers") => {
+            wrong(format!("{option} tells an answer, and goes with --answers"))
+        }
+        _ => Ok(()),
+    }
 }

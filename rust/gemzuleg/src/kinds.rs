@@ -100,17 +100,37 @@ fn at_most(one: u8, other: u8) -> bool {
     one / 3 <= other / 3 && one % 3 <= other % 3
 }
 
-/// `kinds`: which kinds of intruder get in, and which of them are the least.
-pub fn answer(lab: &Lab, file: &str, account: Option<&String>) -> Answer<String> {
-    let kinds = read(lab, file)?;
-    let mut table = Table::new("target location skill enters least");
-    for target in lab.targets(account)? {
-        let lowest = portal::kinds(&lab.setup, target as u64, &kinds);
+/// A kind of intruder before a target.
+pub struct Intruder {
+    /// Where it is, and how skilled.
+    pub words: [&'static str; 2],
+    /// Does it get in?
+    pub enters: bool,
+    /// And is it one of the least that do?
+    pub least: bool,
+}
+
+/// The kinds of a file, as it was read.
+pub struct Kinds<'a> {
+    file: &'a str,
+    kinds: Vec<u8>,
+}
+
+impl Kinds<'_> {
+    /// Reads a file.
+    pub fn read<'a>(lab: &Lab, file: &'a str) -> Answer<Kinds<'a>> {
+        Ok(Kinds { file, kinds: read(lab, file)? })
+    }
+
+    /// The six kinds before a target.
+    pub fn before(&self, lab: &Lab, target: usize) -> Answer<Vec<Intruder>> {
+        let kinds = &self.kinds;
+        let lowest = portal::kinds(&lab.setup, target as u64, kinds);
         if lowest.number == 17 {
-            return Err(unsaid(lab, file, &kinds)?.into());
+            return Err(unsaid(lab, self.file, kinds)?.into());
         }
         let lowest = answered(lowest.answered(), "the kinds")?.kinds;
-        let name = lab.name(target)?;
+        let mut all = Vec::new();
         for kind in 0..KINDS {
             let least = lowest >> kind & 1 == 1;
             let enters = (0..KINDS).any(|other| lowest >> other & 1 == 1 && at_most(other, kind));
@@ -119,8 +139,21 @@ pub fn answer(lab: &Lab, file: &str, account: Option<&String>) -> Answer<String>
                 items(lab.chosen(Way::Open)).filter(gets).fold(0, |set, item| set | 1 << item);
             hold(enters == lab.opens(target, got)?, "the kinds")?;
             let (place, skill) = (usize::from(kind / 3), usize::from(kind % 3));
-            let fields = [LOCATIONS[place], SKILLS[skill], yes_no(enters), yes_no(least)];
-            table.row(&[&[name.as_str()], &fields[..]].concat());
+            all.push(Intruder { words: [LOCATIONS[place], SKILLS[skill]], enters, least });
+        }
+        Ok(all)
+    }
+}
+
+/// `kinds`: which kinds of intruder get in, and which of them are the least.
+pub fn answer(lab: &Lab, file: &str, account: Option<&String>) -> Answer<String> {
+    let kinds = Kinds::read(lab, file)?;
+    let mut table = Table::new("target location skill enters least");
+    for target in lab.targets(account)? {
+        let name = lab.name(target)?;
+        for intruder in kinds.before(lab, target)? {
+            let [place, skill] = intruder.words;
+            table.row(&[&name, place, skill, yes_no(intruder.enters), yes_no(intruder.least)]);
         }
     }
     Ok(table.text())

@@ -88,7 +88,8 @@ impl Lab {
         (value != BLANK).then_some(value)
     }
 
-    fn rank(&self, item: usize) -> u64 {
+    /// How important an item is.
+    pub fn rank(&self, item: usize) -> u64 {
         self.setup[4 + 4 * item]
     }
 

@@ -14,10 +14,7 @@ pub fn list(lab: &Lab, targets: &[usize], way: Option<Way>) -> Answer<String> {
         for one in
             [Way::Open, Way::Lock].into_iter().filter(|one| way.is_none_or(|way| way == *one))
         {
-            let sets = lab.list(target, one)?;
-            let least = sets.iter().map(|&set| lab.sum(set, one)).min();
-            hold(least == lab.least(target, one)?, "the sums")?;
-            for set in sets {
+            for set in summed(lab, target, one)? {
                 let (size, sum) = (set.count_ones().to_string(), lab.sum(set, one).to_string());
                 table.row(&[&name, one.name(), &size, &sum, &lab.names(set)?]);
             }
@@ -26,9 +23,17 @@ pub fn list(lab: &Lab, targets: &[usize], way: Option<Way>) -> Answer<String> {
     Ok(table.text())
 }
 
+/// A target's list, its least sum held against the proved one.
+pub fn summed(lab: &Lab, target: usize, way: Way) -> Answer<Vec<u64>> {
+    let sets = lab.list(target, way)?;
+    let least = sets.iter().map(|&set| lab.sum(set, way)).min();
+    hold(least == lab.least(target, way)?, "the sums")?;
+    Ok(sets)
+}
+
 /// The setup without recovery: a colour into an item is left out whole if any of its arrows is for
 /// recovery.
-fn without_recovery(lab: &Lab) -> Vec<u64> {
+pub fn without_recovery(lab: &Lab) -> Vec<u64> {
     let mut setup = lab.setup.clone();
     let marked = (769..1281).filter(|&word| lab.setup[word] != 0);
     for word in marked {
@@ -38,20 +43,33 @@ fn without_recovery(lab: &Lab) -> Vec<u64> {
     setup
 }
 
+/// The recovery routes that weaken a target.
+pub struct Routes {
+    /// The score without recovery; nothing for "never".
+    pub bound: Option<u64>,
+    /// The sets below it.
+    pub sets: Vec<u64>,
+}
+
+/// The routes of a target: none where recovery is no backdoor.
+pub fn routes_of(lab: &Lab, without: &[u64], target: usize) -> Answer<Routes> {
+    let score = portal::setup_score(without, target as u64).answered();
+    let score = answered(score, "the score without recovery")?.score;
+    let bound = Some(score).filter(|&sum| sum != portal::NEVER);
+    let below = |set: &u64| bound.is_none_or(|bound| lab.sum(*set, Way::Open) < bound);
+    let sets: Vec<u64> = lab.list(target, Way::Open)?.into_iter().filter(below).collect();
+    let backdoor = answered(portal::backdoor(&lab.setup, target as u64).answered(), "findings")?;
+    hold(sets.is_empty() == (backdoor.yes == 0), "the routes")?;
+    Ok(Routes { bound, sets })
+}
+
 /// `routes`: for an account with a backdoor, the sets below the score without recovery, and the
 /// recovery colours on their ways.
 pub fn routes(lab: &Lab, account: Option<&String>) -> Answer<String> {
     let mut table = Table::new("target score without sum items recovery");
     let without = without_recovery(lab);
     for target in lab.targets(account)? {
-        let score = portal::setup_score(&without, target as u64).answered();
-        let score = answered(score, "the score without recovery")?.score;
-        let bound = Some(score).filter(|&sum| sum != portal::NEVER);
-        let below = |set: &u64| bound.is_none_or(|bound| lab.sum(*set, Way::Open) < bound);
-        let sets: Vec<u64> = lab.list(target, Way::Open)?.into_iter().filter(below).collect();
-        let backdoor =
-            answered(portal::backdoor(&lab.setup, target as u64).answered(), "findings")?;
-        hold(sets.is_empty() == (backdoor.yes == 0), "the routes")?;
+        let Routes { bound, sets } = routes_of(lab, &without, target)?;
         let (name, own) = (lab.name(target)?, or_never(lab.least(target, Way::Open)?));
         for set in sets {
             let steps = steps::steps(lab, target, Way::Open, set)?;
@@ -64,16 +82,23 @@ pub fn routes(lab: &Lab, account: Option<&String>) -> Answer<String> {
     Ok(table.text())
 }
 
+/// The smallest cut sets of a target.
+pub fn cuts(lab: &Lab, target: usize) -> Answer<Vec<u64>> {
+    let mut sets = vec![0; MAX_LIST];
+    let cuts = portal::cut_sets(&lab.setup, target as u64, &mut sets).answered();
+    sets.truncate(answered(cuts, "the cut sets")?.count as usize);
+    for &set in &sets {
+        let others = lab.chosen(Way::Open) & !set;
+        hold(!lab.opens(target, others)?, "the cut sets")?;
+    }
+    Ok(sets)
+}
+
 /// `harden`: the smallest cut sets.
 pub fn harden(lab: &Lab, account: Option<&String>) -> Answer<String> {
     let mut table = Table::new("target size items");
     for target in lab.targets(account)? {
-        let mut sets = vec![0; MAX_LIST];
-        let cuts = portal::cut_sets(&lab.setup, target as u64, &mut sets).answered();
-        let count = answered(cuts, "the cut sets")?.count as usize;
-        for &set in &sets[..count] {
-            let others = lab.chosen(Way::Open) & !set;
-            hold(!lab.opens(target, others)?, "the cut sets")?;
+        for set in cuts(lab, target)? {
             table.row(&[&lab.name(target)?, &set.count_ones().to_string(), &lab.names(set)?]);
         }
     }

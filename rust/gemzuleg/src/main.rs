@@ -2,8 +2,10 @@
 //! of the portal's library; this reads files, asks, and prints. What it works out itself it holds
 //! against a proved call before it prints.
 
+mod answers;
 mod arguments;
 mod board;
+mod exercises;
 mod files;
 mod graph;
 mod handin_words;
@@ -13,6 +15,9 @@ mod lists;
 mod marking;
 mod mending;
 mod near;
+mod page;
+mod papers;
+mod picture;
 mod pooling;
 mod reasons;
 mod refusals;
@@ -27,6 +32,7 @@ mod words;
 use arguments::{Asked, Request};
 use lab::{Lab, Way};
 use marking::Shown;
+use page::Paper;
 use refusals::Refusal;
 use std::process::ExitCode;
 use stop::{Answer, Stop, ANSWERED, DISAGREES, FAILED};
@@ -90,7 +96,10 @@ fn run(asked: &Asked) -> Answer<u8> {
             let handins = words.get(1).map_or("-", String::as_str);
             marked(marking::one_lab(&words[0], handins, Shown { each, why, missing })?)
         }
-        "class" => marked(marking::class(words, asked.has("--summary"))?),
+        "class" => match asked.given("--papers") {
+            Some(folder) => marked(papers::class(folder, words, asked.has("--summary"))?),
+            None => marked(marking::class(words, asked.has("--summary"), &mut |_| Ok(()))?),
+        },
         "pool" => done(screen::plain(pooling::pool(&words[0], &words[1])?.as_bytes())),
         "explain" => done(screen::plain(explain(words)?.as_bytes())),
         _ => of_lab(asked),
@@ -112,22 +121,38 @@ fn of_lab(asked: &Asked) -> Answer<u8> {
         "bags" => lists::bags(&lab, words.get(1))?,
         "reach" => board::reach(&lab, lab.set(&words[1])?)?,
         "lose" => board::lose(&lab, lab.set(&words[1])?)?,
+        "paper" => {
+            let filled = filled(&lab, asked)?;
+            let kinds = asked.given("--kinds");
+            let paper = Paper::new(&lab, &words[0], &words[1..])?;
+            let page = if asked.has("--answers") {
+                answers::answers(&paper, filled, kinds)?
+            } else {
+                exercises::exercises(&paper)?
+            };
+            return done(screen::plain(page.as_bytes()));
+        }
         "why" => {
             let target = lab.account(&words[1])?;
             let text = board::why(&lab, target, way(&words[2])?, &words[3..])?;
             return done(screen::plain(text.as_bytes()));
         }
         _ => {
-            let filled = asked.set().map(|(option, set)| filled(&lab, option, set)).transpose()?;
+            let filled = filled(&lab, asked)?;
             return done(screen::plain(graph::graph(&lab, filled)?.as_bytes()));
         }
     };
     done(screen::tables(&text))
 }
 
-fn filled(lab: &Lab, option: &str, set: &str) -> Answer<graph::Filled> {
-    let way = if option == "--lose" { Way::Lock } else { Way::Open };
-    Ok(graph::Filled { set: lab.set(set)?, way })
+/// What a picture is to show filled.
+fn filled(lab: &Lab, asked: &Asked) -> Answer<Option<graph::Filled>> {
+    for (option, way) in [("--reach", Way::Open), ("--lose", Way::Lock)] {
+        if let Some(set) = asked.given(option) {
+            return Ok(Some(graph::Filled { set: lab.set(set)?, way }));
+        }
+    }
+    Ok(None)
 }
 
 fn way(word: &str) -> Answer<Way> {

@@ -56,6 +56,30 @@ pub struct Marked {
     pub status: u8,
 }
 
+impl Marked {
+    /// Students, attempts, and those of them with full marks.
+    fn figures(&self) -> [usize; 3] {
+        let mut students: Vec<u64> = self.records.iter().map(|record| record.student).collect();
+        students.sort_unstable();
+        students.dedup();
+        let full = self.records.iter().filter(|record| record.full()).count();
+        [students.len(), self.records.len(), full]
+    }
+}
+
+/// A lab of a class, marked.
+pub struct MarkedLab<'a> {
+    /// Its sheet, read.
+    pub lab: &'a Lab,
+    /// Its sheet's file.
+    pub sheet: &'a str,
+    /// Students, attempts, full.
+    pub figures: [usize; 3],
+}
+
+/// What is to be done with each lab of a class.
+pub type Next<'a> = &'a mut dyn FnMut(&MarkedLab) -> Answer<()>;
+
 /// Takes all lines of a lab's hand-ins; refused ones are told on standard error.
 pub fn mark(lab: &Lab, file: &str, handins: &[u8], shown: Shown) -> Answer<Marked> {
     let mut day = Afternoon {
@@ -211,19 +235,20 @@ pub fn one_lab(sheet: &str, handins: &str, shown: Shown) -> Answer<(String, u8)>
 }
 
 /// The hand-ins that go with a sheet, and the lab's name.
-fn beside(sheet: &str) -> (String, &str) {
+pub fn beside(sheet: &str) -> (String, &str) {
     let lab = sheet.strip_suffix(".sheet").unwrap_or(sheet);
     (format!("{lab}.handins"), lab)
 }
 
 /// `class`: the marks of many labs. What is refused or can't be read is told, and the others go on.
-pub fn class(sheets: &[String], summary: bool) -> Answer<(String, u8)> {
+/// Each lab that was marked is handed on.
+pub fn class(sheets: &[String], summary: bool, next: Next) -> Answer<(String, u8)> {
     let header =
         if summary { "lab students attempts full".to_string() } else { format!("lab {REGISTER}") };
     let (mut table, mut highest) = (Table::new(&header), ANSWERED);
     for (at, sheet) in sheets.iter().enumerate() {
         screen::progress(at + 1, sheets.len(), sheet);
-        let status = match lab_of_class(sheet, summary, &mut table) {
+        let status = match lab_of_class(sheet, summary, &mut table, next) {
             Ok(status) => status,
             Err(stop @ Stop::Disagrees(_)) => return Err(stop),
             Err(stop) => {
@@ -237,31 +262,30 @@ pub fn class(sheets: &[String], summary: bool) -> Answer<(String, u8)> {
     Ok((table.text(), highest))
 }
 
-fn lab_of_class(sheet: &str, summary: bool, table: &mut Table) -> Answer<u8> {
+fn lab_of_class(sheet: &str, summary: bool, table: &mut Table, next: Next) -> Answer<u8> {
     let lab = Lab::read(sheet)?;
     let (file, name) = beside(sheet);
-    let Some(text) = files::read_if_there(&file)? else {
-        screen::tell(&format!("{sheet}: no hand-ins beside it: there is no {file}\n"));
-        let nothing = Marked { records: Vec::new(), rows: Table::new(EACH), status: ANSWERED };
-        return rows_of(&lab, name, &nothing, summary, table);
+    let marked = match files::read_if_there(&file)? {
+        Some(text) => mark(&lab, &file, &text, Shown::default())?,
+        None => {
+            screen::tell(&format!("{sheet}: no hand-ins beside it: there is no {file}\n"));
+            Marked { records: Vec::new(), rows: Table::new(EACH), status: ANSWERED }
+        }
     };
-    let marked = mark(&lab, &file, &text, Shown::default())?;
-    rows_of(&lab, name, &marked, summary, table)
+    rows_of(&lab, name, &marked, summary, table)?;
+    next(&MarkedLab { lab: &lab, sheet, figures: marked.figures() })?;
+    Ok(marked.status)
 }
 
-fn rows_of(lab: &Lab, name: &str, marked: &Marked, summary: bool, table: &mut Table) -> Answer<u8> {
+fn rows_of(lab: &Lab, name: &str, marked: &Marked, summary: bool, table: &mut Table) -> Answer<()> {
     let name = files::as_field(name);
     if summary {
-        let mut students: Vec<u64> = marked.records.iter().map(|record| record.student).collect();
-        students.sort_unstable();
-        students.dedup();
-        let full = marked.records.iter().filter(|record| record.full()).count();
-        let counts = [students.len(), marked.records.len(), full].map(|count| count.to_string());
+        let counts = marked.figures().map(|count| count.to_string());
         table.row(&[&name, &counts[0], &counts[1], &counts[2]]);
     } else {
         for record in &marked.records {
             register_row(lab, &[&name], record, table)?;
         }
     }
-    Ok(marked.status)
+    Ok(())
 }

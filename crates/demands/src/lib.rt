@@ -16,11 +16,13 @@ ghost use Rattle.living.specs.Calls.{TakeIn, TakeOut, AddEdge, RemoveEdge, Call
 ghost use Rattle.register.specs.Calls.{HandInCall, WithdrawCall};
 ghost use Rattle.pool_format.specs.Call.{PoolCall};
 ghost use Rattle.save_format.specs.Call.{saveCall};
+ghost use Rattle.handin_format.specs.Calls.{ReadSetCall, writeSetCall, ReadLineCall};
 ghost use Rattle.sheet_format.specs.Read.{readSheet};
 ghost use Rattle.portal.specs.Portal.{PortalCall};
 ghost use Rattle.histories.specs.Histories.{Reached};
 ghost use Rattle.demands.specs.Sheets.{Reads, Named, SettledName};
 ghost use Rattle.demands.specs.Calls.{threeMade, allMade, SettledLiving, SettledHandIn, SettledWithdrawal, SettledPool};
+ghost use Rattle.demands.specs.HandIns.{SettledReadSet, SettledReadLine};
 ghost use Rattle.demands.specs.Demands.{Demand1, Demand2, Demand3Reached};
 use access::ClosureAnswer;
 use access::LostAnswer;
@@ -30,6 +32,9 @@ use attackers::AttackerAnswer;
 use cut_sets::CutsAnswer;
 use findings::FindingAnswer;
 use forecasts::ForecastAnswer;
+use handin_format::LineAnswer;
+use handin_format::NamedSet;
+use handin_format::SetWritten;
 use living::Redrawing;
 use multiset_scores::MultisetAnswer;
 use next_sets::NextAnswer;
@@ -333,4 +338,28 @@ pub fn demands_of_saving(sheet: &[u8], s: Setup, out: &mut [u8]) -> Saved
     ensures two { λ r. ⌜ Told (saveCall (now (sheet .entry)) s (now (out .entry))) (r .number) (r .length ∷ []) (now (out .exit) ∷ []) ⌝ }
 {
     saving::write_sheet(sheet, s, out)
+}
+
+// Both demands of a set by its names.
+pub fn demands_of_set(sheet: &[u8], text: &[u8]) -> NamedSet
+    ensures one { λ r. ⌜ SettledReadSet (now (sheet .entry)) (now (text .entry)) r ⌝ }
+    ensures two { λ r. ⌜ ReadSetCall (now (sheet .entry)) (now (text .entry)) r ⌝ }
+{
+    handins::read_set(sheet, text)
+}
+
+// Both demands of the names of a set.
+pub fn demands_of_set_names(sheet: &[u8], set: u64, out: &mut [u8]) -> SetWritten
+    ensures one { λ r. ⌜ SettledTold (writeSetCall (now (sheet .entry)) set (now (out .entry))) (r .number) (r .length ∷ []) (now (out .exit) ∷ []) ⌝ }
+    ensures two { λ r. ⌜ Told (writeSetCall (now (sheet .entry)) set (now (out .entry))) (r .number) (r .length ∷ []) (now (out .exit) ∷ []) ⌝ }
+{
+    handins::write_set(sheet, set, out)
+}
+
+// Both demands of what a hand-in line says.
+pub fn demands_of_line(sheet: &[u8], line: &[u8], handed: &mut [u64]) -> LineAnswer
+    ensures one { λ r. ⌜ SettledReadLine (now (sheet .entry)) (now (line .entry)) r (now (handed .entry)) (now (handed .exit)) ⌝ }
+    ensures two { λ r. ⌜ ReadLineCall (now (sheet .entry)) (now (line .entry)) r (now (handed .entry)) (now (handed .exit)) ⌝ }
+{
+    handins::read_line(sheet, line, handed)
 }

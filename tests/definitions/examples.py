@@ -2275,6 +2275,8 @@ def of_lines():
         "line_ends": ends,
         "registers": [THE.withSlice(a, x) for a, x in REGISTERS],
         "written_sets": [(sheet, 5, [35] * 12, n, f, [x]) for n, f in ((0, [11]), (0, [12]), (14, [0]), (15, [0])) for x in ([*names, 35], [35] * 12)],
+        "lines_for_c": [(t, l, [9, 9, 9]) for t in (sheet, five) for l in lines],
+        "told_for_c": [(THE.inNumbers(a), x) for a, x in ends],
         "set_readings": [(t, coded(l), a) for t in (sheet, five) for l in ("ordpw+token", "nobody") for a in sets],
         "line_readings": [(t, l, a, [9, 9, 9], x) for t in (sheet, five) for l in lines for a, x in ends],
         "entered": [(sheet, l, 1, a, [R_BOTH, R_ANY], x) for l in lines for a, x in REGISTERS],

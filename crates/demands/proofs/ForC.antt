@@ -14,7 +14,7 @@ use Rattle.questions.specs.Asks.{Asks, Settled}
 use Rattle.questions.specs.Questions.{asks13}
 use Rattle.questions.specs.Contract.{ends, turnsAway, Contract, telling, Answers, Fulfils}
 use Rattle.questions.specs.Told.{Told, ToldNo, SettledTold}
-use Rattle.questions.proofs.Asks.{all-numbered, settled-asks}
+use Rattle.questions.proofs.Asks.{all-numbered, asks-once, settled-asks}
 use Rattle.questions.proofs.Told.{settled-told}
 use Rattle.living.specs.Calls.{Call}
 use Rattle.sheet_format.specs.Read.{readSheet, asksSheet}
@@ -26,6 +26,10 @@ use Rattle.portal_sheets.proofs.Sheets.{one-name}
 use Rattle.portal_sets.specs.Check.{asksReached}
 use Rattle.portal_living.specs.Living.{livingCall}
 use Rattle.portal_living.proofs.Calls.{one-redrawn}
+use Rattle.handin_format.specs.Calls.{lineRefused}
+use Rattle.handin_format.proofs.Unique.{lines-once}
+use Rattle.portal_register.specs.declared.ReadLineResult.{ReadLineResult}
+use Rattle.portal_register.specs.Lines.{LineTold, toldInNumbers, TellsLine, TellLineCall}
 use Rattle.demands.specs.Demands.{SettledForC}
 use Rattle.living.proofs.Kept.{living-numbered}
 use Rattle.demands.proofs.HandIns.{settled-write-set}
@@ -47,6 +51,14 @@ one-reading text n n′ l l′ entry exit exit′ p q =
       ⊎-elim (λ k. p .untouched k ∙ sym (q .untouched k)) (λ k. p .room k ∙ sym (q .room k)) room,
     )
 
+-- a line in numbers: what is told is one, and so is what is told of it
+one-line-told : (sheet line : List ℕ) (r r′ : ReadLineResult) (entry exit exit′ : List ℕ) → TellLineCall sheet line r entry exit → TellLineCall sheet line r′ entry exit′
+    → (r ≡ r′) × (exit ≡ exit′)
+one-line-told sheet line r r′ entry exit exit′ a b =
+    let e = asks-once (λ q. toldInNumbers (lineRefused 1 (readSheet sheet .line) entry q)) (TellsLine sheet line entry) (asksSheet sheet ∷ []) (record { answer = r; sets = exit }) (record { answer = r′; sets = exit′ })
+    (λ h k. h .told ∙ ap toldInNumbers (lines-once sheet line entry (h .outcome) (k .outcome) (h .reads) (k .reads)) ∙ sym (k .told)) a b in
+    (ap (λ (t : LineTold). t .answer) e, ap (λ (t : LineTold). t .sets) e)
+
 pub settled-for-c : SettledForC
 settled-for-c =
     record {
@@ -55,5 +67,6 @@ settled-for-c =
       name = λ text item n f l t. settled-told (nameCall text item) (one-name text item) n f l t (λ z. z, all-numbered (asks13 (readSheet text .setup) item ∷ []) refl);
       writeSet = settled-write-set;
       check = checked;
+      readLine = one-line-told;
       reading = one-reading;
     }

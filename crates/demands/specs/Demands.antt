@@ -38,6 +38,8 @@ use Rattle.portal_words.specs.Words.{setupIn}
 use Rattle.portal_sheets.specs.Reading.{ReadingCall, nameCall}
 use Rattle.portal_sets.specs.Check.{asksReached}
 use Rattle.portal_living.specs.Living.{livingCall, LivesInWords}
+use Rattle.portal_register.specs.declared.ReadLineResult.{ReadLineResult}
+use Rattle.portal_register.specs.Lines.{TellLineCall}
 use Rattle.portal.specs.Portal.{PortalCall}
 use Rattle.handin_format.specs.declared.NamedSet.{NamedSet}
 use Rattle.handin_format.specs.declared.LineAnswer.{LineAnswer}
@@ -63,6 +65,9 @@ pub record SettledForC : Type 0 where
   -- question 12: 0 exactly where an accepted sheet and a list of calls reach the setup that the words say, else 12
   pub check : (words : List ℕ) (r : ℕ) → Asks (λ q. q) (asksReached (setupIn words) ∷ []) (λ n. n ≡ 0) r
       → Settled (λ n. n) (λ q. q) (12 ∷ []) (Asks (λ q. q) (asksReached (setupIn words) ∷ []) (λ n. n ≡ 0)) r
+  -- what a line says, in numbers: one answer, and one end of the lent list
+  pub readLine : (sheet line : List ℕ) (r r′ : ReadLineResult) (entry exit exit′ : List ℕ) → TellLineCall sheet line r entry exit
+      → TellLineCall sheet line r′ entry exit′ → (r ≡ r′) × (exit ≡ exit′)
   pub reading : (text : List ℕ) (n n′ l l′ : ℕ) (entry exit exit′ : List ℕ) → ReadingCall text n l entry exit → ReadingCall text n′ l′ entry exit′
       → (n ≡ n′) × (l ≡ l′) × (exit ≡ exit′)
 

@@ -217,7 +217,7 @@ module _ (sheet line lent : List ℕ) where
   tells-once : (c : RegisterCall) (o p : LineOutcome) → TellsCall c lent o → TellsCall c lent p → o ≡ p
   tells-once c o p = asks-once (lineRefused 0 0 lent) (λ x. x ≡ tellsCall c lent) (asksPlaces c lent ∷ []) o p (λ e f. e ∙ sym f)
 
-  lines-once : (o p : LineOutcome) → ReadsLine sheet line lent o → ReadsLine sheet line lent p → o ≡ p
+  pub lines-once : (o p : LineOutcome) → ReadsLine sheet line lent o → ReadsLine sheet line lent p → o ≡ p
   lines-once o p h k =
       let items = h .d .items in
       asks-once (lineRefused 2 (lineNo items line .place) lent) (TellsCall (lineCall items line) lent) (asksLine items line ∷ []) o p (tells-once (lineCall items line) o p) (h .told)

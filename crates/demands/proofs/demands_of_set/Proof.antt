@@ -8,7 +8,7 @@ read-set-requires c κs = search needs
 
 returns : tie.Need-returns
 returns c =
-    let e = c .before .before .before .read-set .ensures in
+    let e = c .read-set .ensures in
     (settled-read-set _ _ _ e, e)
 
 pub demands-of-set-spec : {M : Type 1} → statement M

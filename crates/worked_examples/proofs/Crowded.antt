@@ -1,15 +1,14 @@
 -- A 257th edge is refused with 7: the sheet of 256 is read, and its edges counted, by computation.
 -- Assumes nothing.
-use mathlib.Core.Path.{_≡_, refl, sym, ap, subst, _∙_}
+use mathlib.Core.Path.{_≡_, refl, sym, subst}
 use mathlib.Core.Bool.{false}
-use mathlib.Core.List.{List, [], _∷_}
-use Prim.Native.Nat.{ℕ, _<_}
+use mathlib.Core.List.{[], _∷_}
+use Prim.Native.Nat.{ℕ}
 use native.Mathlib.Omega.{arith}
 use lib.Count.{ones}
 use Rattle.vertex_set.specs.Set.{Member}
 use Rattle.vertex_set.proofs.Sets.{none-in-zero}
-use Rattle.setup.specs.declared.Setup.{Setup}
-use Rattle.setup.specs.Setup.{emptyGraph, row, Edge, edgeCount}
+use Rattle.setup.specs.Setup.{emptyGraph, row, edgeCount}
 use Rattle.formed.specs.WellFormed.{WellFormed}
 use Rattle.questions.specs.Questions.{asks12, asks13}
 use Rattle.questions.proofs.Asks.{first-no}

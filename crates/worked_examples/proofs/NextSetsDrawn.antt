@@ -17,7 +17,7 @@ use Rattle.formed.specs.WellFormed.{WellFormed}
 use Rattle.questions.proofs.Contract.{fulfilled, given}
 use Rattle.living.specs.Calls.{AddEdge, RemoveEdge, back, CallOf}
 use Rattle.bases.specs.Base.{Base}
-use Rattle.next_sets.specs.Next.{OfInitial, NextSet}
+use Rattle.next_sets.specs.Next.{NextSet}
 use Rattle.next_sets.specs.Answers.{Shown, nextCall}
 use Rattle.next_sets.specs.Walks.{Tells, Walk}
 use Rattle.next_sets.proofs.Walks.{whole-walk}

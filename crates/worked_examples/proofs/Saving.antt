@@ -1,13 +1,12 @@
 -- What is saved of the redrawn sheet is exactly the text, and wrong texts are excluded: there is one list of rows, and its text is computed.
 -- Assumes nothing.
-use mathlib.Core.Path.{_≡_, refl, sym, ap, subst, _∙_}
+use mathlib.Core.Path.{_≡_, refl, ap, _∙_}
 use mathlib.Core.Bool.{false}
 use mathlib.Core.List.{List, [], _∷_}
 use Prim.Native.Nat.{ℕ, _≤_}
 use Prim.Native.String.{String}
 use native.Mathlib.Omega.{arith}
 use lib.ListN.{length}
-use Rattle.setup.specs.declared.Setup.{Setup}
 use Rattle.setup.specs.Setup.{emptyGraph}
 use Rattle.setup.specs.Inner.{graphWithRow}
 use Rattle.setup.specs.Calls.{written}

@@ -21,8 +21,8 @@ marked student loss right repeated shut loose missing =
     record { student = student; target = order; way = wayCode loss; right = right; repeated = repeated; shut = shut; loose = loose; missing = missing }
 
 -- A call that was made: its number, the count, and the slice that it left.
-abbrev pub made : RegisterCall → ℕ → ℕ → List Record → Made
-made call number used exit = record { call = call; answer = record { number = number; used = used }; exit = exit }
+abbrev pub callMade : RegisterCall → ℕ → ℕ → List Record → Made
+callMade call number used exit = record { call = call; answer = record { number = number; used = used }; exit = exit }
 
 abbrev pub mails : ℕ
 mails = setOf (mailpw ∷ [])
@@ -49,17 +49,17 @@ lock9 = marked 9 true 2 0 0 0 0
 abbrev pub afternoon : Record → List Made
 afternoon b =
     -- there is room again, and the freed place is taken
-    made (attempt 9 true (setOf (ordpw ∷ mailpw ∷ []) ∷ setOf (mailpw ∷ token ∷ []) ∷ [])) 0 2 (better8 ∷ lock9 ∷ [])
+    callMade (attempt 9 true (setOf (ordpw ∷ mailpw ∷ []) ∷ setOf (mailpw ∷ token ∷ []) ∷ [])) 0 2 (better8 ∷ lock9 ∷ [])
     -- student 7 is withdrawn: the gap is closed, and the freed place keeps what stood there
-    ∷ made (Withdraw 7) 0 1 (better8 ∷ better8 ∷ [])
+    ∷ callMade (Withdraw 7) 0 1 (better8 ∷ better8 ∷ [])
     -- student 9 has no record
-    ∷ made (Withdraw 9) 27 2 (full7 ∷ better8 ∷ [])
+    ∷ callMade (Withdraw 9) 27 2 (full7 ∷ better8 ∷ [])
     -- student 8 again: the record is replaced in its place, though the register is full
-    ∷ made (attempt 8 false (orders ∷ [])) 0 2 (full7 ∷ better8 ∷ [])
+    ∷ callMade (attempt 8 false (orders ∷ [])) 0 2 (full7 ∷ better8 ∷ [])
     -- no record is left for student 9
-    ∷ made (attempt 9 false (mails ∷ [])) 26 2 (full7 ∷ worse8 ∷ [])
-    ∷ made (attempt 8 false (mails ∷ mails ∷ setOf (ordpw ∷ []) ∷ setOf (ordpw ∷ mailpw ∷ []) ∷ [])) 0 2 (full7 ∷ worse8 ∷ [])
-    ∷ made (attempt 7 false (mails ∷ orders ∷ [])) 0 1 (full7 ∷ b ∷ [])
+    ∷ callMade (attempt 9 false (mails ∷ [])) 26 2 (full7 ∷ worse8 ∷ [])
+    ∷ callMade (attempt 8 false (mails ∷ mails ∷ setOf (ordpw ∷ []) ∷ setOf (ordpw ∷ mailpw ∷ []) ∷ [])) 0 2 (full7 ∷ worse8 ∷ [])
+    ∷ callMade (attempt 7 false (mails ∷ orders ∷ [])) 0 1 (full7 ∷ b ∷ [])
     ∷ []
 
 -- A count above the slice's length: both calls end with 25, and in no other way.

@@ -1,26 +1,20 @@
 -- The storeroom's sheets are pooled as the example says, and one loss is not kept.
 -- Assumes nothing.
-use mathlib.Core.Path.{_≡_, refl, sym, ap, subst, _∙_}
+use mathlib.Core.Path.{_≡_, refl, sym, ap, _∙_}
 use mathlib.Core.Bool.{true, false}
-use mathlib.Core.List.{List, [], _∷_, map}
-use mathlib.Core.Logic.{inl, inr}
+use mathlib.Core.List.{List, [], map}
 use Prim.Native.Nat.{ℕ, _<_}
 use native.Mathlib.Omega.{arith}
 use lib.ListN.{length, getD}
-use Rattle.setup.specs.declared.Kind.the-variants.{Credential, Account}
-use Rattle.setup.specs.declared.Value.the-variants.{Blank, Of}
-use Rattle.setup.specs.declared.Vertex.{Vertex}
 use Rattle.setup.specs.Setup.{emptyGraph}
 use Rattle.sheet_format.specs.declared.Reading.{Reading}
-use Rattle.sheet_format.specs.Text.{bytesOf, sameText, all}
-use Rattle.sheet_format.specs.Fields.{isDigit, isNameByte, isName, digitsIn, decimal}
-use Rattle.sheet_format.specs.Rows.{ItemRow, EdgeRow, Doc, Each, ValidItem, ValidEdge, Valid, firstHeader, secondHeader, startCount, lossCount, itemLines, edgeLines, render, numberIn, withEdge, withEdges, setupOf}
+use Rattle.sheet_format.specs.Text.{sameText}
+use Rattle.sheet_format.specs.Fields.{digitsIn, decimal}
+use Rattle.sheet_format.specs.Rows.{ItemRow, Valid, firstHeader, secondHeader, startCount, lossCount, itemLines, edgeLines, render, numberIn, withEdge, withEdges, setupOf}
 use Rattle.sheet_format.specs.Questions.{isKnown}
-use Rattle.questions.specs.Asks.{Asks}
-use Rattle.questions.proofs.Asks.{first-no, after-all}
-use Rattle.sheet_format.specs.Read.{readSheet, accepted, asksSheet}
+use Rattle.sheet_format.specs.Read.{readSheet, accepted}
 use Rattle.sheet_format.proofs.Tests.{text-decided}
-use Rattle.sheet_format.proofs.Meaning.{accepted-of-valid, rows-unique}
+use Rattle.sheet_format.proofs.Meaning.{accepted-of-valid}
 use Rattle.sheet_format.proofs.Question12Yielded.{well-formed-of-valid}
 use Rattle.sheet.proofs.Names.{item-there, names-of-rows}
 use Rattle.bases.specs.Base.{Derives}
@@ -29,12 +23,10 @@ use Rattle.reference.specs.Closures.{isComplete, isBroken, colourOf, isAdded, p
 use Rattle.reference.proofs.Graphs.{own-graph}
 use Rattle.reference.proofs.Meaning.{meaning}
 use Rattle.pool_format.specs.Rows.{Agree, remaining, usesColour, lowestFree, isTaken, newColour, recoloured, pooled, Fits}
-use Rattle.pool_format.specs.Call.{asks22, asks23, asks24, poolRefusal, poolsText, PoolsRows}
 use Rattle.pool_format.specs.Meaning.{SameItem}
-use Rattle.sheet_format.proofs.Lengths.{rows-short}
 use Rattle.pool_format.proofs.PooledRows.{pooled-valid}
 use Rattle.worked_examples.specs.Sheets.{linesText}
-use Rattle.worked_examples.specs.Pooling.{firstLab, secondLab, bothLabs, Storeroom, LossNotKept}
+use Rattle.worked_examples.specs.Pooling.{firstLab, bothLabs, Storeroom, LossNotKept}
 use Rattle.worked_examples.proofs.PoolingRows.{first, second, labs-read}
 
 -- two texts that are not the same

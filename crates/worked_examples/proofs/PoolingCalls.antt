@@ -12,7 +12,7 @@ use Rattle.questions.specs.Asks.{Asks}
 use Rattle.questions.proofs.Asks.{first-no, after-all}
 use Rattle.sheet_format.specs.declared.Reading.{Reading}
 use Rattle.sheet_format.specs.Text.{sameText}
-use Rattle.sheet_format.specs.Rows.{Doc, Valid, render, startCount}
+use Rattle.sheet_format.specs.Rows.{Doc, render, startCount}
 use Rattle.sheet_format.specs.Questions.{isKnown}
 use Rattle.sheet_format.specs.Read.{readSheet, asksSheet}
 use Rattle.sheet_format.proofs.Meaning.{accepted-of-valid, rows-unique}
@@ -21,7 +21,7 @@ use Rattle.pool_format.specs.Rows.{Agree, remaining, usesColour, lowestFree, is
 use Rattle.pool_format.specs.Call.{PoolOutcome, withBuffer, asks22, asks23, asks24, poolRefusal, poolsText, PoolsRows, PoolCall}
 use Rattle.pool_format.specs.Meaning.{IsPooled}
 use Rattle.worked_examples.specs.Sheets.{linesText}
-use Rattle.worked_examples.specs.Pooling.{firstLab, secondLab, bothLabs, otherLab, wrongLab, Disagree, SecondRefused, NinthColour, FifteenStarts, TooShort, WithRoom}
+use Rattle.worked_examples.specs.Pooling.{firstLab, secondLab, bothLabs, wrongLab, Disagree, SecondRefused, NinthColour, FifteenStarts, TooShort, WithRoom}
 use Rattle.worked_examples.proofs.Reading.{HasRows}
 use Rattle.worked_examples.proofs.PoolingRows.{first, second, other, eight, ninth, starts, others, labs-read}
 use Rattle.worked_examples.proofs.Pooling.{differ, agree, fits, text-both}

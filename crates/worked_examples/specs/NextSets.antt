@@ -1,9 +1,14 @@
 -- Examples of opening lists shown one set at a time (document 02, point 9), of what is read from the sheets' bytes.
+use mathlib.Core.Bool.{false}
 use mathlib.Core.List.{List, [], _∷_}
 use Prim.Native.Nat.{ℕ}
 use Rattle.sheet_format.specs.Rows.{Each}
-use Rattle.next_sets.specs.Walks.{Walk}
-use Rattle.worked_examples.specs.Sheets.{Sheet, Yields, bench, ordpw, mailpw, token, order, ring, pwdBackup, pwdManager, device, seed, accBackup, loop, only, spare, pw, key, acc}
+use Rattle.setup.specs.declared.Setup.{Setup}
+use Rattle.living.specs.Calls.{AddEdge, RemoveEdge}
+use Rattle.histories.specs.Histories.{Ran}
+use Rattle.next_sets.specs.Answers.{Shown, End}
+use Rattle.next_sets.specs.Walks.{Tells, Walk}
+use Rattle.worked_examples.specs.Sheets.{Sheet, Yields, bench, ordpw, mailpw, token, mail, order, ring, pwdBackup, pwdManager, device, seed, accBackup, loop, only, spare, pw, key, acc}
 use Rattle.worked_examples.specs.Table.{setOf}
 
 -- A sheet, a target, and the sets that are shown from the empty set on up to "no more".
@@ -35,3 +40,20 @@ walks =
 
 abbrev pub AllWalk : Type 0
 AllWalk = Each Walks walks
+
+-- ---- while the drawing changes
+
+-- The order account, of document 01's sheet. After {mailpw} the token is drawn as a second way into mail, and {token} is shown; that edge is removed again,
+-- and what comes after {token}, which is in the list no more, is {ordpw, token}. Then there is no more.
+pub record ShownWhileDrawn (s : Setup) : Type 0 where
+  pub more : Setup
+  pub less : Setup
+  pub first : Tells s order 0 (Shown (setOf (mailpw ∷ [])))
+  pub added : Ran s (AddEdge token mail 1 false ∷ []) (0 ∷ []) more
+  pub second : Tells more order (setOf (mailpw ∷ [])) (Shown (setOf (token ∷ [])))
+  pub removed : Ran more (RemoveEdge token mail 1 ∷ []) (0 ∷ []) less
+  pub third : Tells less order (setOf (token ∷ [])) (Shown (setOf (ordpw ∷ token ∷ [])))
+  pub last : Tells less order (setOf (ordpw ∷ token ∷ [])) End
+
+abbrev pub WalkWhileDrawn : Type 0
+WalkWhileDrawn = Yields bench ShownWhileDrawn

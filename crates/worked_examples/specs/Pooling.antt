@@ -1,6 +1,6 @@
 -- Two labs that share a storeroom (document 02, point 11): their sheets, the pooled sheet, and a loss that is not kept.
 use mathlib.Core.Path.{_≡_}
-use mathlib.Core.Bool.{true, false}
+use mathlib.Core.Bool.{true}
 use mathlib.Core.List.{List, [], _∷_}
 use Prim.Native.Nat.{ℕ, _≤_, _<_}
 use Prim.Native.String.{String}

@@ -14,9 +14,11 @@ from made import antt
 DATA = [blocks.HERE / "declared.txt", blocks.HERE / "computed.txt"]
 # Files that stand on those of the scratch crate.
 ABOVE = """
-quick_yes/Agrees answers/Demand3 sheet_format/Meaning histories/Histories histories/Requests histories/NoHeed portal/Portal
+quick_yes/Agrees answers/Demand3 histories/Histories histories/Requests histories/NoHeed portal/Portal
 save_format/Rows save_format/Call save_format/Meaning reference/Meaning soundness/Closures soundness/Secure soundness/Schemes soundness/Scores soundness/Horn
-report_text/Meaning written/Rows report_writer/Inner/Steps report_writer/Whole portal_sets/Check portal_living/Living demands/Sheets demands/Calls demands/Demands
+report_text/Meaning written/Rows report_writer/Inner/Steps report_writer/Whole portal_sets/Check portal_living/Living
+handin_format/Sets handin_format/Entries handin_format/Lines handin_format/Calls handin_format/Afternoon handin_format/Meaning handin_format/Marks
+portal_register/Lines histories/Drawings demands/Sheets demands/Calls demands/HandIns demands/Demands
 """.split()
 
 

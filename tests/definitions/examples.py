@@ -2217,7 +2217,7 @@ ORDERED = "7 order open mailpw ordpw+token"
 HANDED_LINES = [
     *((line, 0, 0) for line in (ORDERED, "7 order open", "7 order lock -", "4000000000 mail open mailpw", "7 withdraw", "0 withdraw")),
     *(("7 order open\t", 2, 0), ("7 order open\x7f", 2, 0), ("", 4, 1), ("7", 4, 2), ("7 order", 4, 3), ("7  open", 4, 2), ("7 order open  -", 4, 4), ("x order", 4, 3)),
-    *(("x order open", 5, 1), ("4000000001 order open", 5, 1), ("x withdraw", 5, 1), ("7 or+der open", 5, 2), ("7 nobody shut", 8, 2), ("7 order shut -", 5, 3)),
+    *(("x order open", 5, 1), ("4000000001 order open", 5, 1), ("x withdraw", 5, 1), ("7 or+der open", 5, 2), ("7 ~ open", 5, 2), ("7 nobody shut", 8, 2), ("7 order shut -", 5, 3)),
     *(("7 order open - token+", 5, 5), ("7 order open nobody -", 8, 4), ("7 order open token token+token", 6, 5), ("7 withdraw open", 8, 2), ("7 open order", 8, 2)),
 ]
 HANDED_SETS = [("-", 0, 0), ("ordpw+token", 0, 5), ("token+ordpw", 0, 5), ("mailpw", 0, 2), ("", 5, 0), ("token+", 5, 0), ("-+token", 5, 0), ("nobody+", 8, 0), ("token+token+nobody", 6, 0)]
@@ -2236,6 +2236,8 @@ N_BOTH, N_ONE, N_LOCKS = by_names(7, "order", False, "mailpw", "ordpw+token"), b
 N_NONE, N_TWICE = by_names(7, "order", False), by_names(7, "order", False, "mailpw", "ordpw+token", "token+ordpw")
 N_UNKNOWN, N_AGAIN, N_HIGH = by_names(7, "order", False, "nobody"), by_names(7, "order", False, "token+token"), by_names(4000000001, "order", False)
 NAMED = [N_BOTH, N_ONE, N_LOCKS, N_NONE, N_TWICE, by_names(7, "order", True, "-"), by_names(4000000000, "mail", False, "mailpw"), N_UNKNOWN, N_AGAIN, N_HIGH, N_NONE._replace(target=coded("nobody"))]
+# rows that are written as document 01's sheet is, with a line's end in a name
+ODD = lambda: BENCH_DOC._replace(items=[item("ordpw c 1 2 0\nmailpw", 1, 1), *BENCH_DOC.items[2:]])
 # what reading the first line tells, of which the second field is the sheet's or the line's
 SAYS_BOTH, SAYS_LEAVE = LineAnswer(0, 0, 0, False, 7, ORDER, False, 2), LineAnswer(0, 0, 0, True, 7, 0, False, 0)
 
@@ -2260,13 +2262,13 @@ def of_lines():
     lines = [coded(line) for line in (ORDERED, "7 withdraw", "7 nobody open")]
     names = coded("ordpw+token")
     return {
-        "docs": [BENCH_DOC, DOC, *LABS],
+        "docs": [BENCH_DOC, DOC, *LABS, ODD()],
         "item_rows": [BENCH_DOC.items, DOC.items, SAME_NAMES.items],
         "line_entries": entries,
         "attempts": NAMED,
         "said": [("HandIn", BOTH), ("HandIn", ONE), ("Withdraw", 7), ("Withdraw", 8)],
         "written": [coded(line) for line, _, _ in HANDED_LINES],
-        "names_of": [[coded(n) for n in x.split("+") if x != "-"] for x in ("-", "mailpw", "ordpw+token", "token+ordpw", "pw", "nobody", "token+token")],
+        "names_of": [[coded(n) for n in x.split("+") if x != "-"] for x in ("-", "mailpw", "ordpw+token", "token+ordpw", "pw", "nobody", "token+token", "mail")],
         "afternoons": days,
         "marked": [(BENCH_DOC, x, u, a, e, l) for x in (N_BOTH, N_ONE, N_UNKNOWN) for u, a, e, l in (
             (0, Registered(0, 1), [R_ANY], [R_BOTH]), (1, Registered(0, 1), [R_BOTH], [R_ONE]), (0, Registered(26, 0), [], []), (1, Registered(0, 2), [R_ANY, R_ANY], [R_ANY, R_ONE]))],
@@ -2295,7 +2297,8 @@ def of_handins(D):
     told = lambda line, a, exit, entry=(9, 9, 9), t=sheet: ask(D.ReadLineCall, t, coded(line), a, list(entry), exit)
     in_c = lambda line, a, exit, entry=(9, 9, 9), t=sheet: ask(D.TellLineCall, t, coded(line), a, list(entry), exit)
     enters = lambda line, used, n, back, entry, exit, t=sheet: ask(D.EnterCall, t, coded(line), used, Registered(n, back), entry, exit)
-    settled = lambda line, used, n, back, entry, exit, t=sheet: ask(D.SettledEntering, t, coded(line), used, Registered(n, back), entry, exit)
+    few = [D.withSlice(Registered(n, 1), x) for n in (0, 8, 25, 26, 27) for x in ([R_BOTH, R_ANY], [R_ONE, R_ANY], [R_ANY])]
+    settled = lambda line, used, n, back, entry, exit, t=sheet, among=few: ask(D.SettledEntering, t, coded(line), used, Registered(n, back), entry, exit, registers=among)
     by_set = lambda l, *a, t=sheet: ask(D.SettledReadSet, t, coded(l), NamedSet(*a))
     by_line = lambda line, a, exit, entry=(9, 9, 9), t=sheet: ask(D.SettledReadLine, t, coded(line), a, list(entry), exit)
     taken = lambda x, used, n, back, entry, exit: ask(D.LineTaken, BENCH_DOC, x, used, Registered(n, back), entry, exit)
@@ -2305,6 +2308,7 @@ def of_handins(D):
     return [
         *((f"line: {line!r}", lambda line=line, a=(n, k): number(line) == a, True) for line, n, k in HANDED_LINES),
         *((f"set: {l!r}", lambda l=l, a=(n, x): field(l) == a, True) for l, n, x in HANDED_SETS),
+        ("most handed", lambda: D.mostHanded == 16384, True),
         ("line: 16,384 sets", lambda: [D.fieldQuestions(items, fields(n))[-1] for n in (16384, 16385)] == [D.askOf(7, 0, True), D.askOf(7, 0, False)], True),
         ("line: what it says", lambda: D.lineCall(items, coded(ORDERED)) == ("HandIn", BOTH) and D.lineCall(items, coded("7 withdraw")) == ("Withdraw", 7), True),
         ("line: lockouts", lambda: D.lineCall(items, coded("7 order lock mailpw+ordpw token+mailpw")) == ("HandIn", LOCKS), True),
@@ -2323,15 +2327,18 @@ def of_handins(D):
         *((f"law: {f}", ask(getattr(D, f)), True) for f in "LineOfEntry EntryOfLine SetOfNames SetReadBack SetEnough LinesLaw LineMarks RegisterMarks".split()),
         ("set bytes: 64 names of 16 bytes", lambda: D.setBytes == 64 * 16 + 63, True),
         ("names set: either order", lambda: all(ask(D.NamesSet, sheet, coded(l), 5)() for l in ("ordpw+token", "token+ordpw")), True),
-        ("not names set: another set", ask(D.NamesSet, sheet, names, 4), False),
+        ("not names set: another set", ask(D.NamesSet, sheet, names, 2), False),
+        ("not names set: by rows that are not valid", ask(D.NamesSet, sheet, coded("mail"), 4), False),
         ("not names set: of another sheet", ask(D.NamesSet, render(DOC), names, 5), False),
         ("not names set: a name twice", ask(D.NamesSet, sheet, coded("token+token"), 4), False),
         ("line says: both", ask(D.LineSays, sheet, coded(ORDERED), ("HandIn", BOTH)), True),
         ("not line says: another attempt", ask(D.LineSays, sheet, coded(ORDERED), ("HandIn", ONE)), False),
         ("not line says: a line that is refused", ask(D.LineSays, sheet, coded("4000000001 withdraw"), ("Withdraw", 4000000001)), False),
+        ("not line says: by rows that are not valid", ask(D.LineSays, sheet, coded("7 order open"), ("HandIn", NONE._replace(target=3))), False),
         ("not line says: of another sheet", ask(D.LineSays, five, coded("7 withdraw"), ("Withdraw", 7)), False),
         ("call: a set read", reads("ordpw+token", 0, 0, 0, 5), True),
         ("not call: a set read, another", reads("ordpw+token", 0, 0, 0, 4), False),
+        ("not call: a set read, by rows that are not valid", reads("mail", 0, 0, 0, 4), False),
         ("call: a set read, 8", reads("nobody", 8, 2, 0, 0), True),
         ("not call: a set read, 8 of the sheet", reads("nobody", 8, 1, 0, 0), False),
         ("call: a set read, the sheet's number and line", reads("nobody", 5, 1, 2, 0, t=five), True),
@@ -2350,7 +2357,8 @@ def of_handins(D):
         ("call: a line read, equal room", told(ORDERED, SAYS_BOTH, [2, 5], (9, 9)), True),
         ("call: a line read, 15", told(ORDERED, no_line(15), [9], (9,)), True),
         ("not call: a line read, 15 and written", told(ORDERED, no_line(15), [2], (9,)), False),
-        ("call: a line read, 8 in field 2", told("7 nobody shut", no_line(8, 2, 2), no), True),
+        ("not call: a line read, by rows that are not valid", told("7 order open mail", SAYS_BOTH._replace(target=3, count=1), [4, 9, 9]), False),
+        ("call: a line read, 5 in field 3", told("7 order shut", no_line(5, 2, 3), no), True),
         ("not call: a line read, 8 in another field", told("7 nobody shut", no_line(8, 2, 3), no), False),
         ("call: a line read, the sheet's number and line", told("", no_line(5, 1, 2), no, t=five), True),
         ("not call: a line read, 4 before the sheet's number", told("", no_line(4, 2, 1), no, t=five), False),
@@ -2360,6 +2368,7 @@ def of_handins(D):
         ("call: a line for C, the sheet's number and line", in_c(ORDERED, no_told(5, 1, 2), no, t=five), True),
         ("not call: a line for C, the list changed", in_c(ORDERED, no_told(5, 1, 2), [2, 5, 9], t=five), False),
         ("in numbers: lockouts", lambda: D.inNumbers(LineAnswer(1, 2, 3, False, 4, 5, True, 6)) == ReadLineResult(1, 2, 3, 0, 4, 5, 1, 6), True),
+        ("not tells line: another line", ask(D.TellsLine, sheet, coded("7 withdraw"), no, LineTold(ReadLineResult(0, 0, 0, 0, 7, ORDER, 0, 2), [2, 5, 9])), False),
         ("tells line: both", ask(D.TellsLine, sheet, coded(ORDERED), no, LineTold(ReadLineResult(0, 0, 0, 0, 7, ORDER, 0, 2), [2, 5, 9])), True),
         ("call: a line entered", enters(ORDERED, 0, 0, 1, [R_ANY], [R_BOTH]), True),
         ("not call: a line entered, another record", enters(ORDERED, 0, 0, 1, [R_ANY], [R_ONE]), False),
@@ -2367,16 +2376,17 @@ def of_handins(D):
         ("call: a line entered, 26", enters(ORDERED, 0, 26, 0, [], []), True),
         ("call: a line entered, 27", enters("8 withdraw", 1, 27, 1, [R_BOTH], [R_BOTH]), True),
         ("call: a line entered, 8", enters("7 nobody shut", 0, 8, 0, [], []), True),
+        ("not call: a line entered, 8 of other rows", enters("7 mailpw open", 0, 8, 0, [], []), False),
         ("not call: a line entered, 26 before 8", enters("7 nobody shut", 0, 26, 0, [], []), False),
         ("call: a line entered, the sheet's number", enters("7 nobody shut", 0, 5, 0, [], [], t=five), True),
         ("call: a line entered, 25", enters("", 1, 25, 1, [], [], t=five), True),
         ("not call: a line entered, the sheet's number before 25", enters("", 1, 5, 1, [], [], t=five), False),
         ("lines: entered one after the other", lambda: D.among(**g)(lambda: D.LinesEntered(sheet, [R_ANY, R_ANY], log)), True),
         ("not lines: the count is not handed on", lambda: D.among(**g)(lambda: D.LinesEntered(sheet, [R_BOTH, R_ANY], [EnteredLine(coded("7 withdraw"), Registered(0, 0), [R_BOTH, R_ANY])])), False),
-        ("not lines: an earlier one", lambda: D.among(**g)(lambda: D.LinesEntered(sheet, [R_ANY], [EnteredLine(coded("x"), Registered(4, 0), [R_BOTH])])), False),
-        ("lines: the calls that were made", lambda: [m.call for m in D.callsMade(items, log)] == [("HandIn", ONE), ("HandIn", BOTH)], True),
+        ("not lines: an earlier one", lambda: D.among(**g)(lambda: D.LinesEntered(sheet, [R_ANY], [EnteredLine(coded("7 withdraw"), Registered(27, 0), [R_ANY]), EnteredLine(coded("x"), Registered(5, 0), [R_ANY])])), False),
+        ("lines: the calls that were made", lambda: D.callsMade(items, log) == (made("HandIn", ONE, 0, (R_ONE, R_ANY), 1), made("HandIn", BOTH, 0, (R_BOTH, R_ANY), 1)), True),
         ("sought: both, and lockouts", lambda: D.NamesSought(BENCH_DOC, N_BOTH) and D.NamesSought(BENCH_DOC, N_LOCKS), True),
-        *((f"not sought: {n}", lambda x=x: D.NamesSought(BENCH_DOC, x), False) for n, x in (("a loose one", N_ONE), ("one left out", N_NONE), ("one in two orders", N_TWICE), ("the other way", N_BOTH._replace(loss=True)))),
+        *((f"not sought: {n}", lambda x=x: D.NamesSought(BENCH_DOC, x), False) for n, x in (("a loose one", N_ONE), ("one left out", N_NONE), ("one too many", N_BOTH._replace(sets=[*N_BOTH.sets, [coded("token")]])), ("one in two orders", N_TWICE), ("the other way", N_BOTH._replace(loss=True)))),
         ("named record: both", lambda: D.NamedRecord(BENCH_DOC, N_BOTH, R_BOTH), True),
         ("named record: a loose one", lambda: D.NamedRecord(BENCH_DOC, N_ONE, R_ONE), True),
         ("not named record: another's", lambda: D.NamedRecord(BENCH_DOC, N_ONE, R_BOTH), False),
@@ -2387,13 +2397,18 @@ def of_handins(D):
         ("not handed by line: refused", lambda: D.HandedByLine([EnteredLine(coded(ORDERED), Registered(26, 0), [])], N_BOTH), False),
         ("not handed by line: another", lambda: D.HandedByLine(log, N_LOCKS), False),
         ("record of line: the latest", ask(D.RecordOfLine, BENCH_DOC, log, R_ONE), True),
+        ("not record of line: a name twice", ask(D.RecordOfLine, BENCH_DOC, [EnteredLine(coded("7 order open token+token"), Registered(0, 1), [])], Record(7, 4, 0, 0, 0, 1, 0, 2)), False),
         ("not record of line: of none", ask(D.RecordOfLine, BENCH_DOC, log, R_LOCKS), False),
         ("settled: a set read", by_set("ordpw+token", 0, 0, 0, 5), True),
         ("settled: a set read, 8", by_set("nobody", 8, 2, 0, 0), True),
         ("settled: a set read, the sheet's number", by_set("nobody", 5, 1, 2, 0, t=five), True),
         ("not settled: a set read, another line", by_set("nobody", 5, 1, 0, 0, t=five), False),
+        ("not settled: a set read, neither told nor refused", ask(D.SettledReadSet, sheet, names, NamedSet(8, 2, 0, 5), named_sets=[]), False),
+        ("not set answered: of a text", ask(D.SetAnswered, sheet, names, NamedSet(0, 1, 0, 5)), False),
+        ("not set answered: another set", ask(D.SetAnswered, sheet, names, NamedSet(0, 0, 0, 2)), False),
+        ("set refusal: each number", lambda: all(D.SetRefusal(NamedSet(q, 2, 0, 0)) for q in (5, 6, 8)), True),
         ("not settled: a set read, another set", by_set("ordpw+token", 0, 0, 0, 2), False),
-        *((f"not settled: a set refused, {n}", lambda a=a: D.SetRefusal(NamedSet(*a)), False) for n, a in (("with a set", (8, 2, 0, 5)), ("with 7", (7, 2, 0, 0)), ("at a place", (8, 2, 1, 0)), ("of no text", (8, 0, 0, 0)))),
+        *((f"not settled: a set refused, {n}", lambda a=a: D.SetRefusal(NamedSet(*a)), False) for n, a in (("with a set", (8, 2, 0, 5)), ("with 7", (7, 2, 0, 0)), ("with 12 of the sheet", (12, 1, 0, 0)), ("at a place", (8, 2, 1, 0)), ("of no text", (8, 0, 0, 0)))),
         ("settled: a line read", by_line(ORDERED, SAYS_BOTH, [2, 5, 9]), True),
         ("settled: a line read, 15", by_line(ORDERED, no_line(15), [9], (9,)), True),
         ("settled: a line read, 8", by_line("7 nobody open", no_line(8, 2, 2), no), True),
@@ -2401,30 +2416,36 @@ def of_handins(D):
         ("not settled: a line read, 15 with room", by_line(ORDERED, no_line(15), no), False),
         ("line answered: both", ask(D.LineAnswered, sheet, coded(ORDERED), SAYS_BOTH, no, [2, 5, 9]), True),
         ("not line answered: another line", ask(D.LineAnswered, sheet, coded("7 withdraw"), SAYS_BOTH, no, [2, 5, 9]), False),
+        ("not settled: a line read, neither told nor refused", ask(D.SettledReadLine, sheet, coded(ORDERED), no_line(3, 2), no, no, line_ends=[]), False),
+        ("line refusal: each number", lambda: all(D.LineRefusal(no_line(q, 2, 1), no, no) for q in (2, 4, 5, 6, 7, 8)), True),
         ("line refusal: of the sheet", lambda: D.LineRefusal(no_line(11, 1, 4), no, no), True),
         *((f"not line refusal: {n}", lambda a=a, x=x: D.LineRefusal(a, no, x), False) for n, a, x in (
-            ("3", no_line(3, 2, 0), no), ("of no text", no_line(8, 0, 2), no), ("15 of the line", no_line(15, 2, 0), no), ("15 at a place", no_line(15, 0, 1), no), ("the list changed", no_line(15), [2, 9, 9]),
+            ("3", no_line(3, 2, 0), no), ("12 of the sheet", no_line(12, 1), no), ("of no text", no_line(8, 0, 2), no), ("15 of the line", no_line(15, 2, 0), no), ("15 at a place", no_line(15, 0, 1), no), ("the list changed", no_line(15), [2, 9, 9]),
             ("a student told", no_line(15)._replace(student=7), no), ("an answer", no_line(0), no))),
         ("settled: a line entered", settled("7 order open mailpw token+mailpw", 1, 0, 1, [R_BOTH, R_ANY], [R_ONE, R_ANY]), True),
         ("settled: a line entered, 26", settled(ORDERED, 1, 26, 1, [R_ANY], [R_ANY]), True),
-        ("settled: a line entered, 8", ask(D.SettledEntering, sheet, coded("7 nobody open"), 1, Registered(8, 1), [R_ANY], [R_ANY]), True),
-        ("not settled: a line entered, 13", ask(D.SettledEntering, sheet, coded(ORDERED), 1, Registered(13, 1), [R_ANY], [R_ANY], registers=[]), False),
+        ("settled: a line entered, 8", settled("7 nobody open", 1, 8, 1, [R_ANY], [R_ANY]), True),
+        ("settled: a line entered, 25", settled("", 2, 25, 2, [R_ANY], [R_ANY]), True),
+        ("settled: a line entered, 27", settled("8 withdraw", 1, 27, 1, [R_ANY], [R_ANY]), True),
+        ("not settled: a line entered, 13", settled(ORDERED, 1, 13, 1, [R_ANY], [R_ANY], among=[]), False),
         ("not settled: a line entered, the old slice", settled("7 order open mailpw token+mailpw", 1, 0, 1, [R_BOTH, R_ANY], [R_BOTH, R_ANY]), False),
     ]
 
 
 def of_drawings():
     """Document 01's sheet as it is saved, before and after an item was taken in: its rows rise already."""
-    saved = text(BENCH)
+    saved, less = text(BENCH), text(BENCH[:-1])
     lent = [35] * (len(saved) + 1)
-    return {"saves": [(n, size, lent, exit) for n, size in ((0, len(saved)), (0, 0), (12, 0)) for exit in ([*saved, 35], lent)] + [(15, 0, [35], [35])]}
+    ends = [(n, size, lent, exit) for n, size in ((0, len(saved)), (0, 0), (12, 0)) for exit in ([*saved, 35], lent)]
+    return {"saves": [*ends, (15, 0, [35], [35]), (0, len(less), lent, less + lent[len(less):])]}
 
 
 def of_saved_drawings(D):
     """What is saved of a setup that was redrawn."""
     sheet, five = text(BENCH), REFUSED["refused 5"][0]
-    g = {**of_drawings(), "docs": [BENCH_DOC], "setups": [bench, TAKEN, EMPTY], "ends": [bench, TAKEN, EMPTY]}
-    g["runs"] = [(sheet, [], []), (sheet, [D.TakeIn(1)], [0]), (sheet, [D.TakeIn(9)], [13]), (five, [D.TakeIn(1)], [12])]
+    less, OFF, ON = text(BENCH[:-1]), D.RemoveEdge(MAIL, ORDER, 1), D.AddEdge(MAIL, ORDER, 1, True)
+    g = {**of_drawings(), "docs": [BENCH_DOC, doc_of(BENCH[:-1])], "setups": [bench, TAKEN, EMPTY, LESS], "ends": [bench, TAKEN, EMPTY, LESS]}
+    g["runs"] = [(sheet, [], []), (sheet, [D.TakeIn(1)], [0]), (sheet, [D.TakeIn(9)], [13]), (five, [D.TakeIn(1)], [12]), (sheet, [OFF], [0]), (sheet, [ON], [0])]
     written_, drawn = [*sheet, 35], D.drawingOf(bench)
     after = D.leftBy([D.TakeIn(1)], [0], drawn)
     saved = lambda *a: lambda: D.SavedDrawing(bench, *a)
@@ -2432,6 +2453,7 @@ def of_saved_drawings(D):
         ("drawing saved", lambda: D.among(**g)(D.DrawingSaved), True),
         ("let go: nothing held, edges and marks kept", lambda: [(d.Held(1), d.Edges(1, MAIL, 0), d.Marks(MAIL, ORDER, 1), d.Marks(1, MAIL, 0)) for d in (D.letGo(after),)] == [(False, True, True, False)], True),
         ("saved drawing: with an item held", saved(after, TAKEN, 0, len(sheet), written_), True),
+        ("saved drawing: an edge less", saved(D.drawingOf(LESS), LESS, 0, len(less), less), True),
         ("saved drawing: 15", saved(after, TAKEN, 15, 0, [35]), True),
         ("not saved drawing: 12", saved(after, TAKEN, 12, 0, [35]), False),
         ("not saved drawing: other bytes", saved(after, TAKEN, 0, len(sheet), [35, *sheet]), False),

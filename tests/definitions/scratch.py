@@ -23,7 +23,7 @@ attackers/Attackers attackers/Answers
 multisets/Multisets multisets/Meaning multiset_scores/Scores multiset_scores/Answers
 next_sets/Next next_sets/Answers next_sets/Walks
 records/Records register/Calls register/Afternoon
-sheet_format/Text sheet_format/Fields sheet_format/Rows sheet_format/Stated sheet_format/Questions sheet_format/Read sheet_format/Names
+sheet_format/Text sheet_format/Fields sheet_format/Rows sheet_format/Stated sheet_format/Questions sheet_format/Read sheet_format/Names sheet_format/Meaning
 pool_format/Rows pool_format/Call pool_format/Meaning pool/Printed
 findings/Findings findings/Answers
 reference/Tests reference/Closures reference/Bases
@@ -34,8 +34,8 @@ worked_examples/Sheets worked_examples/Table
 """.split()
 
 # Crates whose types the definitions use, and types of theirs that no definition uses.
-TYPES = "vertex_set setup living scores access quick_yes answers forecasts cut_sets attackers multiset_scores next_sets records sheet_format pool_format findings report_facts report_writer demands".split()
-UNUSED = {"Step", "Names", "Task", "Pass", "Turn"}
+TYPES = "vertex_set setup living scores access quick_yes answers forecasts cut_sets attackers multiset_scores next_sets records sheet_format pool_format findings report_facts report_writer handin_format portal_register demands".split()
+UNUSED = {"Names", "Task", "Pass", "Turn"}
 
 
 def types_of(crate):

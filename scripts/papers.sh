@@ -48,7 +48,7 @@ paper() {
     # a page number on every page, and no page that is all but empty
     for ((page = 1; page <= pages; page++)); do
         pdftotext -f "$page" -l "$page" -layout "$out/$name.pdf" - > "$out/page.txt"
-        grep -qE "(^| )$page / $pages *$" "$out/page.txt" || fault "$name: no number on page $page"
+        grep -qE "(^| )$page ?/ ?$pages *$" "$out/page.txt" || fault "$name: no number on page $page"
         (($(grep -c '[a-z]' "$out/page.txt") >= 2)) || [ "$(wc -l < "$out/page.txt")" -ge 5 ] || fault "$name: page $page is all but empty"
     done
     rm -f "$out/page.txt"

@@ -209,7 +209,8 @@ fn list(paper: &Paper, target: usize, way: Way, room: usize) -> Answer<String> {
 }
 
 fn steps_cell(lines: &[String]) -> String {
-    let lines: Vec<String> = lines.iter().map(|line| format!("<div>{line}</div>")).collect();
+    let line = |line: &String| format!("<div>{}</div>", line.replace('+', "+<wbr/>"));
+    let lines: Vec<String> = lines.iter().map(line).collect();
     format!("<div class=\"steps\">{}</div>", lines.concat())
 }
 
@@ -219,7 +220,8 @@ fn untold(told: usize, shown: usize, words: &str) -> String {
         return String::new();
     }
     let command = format!("<code>gemzuleg why {} SET</code>", escaped(words));
-    format!("<p class=\"cut\">Steps are told of the first {told}; {command} tells those of any set.</p>\n")
+    let of = if told == 0 { "no set here".to_string() } else { format!("the first {told}") };
+    format!("<p class=\"cut\">Steps are told of {of}; {command} tells those of any set.</p>\n")
 }
 
 fn harden(paper: &Paper, target: usize, room: usize) -> Answer<String> {

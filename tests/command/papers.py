@@ -3,7 +3,7 @@
 brute force, names escaped, size bounded, with and without `dot`, and a `dot` that fails or prints nonsense.
 
 Cells are found by `data-table`, so that words stay free; steps are followed on the sheet, here, once more. GEMZULEG=folder names the folder
-of the command, else build/bin. The exit status is 1 where something does not hold.
+of the command, else build/bin; `papers.py NAME..` takes the sheets of these names alone. The exit status is 1 where something does not hold.
 """
 import os
 import re
@@ -261,7 +261,7 @@ day("sheets", str(at))
 for source in sorted((ROOT / "examples").glob("*.sheet")):
     if run("check", str(source))[0] == 0:
         (at / source.name).write_bytes(source.read_bytes())
-sheets = sorted(at.glob("*.sheet"))
+sheets = [path for path in sorted(at.glob("*.sheet")) if path.stem in sys.argv[1:] or not sys.argv[1:]]
 largest = 0
 for path in sheets:
     sheet, what = Sheet(path), path.stem

@@ -42,6 +42,9 @@ bash scripts/rust.sh
 bash scripts/gemzuleg.sh
 python3 tests/command/walk.py
 
+echo "test: papers, beside the brute force"
+python3 tests/command/papers.py
+
 echo "test: the command where files, input or output fail, and on a terminal"
 python3 tests/command/faults.py
 

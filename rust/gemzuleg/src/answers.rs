@@ -28,8 +28,9 @@ pub fn answers(paper: &Paper, filled: Option<Filled>, kinds: Option<&str>) -> An
     if let Some(file) = kinds {
         body += &who_gets_in(paper, &Kinds::read(paper.lab, file)?)?;
     }
+    let room = room(paper)?;
     for &target in &paper.targets {
-        body += &account(paper, target)?;
+        body += &account(paper, target, room)?;
     }
     Ok(page(&format!("Who can get in? Answers: {}", paper.name), &(body + FOOTER)))
 }
@@ -147,24 +148,35 @@ fn who_gets_in(paper: &Paper, kinds: &Kinds) -> Answer<String> {
 }
 
 /// Both lists of an account, and what to harden.
-fn account(paper: &Paper, target: usize) -> Answer<String> {
+fn account(paper: &Paper, target: usize, room: usize) -> Answer<String> {
     let name = paper.lab.name(target)?;
     let mut html = format!("<h2>{name}</h2>\n");
     html += "<h3>Exercise one: a stranger gets in with</h3>\n";
-    html += &list(paper, target, Way::Open)?;
+    html += &list(paper, target, Way::Open, room)?;
     html += "<h3>Exercise two: the lab is shut out by the loss of</h3>\n";
-    html += &list(paper, target, Way::Lock)?;
+    html += &list(paper, target, Way::Lock, room)?;
     html += "<h3>To harden, so that no way in is left</h3>\n";
-    Ok(html + &harden(paper, target)?)
+    Ok(html + &harden(paper, target, room)?)
 }
 
-/// The lines that a list may have on a page of so many.
-fn room(paper: &Paper) -> usize {
-    LINES / (3 * paper.targets.len().max(1))
+/// The lines that a list may have: as many as it has, where all of them find room on a page; else each has its part.
+fn room(paper: &Paper) -> Answer<usize> {
+    let mut lines = 0;
+    for &target in &paper.targets {
+        lines += lists::cuts(paper.lab, target)?.len().min(ROWS);
+        for way in [Way::Open, Way::Lock] {
+            let sets = paper.lab.list(target, way)?;
+            lines += sets.len().min(ROWS);
+            for &one in sets.iter().take(WITH_STEPS) {
+                lines += steps::lines(paper.lab, target, way, one)?.len();
+            }
+        }
+    }
+    Ok(if lines <= LINES { usize::MAX } else { LINES / (3 * paper.targets.len()) })
 }
 
 /// The first sets of a list with their steps, and some more without, as far as there is room.
-fn list(paper: &Paper, target: usize, way: Way) -> Answer<String> {
+fn list(paper: &Paper, target: usize, way: Way, room: usize) -> Answer<String> {
     let (lab, name) = (paper.lab, paper.lab.name(target)?);
     let (columns, none) = match way {
         Way::Open => (["a stranger has", "#sum", "the way in"], "No stranger gets in."),
@@ -174,7 +186,7 @@ fn list(paper: &Paper, target: usize, way: Way) -> Answer<String> {
     };
     let mut grid = Grid::new(&format!("{} {name}", way.name()), &columns);
     let sets = lists::summed(lab, target, way)?;
-    let (mut left, mut shown, mut told) = (room(paper), 0, 0);
+    let (mut left, mut shown, mut told) = (room, 0, 0);
     for &one in sets.iter().take(ROWS.min(left)) {
         let lines = steps::lines(lab, target, way, one)?;
         let steps = if told == shown && told < WITH_STEPS && lines.len() < left {
@@ -197,7 +209,8 @@ fn list(paper: &Paper, target: usize, way: Way) -> Answer<String> {
 }
 
 fn steps_cell(lines: &[String]) -> String {
-    let lines: Vec<String> = lines.iter().map(|line| format!("<div>{line}</div>")).collect();
+    let line = |line: &String| format!("<div>{}</div>", line.replace('+', "+<wbr/>"));
+    let lines: Vec<String> = lines.iter().map(line).collect();
     format!("<div class=\"steps\">{}</div>", lines.concat())
 }
 
@@ -207,14 +220,15 @@ fn untold(told: usize, shown: usize, words: &str) -> String {
         return String::new();
     }
     let command = format!("<code>gemzuleg why {} SET</code>", escaped(words));
-    format!("<p class=\"cut\">Steps are told of the first {told}; {command} tells those of any set.</p>\n")
+    let of = if told == 0 { "no set here".to_string() } else { format!("the first {told}") };
+    format!("<p class=\"cut\">Steps are told of {of}; {command} tells those of any set.</p>\n")
 }
 
-fn harden(paper: &Paper, target: usize) -> Answer<String> {
+fn harden(paper: &Paper, target: usize, room: usize) -> Answer<String> {
     let (lab, name) = (paper.lab, paper.lab.name(target)?);
     let mut grid = Grid::new(&format!("harden {name}"), &["all of these"]);
     let sets = lists::cuts(lab, target)?;
-    let shown = sets.len().min(ROWS).min(room(paper));
+    let shown = sets.len().min(ROWS).min(room);
     for &one in &sets[..shown] {
         grid.row(&[&set(&lab.names(one)?)]);
     }

@@ -22,8 +22,7 @@ pub fn exercises(paper: &Paper) -> Answer<String> {
     body += "<h2>Your drawing</h2>\n";
     body += &figure(paper.lab, None)?;
     body += READING;
-    body += &things(paper.lab)?;
-    body += &ways(paper.lab)?;
+    body += &both(paper.lab)?;
     let gets = "with which a stranger gets into the account. <i>Smallest</i>: without any one of them the rest does not open it.";
     body += &exercise(paper, "Exercise one", gets, Way::Open)?;
     let shuts = "whose loss shuts the lab out of the account. <i>Smallest</i>: without any one of them the rest does not do it.";
@@ -48,6 +47,18 @@ pub fn figure(lab: &Lab, filled: Option<Filled>) -> Answer<String> {
 /// A dash for no number.
 fn or_dash(value: Option<u64>) -> String {
     or_never(value).replace('-', "–")
+}
+
+/// Things and ways, beside each other where both are narrow.
+fn both(lab: &Lab) -> Answer<String> {
+    let (things, ways) = (things(lab)?, ways(lab)?);
+    let short =
+        |item: usize| [Way::Open, Way::Lock].iter().all(|&way| lab.value(item, way) <= Some(9999));
+    let narrow = lab.all_names()?.iter().all(|name| name.len() <= 12);
+    if narrow && (0..lab.count()).all(short) {
+        return Ok(format!("<div class=\"two\"><div>\n{things}</div><div>\n{ways}</div></div>\n"));
+    }
+    Ok(things + &ways)
 }
 
 fn things(lab: &Lab) -> Answer<String> {

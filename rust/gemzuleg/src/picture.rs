@@ -42,14 +42,15 @@ fn is_drawing(svg: &str) -> bool {
         let Some(end) = rest.find(if comment.is_some() { "-->" } else { ">" }) else {
             return false;
         };
-        if comment.is_none() {
-            if !takes(&mut open, &rest[..end]) {
-                return false;
-            }
-            rest = &rest[end + 1..];
-        } else {
-            rest = &rest[end + 3..];
+        let (part, behind) = rest.split_at(end);
+        let whole = match comment {
+            Some(_) => is_text(part) && !part[3.min(end)..].contains("--"),
+            None => takes(&mut open, part),
+        };
+        if !whole {
+            return false;
         }
+        rest = &behind[if comment.is_some() { 3 } else { 1 }..];
         first = false;
     }
     open.is_empty() && rest.is_empty()
@@ -89,7 +90,9 @@ fn plain_fields(fields: &str) -> bool {
 fn is_text(text: &str) -> bool {
     let mut signs = text.split('&').skip(1);
     let known = signs.all(|behind| SIGNS.iter().any(|sign| behind.starts_with(sign)));
-    known && !text.chars().any(|sign| sign.is_control() && !sign.is_ascii_whitespace())
+    known
+        && !text.contains('<')
+        && !text.chars().any(|sign| sign.is_control() && !sign.is_ascii_whitespace())
 }
 
 /// The picture of a drawing's text; none without `dot`. A `dot` that is there and gives none is told of.

@@ -2,10 +2,12 @@
 //! twin that prints; reasons followed step by step; and bytes without sense.
 //!
 //! `day gate` is the gate's part, with a fixed seed; `day fuzz SEED SECONDS` goes on for as long as it is
-//! told; `day noise SEED SECONDS` gives the command random bytes alone. GEMZULEG names the folder of the
+//! told; `day noise SEED SECONDS` gives the command random bytes alone; `day cells` and `day sheets` are for
+//! the test of papers. GEMZULEG names the folder of the
 //! command, else build/bin. The first difference is printed with its files, and the exit status is 1.
 
 mod cases;
+mod cells;
 mod lines;
 mod noise;
 mod reasons;
@@ -69,8 +71,13 @@ fn main() -> ExitCode {
         (Some("gate"), 1) => run.gate(),
         (Some("fuzz"), 3) => run.fuzz(until),
         (Some("noise"), 3) => noise::until(&mut run, until),
+        (Some("cells"), 2 | 3) => {
+            return told(cells::print(&words[1], words.get(2).map(String::as_str)))
+        }
+        (Some("sheets"), 2) => return told(cells::sheets(&words[1])),
         _ => {
             eprintln!("usage: day gate | day fuzz SEED SECONDS | day noise SEED SECONDS");
+            eprintln!("       day cells SHEET [KIND,KIND..] | day sheets FOLDER");
             return ExitCode::from(2);
         }
     };
@@ -82,6 +89,17 @@ fn main() -> ExitCode {
         Ok(()) => ExitCode::SUCCESS,
         Err(difference) => {
             println!("{difference}");
+            ExitCode::FAILURE
+        }
+    }
+}
+
+/// The status of what has printed its answer itself.
+fn told(outcome: Outcome) -> ExitCode {
+    match outcome {
+        Ok(()) => ExitCode::SUCCESS,
+        Err(what) => {
+            eprintln!("day: {what}");
             ExitCode::FAILURE
         }
     }

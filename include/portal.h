@@ -641,10 +641,14 @@ struct portal_finding_result portal_out_of_rank(const uint64_t *setup, size_t wo
 /* ---- calls on the class register ---- */
 
 /*
+ * These calls write to used records that they do not change the values that stand there, a hand-in also to the place behind them, and so they do where
+ * they refuse with 26 or 27: no other thread may use these records meanwhile.
+ */
+
+/*
  * Hands in sets as a student's attempt at the target's opening list, or with `lock` at its lockout list. They are marked, and the
  * attempt's record takes the place of the first used one with the same student, target and way; where there is none, it goes behind the
- * used ones. No other record changes. (The call writes to used records that it does not change, and to the place behind them, the values that stand
- * there: no other thread may use them meanwhile.) Refused with 25, 12, 13, and 26 where a new record is needed and all are used.
+ * used ones. No other record changes. Refused with 25, 12, 13, and 26 where a new record is needed and all are used.
  */
 struct portal_register_result portal_hand_in(const uint64_t *setup, size_t words, struct portal_record *records, size_t places,
                                         size_t used, uint64_t student, uint64_t target, bool lock,

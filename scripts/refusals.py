@@ -36,6 +36,8 @@ def main():
     faults += [f"{name}: no log" for name in sorted(there - tried)]
     for path in logs:
         line = first_error(path.read_text(encoding="utf-8", errors="replace"))
+        if not line:
+            faults.append(f"{path.parent.parent.name}/{path.parent.name}: its log has no error")
         if SHAPE.search(line):
             faults.append(f"{path.parent.parent.name}/{path.parent.name} is refused by the proof's shape: {line[:160]}")
     for fault in faults:

@@ -18,6 +18,8 @@ GIVEN = {name: [("var", t) for t in types] for name, types in GIVEN.items()}
 # Arguments that are only compared with each other.
 COMPARED = {"IsEdge": {(0, 3), (1, 4), (2, 5)}, "OnlyHolding": {(0, 1)}, "Begun": {(2, 4), (3, 5)}, "PoolRefusal": {(1, 2)}}
 # Laws with arguments, which are proved of all of them, or of all that a law in the same file names.
+# No field of a law is dropped: what is left would be proved as well, so that no example can tell. `Duality` without `forecast` is such a one: `transversals`
+# fixes the list, whose sets lie within what is counted and none within another, so that the forecast bounds them.
 LAWS = set("Duality QuickAgrees NoEasierRoute Meaning ReportMeaning UnmixedPrints PoolingLaw RenamesLowest RegisterAfter Demand1 Demand2 Demand3Reached".split())
 SYMMETRIC = set("eqb min max bitAnd bitOr Iff Full question3 isMeeting Agree Meets SameMultiset SameName SameEdge SameAttempt sameText sameEdge sameThree".split())
 

@@ -38,11 +38,17 @@ fn counts(lab: &Lab) -> String {
     format!("{} {starting} {losable} {accounts} {arrows} {recovery}", lab.count())
 }
 
-/// The command's own file. Where /proc is not there, the name by which it was called tells it, if that is a path.
+/// The command's own file. Where /proc is not there, the name by which it was called tells it: a path, or a
+/// file on the PATH.
 fn own_file() -> io::Result<PathBuf> {
     std::env::current_exe().or_else(|error| {
-        let called = std::env::args_os().next().map(PathBuf::from);
-        called.filter(|path| path.components().count() > 1).ok_or(error)
+        let called = PathBuf::from(std::env::args_os().next().unwrap_or_default());
+        let path = std::env::var_os("PATH").unwrap_or_default();
+        let mut found = std::env::split_paths(&path).map(|folder| folder.join(&called));
+        if called.components().count() > 1 {
+            return Ok(called);
+        }
+        found.find(|file| file.is_file()).ok_or(error)
     })
 }
 

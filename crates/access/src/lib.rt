@@ -1,4 +1,7 @@
 // What a set of vertices opens, what a loss takes away, and the way in.
+
+#![tactic(auto)]
+
 ghost use Rattle.std.specs.Prelude.{[], ◌∷◌};
 ghost use Rattle.questions.specs.Contract.{ends, Fulfils};
 ghost use Rattle.access.specs.Answers.{closure_reply, closure_call, lost_reply, lost_call, way_reply, way_call};

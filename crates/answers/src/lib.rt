@@ -1,4 +1,7 @@
 // The calls on a target of a setup: both lists, score, risk, and the marks of handed-in lists.
+
+#![tactic(auto)]
+
 ghost use Rattle.std.specs.Prelude.{◌≡◌, true, false, ◌-◌, ◌<◌, [], ◌∷◌};
 ghost use Rattle.questions.specs.Contract.{ends, Answers, Fulfils};
 ghost use Rattle.answers.specs.Answers.{bases_reply, bases_call, score_reply, risk_reply, score_call, marks_reply, marks_call};

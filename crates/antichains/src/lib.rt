@@ -1,5 +1,8 @@
 // How many sets there can be of which none lies within another. Sperner's theorem (specs/) says: at
 // most as many as there are ways to choose half of the things.
+
+#![tactic(auto)]
+
 ghost use Rattle.std.specs.Prelude.{◌≡◌, ◌/◌, ◌≤◌};
 ghost use Rattle.antichains.specs.Antichains.{choose};
 

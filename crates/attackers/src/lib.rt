@@ -1,5 +1,8 @@
 // Who could get in (document 02, point 1; document 003: attackers). Of six kinds of attacker, the
 // lowest whose initial vertices open a target. No base is listed for it: at most four searches tell.
+
+#![tactic(auto)]
+
 ghost use Rattle.std.specs.Prelude.{◌≡◌, [], get_or};
 ghost use Rattle.vertex_set.specs.Set.{Member, Decides};
 ghost use Rattle.derivations.specs.Access.{HasAccess};

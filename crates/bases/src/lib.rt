@@ -1,4 +1,7 @@
 // Bases and scores, read from a table of all subsets.
+
+#![tactic(auto)]
+
 ghost use Rattle.std.specs.Prelude.{◌≡◌, ◌≤◌, ◌<◌, length};
 ghost use Rattle.std.specs.Int.Count.{ones};
 ghost use Rattle.formed.specs.WellFormed.{WellFormed};

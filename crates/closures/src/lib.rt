@@ -1,5 +1,8 @@
 // What a set of vertices opens, and what a loss takes away, by passes. A pass adds together all
 // vertices that the set at its beginning allows.
+
+#![tactic(auto)]
+
 ghost use Rattle.std.specs.Prelude.{◌≡◌, length};
 ghost use Rattle.vertex_set.specs.Set.{Member, Decides};
 ghost use Rattle.derivations.specs.Both.{rule_of};

@@ -1,6 +1,9 @@
 // Which starting items to harden so that no way to a target is left: its smallest cut sets. The
 // table of all subsets says which sets of initial vertices open the target; a set is a cut set
 // exactly if all other initial vertices do not.
+
+#![tactic(auto)]
+
 mod duals;
 
 ghost use Rattle.std.specs.Prelude.{false, [], ◌∷◌};

@@ -1,6 +1,9 @@
 // Demands 1, 2 and 3, as the contracts of functions that make the offered calls on any sheet, item,
 // setup, set, vertices, handed-in lists, list of kinds and lent lists. What the demands say of the
 // calls for C is told of their contracts (specs/Demands.antt).
+
+#![tactic(auto)]
+
 ghost use Rattle.std.specs.Prelude.{◌≡◌, true, false, [], ◌∷◌};
 ghost use Rattle.vertex_set.specs.Set.{Decides};
 ghost use Rattle.questions.specs.Contract.{ends, Fulfils};

@@ -1,5 +1,8 @@
 // Families of subsets of at most 14 chosen vertices, as truth tables: bit m % 64 of word m / 64
 // says whether the mask m is a member. Nothing here depends on a graph.
+
+#![tactic(auto)]
+
 ghost use Rattle.std.specs.Prelude.{◌≡◌, ◌≤◌, ◌<◌, length};
 ghost use Rattle.std.specs.Int.Count.{ones};
 ghost use Rattle.families.specs.Inner.Family.{family_words, mask_bits, size, MinimalMembers, LeastBelow};

@@ -1,5 +1,8 @@
 // The sets of a family's members, listed in order. The number of a mask's set is the sum of its
 // vertices' powers of 2, and is found by two tables of sums.
+
+#![tactic(auto)]
+
 ghost use Rattle.std.specs.Prelude.{◌≡◌, map, ◌+◌, ◌≤◌, ◌<◌, length};
 ghost use Rattle.std.specs.Int.Count.{ones};
 ghost use Rattle.families.specs.Inner.Family.{size, family_words};

@@ -1,5 +1,8 @@
 // From one member of a family to the next, fewer bits first and then the smaller mask, found on the
 // table itself: nothing is listed.
+
+#![tactic(auto)]
+
 ghost use Rattle.std.specs.Prelude.{◌≡◌, ◌<◌, length};
 ghost use Rattle.families.specs.Inner.Family.{family_words, masks};
 ghost use Rattle.families.specs.Inner.Masks.{SetOfMask};

@@ -1,5 +1,8 @@
 // Families of masks as words: bit i of word b stands for the mask b * 64 + i. A table is worked out
 // block by block; here are the operations on the part of a family that lies in one block.
+
+#![tactic(auto)]
+
 ghost use Rattle.std.specs.Prelude.{◌≡◌, ◌+◌, ◌*◌, ◌<◌, length};
 ghost use Rattle.vertex_set.specs.Set.{Member};
 ghost use Rattle.family_words.specs.Inner.Words.{part_words, At, PartWhere, Merged, merged_word, Joined};

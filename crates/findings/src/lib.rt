@@ -1,4 +1,7 @@
 // Findings on an account's recovery edges, and on ranks (document 003, definitions 26 to 28).
+
+#![tactic(auto)]
+
 ghost use Rattle.std.specs.Prelude.{true, false, [], ◌<◌};
 ghost use Rattle.bases.specs.Score.{Score};
 ghost use Rattle.formed.specs.Inner.Answerable.{Answerable};

@@ -1,4 +1,7 @@
 // Question 12: is a setup one that an accepted sheet and a list of calls reach?
+
+#![tactic(auto)]
+
 ghost use Rattle.std.specs.Prelude.{◌≡◌, ◌≤◌, ◌<◌};
 ghost use Rattle.std.specs.Int.Count.{ones};
 ghost use Rattle.vertex_set.specs.Set.{Decides};

@@ -1,6 +1,8 @@
 // Hand-ins by name: what the calls on sets and lines answer. The definitions stand in specs/, the theorems on
 // them in proofs/.
 
+#![tactic(auto)]
+
 // A set that was named. Where `number` is not 0, it is that of the first no, and the set is 0.
 #[derive(Drop)]
 pub struct SetField {

@@ -1,5 +1,8 @@
 // Hand-ins by name: the calls that read and write a set by the names of its items, and those on a hand-in
 // line. A sheet is read anew at each call: so names and graph cannot come from two sheets.
+
+#![tactic(auto)]
+
 ghost use Rattle.std.specs.Prelude.{◌≡◌, [], ◌∷◌, ◌≤◌, length, take};
 ghost use Rattle.questions.specs.Told.{Told};
 ghost use Rattle.sheet_format.specs.Names.{name_of};

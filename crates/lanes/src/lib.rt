@@ -1,6 +1,9 @@
 // Lanes of a block: the bits at one place of all its parts are one set of vertices, a lane. A
 // word operation works on 64 lanes at once, and finds those in which a vertex is opened or, with
 // loss, lost.
+
+#![tactic(auto)]
+
 ghost use Rattle.std.specs.Prelude.{◌≡◌, length};
 ghost use Rattle.vertex_set.specs.Set.{Member};
 ghost use Rattle.family_words.specs.Inner.Words.{part_words, At, PartWhere};

@@ -1,4 +1,7 @@
 // The least sum of values over the sets of a family's members, by two tables of sums.
+
+#![tactic(auto)]
+
 ghost use Rattle.std.specs.Prelude.{◌≡◌, map, ℕ, ◌<◌, length, get_or};
 ghost use Rattle.family_lists.specs.Inner.Lists.{Summable, SumTables, LeastSum, LeastBy};
 ghost use Rattle.family_lists.specs.Inner.Tables.{TablesFit, masks_in, sum_by};

@@ -5,6 +5,9 @@
 // A function copies what it is given by value, and a setup has 11 KB. So question 12 is asked in the
 // calls themselves, and its answer is handed on; where an edge changes, the rows of one vertex are
 // handed on to the functions that change them, and not the graph.
+
+#![tactic(auto)]
+
 ghost use Rattle.std.specs.Prelude.{◌≡◌, ◌≤◌};
 ghost use Rattle.vertex_set.specs.Set.{Decides};
 ghost use Rattle.setup.specs.Setup.{Edge, edge_count};

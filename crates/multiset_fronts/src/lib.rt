@@ -1,6 +1,9 @@
 // The lowest of a list of sets, by two keys each: the sets are gone through in order, and those kept are
 // at each time the lowest of all that were seen, of equal ones the first. So each set of a long list is
 // compared only with those kept so far, at most twice with each.
+
+#![tactic(auto)]
+
 ghost use Rattle.std.specs.Prelude.{◌≡◌, ◌≤◌, length};
 ghost use Rattle.vertex_set.specs.Set.{Decides};
 ghost use Rattle.multiset_keys.specs.Inner.{CountKey};

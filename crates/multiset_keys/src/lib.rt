@@ -1,6 +1,9 @@
 // Keys, by which the values of two sets are compared at seven thresholds at once. A key has 8 bits for
 // each threshold: how many of the set's values are at or above it. Since sets have at most 64
 // vertices, the highest bit of each lane is free.
+
+#![tactic(auto)]
+
 ghost use Rattle.std.specs.Prelude.{◌≡◌, ◌≤◌, ◌<◌, length};
 ghost use Rattle.std.specs.Int.Count.{ones};
 ghost use Rattle.families.specs.Inner.Family.{mask_bits, masks};

@@ -1,5 +1,8 @@
 // Scores that keep their parts: of the multisets of start values that the sets of an access base have,
 // those to which no different one is at most (document 02, point 6: the bag score).
+
+#![tactic(auto)]
+
 ghost use Rattle.std.specs.Prelude.{◌≡◌, [], ◌∷◌, ◌≤◌, length};
 ghost use Rattle.std.specs.Int.Count.{ones};
 ghost use Rattle.setup.specs.Bounds.{most_chosen};

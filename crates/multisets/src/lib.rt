@@ -1,6 +1,9 @@
 // Multisets of numbers (document 02, point 6: bags; document 003, 4.3): is one at most another? Two
 // are compared by counts at thresholds, and not place by place, so that the order of writing does not
 // matter, and 0 is a value like any other.
+
+#![tactic(auto)]
+
 ghost use Rattle.std.specs.Prelude.{◌≡◌};
 ghost use Rattle.vertex_set.specs.Set.{Decides};
 ghost use Rattle.multisets.specs.Multisets.{BagAtMost};

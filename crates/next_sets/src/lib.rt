@@ -1,5 +1,8 @@
 // A target's access base (document 01: its opening list), shown one set at a time while the setup
 // may change between two calls: the first set after the last one shown.
+
+#![tactic(auto)]
+
 ghost use Rattle.std.specs.Prelude.{[], ◌<◌, false};
 ghost use Rattle.vertex_set.specs.Set.{Within};
 ghost use Rattle.formed.specs.WellFormed.{WellFormed};

@@ -1,6 +1,9 @@
 // Pools two labs' sheets (document 02, point 11). `pool FIRST SECOND` reads two files and writes their
 // pooled sheet to standard output. Where there is none it writes nothing there, and a line on standard
 // error says why.
+
+#![tactic(auto)]
+
 ghost use Rattle.std.specs.Prelude.{◌≡◌, ◌≤◌, length, take, drop};
 ghost use Rattle.io.specs.Counts.{IsPrefixLen};
 ghost use Rattle.written.specs.Rows.{RowWritten};

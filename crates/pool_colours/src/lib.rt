@@ -1,4 +1,7 @@
 // The colours of a pooled sheet's edges: what each colour of the second sheet becomes.
+
+#![tactic(auto)]
+
 ghost use Rattle.std.specs.Prelude.{◌≤◌, ◌<◌, length};
 ghost use Rattle.pool_colours.specs.Inner.Colours.{LowestFree, Used, NewColour, EdgeColour, ColoursOf};
 

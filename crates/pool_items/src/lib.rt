@@ -1,5 +1,8 @@
 // The item rows of two accepted sheets that are pooled: which items are in both, whether these agree, and
 // what remains of the second sheet.
+
+#![tactic(auto)]
+
 ghost use Rattle.std.specs.Prelude.{◌≡◌, ◌≤◌};
 ghost use Rattle.vertex_set.specs.Set.{Decides};
 ghost use Rattle.pool_items.specs.Inner.Keys.{KeyPlaces};

@@ -1,5 +1,8 @@
 // The parts of a pooled sheet that are not the first sheet's own bytes: the second sheet's remaining
 // item rows, copied, and its edge rows, each copied but for the digit of its colour.
+
+#![tactic(auto)]
+
 ghost use Rattle.std.specs.Prelude.{cond, [], ◌+◌, ◌≤◌, length, drop};
 ghost use Rattle.written.specs.Inner.{Wrote};
 ghost use Rattle.sheet_format.specs.Text.{lines_of};

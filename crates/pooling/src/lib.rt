@@ -1,6 +1,9 @@
 // Two labs pool their sheets (document 02, point 11): the call that writes the pooled sheet. Rows are
 // copied and not written anew, since an accepted text is the written form of its rows; of the second
 // sheet's edge rows one byte changes, the colour.
+
+#![tactic(auto)]
+
 ghost use Rattle.std.specs.Prelude.{◌≡◌, ◌≤◌, length};
 ghost use Rattle.vertex_set.specs.Set.{Decides};
 ghost use Rattle.written.specs.Inner.{Wrote};

@@ -1,4 +1,7 @@
 // The course portal's calls, for C: a sheet's bytes and an item number in, one number out.
+
+#![tactic(auto)]
+
 ghost use Rattle.std.specs.Prelude.{true, false};
 ghost use Rattle.answers.specs.Answers.{score_reply, risk_reply};
 ghost use Rattle.portal.specs.Portal.{PortalCall};

@@ -1,4 +1,7 @@
 // The portal's calls on a setup that lives, for C: they change the setup in its buffer.
+
+#![tactic(auto)]
+
 ghost use Rattle.std.specs.Prelude.{◌≡◌, [], ◌∷◌};
 ghost use Rattle.questions.specs.Told.{Told};
 ghost use Rattle.living.specs.Calls.{TakeIn, TakeOut, AddEdge, RemoveEdge};

@@ -1,5 +1,8 @@
 // The portal's class register, for C: a lent slice of records, and how many of them are used. Attempts are
 // handed in by numbers, or by names as a line of text.
+
+#![tactic(auto)]
+
 ghost use Rattle.std.specs.Prelude.{◌≡◌, cond, [], ◌∷◌};
 ghost use Rattle.questions.specs.Told.{Told};
 ghost use Rattle.register.specs.Calls.{HandInCall, WithdrawCall};

@@ -1,5 +1,8 @@
 // The portal's calls for scores, for C: score and risk, marks of a handed-in list, findings on recovery
 // and ranks, kinds of intruder, and bags of values. `results` has the structs.
+
+#![tactic(auto)]
+
 ghost use Rattle.std.specs.Prelude.{true, false, [], ◌∷◌};
 ghost use Rattle.vertex_set.specs.Set.{Decides};
 ghost use Rattle.questions.specs.Told.{Told};

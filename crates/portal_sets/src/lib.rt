@@ -1,6 +1,9 @@
 // The portal's calls on a setup and its sets, for C: question 12, what a set opens, what a loss takes
 // away, the way in, a quick yes, both lists, their forecast, the next set, and the cut sets.
 // `results` has the structs.
+
+#![tactic(auto)]
+
 ghost use Rattle.std.specs.Prelude.{◌≡◌, [], ◌∷◌};
 ghost use Rattle.questions.specs.Asks.{Asks};
 ghost use Rattle.portal_sets.specs.Check.{asks_reached};

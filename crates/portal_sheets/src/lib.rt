@@ -1,5 +1,8 @@
 // The portal's calls on sheets, for C: reading a sheet into a buffer, an item's name, pooling, and
 // the sheet of a setup. Beside them the version of the portal's calls.
+
+#![tactic(auto)]
+
 ghost use Rattle.std.specs.Prelude.{◌≡◌, [], ◌∷◌};
 ghost use Rattle.questions.specs.Told.{Told};
 ghost use Rattle.pool_format.specs.Call.{PoolCall};

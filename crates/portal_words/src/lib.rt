@@ -1,5 +1,8 @@
 // A setup as plain numbers, as C hands it over and gets it. Words that say no setup stand for the
 // setup of 0 items, so that question 12 refuses every call on them.
+
+#![tactic(auto)]
+
 ghost use Rattle.std.specs.Prelude.{◌≡◌, [], ◌∷◌, ◌+◌, ◌≤◌, ◌<◌, length};
 ghost use Rattle.vertex_set.specs.Set.{Decides};
 ghost use Rattle.setup.specs.Setup.{no_items};

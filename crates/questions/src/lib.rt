@@ -1,6 +1,9 @@
 // The shape of a contract (specs/), and the questions that most calls ask first: the number of the
 // first no, and 0 where there is none. A function copies what it is given by value, and a setup has
 // 11 KB: so `formed` is the answer to question 12, and `count` is the setup's.
+
+#![tactic(auto)]
+
 ghost use Rattle.std.specs.Prelude.{[], ◌∷◌};
 ghost use Rattle.vertex_set.specs.Set.{Decides};
 ghost use Rattle.questions.specs.Inner.{FirstRefusal, answered12, below13, inside14};

@@ -1,5 +1,8 @@
 // Records of attempts, and what a call on the register does with one record at a time. All that the
 // register's calls decide is decided here, by value: the functions over the slice decide nothing.
+
+#![tactic(auto)]
+
 ghost use Rattle.std.specs.Prelude.{◌≡◌, cond, [], ◌<◌, ◌≤◌, ◌+◌, ◌^◌};
 ghost use Rattle.questions.specs.Contract.{ends, Fulfils};
 ghost use Rattle.answers.specs.Answers.{marks_reply, marks_call};
@@ -13,7 +16,7 @@ use setup::Setup;
 // bytes: the way is 0 for open and 1 for lock, and a record with another way is none that a hand-in
 // makes or replaces.
 #[repr(C)]
-#[derive(Drop)]
+#[derive(Clone, Copy)]
 pub struct Record {
     pub student: u64,
     pub target: u64,
@@ -35,7 +38,7 @@ pub struct Registered {
 
 // What a call asks for: to lay down a record, or to remove the records of its student. `refused` is
 // the number by which the marking refused, or 0.
-#[derive(Drop)]
+#[derive(Clone, Copy)]
 pub struct Task {
     pub remove: bool,
     pub refused: u64,
@@ -44,7 +47,7 @@ pub struct Task {
 
 // How far a pass over the register is. `turns` is how many places it looks at, `count` how many
 // records are used so far.
-#[derive(Drop)]
+#[derive(Clone, Copy)]
 pub struct Pass {
     pub found: bool,
     pub refused: u64,

@@ -1,5 +1,8 @@
 // The class register: attempts in a lent slice of records. The functions over the slice decide nothing;
 // what goes where is decided by value, record by record, in the crate `records`.
+
+#![tactic(auto)]
+
 ghost use Rattle.register.specs.Calls.{HandInCall, WithdrawCall};
 
 use records::{Record, Registered};

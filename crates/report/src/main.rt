@@ -1,5 +1,8 @@
 // Prints the report of the sheet on standard input (document 01, "Report and portal"). Where the
 // input fails nothing is printed, and where the output fails nothing behind the failure is.
+
+#![tactic(auto)]
+
 use report_scores::LIST_ROOM;
 use report_writer::{start, steps};
 use sheet::READ_ROOM;

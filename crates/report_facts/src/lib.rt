@@ -1,6 +1,9 @@
 // What the report's rows say of each vertex. The facts are worked out once for the whole report, by
 // `figures`, from scores, from `names` (where the items' names stand) and from `sets` (accounts,
 // findings and pairs as sets).
+
+#![tactic(auto)]
+
 pub mod figures;
 pub mod names;
 pub mod sets;
@@ -11,7 +14,7 @@ use vertex_set::VertexSet;
 // By vertex number: values, scores, whether it is an account, and the places of the names. `below`
 // has for each vertex the accounts that are out of rank with it above. `initial` and `losable` are
 // the vertices that the tables of closures are made of.
-#[derive(Drop)]
+#[derive(Clone, Copy)]
 pub struct Facts {
     pub count: usize,
     pub accounts: VertexSet,

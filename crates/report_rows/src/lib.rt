@@ -1,5 +1,8 @@
 // The rows of the report, written straight into the bytes that go out. Each function writes from `at`
 // on and gives the next place; every other byte stays as it was.
+
+#![tactic(auto)]
+
 pub mod fields;
 
 ghost use Rattle.std.specs.Prelude.{◌+◌, ◌≤◌, length};

@@ -1,5 +1,8 @@
 // What the report needs of a table of closures: it is filled once and cut down to the minimal sets,
 // and then every vertex's score and list are read from it.
+
+#![tactic(auto)]
+
 ghost use Rattle.std.specs.Prelude.{true, false, ◌≡◌, ℕ, ◌<◌, length, get_or};
 ghost use Rattle.vertex_set.specs.Order.{sum_over};
 ghost use Rattle.scores.specs.Inner.Lists.{security_at, recoverability_at};

@@ -12,7 +12,7 @@ use report_sections::{accounts, lists};
 const ROOM: usize = 4096;
 
 // Where the report goes on.
-#[derive(Drop)]
+#[derive(Clone, Copy)]
 pub enum Cursor {
     // Nothing is written yet.
     Start,

@@ -1,4 +1,7 @@
 // A drawing is saved: the sheet of a setup, under the names of a sheet that has at least its items.
+
+#![tactic(auto)]
+
 ghost use Rattle.std.specs.Prelude.{◌≡◌, [], ◌∷◌, ◌≤◌, length, take};
 ghost use Rattle.questions.specs.Told.{Told};
 ghost use Rattle.sheet_format.specs.Names.{name_of};

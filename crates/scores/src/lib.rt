@@ -1,6 +1,9 @@
 // The two kinds of score, each a type of its own, so that no code compares or adds one of each.
 // Their numbers are private: outside of this crate a score is made by `of`, compared by `below` and
 // `at_most`, and told by `number`.
+
+#![tactic(auto)]
+
 ghost use Rattle.std.specs.Prelude.{◌≡◌, ◌≤◌, ◌<◌};
 ghost use Rattle.vertex_set.specs.Set.{Decides};
 
@@ -9,7 +12,7 @@ pub const NEVER: u64 = 0x4000_0000_0000_0000;
 
 // Document 01's score, document 003's security score. It is never added to, nor compared with, a
 // recoverability score.
-#[derive(Drop)]
+#[derive(Clone, Copy)]
 pub struct SecurityScore(u64);
 
 impl SecurityScore {
@@ -39,7 +42,7 @@ impl SecurityScore {
 }
 
 // Document 01's risk, document 003's recoverability score.
-#[derive(Drop)]
+#[derive(Clone, Copy)]
 pub struct RecoverabilityScore(u64);
 
 impl RecoverabilityScore {

@@ -1,5 +1,8 @@
 // A lab's account setup (document 003: the graph with V_init, Init and E_rec), its initial and
 // losable vertices, and its graph without recovery.
+
+#![tactic(auto)]
+
 ghost use Rattle.std.specs.Prelude.{◌≡◌, ◌≤◌};
 ghost use Rattle.vertex_set.specs.Set.{Decides};
 ghost use Rattle.setup.specs.Setup.{given, points, value_of, row_less, ChosenSet, WithoutRecovery};
@@ -24,21 +27,21 @@ pub const MAX_CHOSEN: usize = 14;
 
 pub const MAX_BYTES: usize = 16384;
 
-#[derive(Drop)]
+#[derive(Clone, Copy)]
 pub enum Kind {
     Credential,
     Account,
 }
 
 // A start or loss value; Blank is the sheet's `-`. Zero is a value and not a blank.
-#[derive(Drop)]
+#[derive(Clone, Copy)]
 pub enum Value {
     Blank,
     Of(u64),
 }
 
 // A vertex (document 01: item). It has no name: names stay in the sheet.
-#[derive(Drop)]
+#[derive(Clone, Copy)]
 pub struct Vertex {
     pub kind: Kind,
     pub start: Value,
@@ -55,12 +58,12 @@ pub const UNUSED: Vertex = Vertex {
 };
 
 // The sets of vertices that one vertex needs, one set for each colour.
-#[derive(Drop)]
+#[derive(Clone, Copy)]
 pub struct Rows {
     pub needs: [u64; 8],
 }
 
-#[derive(Drop)]
+#[derive(Clone, Copy)]
 pub struct Graph {
     pub rows: [Rows; 64],
 }
@@ -73,7 +76,7 @@ pub const EMPTY: Graph = Graph {
 // `recovery` has the rows of the recovery edges alone; each of them stands in `graph` too. `held` are
 // the vertices that are held at the moment, and `opened` those that they open (document 02, point
 // 8); both are empty after reading.
-#[derive(Drop)]
+#[derive(Clone, Copy)]
 pub struct Setup {
     pub count: usize,
     pub vertices: [Vertex; 64],

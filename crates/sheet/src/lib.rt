@@ -1,4 +1,7 @@
 // A sheet (document 01): what it says, or the first question whose answer is no; and item names.
+
+#![tactic(auto)]
+
 ghost use Rattle.std.specs.Prelude.{◌≡◌, ◌+◌};
 ghost use Rattle.sheet_format.specs.Read.{refused, read_sheet};
 ghost use Rattle.sheet_format.specs.Names.{name_of, name_start};

@@ -1,4 +1,7 @@
 // All edge rows of a sheet.
+
+#![tactic(auto)]
+
 ghost use Rattle.std.specs.Prelude.{◌≡◌, cond, ◌/◌, ◌%◌, ◌^◌, ◌≤◌, ◌<◌, length, eqb};
 ghost use Rattle.setup.specs.Setup.{row_of};
 ghost use Rattle.sheet_edges.specs.Inner.Edges.{with_need, ReadsEdges};

@@ -1,4 +1,7 @@
 // The fields of a sheet's rows: cutting a line into them, and reading each.
+
+#![tactic(auto)]
+
 ghost use Rattle.std.specs.Prelude.{◌≡◌, ◌+◌, ◌≤◌, length, drop};
 ghost use Rattle.sheet_format.specs.Fields.{is_name_byte, is_name};
 ghost use Rattle.sheet_fields.specs.Inner.Parts.{until, end_at, CutsFour};
@@ -22,7 +25,7 @@ const NAME_BYTES: usize = 16;
 const WORD_BYTES: usize = 8;
 
 // A name as two numbers, so that two names are compared without a loop.
-#[derive(Drop)]
+#[derive(Clone, Copy)]
 pub struct Key {
     pub low: u64,
     pub high: u64,

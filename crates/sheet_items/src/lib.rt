@@ -1,4 +1,7 @@
 // All item rows of a sheet.
+
+#![tactic(auto)]
+
 ghost use Rattle.std.specs.Prelude.{◌≡◌};
 ghost use Rattle.sheet_items.specs.Inner.Items.{ReadsItems};
 

@@ -4,7 +4,7 @@ ghost use Rattle.sheet_lines.specs.Inner.Keys.{HasLines, SheetKeys};
 
 // The keys of the names of a sheet's items, and where each item's row begins; behind the last of
 // them the place of the empty line.
-#[derive(Drop)]
+#[derive(Clone, Copy)]
 pub struct Keys {
     pub low: [u64; 64],
     pub high: [u64; 64],

@@ -1,5 +1,8 @@
 // The lines of a sheet: the test of the whole text, and the headers; in `names`, where an item's name
 // stands; in `item_keys`, the keys of all names.
+
+#![tactic(auto)]
+
 pub mod item_keys;
 pub mod names;
 

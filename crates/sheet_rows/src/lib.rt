@@ -1,4 +1,7 @@
 // The rows of a sheet: an item row and an edge row, each by itself, and with the rows above it.
+
+#![tactic(auto)]
+
 ghost use Rattle.std.specs.Prelude.{◌≡◌, suc, ◌≤◌, ◌&&◌, length, take, eqb, leb};
 ghost use Rattle.setup.specs.Bounds.{most_items, most_chosen};
 ghost use Rattle.sheet_fields.specs.Inner.Parts.{CutPlaces, four_fields};

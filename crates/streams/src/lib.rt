@@ -1,6 +1,9 @@
 // Reading all of an input and writing all of some bytes, by as many calls of the system's `read`
 // and `write` as it takes, and telling where one fails. `errno` then has the failed call's reason,
 // since no other call is made after it.
+
+#![tactic(auto)]
+
 ghost use Rattle.std.specs.Prelude.{◌≡◌, ◌≤◌, length};
 ghost use Rattle.streams.specs.Inner.Streams.{failed_by, moved_by, MovedOn, ReadInto};
 

@@ -1,5 +1,8 @@
 // The edges of a graph read forwards: the successors of a vertex are the vertices that need it by
 // some colour. Beside them the operations by which a loop takes a set of vertices apart.
+
+#![tactic(auto)]
+
 ghost use Rattle.std.specs.Prelude.{◌≡◌, ◌<◌, length, replicate};
 ghost use Rattle.successors.specs.Inner.{VertexOf, LowestOf, HighestOf, Without, Needed, Noted, Successors, AllSuccessors};
 

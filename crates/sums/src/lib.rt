@@ -1,5 +1,8 @@
 // Sums of the weights of at most 14 chosen vertices. A table has the sums over seven bits of a
 // mask, so that two tables of 128 places serve all 2^14 masks.
+
+#![tactic(auto)]
+
 ghost use Rattle.std.specs.Prelude.{◌≡◌, ℕ, ◌≤◌, length, get_or};
 ghost use Rattle.std.specs.Int.Count.{ones};
 ghost use Rattle.families.specs.Inner.Family.{mask_bits};

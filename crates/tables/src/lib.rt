@@ -2,6 +2,9 @@
 // a graph is worked out for all subsets at once. A table is made in blocks of 1,024 masks: a mask's
 // low ten bits are its lane within a block, the others the block's number. A block begins as a
 // settled block whose number has one bit fewer, so larger sets go on from what smaller ones open.
+
+#![tactic(auto)]
+
 ghost use Rattle.std.specs.Prelude.{◌≡◌, ◌+◌, ◌*◌, ◌<◌, length, get_or};
 ghost use Rattle.derivations.specs.Both.{rule_of};
 ghost use Rattle.families.specs.Inner.Masks.{place_among, Picked};

@@ -1,10 +1,13 @@
 // Sets of vertices as 64-bit numbers: a set is the sum of 2^v over its vertices v.
+
+#![tactic(auto)]
+
 ghost use Rattle.vertex_set.specs.Set.{Member, Within, Decides, Inserted, Meets, Below};
 
 pub const VERTICES: usize = 64;
 
 // Document 01's growing set: a value that takes in a vertex and hands itself back.
-#[derive(Drop)]
+#[derive(Clone, Copy)]
 pub struct VertexSet(pub u64);
 
 impl VertexSet {

@@ -1,4 +1,7 @@
 // The way in: the search for its steps, what is held at its end, and its writing to lent lists.
+
+#![tactic(auto)]
+
 ghost use Rattle.std.specs.Prelude.{◌≡◌, length};
 ghost use Rattle.successors.specs.Inner.{VertexOf};
 ghost use Rattle.ways.specs.Inner.{SearchBegun, Looked, Added, WayFollowed, WayRoom, Written};

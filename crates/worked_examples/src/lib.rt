@@ -3,3 +3,5 @@
 // lists of calls on a setup that lives, each with its table and theorem; two labs that pool their
 // sheets; an afternoon at the class register; and a drawing saved.
 // There is no code here.
+
+#![tactic(auto)]

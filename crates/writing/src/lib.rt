@@ -1,5 +1,8 @@
 // Bytes written straight into a lent buffer. Each function writes from `at` on and gives the next
 // place; every other byte stays as it was.
+
+#![tactic(auto)]
+
 ghost use Rattle.std.specs.Prelude.{[], ◌∷◌, ◌+◌, ◌≤◌, length};
 ghost use Rattle.written.specs.Inner.{Wrote};
 ghost use Rattle.sheet_format.specs.Fields.{decimal};

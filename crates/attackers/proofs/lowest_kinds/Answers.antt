@@ -1,0 +1,36 @@
+use native.Mathlib.Omega.{arith}
+use Prim.Native.Nat.{◌+◌, ◌-◌}
+use mathlib.Core.Path.{◌≡◌, subst, sym}
+use mathlib.Core.Logic.{⊎_elim}
+use Rattle.vertex_set.specs.declared.VertexSet.{VertexSet}
+use Rattle.attackers.proofs.Loops.{opens-decided}
+use Rattle.attackers.proofs.Trying.{Trying, trying-none, trying-known, trying-able, trying-unable, trying-done}
+use Rattle.attackers.proofs.lowest_kinds.Goals as goal
+use Rattle.attackers.proofs.lowest_kinds.Goals.{else-reaches, then-reaches}
+
+pub loop-place-init : goal.loop-place-init
+loop-place-init c = (omega arith, c.fill.ensures, trying-none _ _ _ _)
+
+pub loop-place-preserved-then-is_known : goal.loop-place-preserved-then-is_known
+loop-place-preserved-then-is_known c =
+    (omega arith, c.loop-place.invariant.1, trying-known _ _ _ _ _ _ _ (omega arith) c.loop-place.invariant.2 (c.is_known.ensures.yes c.if-is_known.true))
+
+pub loop-place-preserved : goal.loop-place-preserved
+loop-place-preserved c =
+    let a = c.args in
+    let d = opens-decided a.graph a.kinds.now a.initial.0 a.target _ _ _ c.held_by-held.ensures c.reaches.ensures in
+    let n = c.loop-place.place in (
+      omega arith,
+      c.loop-place.invariant.1,
+      elim c.if-reaches.branch [ then-reaches x ↦ subst (λ (s : VertexSet). Trying a.graph a.kinds.now a.initial.0 a.target (n + 1) s.0 c.if-reaches.unable.0) (sym x.2)
+          (subst (λ (s : VertexSet). Trying a.graph a.kinds.now a.initial.0 a.target (n + 1) x.1.result.0 s.0) (sym x.3)
+          (trying-able _ _ _ _ _ _ _ (omega arith) c.loop-place.invariant.2 _ (d.yes x.if-reaches.true) x.1.ensures)) | else-reaches x ↦ subst (λ (s : VertexSet). Trying a.graph a.kinds.now a.initial.0 a.target (n + 1) s.0 c.if-reaches.unable.0) (sym x.2)
+          (subst (λ (s : VertexSet). Trying a.graph a.kinds.now a.initial.0 a.target (n + 1) c.loop-place.able.0 s.0) (sym x.3)
+          (trying-unable _ _ _ _ _ _ _ (omega arith) c.loop-place.invariant.2 _ (d.no x.if-reaches.false) x.1.ensures)) ],
+    )
+
+pub returns : goal.returns
+returns c =
+    let a = c.args in
+    let e : c.loop-place.place ≡ 6 = omega arith in
+    trying-done a.graph a.kinds.now a.initial.0 a.target _ _ _ (rw e at c.loop-place.invariant.2) c.lowest_of.ensures

@@ -1,0 +1,35 @@
+use native.Mathlib.Omega.{arith}
+use Prim.Native.Nat.{◌+◌, ◌-◌}
+use mathlib.Core.Path.{◌≡◌, subst, sym}
+use mathlib.Core.Logic.{⊎_elim}
+use Rattle.vertex_set.specs.Set.{Member}
+use Rattle.vertex_set.specs.declared.VertexSet.{VertexSet}
+use Rattle.attackers.proofs.Lowering.{Lowering, lowering-none, lowering-above, lowering-not, lowering-more, lowering-done}
+use Rattle.attackers.proofs.lowest_of.Goals as goal
+use Rattle.attackers.proofs.lowest_of.Goals.{else-has, then-has}
+
+pub loop-t-init : goal.loop-t-init
+loop-t-init c =
+    let a = c.args in
+    (omega arith, lowering-none (Member a.able.0))
+
+pub loop-t-preserved-then-has_weaker : goal.loop-t-preserved-then-has_weaker
+loop-t-preserved-then-has_weaker c =
+    let a = c.args in
+    (omega arith, lowering-above (Member a.able.0) c.loop-t.t c.loop-t.found.0 (omega arith) c.loop-t.invariant.1 (c.has_weaker.ensures.yes c.if-has_weaker.true))
+
+pub loop-t-preserved : goal.loop-t-preserved
+loop-t-preserved c =
+    let a = c.args in (
+      omega arith,
+      elim c.if-has.branch [ then-has x ↦ subst (λ (s : VertexSet). Lowering (Member a.able.0) (c.loop-t.t + 1) s.0) (sym x.2)
+          (lowering-more (Member a.able.0) c.loop-t.t c.loop-t.found.0 (omega arith) c.loop-t.invariant.1 x.1.result.0
+          (c.has_weaker.ensures.no c.if-has_weaker.false) (c.has.ensures.yes x.if-has.true) x.1.ensures) | else-has x ↦ subst (λ (s : VertexSet). Lowering (Member a.able.0) (c.loop-t.t + 1) s.0) (sym x.1)
+          (lowering-not (Member a.able.0) c.loop-t.t c.loop-t.found.0 (omega arith) c.loop-t.invariant.1 (c.has.ensures.no x.if-has.false)) ],
+    )
+
+pub returns : goal.returns
+returns c =
+    let a = c.args in
+    let e : c.loop-t.t ≡ 6 = omega arith in
+    lowering-done (Member a.able.0) c.loop-t.found.0 (rw e at c.loop-t.invariant.1)

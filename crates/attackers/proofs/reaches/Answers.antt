@@ -1,0 +1,38 @@
+use borrow.Author.Rules.{rules}
+use Prim.Native.Nat.{◌^◌, ◌<◌}
+use Rattle.vertex_set.proofs.Decisions.{decide-yes, decide-no}
+use Rattle.closures.proofs.Passes.{falls-left}
+use Rattle.attackers.proofs.Reaching.{reaching-none, reaching-skip, reaching-take, reaching-done, falls-take}
+use Rattle.attackers.proofs.reaches.Goals as goal
+
+pub loop-graph-init : goal.loop-graph-init
+loop-graph-init c =
+    let fits : c.args.set.0 < 2 ^ 64 = search rules in
+    (c.requires, reaching-none _ _ c.requires _ _ fits c.to_look_at-left.ensures)
+
+pub returns-then-has : goal.returns-then-has
+returns-then-has c =
+    decide-yes (c.loop-graph.invariant.1.sound _ (c.has.ensures.yes c.if-has.true))
+
+pub returns-then-left-eq0 : goal.returns-then-left-eq0
+returns-then-left-eq0 c =
+    decide-no (reaching-done _ _ c.loop-graph.invariant.0 _ _ _ c.loop-graph.invariant.1 _ c.if-left-eq0.true (c.has.ensures.no c.if-has.false))
+
+pub loop-graph-smaller-then-lowest_colour-lt-COLOURS : goal.loop-graph-smaller-then-lowest_colour-lt-COLOURS
+loop-graph-smaller-then-lowest_colour-lt-COLOURS c =
+    falls-take _ _ c.loop-graph.invariant.0 _ _ _ c.loop-graph.invariant.1 _ _ _ c.lowest-v.ensures.vertex c.without-left.ensures c.lowest_colour.ensures _ c.insert-held.ensures
+
+pub loop-graph-preserved-then-lowest_colour-lt-COLOURS : goal.loop-graph-preserved-then-lowest_colour-lt-COLOURS
+loop-graph-preserved-then-lowest_colour-lt-COLOURS c =
+    let fits : c.insert-held.result.0 < 2 ^ 64 = search rules in (
+      c.loop-graph.invariant.0,
+      reaching-take _ _ c.loop-graph.invariant.0 _ _ _ c.loop-graph.invariant.1 _ _ _ c.lowest-v.ensures.vertex c.without-left.ensures c.lowest_colour.ensures _ c.insert-held.ensures
+          c.if-lowest_colour-lt-COLOURS.true c.without-left.type-inv (c.shared_slice_known-then-lowest_colour-lt-COLOURS-1.given c.lowest-v.result).fits fits,
+    )
+
+pub loop-graph-smaller : goal.loop-graph-smaller
+loop-graph-smaller c = falls-left _ _ _ c.without-left.ensures.less
+
+pub loop-graph-preserved : goal.loop-graph-preserved
+loop-graph-preserved c =
+    (c.loop-graph.invariant.0, reaching-skip _ _ c.loop-graph.invariant.0 _ _ _ c.loop-graph.invariant.1 _ _ _ c.lowest-v.ensures.vertex c.without-left.ensures c.lowest_colour.ensures c.if-lowest_colour-lt-COLOURS.false)

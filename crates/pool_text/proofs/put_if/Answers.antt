@@ -1,0 +1,14 @@
+-- `pool_text::put_if` meets its contract: the text, or nothing.
+use Rattle.pool_text.proofs.Rows.{room-asked, wrote-asked, wrote-not}
+use Rattle.pool_text.proofs.put_if.Goals as goal
+
+pub put_text-requires : goal.put_text-requires
+put_text-requires c =
+    room-asked _ _ _ _ c.if-asked.true c.requires
+
+pub returns-then-asked : goal.returns-then-asked
+returns-then-asked c =
+    wrote-asked _ _ _ _ _ _ c.if-asked.true c.put_text.ensures
+
+pub returns : goal.returns
+returns c = wrote-not _ _ _ _ c.if-asked.false

@@ -1,0 +1,23 @@
+use mathlib.Core.Path.{sym, ap, subst}
+use Prim.Native.Nat.{◌+◌}
+use native.Mathlib.Omega.{arith}
+use Rattle.answers.specs.declared.RiskAnswer.{RiskAnswer}
+use Rattle.answers.specs.Answers.{risk_reply}
+use Rattle.scores.specs.Never.{never}
+use Rattle.portal.specs.Inner.{Coded}
+use Rattle.portal.proofs.Portal.{coded-value, coded-refusal}
+use Rattle.portal.proofs.code_risk.Goals as goal
+
+pub overflow_add-result : goal.overflow_add-result
+overflow_add-result c =
+    let s = c.requires.small in
+    let e = ap (λ (a : RiskAnswer). (risk_reply a).number) c.answer-in-Refused-1.given.1 in
+    omega arith
+
+pub returns-in-Risk : goal.returns-in-Risk
+returns-in-Risk c =
+    let g = c.answer-1.given in
+    rw c.number.ensures (subst (λ (a : RiskAnswer). Coded (risk_reply a) g.0.0.0) (sym g.1) (coded-value g.0.0.0))
+
+pub returns-in-Refused : goal.returns-in-Refused
+returns-in-Refused c = subst (λ (a : RiskAnswer). Coded (risk_reply a) (never + c.answer-in-Refused-1.given.0.0)) (sym c.answer-in-Refused-1.given.1) (coded-refusal c.answer-in-Refused-1.given.0.0)

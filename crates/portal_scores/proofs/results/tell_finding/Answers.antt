@@ -1,0 +1,11 @@
+use mathlib.Core.Path.{refl}
+use Rattle.findings.specs.Answers.{finding_reply}
+use Rattle.questions.proofs.Told.{tells_as}
+use Rattle.portal_scores.proofs.Answers.{yes-no}
+use Rattle.portal_scores.proofs.results.tell_finding.Goals as goal
+
+pub returns-in-Is : goal.returns-in-Is
+returns-in-Is c = tells_as finding_reply _ _ c.answer-1.given.1 _ 0 (yes-no c.answer-1.given.0.0)
+
+pub returns-in-Refused : goal.returns-in-Refused
+returns-in-Refused c = tells_as finding_reply _ _ c.answer-in-Refused-1.given.1 _ 1 refl

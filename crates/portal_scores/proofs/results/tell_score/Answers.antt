@@ -1,0 +1,12 @@
+use mathlib.Core.Path.{refl}
+use Rattle.answers.specs.Answers.{score_reply}
+use Rattle.questions.proofs.Told.{tells_as}
+use Rattle.portal_scores.proofs.results.tell_score.Goals as goal
+
+pub returns-in-Score : goal.returns-in-Score
+returns-in-Score c =
+    let g = c.answer-1.given in
+    rw c.number-score.ensures (tells_as score_reply _ _ g.1 _ 0 refl)
+
+pub returns-in-Refused : goal.returns-in-Refused
+returns-in-Refused c = tells_as score_reply _ _ c.answer-in-Refused-1.given.1 _ 1 refl

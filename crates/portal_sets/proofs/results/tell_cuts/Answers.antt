@@ -1,0 +1,10 @@
+use mathlib.Core.Path.{refl}
+use Rattle.cut_sets.specs.Answers.{cuts_reply}
+use Rattle.questions.proofs.Told.{tells_as}
+use Rattle.portal_sets.proofs.results.tell_cuts.Goals as goal
+
+pub returns-in-Sets : goal.returns-in-Sets
+returns-in-Sets c = tells_as cuts_reply _ _ c.answer-1.given.1 _ 0 refl
+
+pub returns-in-Refused : goal.returns-in-Refused
+returns-in-Refused c = tells_as cuts_reply _ _ c.answer-in-Refused-1.given.1 _ 1 refl

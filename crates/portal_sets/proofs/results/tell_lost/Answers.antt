@@ -1,0 +1,10 @@
+use mathlib.Core.Path.{refl}
+use Rattle.access.specs.Answers.{lost_reply}
+use Rattle.questions.proofs.Told.{tells_as}
+use Rattle.portal_sets.proofs.results.tell_lost.Goals as goal
+
+pub returns-in-Lost : goal.returns-in-Lost
+returns-in-Lost c = tells_as lost_reply _ _ c.answer-1.given.1 _ 0 refl
+
+pub returns-in-Refused : goal.returns-in-Refused
+returns-in-Refused c = tells_as lost_reply _ _ c.answer-in-Refused-1.given.1 _ 1 refl

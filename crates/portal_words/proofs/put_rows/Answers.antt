@@ -1,0 +1,10 @@
+use mathlib.Core.Path.{◌≡◌}
+use native.Mathlib.Omega.{arith}
+use lib.ListN.{length}
+use borrow.Author.Rules.{rules}
+use Rattle.portal_words.proofs.put_rows.Goals as goal
+
+pub put_words-requires : goal.put_words-requires
+put_words-requires c =
+    let long : length c.args.rows.needs ≡ 8 = search rules in
+    omega arith

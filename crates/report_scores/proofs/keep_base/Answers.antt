@@ -1,0 +1,13 @@
+-- `report_scores::keep_base` meets its contract: the target's part of the table has 256 words, and so has what is put there.
+-- Assumes nothing.
+use Prim.Native.Nat.{◌+◌, ◌-◌, ◌*◌}
+use native.Mathlib.Omega.{arith}
+use Rattle.report_scores.proofs.Reading.{kept_at}
+use borrow.Author.Rules.{rules}
+use Rattle.report_scores.proofs.keep_base.Goals as goal
+
+pub returns : goal.returns
+returns c =
+    let v = c.args.target in
+    kept_at c.args.w.now _ v (v * 256 + 256 - v * 256) c.requires.w_len c.requires.target_bound (omega arith) (search rules)
+    c.args.low.now c.args.high.now c.least_by.result c.keep_minimal.ensures c.least_by.ensures

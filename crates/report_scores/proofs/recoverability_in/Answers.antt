@@ -1,0 +1,9 @@
+-- `report_scores::recoverability_in` meets its contract: the scores have the numbers that were read from the table.
+-- Assumes nothing.
+use mathlib.Core.Bool.{true}
+use Rattle.report_scores.proofs.Numbers.{scored-as}
+use Rattle.report_scores.proofs.recoverability_in.Goals as goal
+
+pub returns : goal.returns
+returns c =
+    scored-as true _ _ _ _ _ c.scores_in.ensures c.recoverability_of.ensures

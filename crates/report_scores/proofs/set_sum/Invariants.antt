@@ -1,0 +1,12 @@
+-- `report_scores::set_sum` meets its contract. The loop's invariant: the sum so far, and that of the vertices still to come, make the whole.
+-- Assumes nothing.
+use Prim.Native.Nat.{ℕ}
+use lib.ListN.{get_or}
+use Rattle.report_scores.proofs.Sums.{Summing}
+use Rattle.report_scores.proofs.set_sum.Given as goal
+
+abbrev pub invariant-loop-rest : goal.invariant-loop-rest
+invariant-loop-rest l = Summing (λ (v : ℕ). get_or l.values v 0) l.x l.rest l.sum
+
+abbrev pub decreases-loop-rest : goal.decreases-loop-rest
+decreases-loop-rest l = l.rest

@@ -1,9 +1,0 @@
-use Rattle.vertex_set.proofs.Decisions.{decide-ltb}
-use Rattle.scores.proofs.SecurityScore.below.Statement.{statement}
-use Rattle.scores.proofs.SecurityScore.below.Tie as tie
-
-returns : tie.Need-returns
-returns c = decide-ltb _ _
-
-pub below-spec : {M : Type 1} → statement M
-below-spec = tie.close (tie.spec returns)

@@ -1,0 +1,7 @@
+use Prim.Native.Nat.{◌≤◌, ◌-◌}
+use Rattle.setup.proofs.Recovery.{LessPlaces}
+use Rattle.setup.proofs.without_recovery.Given as goal
+
+-- In r each vertex before v has its rows without recovery.
+abbrev pub invariant-loop-v : goal.invariant-loop-v
+invariant-loop-v l = (l.v ≤ 64) × LessPlaces l.graph l.recovery l.r l.v

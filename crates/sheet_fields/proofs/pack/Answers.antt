@@ -1,0 +1,34 @@
+use mathlib.Core.Path.{◌≡◌, ◌∙◌}
+use Prim.Native.Nat.{◌-◌}
+use native.Mathlib.Omega.{arith}
+use Rattle.sheet_fields.proofs.Packing.{packed-back, packed-fits, packed-end}
+use Rattle.sheet_fields.proofs.pack.Goals as goal
+
+pub loop-i-init : goal.loop-i-init
+loop-i-init c = (omega arith, packed-end c.args.f.now)
+
+pub overflow_cast-b : goal.overflow_cast-b
+overflow_cast-b c = omega (arith, c.shared_slice_known-1.given (c.loop-i.i - 1))
+
+pub overflow_mul-n : goal.overflow_mul-n
+overflow_mul-n c =
+    let z = packed-fits c.args.f.now c.loop-i.i c.loop-i-test.true c.loop-i.invariant.0 c.requires (λ j. (c.shared_slice_known-1.given j).fits) in
+    let e = c.loop-i.invariant.1 in
+    omega arith
+
+pub overflow_add-n : goal.overflow_add-n
+overflow_add-n c =
+    let z = packed-fits c.args.f.now c.loop-i.i c.loop-i-test.true c.loop-i.invariant.0 c.requires (λ j. (c.shared_slice_known-1.given j).fits) in
+    let e = c.loop-i.invariant.1 in
+    omega arith
+
+pub loop-i-preserved : goal.loop-i-preserved
+loop-i-preserved c =
+    let z = packed-back c.args.f.now c.loop-i.i c.loop-i-test.true c.loop-i.invariant.0 in
+    let e = c.loop-i.invariant.1 in
+    (omega arith, omega arith)
+
+pub returns : goal.returns
+returns c =
+    let e : c.loop-i.i ≡ 0 = omega arith in
+    c.loop-i.invariant.1 ∙ rw e

@@ -1,0 +1,12 @@
+-- `sums::weights_of` meets its contract. The loop's invariant: the first n places have the values of the chosen vertices passed, the others 0.
+-- Assumes nothing.
+use Prim.Native.Nat.{ℕ, ◌≤◌}
+use lib.ListN.{get_or}
+use Rattle.sums.proofs.Weights.{Weighing}
+use Rattle.sums.proofs.weights_of.Given as goal
+
+abbrev pub invariant-loop-rest : goal.invariant-loop-rest
+invariant-loop-rest l = (l.n ≤ 14) × Weighing l.initial.rest (λ (v : ℕ). get_or l.values v 0) l.rest l.n l.weights
+
+abbrev pub decreases-loop-rest : goal.decreases-loop-rest
+decreases-loop-rest l = l.rest

@@ -1,0 +1,14 @@
+-- `tables::first_block` meets its contract: lanes that start as their masks' sets and are closed.
+-- Assumes nothing.
+use Rattle.tables.proofs.Blocks.{start-quiet, block-first}
+use Rattle.tables.proofs.first_block.Goals as goal
+
+pub settle-requires : goal.settle-requires
+settle-requires c =
+    let a = c.args in
+    record { successors = c.requires.successors; w_len = c.start.ensures.words; quiet = start-quiet a.loss a.graph a.chosen.0 _ _ _ c.well-formed.1.0.1.1.0.1 c.requires.successors c.of_set-first.ensures c.start.ensures }
+
+pub returns : goal.returns
+returns c =
+    let a = c.args in
+    block-first a.loss a.graph a.chosen.0 _ _ c.start.ensures c.settle.ensures

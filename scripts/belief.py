@@ -148,14 +148,24 @@ def owner(file, name):
     return None
 
 
+@functools.cache
+def functions_of_the_code():
+    """The names of all functions of the sources."""
+    texts = (path.read_text(encoding="utf-8") for path in sorted(ROOT.glob("crates/*/src/**/*.rt")))
+    return {name for text in texts for name in re.findall(r"\bfn (\w+)", text)}
+
+
 def statements():
-    """Of each row under "What is proved": the files that its statement names, and the other names there, but for functions of the code."""
+    """Of each row under "What is proved": the files that its statement names, and the other names there, but for functions of the code that have
+    the name of no definition in these files."""
     text = TRUST.read_text(encoding="utf-8").partition("\n## What is proved\n")[2].partition("\n## ")[0]
     for line in text.split("\n"):
         cells = line.split(" | ")
         words = re.findall(r"`([^`]+)`", cells[1]) if line.startswith("| ") and len(cells) == 3 else []
         if words:
-            yield [word for word in words if "/" in word], [word for word in words if not re.search("[/_]", word)]
+            files = [word for word in words if "/" in word]
+            is_defined = lambda word: any(owner(file, word) for file in files if file.endswith(".antt") and is_there(file))
+            yield files, [word for word in words if "/" not in word and (is_defined(word) or word not in functions_of_the_code())]
 
 
 def cites(file, definition):

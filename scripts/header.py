@@ -37,7 +37,7 @@ def parts(text):
 
 def calls_of(source):
     """Each exported function as C has it: name, type of the result, and types and names of the parameters, None for a count's."""
-    for name, given, result in re.findall(r'^#\[no_mangle\]\npub extern "C" fn (\w+)\(([^)]*)\) -> (\w+)', source, re.M):
+    for name, given, result in re.findall(r'^#\[unsafe\(no_mangle\)\]\npub extern "C" fn (\w+)\(([^)]*)\) -> (\w+)', source, re.M):
         wanted = []
         for parameter in parts(given):
             word, kind = (part.strip() for part in parameter.split(":"))
@@ -128,7 +128,7 @@ places = {"PORTAL_ROW": constant(words, "GRAPH"), "PORTAL_RECOVERY": constant(wo
 faults += [f"{name} does not begin at {at}" for name, at in places.items() if macro(header, name) != f"({at} + 8 * (v) + (c))"]
 held, opened = (constant(words, name) for name in ("HELD", "OPENED"))
 faults += [f"PORTAL_{name} is not {at}" for name, at in (("HELD", held), ("OPENED", opened)) if macro(header, f"PORTAL_{name}") != str(at)]
-told = dict(re.findall(r"^      (\w+) = .*wordAt words \(1 \+ 4 \* v((?: \+ \d)?)\)", read("crates/portal_words/specs/Words.antt"), re.M))
+told = dict(re.findall(r"^      (\w+) = .*word_at words \(1 \+ 4 \* v((?: \+ \d)?)\)", read("crates/portal_words/specs/Words.antt"), re.M))
 for field in ("kind", "start", "loss", "rank"):
     at = 1 + int(told[field].removeprefix(" + ") or 0)
     faults += [f"PORTAL_{field.upper()} does not begin at {at}"] * (macro(header, f"PORTAL_{field.upper()}") != f"({at} + 4 * (v))")
@@ -151,12 +151,12 @@ faults += ["PORTAL_MAX_VALUE is another number"] * (macro(header, "PORTAL_MAX_VA
 faults += ["man/report.1 has another largest value"] * (f"0 to {largest:,}" not in read("man/report.1"))
 never = constant(read("crates/scores/src/lib.rt"), "NEVER")
 faults += ["PORTAL_NEVER is another number"] * (macro(header, "PORTAL_NEVER") != f"(UINT64_C(1) << {never.bit_length() - 1})" or never.bit_count() != 1)
-longest = re.search(r"^longestSheet = (\d+)$", read("crates/sheet_format/specs/Meaning.antt"), re.M).group(1)
+longest = re.search(r"^longest_sheet = (\d+)$", read("crates/sheet_format/specs/Meaning.antt"), re.M).group(1)
 for name in ("POOL_BYTES", "SAVE_BYTES"):
     faults += [f"PORTAL_{name} is another number"] * (macro(header, f"PORTAL_{name}") != longest)
     faults += [f"rust/portal has another number as {name}"] * (str(constant(read("rust/portal/src/lib.rs"), name)) != longest)
 # The opened set is the last word.
-stated = re.search(r"^setupWords = (\d+)$", read("crates/portal_words/specs/Words.antt"), re.M).group(1)
+stated = re.search(r"^setup_words = (\d+)$", read("crates/portal_words/specs/Words.antt"), re.M).group(1)
 lengths = {macro(header, "PORTAL_SETUP_WORDS"), str(opened + 1), stated}
 faults += [f"a setup has {' and '.join(sorted(lengths))} words"] * (len(lengths) != 1)
 faults += ["PORTAL_VERSION is another number"] * (macro(header, "PORTAL_VERSION") != str(constant(reading, "VERSION")))

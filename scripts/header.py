@@ -49,7 +49,7 @@ def calls_of(source):
 
 
 def structs_of(source):
-    for name, fields in re.findall(r"^#\[repr\(C\)\]\npub struct (\w+) \{\n(.*?)^\}", source, re.M | re.S):
+    for name, fields in re.findall(r"^#\[repr\(C\)\]\n(?:#\[[^\n]*\]\n)*pub struct (\w+) \{\n(.*?)^\}", source, re.M | re.S):
         pairs = (field.split(":") for field in parts(fields))
         yield struct(name), [(SCALARS[kind.strip()], word.strip().removeprefix("pub ")) for word, kind in pairs]
 

@@ -28,6 +28,8 @@ SHORT = re.compile(r"^abbrev pub (\w+) :.*\n(?:.*\n)*?\1\b[^\n]*=\s*(\w+)\b", re
 OTHERS = {"vertex_set", "setup", "scores", "demands", "formed::row_sizes", "answers::demand_three", "sheet::read_sheet", "sheet::name_of"} | {
     "portal_sheets::portal_read",
     "portal_sheets::portal_version",
+    "portal_c::portal_read",
+    "portal_c::portal_version",
 }
 INVARIANT = re.compile(r"^(?:abbrev\s+|unfoldable\s+)?(?:pub\s+)?(?:Inv-loop|invariant-loop)\S*\s+:")
 WORDS = re.compile(r"^--\s+[\w`]")
@@ -39,7 +41,7 @@ def inner_crates():
     for line in (ROOT / "crates.txt").read_text(encoding="utf-8").splitlines():
         code, _, comment = line.partition("#")
         if ":" in code and re.search(r"\binner\b", comment):
-            inner.add(code.partition(":")[0].strip())
+            inner.add(code.split()[0].rstrip(":"))
     return inner
 
 

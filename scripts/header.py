@@ -1,8 +1,8 @@
 #!/usr/bin/env python3
 """Holds include/portal.h to the sources and to the documents.
 
-Every exported function of the portal's crates has its prototype, with the same names and the types that C has for them, in
-order; every struct that is handed back has its fields, here and in rust/portal; the version, the places of a setup's words, the blank, never,
+Every function that the static library portal_c exports has its prototype, with the same names and the types that C has for them, in
+order; it has the head and the contract, word for word, of the call of its name in the portal's other crates, which it hands on to; every struct that is handed back has its fields, here and in rust/portal; the version, the places of a setup's words, the blank, never,
 the most items and colours, the largest value, sheet and name, the bytes of a pooled sheet, the longest list, the number of kinds and the places of a bag are the sources', and the manual pages have the version; the refusals' names and sentences are those of docs/TERMS.md and of man/portal.3; README.md and man/portal.3 name every call, and above
 each prototype stands a comment. Else the exit status is 1.
 """
@@ -48,6 +48,12 @@ def calls_of(source):
         yield name, SCALARS.get(result) or f"struct {struct(result)}", wanted
 
 
+def exports_of(source):
+    """Each such function's text up to its body, and the body, by its name."""
+    found = re.findall(r'^#\[unsafe\(no_mangle\)\]\n(pub extern "C" fn (\w+)\(.*?\n)\{\n(.*?)^\}', source, re.M | re.S)
+    return {name: (head, body.strip()) for head, name, body in found}
+
+
 def structs_of(source):
     for name, fields in re.findall(r"^#\[repr\(C\)\]\n(?:#\[[^\n]*\]\n)*pub struct (\w+) \{\n(.*?)^\}", source, re.M | re.S):
         pairs = (field.split(":") for field in parts(fields))
@@ -86,7 +92,16 @@ sources = {path.parts[-3]: "".join(part.read_text(encoding="utf-8") for part in 
 faults = []
 
 # calls
-offered = {name: (result, given) for source in sources.values() for name, result, given in calls_of(source)}
+exporting = sources.pop("portal_c")
+offered = {name: (result, given) for name, result, given in calls_of(exporting)}
+handed_on = {(crate, name): head for crate, source in sources.items() for name, (head, _) in exports_of(source).items()}
+for name, (head, body) in exports_of(exporting).items():
+    crate = body.partition("::")[0]
+    words = re.findall(r"(\w+):", head.partition("(")[2].partition(")")[0])
+    if handed_on.pop((crate, name), "") != head:
+        faults.append(f"{name} of portal_c has not the head and contract of {crate}::{name}")
+    faults += [f"{name} of portal_c does more than to call {crate}::{name}"] * (body != f"{crate}::{name}({', '.join(words)})")
+faults += [f"portal_c does not export {name} of {crate}" for crate, name in handed_on]
 shown = dict(prototypes(header))
 readme, manual = read("README.md"), read("man/portal.3")
 for name in sorted(offered.keys() | shown.keys()):

@@ -26,5 +26,5 @@ loop-todo-preserved c =
 
 pub returns : goal.returns
 returns c =
-    let long : length c.args.graph.rows ≡ 64 = simp length-map at c.well-formed.0.1.1.0.1.0.1 in
+    let long : length c.args.graph.rows ≡ 64 = c.well_formed.0.1.1.0.1.0.1 in
     settled _ c.args.graph _ _ _ _ long c.loop-todo-test.false c.loop-todo.invariant

@@ -48,7 +48,7 @@ bounds-colours-i c =
 pub overflow_add-i : goal.overflow_add-i
 overflow_add-i c =
     let i = c.loop-search.invariant in
-    let g = c.well-formed in
+    let g = c.well_formed in
     let p = (writing-place _ _ _ _ _ _ _ _ _ i.1 i.0.out).0 in
     let q = (writing-long _ _ _ _ _ _ _ _ _ i.1).0 in
     omega arith

@@ -10,7 +10,7 @@ loop-todo-init c =
 
 pub loop-todo-smaller-then-step : goal.loop-todo-smaller-then-step
 loop-todo-smaller-then-step c =
-    falls-more _ _ _ _ (c.step.ensures.more c.if-step.true) (or_lt 64 _ _ c.without-todo.type-inv c.users-todo.type-inv)
+    falls-more _ _ _ _ (c.step.ensures.more c.if-step.true) (or_lt 64 _ _ c.without-todo.type_inv c.users-todo.type_inv)
 
 pub loop-todo-preserved-then-step : goal.loop-todo-preserved-then-step
 loop-todo-preserved-then-step c =

@@ -11,7 +11,7 @@ import sys
 from pathlib import Path
 
 ROOT = Path(__file__).resolve().parent.parent
-KIT = {"io", "libc", "os", "check", "bytes"}
+KIT = {"check", "bytes"}
 LINE = re.compile(r"^(\w+)( staticlib)?:([^#]*)(?:#\s*(inner: )?(.*))?$")
 # What a source names of the standard library, whose parts may be called as a library of the kit, as `io`.
 STD = re.compile(r"^\s*use std\b[^;]*;|\bstd(?:::\w+)+", re.M)

@@ -19,7 +19,7 @@ returns-then-out-n-2 c =
 
 -- what is known of the lent list's length lies too far back for `search`
 pub offset_bounds-out-first : goal.offset_bounds-out-first
-offset_bounds-out-first c = let out = c.well-formed.1.1.0 in search rules
+offset_bounds-out-first c = let out = c.well_formed.1.1.0 in search rules
 
 pub write_sets-second-requires : goal.write_sets-second-requires
 write_sets-second-requires c =

@@ -15,5 +15,5 @@ minimal_members-requires c =
 pub returns : goal.returns
 returns c =
     let a = c.args in
-    both-families a.loss a.s a.graph a.target a.chosen.0 _ _ c.count_members.result c.well-formed.1.1.1.1.0.1.1.0.1 c.requires.0.formed c.requires.0.is_chosen
+    both-families a.loss a.s a.graph a.target a.chosen.0 _ _ c.count_members.result c.well_formed.1.1.1.1.0.1.1.0.1 c.requires.0.formed c.requires.0.is_chosen
     c.family_of.ensures.1 c.minimal_members.ensures (c.minimal_members.auto.out ∙ c.requires.1) (λ i. (c.slice_known-4-1.given i).fits) c.count_members.ensures

@@ -27,7 +27,7 @@ least_sum-requires c = record { f_len = search rules; summable = record {
 pub returns : goal.returns
 returns c =
     let a = c.args in
-    let fits : c.chosen-chosen.result.0 < 2 ^ 64 = c.chosen-chosen.type-inv.1.1.0.1 in
+    let fits : c.chosen-chosen.result.0 < 2 ^ 64 = search rules in
     let k = few a.loss a.s c.chosen-chosen.result.0 c.requires.0 c.chosen-chosen.ensures in
     let r = score-of a.loss a.s a.graph a.target c.chosen-chosen.result.0 c.chosen-chosen.ensures _ fits k c.family_of.ensures.1 c.least_sum.result _
     (λ x. sum-over-same _ (points_at a.loss a.s) x c.values_of-values.ensures.each)

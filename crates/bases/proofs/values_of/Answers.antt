@@ -22,5 +22,5 @@ pub returns : goal.returns
 returns c =
     let a = c.args in
     let e : c.loop-v.v ≡ 64 = omega arith in
-    let long : length a.s.vertices ≡ 64 = simp length-map at c.well-formed.0.1.1.1.0.1.0.1 in
+    let long : length a.s.vertices ≡ 64 = c.well_formed.0.1.1.1.0.1.0.1 in
     values-all a.loss a.s c.loop-v.r long (rw e at c.loop-v.invariant.1)

@@ -7,7 +7,7 @@ use Rattle.vertex_set.specs.Set.{Member}
 use Rattle.vertex_set.proofs.Decisions.{decide-no}
 use Rattle.closures.proofs.Colours.{BrokenBelow, broken-none, broken-empty, broken-more, broken-not, broken-all}
 use Rattle.closures.proofs.all_broken.Goals as goal
-use Rattle.closures.proofs.all_broken.Goals.{else-needed-ne0, then-needed-ne0}
+use Rattle.closures.proofs.all_broken.Goals.{else-needed-ne0, then-needed-ne0+then-meets}
 
 pub loop-c-init : goal.loop-c-init
 loop-c-init c = (search rules, broken-none _ _)
@@ -21,7 +21,7 @@ loop-c-preserved c =
     let rows = c.args.rows in
     let lost = c.args.lost.0 in (
       omega arith,
-      elim c.if-needed-ne0.branch [ then-needed-ne0 w ↦ subst (BrokenBelow rows (Member lost) (c.loop-c.c + 1)) (sym w.3) (broken-more rows lost c.loop-c.c c.loop-c.coloured c.loop-c.invariant.1 w.if-needed-ne0.true (w.1.ensures.yes w.2.taken)) | else-needed-ne0 w ↦ subst (BrokenBelow rows (Member lost) (c.loop-c.c + 1)) (sym w.1) (broken-empty rows lost c.loop-c.c c.loop-c.coloured c.loop-c.invariant.1 w.if-needed-ne0.false) ],
+      elim c.if-needed-ne0.branch [ then-needed-ne0+then-meets w ↦ subst (BrokenBelow rows (Member lost) (c.loop-c.c + 1)) (sym w.coloured-is) (broken-more rows lost c.loop-c.c c.loop-c.coloured c.loop-c.invariant.1 w.if-needed-ne0.true (w.meets.ensures.yes w.if-meets.true)) | else-needed-ne0 w ↦ subst (BrokenBelow rows (Member lost) (c.loop-c.c + 1)) (sym w.coloured-is) (broken-empty rows lost c.loop-c.c c.loop-c.coloured c.loop-c.invariant.1 w.if-needed-ne0.false) ],
     )
 
 pub returns : goal.returns

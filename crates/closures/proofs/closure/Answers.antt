@@ -24,7 +24,7 @@ overflow_add-passes c = let k = c.loop-left.invariant.1.few in record { fits = o
 
 pub loop-left-smaller-then-left-eq0 : goal.loop-left-smaller-then-left-eq0
 loop-left-smaller-then-left-eq0 c =
-    falls-next _ _ _ _ c.to_look_at-left-then-left-eq0.type-inv (fewer-outside _ _ _ _ _ _ _ c.loop-left.invariant.1 c.if-grown-held.false)
+    falls-next _ _ _ _ c.to_look_at-left-then-left-eq0.type_inv (fewer-outside _ _ _ _ _ _ _ c.loop-left.invariant.1 c.if-grown-held.false)
 
 pub loop-left-preserved-then-left-eq0 : goal.loop-left-preserved-then-left-eq0
 loop-left-preserved-then-left-eq0 c =

@@ -6,7 +6,7 @@ use native.Mathlib.Omega.{arith}
 use borrow.Author.Count.{below_none, below_more}
 use Rattle.closures.proofs.Colours.{lowest-found, lowest-none, none-empty, none_within}
 use Rattle.closures.proofs.lowest_colour.Goals as goal
-use Rattle.closures.proofs.lowest_colour.Goals.{else-row-ne0, then-row-ne0}
+use Rattle.closures.proofs.lowest_colour.Goals.{else-row-ne0, then-row-ne0+else-within}
 
 pub loop-c-init : goal.loop-c-init
 loop-c-init c = (search rules, below_none _)
@@ -20,7 +20,7 @@ loop-c-preserved c =
     let rows = c.args.rows in
     let held = c.args.held.0 in (
       omega arith,
-      below_more _ c.loop-c.c c.loop-c.invariant.1 (elim c.if-row-ne0.branch [ then-row-ne0 w ↦ none_within rows held c.loop-c.c (w.1.ensures.no w.2.left) | else-row-ne0 w ↦ none-empty rows held c.loop-c.c w.if-row-ne0.false ]),
+      below_more _ c.loop-c.c c.loop-c.invariant.1 (elim c.if-row-ne0.branch [ then-row-ne0+else-within w ↦ none_within rows held c.loop-c.c (w.within.ensures.no w.if-within.false) | else-row-ne0 w ↦ none-empty rows held c.loop-c.c w.if-row-ne0.false ]),
     )
 
 pub returns : goal.returns

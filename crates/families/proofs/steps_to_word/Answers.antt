@@ -37,7 +37,7 @@ loop-j-preserved c =
     let f = c.args.f.now in
     let inv = c.loop-j.invariant.1 in (
       omega arith,
-      elim c.if-bit-eq1.branch [ then-bit-eq1 w ↦ rw w.2 (to-more f c.args.b c.loop-j.j c.loop-j.lanes (omega arith) (is_set _ _ w.if-bit-eq1.true) inv) | else-bit-eq1 w ↦ rw w.1 (to_same f c.args.b c.loop-j.j c.loop-j.lanes (is-not-set _ _ w.if-bit-eq1.false) inv) ],
+      elim c.if-bit-eq1.branch [ then-bit-eq1 w ↦ rw w.lanes-is (to-more f c.args.b c.loop-j.j c.loop-j.lanes (omega arith) (is_set _ _ w.if-bit-eq1.true) inv) | else-bit-eq1 w ↦ rw w.lanes-is (to_same f c.args.b c.loop-j.j c.loop-j.lanes (is-not-set _ _ w.if-bit-eq1.false) inv) ],
     )
 
 pub returns : goal.returns

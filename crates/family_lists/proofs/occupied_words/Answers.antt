@@ -15,7 +15,7 @@ loop-b-preserved c =
     let t = c.loop-b-test.true in
     let p = c.loop-b.invariant.1 in (
       omega arith,
-      elim c.if-x-ne0.branch [ then-x-ne0 w ↦ rw w.1 (indexing-more f c.loop-b.index c.loop-b.n c.loop-b.b p c.requires.f_len t) | else-x-ne0 w ↦ rw w.1 (indexing-same f c.loop-b.index c.loop-b.n c.loop-b.b p c.requires.f_len t w.if-x-ne0.false) ],
+      elim c.if-x-ne0.branch [ then-x-ne0 w ↦ rw w.n-is (indexing-more f c.loop-b.index c.loop-b.n c.loop-b.b p c.requires.f_len t) | else-x-ne0 w ↦ rw w.n-is (indexing-same f c.loop-b.index c.loop-b.n c.loop-b.b p c.requires.f_len t w.if-x-ne0.false) ],
     )
 
 pub returns : goal.returns

@@ -25,7 +25,7 @@ pub loop-v-preserved : goal.loop-v-preserved
 loop-v-preserved c =
     let l = c.loop-v in
     let graph = c.args.graph in
-    let long : length graph.rows ≡ 64 = simp length-map at c.well-formed.1.0.1.1.0.1.0.1 in
+    let long : length graph.rows ≡ 64 = c.well_formed.1.0.1.1.0.1.0.1 in
     let m = total-more (λ r. total ones r.needs) graph.rows l.v (record { needs = [] }) (omega arith) in
     let p = c.row_sizes-edges.ensures.0 in
     let q = c.row_sizes-edges.ensures.1 in
@@ -35,5 +35,5 @@ pub returns : goal.returns
 returns c =
     let l = c.loop-v in
     let a = c.args in
-    let long : length a.graph.rows ≡ 64 = simp length-map at c.well-formed.1.0.1.1.0.1.0.1 in
+    let long : length a.graph.rows ≡ 64 = c.well_formed.1.0.1.1.0.1.0.1 in
     graphs-by-edges a.count a.graph a.recovery l.v l.edges long (omega arith) l.invariant.1 l.invariant.2

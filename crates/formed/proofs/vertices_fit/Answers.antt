@@ -38,7 +38,7 @@ returns-then-initial-gt-MAX_CHOSEN c =
     let l = c.loop-v in
     let xs = c.args.vertices in
     let long : length xs ≡ 64 = search rules in
-    let i = chosen-whole false xs l.v l.initial long (omega arith) l.invariant.2 in
+    let i = chosen-whole false xs l.v l.initial' long (omega arith) l.invariant.2 in
     decide-no (λ h. let m = h.initial in omega arith)
 
 pub returns : goal.returns
@@ -47,6 +47,6 @@ returns c =
     let xs = c.args.vertices in
     let long : length xs ≡ 64 = search rules in
     let e : l.v ≡ 64 = omega arith in
-    let i = chosen-whole false xs l.v l.initial long e l.invariant.2 in
+    let i = chosen-whole false xs l.v l.initial' long e l.invariant.2 in
     let o = chosen-whole true xs l.v l.losable long e l.invariant.3 in
     vertices-by-losable c.args.count xs l.losable (rw e at l.invariant.1) (omega arith) o

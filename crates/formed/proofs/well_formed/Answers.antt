@@ -12,8 +12,8 @@ returns-then-count-gt-MAX_ITEMS c = decide-no (λ h. let e = h.most in omega ari
 
 pub returns-then-vertices_fit : goal.returns-then-vertices_fit
 returns-then-vertices_fit c =
-    let p = c.well-formed.0.1.1.1 in
-    whole-yes c.args.s (simp length-map at p.0.1.0.1) (simp length-map at p.1.0.1.1.0.1.0.1) (simp length-map at p.1.1.0.1.1.0.1.0.1) (omega arith) (omega arith)
+    let p = c.well_formed.0.1.1.1 in
+    whole-yes c.args.s p.0.1.0.1 p.1.0.1.1.0.1.0.1 p.1.1.0.1.1.0.1.0.1 (omega arith) (omega arith)
     c.holding_fits.result (c.graphs_fit.ensures.yes c.if-graphs_fit.true) (c.vertices_fit.ensures.yes c.if-vertices_fit.true) c.holding_fits.ensures
 
 pub returns-then-graphs_fit : goal.returns-then-graphs_fit

@@ -56,7 +56,7 @@ loop-rest-smaller c =
 pub loop-rest-preserved : goal.loop-rest-preserved
 loop-rest-preserved c =
     seeking-more _ c.args.y c.args.best c.loop-rest.rest c.loop-rest.least c.if-sum-least.least c.loop-rest-test.true
-    (elim c.if-sum-least.branch [ then-sum-least w ↦ omega (arith, w.if-sum-least.true, w.1) | else-sum-least w ↦ omega (arith, w.if-sum-least.false, w.1) ]) c.loop-rest.invariant
+    (elim c.if-sum-least.branch [ then-sum-least w ↦ omega (arith, w.if-sum-least.true, w.least-is) | else-sum-least w ↦ omega (arith, w.if-sum-least.false, w.least-is) ]) c.loop-rest.invariant
 
 pub returns : goal.returns
 returns c =

@@ -43,7 +43,7 @@ returns-then-edge_count c =
     let behind : let a = c.args in (r : Redrawing) → Asks (back a.s) (asks19 a.s a.from a.to a.colour ∷ asks7 a.s ∷ []) (Done (AddEdge a.from a.to a.colour a.rec) a.s) r → CallOf (AddEdge a.from a.to a.colour a.rec) a.s r = λ r h. let a = c.args in
     ask-then (back a.s) (Done (AddEdge a.from a.to a.colour a.rec) a.s) (asks_place a.s a.from a.to a.colour) (asks19 a.s a.from a.to a.colour ∷ asks7 a.s ∷ []) r yes-to h in
     let a = c.args in
-    let full : most_edges ≤ edge_count a.s.graph = subst (λ (x : ℕ). most_edges ≤ x) c.IsEdge-count.ensures.0 c.if-edge_count.true in
+    let full : most_edges ≤ edge_count a.s.graph = subst (λ (x : ℕ). most_edges ≤ x) c.edge_count.ensures.0 c.if-edge_count.true in
     behind _ (inr (c.has_edge.ensures.no c.if-has_edge.false, inl (λ l. omega arith, refl)))
 
 pub draw_edge-requires : goal.draw_edge-requires
@@ -63,7 +63,7 @@ returns c =
     let a = c.args in
     let y = yes-to in
     let d = c.draw_edge.ensures.1 in
-    let room : edge_count a.s.graph < most_edges = subst (λ (x : ℕ). x < most_edges) c.IsEdge-count.ensures.0 c.if-edge_count.false in
+    let room : edge_count a.s.graph < most_edges = subst (λ (x : ℕ). x < most_edges) c.edge_count.ensures.0 c.if-edge_count.false in
     behind _ (inr (
       c.has_edge.ensures.no c.if-has_edge.false,
       inr (

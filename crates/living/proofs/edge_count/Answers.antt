@@ -17,7 +17,7 @@ pub loop-v-preserved : goal.loop-v-preserved
 loop-v-preserved c =
     let l = c.loop-v in
     let graph = c.args.graph in
-    let long : length graph.rows ≡ 64 = simp length-map at c.well-formed.0.1.1.0.1.0.1 in
+    let long : length graph.rows ≡ 64 = c.well_formed.0.1.1.0.1.0.1 in
     let m = total-more (λ r. total ones r.needs) graph.rows l.v (record { needs = [] }) (omega arith) in
     let p = c.row_sizes-edges.ensures.0 in
     let q = c.row_sizes-edges.ensures.1 in
@@ -28,6 +28,6 @@ unfolding edge_count
 returns c =
     let l = c.loop-v in
     let e : l.v ≡ 64 = omega arith in
-    let long : length c.args.graph.rows ≡ 64 = simp length-map at c.well-formed.0.1.1.0.1.0.1 in
+    let long : length c.args.graph.rows ≡ 64 = c.well_formed.0.1.1.0.1.0.1 in
     let i = rw (e, take_all 64 c.args.graph.rows (omega arith)) at l.invariant.1 in
     (i, omega arith)

@@ -14,17 +14,17 @@ loop-i-init c =
 pub bounds-low-i : goal.bounds-low-i
 bounds-low-i c =
     let p = c.requires in
-    omega (arith, p.0.room-low, c.loop-i.invariant.long-low, c.loop-i-test.true)
+    omega (arith, p.comparable.room-low, c.loop-i.invariant.long-low, c.loop-i-test.true)
 
 pub bounds-high-i : goal.bounds-high-i
 bounds-high-i c =
     let p = c.requires in
-    omega (arith, p.0.room-high, c.loop-i.invariant.long-high, c.loop-i-test.true)
+    omega (arith, p.comparable.room-high, c.loop-i.invariant.long-high, c.loop-i-test.true)
 
 pub bounds-kept-i : goal.bounds-kept-i
 bounds-kept-i c =
     let p = c.requires in
-    omega (arith, p.1, c.loop-i.invariant.long, c.loop-i-test.true)
+    omega (arith, p.n_in_bounds, c.loop-i.invariant.long, c.loop-i-test.true)
 
 pub offset_bounds-kept-left : goal.offset_bounds-kept-left
 offset_bounds-kept-left c =
@@ -33,7 +33,7 @@ offset_bounds-kept-left c =
 pub bounds-kept-left : goal.bounds-kept-left
 bounds-kept-left c =
     let p = c.requires in
-    omega (arith, p.1, c.loop-i.invariant.long, c.loop-i.invariant.most, c.loop-i-test.true)
+    omega (arith, p.n_in_bounds, c.loop-i.invariant.long, c.loop-i.invariant.most, c.loop-i-test.true)
 
 pub offset_bounds-low-left : goal.offset_bounds-low-left
 offset_bounds-low-left c =
@@ -42,7 +42,7 @@ offset_bounds-low-left c =
 pub bounds-low-left : goal.bounds-low-left
 bounds-low-left c =
     let p = c.requires in
-    omega (arith, p.0.room-low, c.loop-i.invariant.long-low, c.loop-i.invariant.most, c.loop-i-test.true)
+    omega (arith, p.comparable.room-low, c.loop-i.invariant.long-low, c.loop-i.invariant.most, c.loop-i-test.true)
 
 pub offset_bounds-high-left : goal.offset_bounds-high-left
 offset_bounds-high-left c =
@@ -51,7 +51,7 @@ offset_bounds-high-left c =
 pub bounds-high-left : goal.bounds-high-left
 bounds-high-left c =
     let p = c.requires in
-    omega (arith, p.0.room-high, c.loop-i.invariant.long-high, c.loop-i.invariant.most, c.loop-i-test.true)
+    omega (arith, p.comparable.room-high, c.loop-i.invariant.long-high, c.loop-i.invariant.most, c.loop-i-test.true)
 
 pub both_at_most-requires : goal.both_at_most-requires
 both_at_most-requires c =

@@ -14,8 +14,8 @@ loop-i-preserved c =
     let a = c.args in
     let t = c.loop-i-test.true in (
       omega arith,
-      elim c.if-t-list.branch [ then-t-list w ↦ rw w.1 (omega arith) | else-t-list w ↦ rw w.1 (omega arith) ],
-      elim c.if-t-list.branch [ then-t-list w ↦ rw w.1 (counting_more a.list.now a.t c.loop-i.i c.loop-i.n t c.loop-i.invariant.2 w.if-t-list.true) | else-t-list w ↦ rw w.1 (counting-same a.list.now a.t c.loop-i.i c.loop-i.n t c.loop-i.invariant.2 w.if-t-list.false) ],
+      elim c.if-t-list.branch [ then-t-list w ↦ rw w.n-is (omega arith) | else-t-list w ↦ rw w.n-is (omega arith) ],
+      elim c.if-t-list.branch [ then-t-list w ↦ rw w.n-is (counting_more a.list.now a.t c.loop-i.i c.loop-i.n t c.loop-i.invariant.2 w.if-t-list.true) | else-t-list w ↦ rw w.n-is (counting-same a.list.now a.t c.loop-i.i c.loop-i.n t c.loop-i.invariant.2 w.if-t-list.false) ],
     )
 
 pub returns : goal.returns

@@ -13,7 +13,7 @@ loop-v-init c = (search rules, search rules, put-none _ _ _ _)
 pub loop-v-preserved : goal.loop-v-preserved
 loop-v-preserved c =
     let a = c.args in
-    let long : length a.g.rows ≡ 64 = simp length-map at c.well-formed.0.1.1.0.1.0.1 in
+    let long : length a.g.rows ≡ 64 = c.well_formed.0.1.1.0.1.0.1 in
     let w = c.put_rows-next.ensures in
     let n = w.wrote.next in
     let k = w.long in
@@ -22,5 +22,5 @@ loop-v-preserved c =
 pub returns : goal.returns
 returns c =
     let a = c.args in
-    let long : length a.g.rows ≡ 64 = simp length-map at c.well-formed.0.1.1.0.1.0.1 in
+    let long : length a.g.rows ≡ 64 = c.well_formed.0.1.1.0.1.0.1 in
     put_all needs_of a.g.rows a.out.now a.at c.loop-v.out c.loop-v.next c.loop-v.v 512 (omega arith) (omega arith) c.loop-v.invariant.2

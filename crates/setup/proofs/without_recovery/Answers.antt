@@ -9,7 +9,7 @@ use Rattle.setup.proofs.without_recovery.Goals as goal
 
 pub loop-v-init : goal.loop-v-init
 loop-v-init c =
-    let long : length c.args.s.graph.rows ≡ 64 = let h = c.well_formed in ? in
+    let long : length c.args.s.graph.rows ≡ 64 = c.well_formed.0.1.1.1.1.0.1.1.0.1.0.1 in
     (search rules, record { long = long; each = below_none _ })
 
 pub loop-v-preserved : goal.loop-v-preserved
@@ -19,5 +19,5 @@ loop-v-preserved c =
 pub returns : goal.returns
 returns c =
     let e : c.loop-v.v ≡ 64 = omega arith in
-    let long : length c.args.s.graph.rows ≡ 64 = let h = c.well_formed in ? in
+    let long : length c.args.s.graph.rows ≡ 64 = c.well_formed.0.1.1.1.1.0.1.1.0.1.0.1 in
     places-all c.args.s c.loop-v.r long (rw e at c.loop-v.invariant.1)

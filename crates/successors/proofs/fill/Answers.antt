@@ -13,5 +13,5 @@ loop-v-preserved c =
 
 pub returns : goal.returns
 returns c =
-    let long : length c.args.graph.rows ≡ 64 = simp length-map at c.well-formed.0.1.1.0.1.0.1 in
+    let long : length c.args.graph.rows ≡ 64 = c.well_formed.0.1.1.0.1.0.1 in
     filling-done c.args.graph _ _ long c.loop-v-test.false c.loop-v.invariant

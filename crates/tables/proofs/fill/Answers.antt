@@ -10,8 +10,8 @@ loop-b-init c =
     let a = c.args in
     record {
       place = (omega arith, omega arith);
-      room = c.First-Block.ensures.words;
-      table = below_more (rule_of a.loss a.graph) a.chosen.0 _ _ _ _ (omega arith) (below_none (rule_of a.loss a.graph) a.chosen.0 _ c.requires) c.First-Block.ensures c.put_block.ensures;
+      room = c.first_block.ensures.words;
+      table = below_more (rule_of a.loss a.graph) a.chosen.0 _ _ _ _ (omega arith) (below_none (rule_of a.loss a.graph) a.chosen.0 _ c.requires) c.first_block.ensures c.put_block.ensures;
     }
 
 pub next_block-requires : goal.next_block-requires

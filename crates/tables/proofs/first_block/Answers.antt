@@ -6,7 +6,7 @@ use Rattle.tables.proofs.first_block.Goals as goal
 pub settle-requires : goal.settle-requires
 settle-requires c =
     let a = c.args in
-    record { successors = c.requires.successors; w_len = c.start.ensures.words; quiet = start-quiet a.loss a.graph a.chosen.0 _ _ _ c.well-formed.1.0.1.1.0.1 c.requires.successors c.of_set-first.ensures c.start.ensures }
+    record { successors = c.requires.successors; w_len = c.start.ensures.words; quiet = start-quiet a.loss a.graph a.chosen.0 _ _ _ c.well_formed.1.0.1.1.0.1 c.requires.successors c.of_set-first.ensures c.start.ensures }
 
 pub returns : goal.returns
 returns c =

@@ -10,7 +10,7 @@ loop-todo-init c =
 
 pub loop-todo-smaller-then-step : goal.loop-todo-smaller-then-step
 loop-todo-smaller-then-step c =
-    falls-more _ _ _ _ (c.step.ensures.more c.if-step.true) (or_lt 64 _ _ c.without-todo.type-inv c.users-todo.type-inv)
+    falls-more _ _ _ _ (c.step.ensures.more c.if-step.true) (or_lt 64 _ _ c.without-todo.type_inv c.users-todo.type_inv)
 
 pub loop-todo-preserved-then-step : goal.loop-todo-preserved-then-step
 loop-todo-preserved-then-step c =
@@ -26,5 +26,5 @@ loop-todo-preserved c =
 
 pub returns : goal.returns
 returns c =
-    let long : length c.args.graph.rows ≡ 64 = simp length-map at c.well-formed.0.1.1.0.1.0.1 in
+    let long : length c.args.graph.rows ≡ 64 = c.well_formed.0.1.1.0.1.0.1 in
     settled _ c.args.graph _ _ _ _ long c.loop-todo-test.false c.loop-todo.invariant

@@ -7,7 +7,7 @@ use Rattle.tables.proofs.widen.Goals as goal
 
 pub returns-then-v-ge-VERTICES : goal.returns-then-v-ge-VERTICES
 returns-then-v-ge-VERTICES c =
-    let long : length c.args.graph.rows ≡ 64 = simp length-map at c.well-formed.0.1.1.0.1.0.1 in
+    let long : length c.args.graph.rows ≡ 64 = c.well_formed.0.1.1.0.1.0.1 in
     kept _ c.args.graph _ _ _ _ c.requires.w_len long c.if-v-ge-VERTICES.true c.vertex_at-v.ensures c.requires.quiet
 
 pub extend-requires : goal.extend-requires

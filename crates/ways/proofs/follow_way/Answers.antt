@@ -41,7 +41,7 @@ returns-then-v-target c =
 pub loop-search-smaller : goal.loop-search-smaller
 loop-search-smaller c =
     let i = c.loop-search.invariant in
-    let fits : c.add-search.result.left < 2 ^ 64 = c.add-search.type-inv.1.1.1.1.0.1 in
+    let fits : c.add-search.result.left < 2 ^ 64 = c.add-search.type_inv.1.1.1.1.0.1 in
     falls-add _ _ _ _ _ _ i.0 _ _ _ _ c.if-search-ne0.false c.lowest-v-in-loop-search.ensures c.add-search.ensures fits
 
 pub loop-search-preserved : goal.loop-search-preserved

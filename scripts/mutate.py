@@ -474,6 +474,8 @@ Written by `scripts/mutate.py` (`make mutate`); docs/TESTING.md says what is don
 are walked: their proofs go through the code statement by statement, so that any edit is refused by shape, whatever it means, and tells
 nothing. None of them is tried; they decide nothing, and what they call does.
 
+Sections of before 2026-11-26 were made with the kit before the present one, rattle-kit-5b-plain; names and signs are in today's spelling since.
+
 "Where" is the place of the first error about the edited function, or `search` where it has no proof file and the prover finds no proof by
 itself. A crate is tried again when its own files, or the code or definitions of a crate below it, have changed: the sum beside its name
 tells; "moved" says that its functions were tried in the crates that became its modules. A second sum is that of a later run of the

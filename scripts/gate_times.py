@@ -21,6 +21,8 @@ RECORD = ROOT / "records" / "gate-times.txt"
 
 def stamp(began, path):
     """Copies the lines as they come."""
+    sys.stdin.reconfigure(encoding="utf-8", errors="replace")
+    sys.stdout.reconfigure(encoding="utf-8")
     with open(path, "a", encoding="utf-8") as log:
         for line in sys.stdin:
             print(line, end="", flush=True)

@@ -11,7 +11,7 @@ import sys
 from pathlib import Path
 
 ROOT = Path(__file__).resolve().parent.parent
-KIT = {"io", "libc", "os", "check", "bytes"}
+KIT = {"check", "bytes"}
 LINE = re.compile(r"^(\w+):([^#]*)(?:#\s*(inner: )?(.*))?$")
 # A crate that only passes on a value of another crate's type does not name that crate, and depends on it all the same.
 PASSED_ON = {

@@ -2,9 +2,9 @@
 """Checks that rows are written straight into the bytes that go out, with none built elsewhere and copied (document 02, point 7).
 
 The crates of the program `report` that write rows, and all crates below them, have no byte array: none that a function makes, no field, no
-constant and no answer. The program has two, named below. Of the kit they use what is named below, and nothing else. So there is no byte array
-to build a row in, or its digits, names and sums, and to copy them from. Byte strings are no such place: they are constants, and rows have
-their fixed words from them. Where rows are written, arrays of words and of structs are named below too, by function, so that no row is packed
+constant and no answer, and no memory from an allocator. The program has two, named below, and one more, for the words of a failed read or
+write. Of the library they use what is named below, and nothing else. So there is no byte array to build a row in, or its digits, names and
+sums, and to copy them from. Byte strings are no such place: they are constants, and rows have their fixed words from them. Where rows are written, arrays of words and of structs are named below too, by function, so that no row is packed
 into words; and no function reads from the bytes that are lent to it for writing, so that no row is built behind its place and moved. Pooling is
 not looked at, which writes a sheet and no report. The exit status is 1 where something of this does not hold. `rows.py FOLDER` looks at another
 copy of the repository.
@@ -19,8 +19,8 @@ from contracts import functions
 WHOLE = "report"
 # All crates of that program that stand on one of these write rows, and these two: one puts bytes into a lent buffer, one hands bytes to the system.
 GROUND = {"writing", "streams"}
-# The byte arrays that there are, by crate, function and name: what is read, and the bytes that go out. Each is made once.
-OWN = {("report", "main", "sheet"), ("report", "print_report", "out")}
+# The byte arrays that there are, by crate, function and name: what is read, the bytes that go out, and an error's words. Each is made once.
+OWN = {("report", "main", "sheet"), ("report", "print_report", "out"), ("streams", "fail", "text")}
 # The arrays of words and of structs that functions make where rows are written, by crate, function and name (empty where it has none): tables,
 # lists and figures, and no bytes. Each is made once.
 PERMITTED = {
@@ -33,9 +33,12 @@ PERMITTED = {
     ("report_facts", "name_places", "to"),
     *(("report_writer", "no_facts", field) for field in ("starts", "losses", "scores", "risks", "below", "from", "to")),
 }
-# What is used of the kit, always by its whole path, and of it what gives a byte array.
-KIT = {"io::large_buffer", "os::fail", "os::errno", "libc::EINTR", "libc::read", "libc::write"}
-BUFFERS = {"io::large_buffer"}
+# What is used of the library, each by a line of its own: none of it gives a byte array.
+LIBRARY = {"use std::io;", "use std::io::Write;", "use std::io::{ErrorKind, Read, Write};"}
+# The method of the library that writes to bytes lent for writing, which is how a file or the standard input is read.
+READ = ".read"
+# What allocates is passed an allocator.
+HEAP = re.compile(r"\b(?:alloc|Global)\b")
 # A type of byte arrays, or one that may be one: of signed bytes, or of a parameter.
 TYPE = re.compile(r"\[\s*(?:[ui]8|[A-Z])\s*;")
 # Another name for a type could hide such an array.
@@ -59,7 +62,6 @@ BODIES = {
     "let lines = [[0u8; 30]; 10];": 1,
     "let digits = [48 + (n % 10) as u8, LF];": 1,
     'let word = *b"refused";': 1,
-    "let mut line = io::large_buffer();": 1,
     "put_text(&[48, 49], out, at);": 1,
     "// the lab's row\nlet line = [0u8; 300]; put_byte(b'x', out, at);": 1,
     'put_text(b"//", out, at); let line = [0u8; 300];': 1,
@@ -78,10 +80,14 @@ PROGRAM = {
     "writing": ("", "pub fn put_byte(b: u8, out: &mut [u8], at: usize) {\n    out[at] = b;\n}"),
     "pool": ("writing", "pub fn colours() {\n    let digits = [0u8; 256];\n}"),
     "report_rows": ("ground writing", "pub fn put_row(out: &mut [u8]) {\n    writing::put_byte(ground::least(1) as u8, out, 0);\n}"),
-    "streams": ("io libc os", "pub fn write_once(b: &[u8]) {\n    let n = libc::write(1, b);\n}"),
+    "streams": (
+        "",
+        "use std::io::{ErrorKind, Read, Write};\npub fn read_once<R: Read>(r: &mut R, b: &mut [u8]) {\n    let n = r.read(&mut b[1..]);\n}\n"
+        "pub fn fail<W: Write>(w: &mut W) {\n    let mut text = [0u8; 9];\n}",
+    ),
     "report": (
-        "report_rows streams io os",
-        "fn print_report() {\n    let mut out = io::large_buffer();\n}\nfn main() {\n    let mut sheet = [0u8; 9];\n}",
+        "report_rows streams",
+        "fn print_report() {\n    let mut out = [0u8; 65536];\n}\nfn main() {\n    let mut sheet = [0u8; 9];\n}",
     ),
 }
 # Changes of it, by crate, line before and lines after, each with how many faults there then are.
@@ -94,16 +100,19 @@ CHANGES = [
     ("beside", "300", "301", 0),
     ("pool", "256", "257", 0),
     ("report_rows", "pub fn", "const BLANK: [u8; 2] = [32, 32];\npub fn", 1),
-    ("report_rows", "{\n", "{\n    let mut line = io::large_buffer();\n", 1),
-    ("report", "    let mut out = io::large_buffer();", "    let mut out = io::large_buffer();\n    let mut sheet = [0u8; 65536];", 1),
-    ("report", "    let mut out = io::large_buffer();", "    let mut out = io::large_buffer();\n    let mut out = io::large_buffer();", 1),
+    ("report_rows", "{\n", "{\n    let mut line = [0u8; 65536];\n", 1),
+    ("report", "    let mut out = [0u8; 65536];", "    let mut out = [0u8; 65536];\n    let mut sheet = [0u8; 65536];", 1),
+    ("report", "    let mut out = [0u8; 65536];", "    let mut out = [0u8; 65536];\n    let mut out = [0u8; 65536];", 1),
     ("report", "    let mut sheet = [0u8; 9];", "    let mut sheet = [0u8; 9];\n    let mut sheet = [0u8; 9];", 1),
     ("report", "    let mut sheet = [0u8; 9];", "", 1),
-    ("report", "fn print_report() {", "use io::large_buffer;\nfn print_report() {\n    let mut line = large_buffer();", 1),
-    ("report", "fn print_report() {", "use io::large_buffer as ready;\nfn print_report() {\n    let mut line = ready();", 1),
-    ("report", "fn print_report() {", "use io;\nfn print_report() {", 1),
-    ("report", "fn print_report() {", 'fn print_report() {\n    let line = os::path::ended(b"row");', 1),
-    ("streams", "libc::write(1, b)", "io::write_all(1, b)", 1),
+    ("report", "fn print_report() {", "use std::io::Cursor;\nfn print_report() {", 1),
+    ("report", "fn print_report() {", "use std::io as ready;\nfn print_report() {", 1),
+    ("report", "fn print_report() {", "use std::io::Write;\nfn print_report() {", 0),
+    ("report", "fn print_report() {", 'fn print_report() {\n    let line = std::str::from_utf8(b"row");', 1),
+    ("report", "fn print_report() {", "fn print_report(alloc: Global) {\n    let line = Vec::new(alloc);", 2),
+    ("report_rows", "{\n", "{\n    let line = Vec::new(rt.alloc());\n", 1),
+    ("streams", "r.read(", "shown(", 1),
+    ("streams", "r.read(", "read(", 1),
     ("report_rows", "{\n", "{\n    let mut words = [0u64; 40];\n", 1),
     ("report_rows", "{\n", "{\n    let row = Row { words: [0; 40] };\n", 1),
     ("ground", "    n", "    let mut words = [0u64; 40]; n", 0),
@@ -201,7 +210,7 @@ def arrays(head, body, constants):
         # A field of a struct has its type where the struct is declared.
         if not field and is_byte(first, head, body, constants):
             yield place, name_of(before)
-    for found in re.finditer("|".join([COPIED.pattern, *map(re.escape, sorted(BUFFERS))]), body):
+    for found in COPIED.finditer(body):
         yield found.start(), name_of(body[: found.start()].rstrip())
 
 
@@ -211,8 +220,8 @@ def lent_for_writing(head):
 
 
 def calls(body):
-    """Yields the name, the place of its bracket, and the arguments with their places, of each call in a body."""
-    for found in re.finditer(r"((?:\w+::)*[a-z_]\w*)\(", body):
+    """Yields the name, behind a dot where it is a method's, and the arguments with their places, of each call in a body."""
+    for found in re.finditer(r"(\.?(?:\w+::)*[a-z_]\w*)\(", body):
         depth, at, start, args = 0, found.end(), found.end(), []
         while at < len(body) and depth >= 0:
             if depth == 0 and body[at] in ",)":
@@ -227,9 +236,9 @@ def lends_on(body, name, signatures):
     """The places at which these bytes are handed on to a function that is lent them for writing too."""
     whole = re.compile(rf"{name}|&mut {name}\[.*\]", re.S)
     for called, args in calls(body):
-        kinds = signatures.get(called.split("::")[-1], set())
+        kinds = signatures.get(called.lstrip(".").split("::")[-1], set())
         for at, (start, arg) in enumerate(args):
-            if whole.fullmatch(arg) and (called == "libc::read" or kinds and all(len(k) > at and "&mut [u8]" in k[at] for k in kinds)):
+            if whole.fullmatch(arg) and (called == READ or kinds and all(len(k) > at and "&mut [u8]" in k[at] for k in kinds)):
                 yield start + body[start:].index(name)
 
 
@@ -250,9 +259,8 @@ def name_of(before):
     return named.group(1) if named else ""
 
 
-def line_faults(lines, kit):
-    """The faults that a line shows by itself: types, and what is used of the kit."""
-    path = re.compile(rf"\b(use\s+)?\b({'|'.join(sorted(kit) or ['-'])})\b((?:\s*::\s*[\w{{*]+)*)")
+def line_faults(lines):
+    """The faults that a line shows by itself: types, memory from an allocator, and what is used of the library."""
     for number, line in enumerate(lines, 1):
         if CLAUSE.match(line):
             continue
@@ -260,16 +268,16 @@ def line_faults(lines, kit):
             yield number, "a type of byte arrays"
         if ALIAS.match(line):
             yield number, "another name for a type"
-        for found in path.finditer(line):
-            whole = re.sub(r"\s", "", found.group(2) + found.group(3))
-            if found.group(1) or found.group(3) and whole not in KIT:
-                yield number, f"{whole}, of which it is not known what it gives"
+        if HEAP.search(line):
+            yield number, "memory from an allocator"
+        if re.search(r"\bstd\b", line) and line.strip() not in LIBRARY:
+            yield number, f"{line.strip()}, of which it is not known what it gives"
 
 
-def faults_of(crate, text, kit, constants, seen, signatures):
+def faults_of(crate, text, constants, seen, signatures):
     """The faults of a source without comments; the arrays that are named above go to `seen`. Where rows are written `signatures` are known."""
     lines = text.split("\n")
-    yield from line_faults(lines, kit)
+    yield from line_faults(lines)
     for start, _, name, head, _ in functions(lines):
         first = start + head.count("\n")
         depth, last = 0, first - 1
@@ -325,7 +333,6 @@ def check(needs, sources):
     for crate, used in needs.items():
         writers |= {crate} if crate in whole and used & writers else set()
     looked_in = below(writers, needs)
-    kit = set().union(*needs.values()) - set(needs)
     looked_at = [(crate, path, plain(text)) for crate in needs if crate in looked_in for path, text in sources[crate].items()]
     constants, seen, faults = {}, Counter(), []
     for _, _, text in looked_at:
@@ -333,7 +340,7 @@ def check(needs, sources):
             constants.setdefault(name, set()).add(kind)
     signatures = signatures_of(text for _, _, text in looked_at)
     for crate, path, text in looked_at:
-        found = faults_of(crate, text, kit, constants, seen, signatures if crate in writers else None)
+        found = faults_of(crate, text, constants, seen, signatures if crate in writers else None)
         faults += [f"{path}:{line}: {fault}" for line, fault in found]
     for crate, name, own in sorted(OWN | {named for named in PERMITTED if named[0] in needs and needs is not TRIED}):
         if seen[crate, name, own] != 1:

@@ -4,8 +4,8 @@
 
 #![tactic(auto)]
 
-ghost use Rattle.std.specs.Prelude.{◌≡◌, ◌≤◌, length, take, drop};
-ghost use Rattle.io.specs.Counts.{IsPrefixLen};
+ghost use Rattle.std.specs.Prelude.{◌≡◌, ◌≤◌, IfOk, length, take, drop};
+ghost use Rattle.std.specs.Counts.{IsPrefixLen};
 ghost use Rattle.written.specs.Rows.{RowWritten};
 ghost use Rattle.sheet_format.specs.Meaning.{longest_sheet};
 ghost use Rattle.streams.specs.Inner.Streams.{ReadInto};
@@ -14,6 +14,11 @@ ghost use Rattle.pool.specs.Printed.{refusal_line, Printed};
 
 use sheet::READ_ROOM;
 use sheet_fields::{LF, SPACE};
+use std::env::{Env, FillError};
+use std::fs::File;
+use std::io;
+use std::io::Write;
+use std::rt::Files;
 use streams::Input;
 
 // No pooled sheet has more bytes.
@@ -24,6 +29,17 @@ const LINE: usize = 77;
 
 // The bytes of `pool: cannot read `, behind which the file's name stands.
 const CANNOT_READ: usize = 18;
+
+// No file's name has more bytes.
+const PATH_MAX: usize = 4096;
+
+// The system's numbers for an argument that is missing, for a name that is too long, and for one
+// that is no text.
+const EINVAL: i32 = 22;
+
+const ENAMETOOLONG: i32 = 36;
+
+const EILSEQ: i32 = 84;
 
 // How many bytes go to standard output, and how many to standard error.
 #[derive(Drop)]
@@ -64,77 +80,107 @@ fn tell(first: &[u8], second: &[u8], out: &mut [u8], line: &mut [u8]) -> Told
     Told { printed: 0, said }
 }
 
-fn print_pooled(first: &[u8], second: &[u8]) {
+fn print_pooled<O: Write, E: Write>(first: &[u8], second: &[u8], output: &mut O, errors: &mut E) {
     let mut out = [0u8; ROOM];
     let mut line = [0u8; LINE];
     let told = tell(first, second, &mut out, &mut line);
     let printed = told.printed;
     let said = told.said;
-    let written = streams::write_whole(1, &out[..printed]);
-    if written < printed {
-        os::fail(b"pool: the sheet is cut off");
+    let written = streams::write_whole(output, &out[..printed]);
+    if let Some(error) = written.failure {
+        streams::fail(errors, b"pool: the sheet is cut off", &error);
     }
-    streams::write_whole(2, &line[..said]);
+    streams::write_whole(errors, &line[..said]);
 }
 
-// Puts argument i into line from `at` on, and answers where it ends. errno tells whether it is there
-// and fits.
-fn put_argument(i: usize, line: &mut [u8], at: usize) -> usize
+// Puts argument i into line from `at` on, and answers where it ends, or why it is not there.
+fn put_argument<R: Env>(rt: &R, i: usize, line: &mut [u8], at: usize) -> io::Result<usize>
     requires { at ≤ length line.old }
-    ensures lower_bound { at ≤ result }
-    ensures prefix_len { IsPrefixLen result line.new }
+    ensures lower_bound { IfOk result (λ end. at ≤ end) }
+    ensures prefix_len { IfOk result (λ end. IsPrefixLen end line.new) }
 {
-    let n = os::arg(i, &mut line[at..]);
-    at + n
+    match rt.arg(i, &mut line[at..]) {
+        Ok(n) => Ok(at + n),
+        Err(FillError::NotPresent) => Err(io::Error::from_raw_os_error(EINVAL)),
+        Err(FillError::TooLong) => Err(io::Error::from_raw_os_error(ENAMETOOLONG)),
+    }
+}
+
+// Opens the file of this name. A name is text in UTF-8 here.
+fn open<R: Files>(rt: &R, name: &[u8]) -> io::Result<R::File> {
+    match str::from_utf8(name) {
+        Ok(path) => File::open(rt, path),
+        Err(_) => Err(io::Error::from_raw_os_error(EILSEQ)),
+    }
 }
 
 // Reads all of the file that is named at the end of `line`, from `at` on, or as much of it as fits;
-// or prints `line` and the reason of the failure to standard error. The file stays open: the
-// program ends soon, and one more call could overwrite errno, which has that reason.
-fn read_file(line: &[u8], at: usize, sheet: &mut [u8]) -> Input
+// or prints `line` and the reason of the failure to standard error.
+fn read_file<R: Files, E: Write>(
+    rt: &R,
+    line: &[u8],
+    at: usize,
+    sheet: &mut [u8],
+    errors: &mut E,
+) -> Input
     requires { at ≤ length line.now }
     ensures { ReadInto sheet.new result }
 {
-    let fd = os::open_read(&line[at..]);
-    if fd < 0 {
-        os::fail(line);
-        return Input::Failed;
-    }
-    let input = streams::read_whole(fd, sheet);
-    if let Input::Failed = input {
-        os::fail(line);
+    let mut file = match open(rt, &line[at..]) {
+        Ok(file) => file,
+        Err(error) => {
+            streams::fail(errors, line, &error);
+            return Input::Failed(error);
+        }
+    };
+    let input = streams::read_whole(&mut file, sheet);
+    if let Input::Failed(error) = &input {
+        streams::fail(errors, line, error);
     }
     input
 }
 
 // Reads the file that argument i names, or says why it cannot.
-fn read_argument(i: usize, sheet: &mut [u8]) -> Input
+fn read_argument<R: Env + Files, E: Write>(
+    rt: &R,
+    i: usize,
+    sheet: &mut [u8],
+    errors: &mut E,
+) -> Input
     ensures { ReadInto sheet.new result }
 {
-    let mut line = [0u8; CANNOT_READ + libc::PATH_MAX];
+    let mut line = [0u8; CANNOT_READ + PATH_MAX];
     writing::put_text(b"pool: cannot read ", &mut line, 0);
-    let end = put_argument(i, &mut line, CANNOT_READ);
-    if os::errno() != 0 {
-        os::fail(b"pool: cannot read a name");
-        return Input::Failed;
+    match put_argument(rt, i, &mut line, CANNOT_READ) {
+        Ok(end) => read_file(rt, &line[..end], CANNOT_READ, sheet, errors),
+        Err(error) => {
+            streams::fail(errors, b"pool: cannot read a name", &error);
+            Input::Failed(error)
+        }
     }
-    read_file(&line[..end], CANNOT_READ, sheet)
 }
 
-fn main() {
-    if os::arg_count() != 3 {
-        streams::write_whole(2, b"usage: pool FIRST SECOND\n");
+// Is there an argument i?
+fn is_given<R: Env>(rt: &R, i: usize) -> bool {
+    !matches!(rt.arg(i, &mut []), Err(FillError::NotPresent))
+}
+
+fn main(rt: HostRuntime) {
+    let mut output = rt.stdout();
+    let mut errors = rt.stderr();
+    if !is_given(&rt, 2) || is_given(&rt, 3) {
+        streams::write_whole(&mut errors, b"usage: pool FIRST SECOND\n");
         return;
     }
     let mut first = [0u8; READ_ROOM];
     let mut second = [0u8; READ_ROOM];
-    let one = read_argument(1, &mut first);
+    let one = read_argument(&rt, 1, &mut first, &mut errors);
     let Input::Read(n) = one else {
         return;
     };
-    let two = read_argument(2, &mut second);
+    let two = read_argument(&rt, 2, &mut second, &mut errors);
     let Input::Read(m) = two else {
         return;
     };
-    print_pooled(&first[..n], &second[..m]);
+    print_pooled(&first[..n], &second[..m], &mut output, &mut errors);
 }

@@ -6,15 +6,19 @@
 use report_scores::LIST_ROOM;
 use report_writer::{start, steps};
 use sheet::READ_ROOM;
+use std::io::Write;
 use streams::Input;
 use tables::TABLE;
 
+// The bytes of a large part of the report.
+const PART: usize = 65536;
+
 // Prints the report of the sheet, in large parts, as far as the output takes them.
-fn print_report(sheet: &[u8]) {
+fn print_report<O: Write, E: Write>(sheet: &[u8], output: &mut O, errors: &mut E) {
     let mut opening = [0u64; TABLE];
     let mut lockout = [0u64; TABLE];
     let mut list = [0u64; LIST_ROOM];
-    let mut out = io::large_buffer();
+    let mut out = [0u8; PART];
     let report = start::begin(sheet, &mut opening, &mut lockout);
     let facts = report.facts;
     let mut cursor = report.cursor;
@@ -22,19 +26,26 @@ fn print_report(sheet: &[u8]) {
         let next = steps::fill(
             facts, cursor, sheet, &opening, &lockout, &mut list, &mut out,
         );
-        let written = streams::write_whole(1, &out[..next.at]);
-        if written < next.at {
-            os::fail(b"report: the report is cut off");
+        let told = streams::write_whole(output, &out[..next.at]);
+        if let Some(error) = told.failure {
+            streams::fail(errors, b"report: the report is cut off", &error);
             return;
         }
         cursor = next.cursor;
     }
 }
 
-fn main() {
+fn main(rt: HostRuntime) {
+    let mut input = rt.stdin();
+    let mut output = rt.stdout();
+    let mut errors = rt.stderr();
     let mut sheet = [0u8; READ_ROOM];
-    match streams::read_whole(0, &mut sheet) {
-        Input::Read(n) => print_report(&sheet[..n]),
-        Input::Failed => os::fail(b"report: cannot read standard input"),
+    match streams::read_whole(&mut input, &mut sheet) {
+        Input::Read(n) => print_report(&sheet[..n], &mut output, &mut errors),
+        Input::Failed(error) => streams::fail(
+            &mut errors,
+            b"report: cannot read standard input",
+            &error,
+        ),
     }
 }

@@ -8,10 +8,24 @@ use Rattle.pool.proofs.tell.Goals as goal
 pub returns-then-number-eq0 : goal.returns-then-number-eq0
 returns-then-number-eq0 c =
     let call = c.pool_sheets-answer.ensures in
-    record { printed = tells-pooled _ _ _ _ _ call c.requires.longest_sheet_in_bounds [] c.if-number-eq0.true; prefix_len = sheet-counts _ _ _ _ _ call c.requires.longest_sheet_in_bounds; prefix_len_2 = (omega arith, refl); out_unchanged = sheet-behind _ _ _ _ _ call c.requires.longest_sheet_in_bounds; line_unchanged = refl }
+    let room = c.requires.longest_sheet_in_bounds in
+    record {
+      printed = tells-pooled _ _ _ _ _ call room [] c.if-number-eq0.true;
+      prefix_len = sheet-counts _ _ _ _ _ call room;
+      prefix_len_2 = (omega arith, refl);
+      out_unchanged = sheet-behind _ _ _ _ _ call room;
+      line_unchanged = refl;
+    }
 
 pub returns : goal.returns
 returns c =
+    let call = c.pool_sheets-answer.ensures in
+    let room = c.requires.longest_sheet_in_bounds in
     let w = c.put_refusal-said.ensures in
-    record { printed = tells-refused _ _ _ _ _ c.pool_sheets-answer.ensures c.requires.longest_sheet_in_bounds _ c.if-number-eq0.false (row-taken _ _ _ _ w); prefix_len = (omega arith, refl); prefix_len_2 = row_counts _ _ _ _ w; out_unchanged = refused-behind _ _ _ _ _ c.pool_sheets-answer.ensures c.requires.longest_sheet_in_bounds c.if-number-eq0.false; line_unchanged = row-behind _ _ _ _ w }
-
+    record {
+      printed = tells-refused _ _ _ _ _ call room _ c.if-number-eq0.false (row-taken _ _ _ _ w);
+      prefix_len = (omega arith, refl);
+      prefix_len_2 = row_counts _ _ _ _ w;
+      out_unchanged = refused-behind _ _ _ _ _ call room c.if-number-eq0.false;
+      line_unchanged = row-behind _ _ _ _ w;
+    }

@@ -1,30 +1,38 @@
--- Inner: what the system's answers mean, and how far reading and writing may have come.
-use Rattle.std.specs.Prelude.{cond, List, ℕ, zero, suc, ◌+◌, ◌≤◌, ◌<◌, ℤ, pos, negsuc, eqb}
-use Rattle.io.specs.Counts.{IsPrefixLen}
+-- Inner: what a stream's answers mean, and how far reading and writing may have come.
+use Rattle.std.specs.Prelude.{List, ℕ, zero, suc, ◌+◌, ◌≤◌, ◌<◌, Result, Ok, Err}
+use Rattle.std.specs.Counts.{IsPrefixLen}
+use Rattle.std.specs.IoError.{error_kind}
+use Rattle.std.specs.declared.io.Error.{Error}
+use Rattle.std.specs.declared.io.ErrorKind.{ErrorKind}
+use Rattle.std.specs.declared.io.ErrorKind.TheVariants as kind
 use Rattle.streams.specs.declared.Moved.{Moved}
 use Rattle.streams.specs.declared.Moved.TheVariants as moved
 use Rattle.streams.specs.declared.Input.{Input}
 use Rattle.streams.specs.declared.Input.TheVariants as input
 
--- What a failed call did, by its error number: 4 is EINTR, a signal that came in between.
-abbrev pub failed_by : ℤ → Moved
-failed_by (pos k) = cond (eqb k 4) moved.Interrupted moved.Failed
-failed_by (negsuc k) = moved.Failed
+-- What a call that failed with this kind of error did: a signal came in between, or it failed for good.
+abbrev pub failed_as : ErrorKind → Error → Moved
+failed_as kind.Interrupted error = moved.Interrupted
+failed_as _ error = moved.Failed error
 
--- What a call did: an answer above 0 counts bytes, 0 is none, and below 0 the call failed.
-abbrev pub moved_by : ℤ → ℤ → Moved
-moved_by (pos zero) error = moved.Nothing
-moved_by (pos (suc k)) error = moved.Bytes (suc k)
-moved_by (negsuc k) error = failed_by error
+-- What a failed call did, by its error.
+abbrev pub failed_by : Error → Moved
+failed_by error = failed_as (error_kind error) error
+
+-- What a call did: an answer above 0 counts bytes, 0 is none, and an error is a failure.
+abbrev pub moved_by : Result ℕ Error → Moved
+moved_by (Ok zero) = moved.Nothing
+moved_by (Ok (suc k)) = moved.Bytes (suc k)
+moved_by (Err error) = failed_by error
 
 -- The bytes of one call: at least one, and none behind the end.
 abbrev pub MovedOn : ℕ → ℕ → Moved → Type 0
 MovedOn done long (moved.Bytes n) = (0 < n) × (done + n ≤ long)
 MovedOn done long moved.Nothing = Unit {0}
 MovedOn done long moved.Interrupted = Unit {0}
-MovedOn done long moved.Failed = Unit {0}
+MovedOn done long (moved.Failed error) = Unit {0}
 
 -- What was read stands at the buffer's start; of a failed reading nothing is said.
 abbrev pub ReadInto : List ℕ → Input → Type 0
 ReadInto buf (input.Read n) = IsPrefixLen n buf
-ReadInto buf input.Failed = Unit {0}
+ReadInto buf (input.Failed error) = Unit {0}

@@ -3,8 +3,9 @@
 
 #![tactic(auto)]
 
-ghost use Rattle.std.specs.Prelude.{◌≡◌, ◌≤◌, length};
-ghost use Rattle.streams.specs.Inner.Streams.{failed_by, moved_by, MovedOn, ReadInto};
+ghost use Rattle.std.specs.Prelude.{◌≡◌, ◌≤◌, IfNone, IsSome, length, take, drop};
+ghost use Rattle.std.specs.Io.KnownBytes.{Appends};
+ghost use Rattle.streams.specs.Inner.Streams.{failed_by, moved_by, MovedOn, TookFrom, PutTo, ReadInto, GivenBy};
 
 use std::io;
 use std::io::{ErrorKind, Read, Write};
@@ -61,7 +62,9 @@ fn moved_by(answer: io::Result<usize>) -> Moved
 // One read into buf from index done on.
 fn read_once<R: Read>(reader: &mut R, buf: &mut [u8], done: usize) -> Moved
     requires { done ≤ length buf.old }
-    ensures { MovedOn done (length buf.old) result }
+    ensures moved { MovedOn done (length buf.old) result }
+    ensures front { take done buf.new ≡ take done buf.old }
+    ensures bytes { TookFrom (R.remaining reader.old) (R.remaining reader.new) (drop done buf.new) result }
 {
     let answer = reader.read(&mut buf[done..]);
     moved_by(answer)
@@ -70,7 +73,8 @@ fn read_once<R: Read>(reader: &mut R, buf: &mut [u8], done: usize) -> Moved
 // One write of the bytes from index done on.
 fn write_once<W: Write>(writer: &mut W, bytes: &[u8], done: usize) -> Moved
     requires { done ≤ length bytes.now }
-    ensures { MovedOn done (length bytes.now) result }
+    ensures moved { MovedOn done (length bytes.now) result }
+    ensures bytes { PutTo (W.contents writer.old) (W.contents writer.new) (drop done bytes.now) result }
 {
     let answer = writer.write(&bytes[done..]);
     moved_by(answer)
@@ -78,7 +82,8 @@ fn write_once<W: Write>(writer: &mut W, bytes: &[u8], done: usize) -> Moved
 
 // Reads until the input ends, buf is full, or a read fails. Only an answer of 0 is the end.
 pub fn read_whole<R: Read>(reader: &mut R, buf: &mut [u8]) -> Input
-    ensures { ReadInto buf.new result }
+    ensures read { ReadInto buf.new result }
+    ensures bytes { GivenBy (R.remaining reader.old) (R.remaining reader.new) buf.new result }
 {
     let mut done = 0;
     // How often an interrupted read may still be made again: more than any run uses up, and a
@@ -102,7 +107,9 @@ pub fn read_whole<R: Read>(reader: &mut R, buf: &mut [u8]) -> Input
 
 // Writes bytes until all are out or a write fails or takes nothing, and answers how many are out.
 pub fn write_whole<W: Write>(writer: &mut W, bytes: &[u8]) -> Output
-    ensures { result.written ≤ length bytes.now }
+    ensures written { result.written ≤ length bytes.now }
+    ensures bytes { Appends (W.contents writer.old) (W.contents writer.new) (take result.written bytes.now) }
+    ensures whole { IfNone result.failure (result.written ≡ length bytes.now) }
 {
     let mut done = 0;
     // How often an interrupted write may still be made again: more than any run uses up, and a
@@ -129,7 +136,8 @@ pub fn write_whole<W: Write>(writer: &mut W, bytes: &[u8]) -> Output
 
 // What is told of writing that stopped before the end.
 fn cut_off(written: usize, failure: io::Error) -> Output
-    ensures { result.written ≡ written }
+    ensures written { result.written ≡ written }
+    ensures failure { IsSome result.failure }
 {
     Output {
         written,

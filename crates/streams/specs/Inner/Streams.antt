@@ -1,7 +1,8 @@
 -- Inner: what a stream's answers mean, and how far reading and writing may have come.
-use Rattle.std.specs.Prelude.{List, ℕ, zero, suc, ◌+◌, ◌≤◌, ◌<◌, Result, Ok, Err}
+use Rattle.std.specs.Prelude.{List, length, take, ℕ, zero, suc, ◌+◌, ◌≤◌, ◌<◌, Option, Result, Ok, Err}
 use Rattle.std.specs.Counts.{IsPrefixLen}
 use Rattle.std.specs.IoError.{error_kind}
+use Rattle.std.specs.Io.KnownBytes.{Keeps, Appends, Consumes, IsAtEnd}
 use Rattle.std.specs.declared.io.Error.{Error}
 use Rattle.std.specs.declared.io.ErrorKind.{ErrorKind}
 use Rattle.std.specs.declared.io.ErrorKind.TheVariants as kind
@@ -36,3 +37,23 @@ MovedOn done long (moved.Failed error) = Unit {0}
 abbrev pub ReadInto : List ℕ → Input → Type 0
 ReadInto buf (input.Read n) = IsPrefixLen n buf
 ReadInto buf (input.Failed error) = Unit {0}
+
+-- What one read took of a reader's bytes, where those are known: its bytes stand at the start of `rest`, none is the reader's end, and a call
+-- that was interrupted or failed took none.
+abbrev pub TookFrom : Option (List ℕ) → Option (List ℕ) → List ℕ → Moved → Type 0
+TookFrom old new rest (moved.Bytes n) = Consumes old new (take n rest)
+TookFrom old new rest moved.Nothing = Keeps old new × (0 < length rest → IsAtEnd new)
+TookFrom old new rest moved.Interrupted = Keeps old new
+TookFrom old new rest (moved.Failed error) = Keeps old new
+
+-- What one write put behind a writer's bytes, where those are known: the first bytes of `rest`, and none where it took none or failed.
+abbrev pub PutTo : Option (List ℕ) → Option (List ℕ) → List ℕ → Moved → Type 0
+PutTo old new rest (moved.Bytes n) = Appends old new (take n rest)
+PutTo old new rest moved.Nothing = Keeps old new
+PutTo old new rest moved.Interrupted = Keeps old new
+PutTo old new rest (moved.Failed error) = Keeps old new
+
+-- What was read are the reader's next bytes, where those are known, and where the buffer has room for more the reader is at its end.
+abbrev pub GivenBy : Option (List ℕ) → Option (List ℕ) → List ℕ → Input → Type 0
+GivenBy old new buf (input.Read n) = Consumes old new (take n buf) × (n < length buf → IsAtEnd new)
+GivenBy old new buf (input.Failed error) = Unit {0}

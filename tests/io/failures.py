@@ -278,8 +278,9 @@ def outputs():
     to_pipe("a non-blocking pipe that is read late", long, long_report, late, errno.EAGAIN, blocking=False)
     to_pipe("a non-blocking pipe that is read in turns", long, long_report, in_turns, errno.EAGAIN, either=True, blocking=False)
     to_pipe("a short report to a non-blocking pipe that is read late", sheet, report, late, blocking=False)
+    # The program ignores SIGPIPE as soon as it runs, so that it says why it stops in both cases.
     to_pipe("a reader that goes away, SIGPIPE ignored", long, long_report, gone, errno.EPIPE, restore_signals=False)
-    to_pipe("a reader that goes away, SIGPIPE as it comes", long, long_report, gone, want=-signal.SIGPIPE)
+    to_pipe("a reader that goes away, SIGPIPE as it comes", long, long_report, gone, errno.EPIPE)
     refused, text = example("misspelt-name")
     with open("/dev/full", "wb") as full:
         to_place("a refused sheet to /dev/full", refused, text, full, errno.ENOSPC)
@@ -334,6 +335,11 @@ def pool_inputs(at):
         name = "/" * (size - len(first)) + first
         pool(f"a name of {size:,} bytes", [name, second], b"" if told else sheet, told(name, errno.ENAMETOOLONG) if told else b"")
     pool("a name beside the program", [short, second], sheet, cwd=at)
+    # A name is opened as text in UTF-8, and one that is none is refused, as a file that cannot be read.
+    name = os.fsencode(at) + b"/\xff.sheet"
+    Path(os.fsdecode(name)).write_bytes(Path(first).read_bytes())
+    said = b"pool: cannot read " + name + b": " + os.strerror(errno.EILSEQ).encode() + b"\n"
+    pool("a name that is no text", [os.fsdecode(name), second], said=said)
 
 
 def pool_refusals(at):
@@ -369,10 +375,11 @@ def pool_outputs():
     pool("a refusal and a closed standard error", words[:1] + [os.devnull], **without(2))
     size = len(sheet) // 2
     pool("a pooled sheet to a file that gets full", words, sheet, line_of(SHEET_CUT_OFF, errno.EFBIG), cut=size, preexec_fn=lambda: limited(size))
-    for restored, said, want in (True, b"", -signal.SIGPIPE), (False, line_of(SHEET_CUT_OFF, errno.EPIPE), 0):
+    for restored in True, False:
         read, write = os.pipe()
         os.close(read)
-        pool(f"a reader that is gone, SIGPIPE {'as it comes' if restored else 'ignored'}", words, said=said, want=want, stdout=write, restore_signals=restored)
+        said = line_of(SHEET_CUT_OFF, errno.EPIPE)
+        pool(f"a reader that is gone, SIGPIPE {'as it comes' if restored else 'ignored'}", words, said=said, stdout=write, restore_signals=restored)
         os.close(write)
 
 

@@ -9,7 +9,7 @@ use Rattle.vertex_set.proofs.Decisions.{decide-yes, decide-no}
 use Rattle.attackers.proofs.Scans.{none_more}
 use borrow.Author.Rules.{rules}
 use Rattle.attackers.proofs.entries_fit.Goals as goal
-use Rattle.attackers.proofs.entries_fit.Goals.{else-has, then-has}
+use Rattle.attackers.proofs.entries_fit.Goals.{else-has, then-has+else-kind-ge-KINDS}
 
 pub returns-then-kind-ge-KINDS : goal.returns-then-kind-ge-KINDS
 returns-then-kind-ge-KINDS c =
@@ -20,7 +20,7 @@ pub loop-v-preserved : goal.loop-v-preserved
 loop-v-preserved c =
     let a = c.args in
     let q : Member a.initial.0 c.loop-v.v × (6 ≤ get_or a.kinds.now c.loop-v.v 0) → ⊥ =
-    λ p. elim c.if-has.branch [ then-has w ↦ let e = w.1.ensures in let k = w.2.left in let b = p.1 in omega arith | else-has w ↦ c.has.ensures.no w.if-has.false p.0 ] in
+    λ p. elim c.if-has.branch [ then-has+else-kind-ge-KINDS w ↦ let e = w.entry_of-kind.ensures in let k = w.if-kind-ge-KINDS.false in let b = p.1 in omega arith | else-has w ↦ c.has.ensures.no w.if-has.false p.0 ] in
     (omega arith, none_more (λ (i : ℕ). Member a.initial.0 i × (6 ≤ get_or a.kinds.now i 0)) c.loop-v.v c.loop-v.invariant.1 q)
 
 pub returns : goal.returns

@@ -27,7 +27,7 @@ loop-graph-preserved-then-lowest_colour-lt-COLOURS c =
     let fits : c.insert-held.result.0 < 2 ^ 64 = search rules in (
       c.loop-graph.invariant.0,
       reaching-take _ _ c.loop-graph.invariant.0 _ _ _ c.loop-graph.invariant.1 _ _ _ c.lowest-v.ensures.vertex c.without-left.ensures c.lowest_colour.ensures _ c.insert-held.ensures
-          c.if-lowest_colour-lt-COLOURS.true c.without-left.type-inv (c.shared_slice_known-then-lowest_colour-lt-COLOURS-1.given c.lowest-v.result).fits fits,
+          c.if-lowest_colour-lt-COLOURS.true c.without-left.type_inv (c.shared_slice_known-then-lowest_colour-lt-COLOURS-1.given c.lowest-v.result).fits fits,
     )
 
 pub loop-graph-smaller : goal.loop-graph-smaller

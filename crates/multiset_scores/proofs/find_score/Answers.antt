@@ -28,4 +28,4 @@ pub returns : goal.returns
 returns c =
     let word : c.args.initial.0 < 2 ^ 64 = search rules in
     score-found c.args.s c.args.target c.args.initial.0 c.requires.asked.formed word _ c.base_family.result c.base_family.ensures _ c.write_sets-n.result _
-    c.write_sets-n.ensures c.args.points c.requires.values c.requires.is_chosen _ _ c.lowest_of-left.result (same_length c ∙ c.requires.room) c.lowest_of-left.ensures c.name_sets.ensures
+    c.write_sets-n.ensures c.args.points c.requires.values c.requires.is_chosen _ _ c.lowest_of-left.result (c.name_sets.auto.kept ∙ c.lowest_of-left.auto.kept ∙ c.write_sets-n.auto.out ∙ c.requires.room) c.lowest_of-left.ensures c.name_sets.ensures

@@ -17,7 +17,7 @@ help:
 	@echo 'make prove      the proofs alone'
 	@echo 'make fuzz       fresh inputs against the brute force; SECONDS=600, SEED=7'
 	@echo 'make bench, make mutate, make alter   measurements and records: README has a line for each'
-	@echo 'make clean      removes target/ and build/'
+	@echo 'make clean      removes what was built: build/, and out/ of each crate'
 
 test:
 	$(ALONE) test rt python3 cargo gcc g++ -- bash scripts/test.sh
@@ -31,14 +31,14 @@ report: export SHEET ?= examples/document.sheet
 report:
 	@test -r "$$SHEET" || { echo "report: cannot read $$SHEET" >&2; exit 1; }
 	$(ALONE) report rt python3 -- python3 scripts/prove.py report build/report.log report
-	@target/bin/report < "$$SHEET"
+	@crates/report/out/report < "$$SHEET"
 
 # The pooled sheet of two sheets, and nothing else on standard output.
 pool: export FIRST ?= examples/first-lab.sheet
 pool: export SECOND ?= examples/second-lab.sheet
 pool:
 	$(ALONE) pool rt python3 -- python3 scripts/prove.py pool build/pool.log pool
-	@target/bin/pool "$$FIRST" "$$SECOND"
+	@crates/pool/out/pool "$$FIRST" "$$SECOND"
 
 # The command for a course day, with the proved programs that it runs: build/bin.
 gemzuleg:
@@ -50,7 +50,7 @@ definitions:
 
 # The proofs alone: no must-fail edits, no programs, no Rust or C.
 prove:
-	$(ALONE) prove rt -- rt prove
+	$(ALONE) prove rt -- rt all check
 
 # The portal's library for C: build/lib/libportal.a and a shared library, with include/portal.h.
 lib:
@@ -90,4 +90,4 @@ check-contracts:
 	@python3 scripts/contracts.py
 
 clean:
-	$(ALONE) clean -- rm -rf target build/bench build/bin build/cargo build/cargo-static build/dist build/lib build/report.log build/pool.log build/lib.log
+	$(ALONE) clean -- rm -rf crates/*/out build/bench build/bin build/cargo build/cargo-static build/dist build/lib build/report.log build/pool.log build/lib.log build/proved

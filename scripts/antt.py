@@ -23,13 +23,20 @@ class Refused(Exception):
 
 
 def tokens(lines):
-    """The tokens of numbered lines, each with its line's number."""
-    return [(token, number) for number, line in lines for token in TOKEN.findall(line)]
+    """The tokens of numbered lines, each with its line's number. A `.field` that does not stand right behind a bracket gets a blank before it."""
+    found = []
+    for number, line in lines:
+        for m in TOKEN.finditer(line):
+            loose = m[0].startswith(".") and len(m[0]) > 1 and line[: m.start()][-1:] != ")"
+            found.append((" " + m[0] if loose else m[0], number))
+    return found
 
 
 class Parser:
-    def __init__(self, found, file):
-        self.t, self.i, self.file = found, 0, file
+    """Of the tokens of an item. `aliases` are the names before a point that stand for a module, as `way` in `way.Steps`; others are projected."""
+
+    def __init__(self, found, file, aliases=()):
+        self.t, self.i, self.file, self.aliases = found, 0, file, aliases
 
     def peek(self):
         return self.t[self.i][0] if self.i < len(self.t) else None
@@ -127,11 +134,7 @@ class Parser:
     def application(self):
         head, args = self.atom(), []
         while (x := self.peek()) is not None and x not in STOP:
-            if x.startswith(".") and len(x) > 1:
-                # a projection is of all that stands before it: `f x .field` is the field of `f x`
-                self.next()
-                head, args = ("proj", ("app", head, args) if args else head, x[1:]), []
-            elif x == "{":
+            if x == "{":
                 args += self.implicit()
             else:
                 args.append(self.atom())
@@ -154,6 +157,9 @@ class Parser:
         if x == "(":
             e = self.expr()
             self.next(")")
+            # a projection is written tight: `f x.field` hands on the field of x, and `(f x).field` is the field of `f x`
+            if (self.peek() or "").startswith(".") and len(self.peek()) > 1:
+                return self.projected(e, self.next()[1:])
             return e + ("bracket",) if e[0] == "op" and len(e) == 4 else e
         if x == "λ":
             return self.lam()
@@ -163,10 +169,20 @@ class Parser:
             return ("str", x[1:-1])
         if x.isdigit():
             return ("num", int(x))
-        if x in STOP or x in ("{", "let", "λ"):
+        if x in STOP or x in ("{", "let", "λ") or x.lstrip().startswith("."):
             self.i -= 1
             self.refuse("not known")
-        return ("var", x)
+        before, point, behind = x.partition(".")
+        return self.projected(("var", before), behind) if point and before not in self.aliases else ("var", x)
+
+    def projected(self, e, fields):
+        """A field of an expression, or as `graph.rows` a field of its field."""
+        for field in fields.split("."):
+            if not field:
+                self.i -= 1
+                self.refuse("not known")
+            e = ("proj", e, field)
+        return e
 
     def lam(self):
         names = []
@@ -216,7 +232,7 @@ def texts(text):
     return found
 
 
-def fields_of(lines, file):
+def fields_of(lines, file, aliases):
     """The fields of a record, or the cases of a data type: what is indented deeper belongs to the field above it."""
     found = []
     for number, line in lines:
@@ -226,7 +242,7 @@ def fields_of(lines, file):
             found[-1].append((number, line))
     fields = []
     for field in found:
-        p = Parser(tokens(field), file)
+        p = Parser(tokens(field), file, aliases)
         if p.peek() == "pub":
             p.next()
         names = [p.next()]
@@ -236,22 +252,22 @@ def fields_of(lines, file):
     return fields
 
 
-def typed(kind, name, lines, file):
+def typed(kind, name, lines, file, aliases):
     """A record or a data type: parameters, result, fields or cases."""
     at = next((i for i, (_, line) in enumerate(lines) if re.search(r"\bwhere\s*$", line)), None)
     if at is None:
         raise Refused(f"{file}:{lines[0][0]}: {name} has no `where` at a line's end")
-    p = Parser(tokens(lines[:at + 1])[3:-1], file)
+    p = Parser(tokens(lines[:at + 1])[3:-1], file, aliases)
     params = [(n, a, implicit) for names, a, implicit in p.telescope() for n in names]
     p.next(":")
     result = p.expr()
     p.over()
-    return {"kind": kind, "name": name, "params": params, "result": result, "fields": fields_of(lines[at + 1:], file)}
+    return {"kind": kind, "name": name, "params": params, "result": result, "fields": fields_of(lines[at + 1:], file, aliases)}
 
 
-def clause(lines, file, found):
+def clause(lines, file, found, aliases):
     """A clause `name patterns = body` of a function whose head came before."""
-    p = Parser(tokens(lines), file)
+    p = Parser(tokens(lines), file, aliases)
     name = p.next()
     if name not in found or found[name]["kind"] != "fun":
         p.refuse(f"a clause of {name} without a head")
@@ -266,18 +282,19 @@ def clause(lines, file, found):
 
 def read(text, file="text", statements=False):
     """The `use` lines of a file, and its definitions by their names, in order. A head without a clause is refused, or is a statement."""
-    uses, found = [], {}
+    uses, found, aliases = [], {}, set()
     for lines in pieces(text):
         first = lines[0][1]
         head = HEAD.match(first)
         if first.startswith("use "):
             uses.append(" ".join(line.strip() for _, line in lines))
+            aliases |= set(re.findall(r"^use [^{}]+ as (\S+)$", uses[-1]))
         elif first.startswith("pub mod "):
             continue
         elif head and head[1]:
-            found[head[2]] = typed(head[1], head[2], lines, file)
+            found[head[2]] = typed(head[1], head[2], lines, file, aliases)
         elif head:
-            p = Parser(tokens(lines), file)
+            p = Parser(tokens(lines), file, aliases)
             while p.next() != head[2]:
                 pass
             if p.peek() == "{":
@@ -286,7 +303,7 @@ def read(text, file="text", statements=False):
             found[head[2]] = {"kind": "fun", "name": head[2], "type": p.expr(), "clauses": []}
             p.over()
         else:
-            clause(lines, file, found)
+            clause(lines, file, found, aliases)
     for name, d in found.items():
         if d["kind"] == "fun" and not d["clauses"]:
             if not statements:

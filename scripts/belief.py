@@ -14,9 +14,9 @@ ROOT = Path(__file__).resolve().parent.parent
 TRUST = ROOT / "docs" / "TRUST.md"
 PART = re.compile(r"^\| \*\*(.+)\*\* \| \| \|$")
 ROW = re.compile(r"^\| `([\w/]+\.antt)` \| \d+ \| .* \|$")
-USED = re.compile(r"^use Rattle·(\w+?)(?:·specs)?\.specs\.([\w.-]+)", re.M)
-BROUGHT = re.compile(r"^use Rattle·(\w+?)(?:·specs)?\.specs\.(\w+)\.\{(.*)\}", re.M)
-BRINGS = re.compile(r"^use (\w+)(?:::(\w+))?::([A-Z]\w*);", re.M)
+USED = re.compile(r"^use Rattle\.(?!std\.)(\w+)\.specs\.([\w.]+)", re.M)
+BROUGHT = re.compile(r"^use Rattle\.(?!std\.)(\w+)\.specs\.(\w+)\.\{(.*)\}", re.M)
+BRINGS = re.compile(r"^use (\w+)(?:::(\w+))?::(?:([A-Z]\w*)|\{([^{}]*)\});", re.M)
 SENTENCE = re.compile(r"(.*?\.)(?= |$)")
 
 
@@ -88,7 +88,7 @@ def types(file):
     """The types of the code that a file's `use` lines name: crate, module of its source, name."""
     found = []
     for crate, path in USED.findall(read(file)):
-        names = [name for name in path.split(".") if name not in ("", "the-variants")]
+        names = [name for name in path.split(".") if name not in ("", "TheVariants")]
         if names[0] == "declared":
             found.append((crate, names[1] if len(names) > 2 else "lib", names[-1]))
     return list(dict.fromkeys(found))
@@ -106,13 +106,20 @@ def source(crate, module):
     return ROOT / "crates" / crate / "src" / f"{module}.rt"
 
 
+def brought(text):
+    """The types that a source's `use` lines bring in, one by one or several between braces: crate, module or nothing, name."""
+    for home, part, one, several in BRINGS.findall(text):
+        for word in re.findall(r"\b[A-Z]\w*", one or several):
+            yield home, part, word
+
+
 def named_in(crate, module, name):
     """The types of the project that a type's fields name: those of its own source file, and those that the file brings in."""
     path = source(crate, module)
     text = path.read_text(encoding="utf-8")
     words = re.findall(r"\b[A-Z]\w*", re.sub(r"//.*", "", declaration(path, name)))
     here = {word: (crate, module, word) for word in re.findall(r"^pub (?:struct|enum) (\w+)", text, re.M)}
-    for home, part, word in re.findall(r"\b(\w+)(?:::(\w+))?::([A-Z]\w*)", declaration(path, name)) + BRINGS.findall(text):
+    for home, part, word in re.findall(r"\b(\w+)(?:::(\w+))?::([A-Z]\w*)", declaration(path, name)) + list(brought(text)):
         here[word] = (crate if home == "crate" else home, part or "lib", word)
     return [here[word] for word in dict.fromkeys(words) if word in here and word != name]
 
@@ -141,14 +148,24 @@ def owner(file, name):
     return None
 
 
+@functools.cache
+def functions_of_the_code():
+    """The names of all functions of the sources."""
+    texts = (path.read_text(encoding="utf-8") for path in sorted(ROOT.glob("crates/*/src/**/*.rt")))
+    return {name for text in texts for name in re.findall(r"\bfn (\w+)", text)}
+
+
 def statements():
-    """Of each row under "What is proved": the files that its statement names, and the other names there, but for functions of the code."""
+    """Of each row under "What is proved": the files that its statement names, and the other names there, but for functions of the code that have
+    the name of no definition in these files."""
     text = TRUST.read_text(encoding="utf-8").partition("\n## What is proved\n")[2].partition("\n## ")[0]
     for line in text.split("\n"):
         cells = line.split(" | ")
         words = re.findall(r"`([^`]+)`", cells[1]) if line.startswith("| ") and len(cells) == 3 else []
         if words:
-            yield [word for word in words if "/" in word], [word for word in words if not re.search("[/_]", word)]
+            files = [word for word in words if "/" in word]
+            is_defined = lambda word: any(owner(file, word) for file in files if file.endswith(".antt") and is_there(file))
+            yield files, [word for word in words if "/" not in word and (is_defined(word) or word not in functions_of_the_code())]
 
 
 def cites(file, definition):
@@ -156,7 +173,7 @@ def cites(file, definition):
     homes = {name: file for name in definitions(file)}
     for crate, module, names in BROUGHT.findall(read(file)):
         homes.update((name, f"{crate}/specs/{module}.antt") for name in re.split(r",\s*", names))
-    words = re.findall(r"[\w′-]+", definitions(file)[definition])
+    words = re.findall(r"[\w'-]+", definitions(file)[definition])
     return {owner(homes[word], word) for word in words if is_there(homes.get(word, ""))} - {None}
 
 

@@ -10,7 +10,7 @@ set -euo pipefail
 cd "$(dirname "$0")/.."
 
 bash scripts/make_older.sh build/lib/libportal.a bash scripts/lib.sh
-bash scripts/make_older.sh target/bin/report python3 scripts/prove.py bench build/report.log report
+bash scripts/make_older.sh crates/report/out/report python3 scripts/prove.py bench build/report.log report
 
 (cd tests && cargo build --release --quiet -p bench)
 build/cargo/release/bench "$@"

@@ -5,7 +5,8 @@ Every public function and method says something of its result (`ensures`). A cra
 with the word `inner` is offered to callers: none of its public functions asks something of them (`requires`), and none has an inner
 definition in its contract, which a caller would then have to believe; and its contract has the one shape: `Fulfils`, `Told`, `Decides` or `Asks`,
 or a name that is short for one of these, but for the few of OTHERS, whose reasons stand in docs/DECISIONS.md. A body has at most 40 lines. The proof of a loop says the loop's
-invariant in plain words: by a comment line right above `Inv-loop`, or by the file's first comment, which then has the word `invariant`.
+invariant in plain words: by a comment line right above `invariant-loop-..` in its Invariants.antt (or above `Inv-loop` in a Proof.antt, which walks the code by hand), or by the
+file's first comment, which then has the word `invariant`.
 Of every edit that is to be refused the old texts stand just once in their files: one that does not fit is refused for nothing. The exit
 status is 1 where something of this does not hold.
 """
@@ -19,7 +20,7 @@ ROOT = Path(__file__).resolve().parent.parent
 LONGEST = 40
 LITERAL = re.compile(r"""b"(?:[^"\\]|\\.)*"|b'(?:[^'\\]|\\.)*'""")
 HEAD = re.compile(r'^\s*(?:pub\(crate\)\s+)?(pub\s+)?(?:extern\s+"C"\s+)?fn\s+(\w+)')
-INNER = re.compile(r"^ghost use Rattle·[\w·]+\.specs\.Inner[\w.]*\.\{([^}]*)\};", re.M)
+INNER = re.compile(r"^ghost use Rattle\.\w+\.specs\.Inner[\w.]*\.\{([^}]*)\};", re.M)
 # A call's contract has one of these, or a name that a definition makes short for one of them.
 SHAPES = {"Fulfils", "Told", "Decides", "Asks"}
 SHORT = re.compile(r"^abbrev pub (\w+) :.*\n(?:.*\n)*?\1\b[^\n]*=\s*(\w+)\b", re.M)
@@ -27,8 +28,10 @@ SHORT = re.compile(r"^abbrev pub (\w+) :.*\n(?:.*\n)*?\1\b[^\n]*=\s*(\w+)\b", re
 OTHERS = {"vertex_set", "setup", "scores", "demands", "formed::row_sizes", "answers::demand_three", "sheet::read_sheet", "sheet::name_of"} | {
     "portal_sheets::portal_read",
     "portal_sheets::portal_version",
+    "portal_c::portal_read",
+    "portal_c::portal_version",
 }
-INVARIANT = re.compile(r"^(?:abbrev\s+|unfoldable\s+)?Inv-loop\S*\s+:")
+INVARIANT = re.compile(r"^(?:abbrev\s+|unfoldable\s+)?(?:pub\s+)?(?:Inv-loop|invariant-loop)\S*\s+:")
 WORDS = re.compile(r"^--\s+[\w`]")
 
 
@@ -38,7 +41,7 @@ def inner_crates():
     for line in (ROOT / "crates.txt").read_text(encoding="utf-8").splitlines():
         code, _, comment = line.partition("#")
         if ":" in code and re.search(r"\binner\b", comment):
-            inner.add(code.partition(":")[0].strip())
+            inner.add(code.split()[0].rstrip(":"))
     return inner
 
 
@@ -85,7 +88,7 @@ def inner_names(text):
 def named_in_contract(head, names):
     """Those of the names that the clauses of a function's head have."""
     clauses = re.split(r"^\s*(?:requires|ensures)\b", head, maxsplit=1, flags=re.M)[1:]
-    return sorted(names & set(re.findall(r"[\w′-]+", " ".join(clauses))))
+    return sorted(names & set(re.findall(r"[\w'-]+", " ".join(clauses))))
 
 
 def shapes():
@@ -144,7 +147,7 @@ def main():
                 faults.append(f"{place}: {length} lines")
     faults += [f"scripts/contracts.py: {one} needs no exception" for one in sorted(unused)]
     loops = 0
-    for path in sorted(ROOT.glob("crates/*/proofs/**/Proof.antt")):
+    for path in sorted([*ROOT.glob("crates/*/proofs/**/Invariants.antt"), *ROOT.glob("crates/*/proofs/**/Proof.antt")]):
         for line, said in invariants(path.read_text(encoding="utf-8").split("\n")):
             loops += 1
             if not said:

@@ -23,9 +23,10 @@ flags=(-C target-feature=+crt-static "--remap-path-prefix=$PWD=/gemzuleg" "--rem
 CARGO_ENCODED_RUSTFLAGS=$(printf '%s\x1f' "${flags[@]}")
 export CARGO_ENCODED_RUSTFLAGS=${CARGO_ENCODED_RUSTFLAGS%$'\x1f'}
 (cd rust && cargo build --release --quiet -p gemzuleg --target x86_64-unknown-linux-gnu --target-dir ../build/cargo-static)
-kit=$(dirname "$(dirname "$(rt doc)")")
+kit=$(dirname "$(rt doc)")
 for program in report pool; do
-    gcc -static -s -Wl,--build-id=none -o "$dist/$program" "target/obj/$program.o" "$kit/lib/libos_c.a"
+    bash scripts/make_older.sh "crates/$program/out/$program.o" python3 scripts/prove.py dist "build/$program.log" "$program"
+    gcc -static -s -Wl,--build-id=none -o "$dist/$program" "crates/$program/out/$program.o" "$kit/c/libos_c.a" "$kit/c/liblibc_c.a"
 done
 
 # ---- lay FOLDER PREFIX: the files below a folder; PREFIX is what the pkg-config file says.

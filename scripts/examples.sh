@@ -6,8 +6,8 @@ set -euo pipefail
 shopt -s nullglob
 cd "$(dirname "$0")/.."
 
-report=${REPORT:-target/bin/report}
-pool=${POOL:-target/bin/pool}
+report=${REPORT:-crates/report/out/report}
+pool=${POOL:-crates/pool/out/pool}
 brute=build/cargo/release/examples/report
 out=$(mktemp)
 trap 'rm -f "$out"' EXIT
@@ -29,8 +29,8 @@ compare() {
     fi
 }
 
-[[ -x $report ]] || { echo "examples: $report is missing (rt check report builds it)" >&2; exit 1; }
-[[ -x $pool ]] || { echo "examples: $pool is missing (rt check pool builds it)" >&2; exit 1; }
+[[ -x $report ]] || { echo "examples: $report is missing (make gemzuleg builds it)" >&2; exit 1; }
+[[ -x $pool ]] || { echo "examples: $pool is missing (make gemzuleg builds it)" >&2; exit 1; }
 (cd tests && cargo build --release --quiet --example report)
 
 sheets=(examples/*.sheet)

@@ -4,10 +4,11 @@ set -euo pipefail
 cd "$(dirname "$0")/.."
 
 bash scripts/make_older.sh build/lib/libportal.a bash scripts/lib.sh
-bash scripts/make_older.sh target/bin/report python3 scripts/prove.py gemzuleg build/report.log report
-bash scripts/make_older.sh target/bin/pool python3 scripts/prove.py gemzuleg build/pool.log pool
+for program in report pool; do
+    bash scripts/make_older.sh "crates/$program/out/$program" python3 scripts/prove.py gemzuleg "build/$program.log" "$program"
+done
 echo "gemzuleg: compiles the command" >&2
 (cd rust && cargo build --release --quiet -p gemzuleg)
 mkdir -p build/bin
-install -m 755 build/cargo/release/gemzuleg target/bin/report target/bin/pool build/bin
+install -m 755 build/cargo/release/gemzuleg crates/report/out/report crates/pool/out/pool build/bin
 echo "gemzuleg: build/bin/gemzuleg; put $PWD/build/bin on your PATH, and see docs/COURSE.md" >&2

@@ -1,8 +1,8 @@
 #!/usr/bin/env python3
 """Holds include/portal.h to the sources and to the documents.
 
-Every exported function of the portal's crates has its prototype, with the same names and the types that C has for them, in
-order; every struct that is handed back has its fields, here and in rust/portal; the version, the places of a setup's words, the blank, never,
+Every function that the static library portal_c exports has its prototype, with the same names and the types that C has for them, in
+order; it has the head and the contract, word for word, of the call of its name in the portal's other crates, which it hands on to; every struct that is handed back has its fields, here and in rust/portal; the version, the places of a setup's words, the blank, never,
 the most items and colours, the largest value, sheet and name, the bytes of a pooled sheet, the longest list, the number of kinds and the places of a bag are the sources', and the manual pages have the version; the refusals' names and sentences are those of docs/TERMS.md and of man/portal.3; README.md and man/portal.3 name every call, and above
 each prototype stands a comment. Else the exit status is 1.
 """
@@ -37,7 +37,7 @@ def parts(text):
 
 def calls_of(source):
     """Each exported function as C has it: name, type of the result, and types and names of the parameters, None for a count's."""
-    for name, given, result in re.findall(r'^#\[no_mangle\]\npub extern "C" fn (\w+)\(([^)]*)\) -> (\w+)', source, re.M):
+    for name, given, result in re.findall(r'^#\[unsafe\(no_mangle\)\]\npub extern "C" fn (\w+)\(([^)]*)\) -> (\w+)', source, re.M):
         wanted = []
         for parameter in parts(given):
             word, kind = (part.strip() for part in parameter.split(":"))
@@ -48,8 +48,14 @@ def calls_of(source):
         yield name, SCALARS.get(result) or f"struct {struct(result)}", wanted
 
 
+def exports_of(source):
+    """Each such function's text up to its body, and the body, by its name."""
+    found = re.findall(r'^#\[unsafe\(no_mangle\)\]\n(pub extern "C" fn (\w+)\(.*?\n)\{\n(.*?)^\}', source, re.M | re.S)
+    return {name: (head, body.strip()) for head, name, body in found}
+
+
 def structs_of(source):
-    for name, fields in re.findall(r"^#\[repr\(C\)\]\npub struct (\w+) \{\n(.*?)^\}", source, re.M | re.S):
+    for name, fields in re.findall(r"^#\[repr\(C\)\]\n(?:#\[[^\n]*\]\n)*pub struct (\w+) \{\n(.*?)^\}", source, re.M | re.S):
         pairs = (field.split(":") for field in parts(fields))
         yield struct(name), [(SCALARS[kind.strip()], word.strip().removeprefix("pub ")) for word, kind in pairs]
 
@@ -86,7 +92,16 @@ sources = {path.parts[-3]: "".join(part.read_text(encoding="utf-8") for part in 
 faults = []
 
 # calls
-offered = {name: (result, given) for source in sources.values() for name, result, given in calls_of(source)}
+exporting = sources.pop("portal_c")
+offered = {name: (result, given) for name, result, given in calls_of(exporting)}
+handed_on = {(crate, name): head for crate, source in sources.items() for name, (head, _) in exports_of(source).items()}
+for name, (head, body) in exports_of(exporting).items():
+    crate = body.partition("::")[0]
+    words = re.findall(r"(\w+):", head.partition("(")[2].partition(")")[0])
+    if handed_on.pop((crate, name), "") != head:
+        faults.append(f"{name} of portal_c has not the head and contract of {crate}::{name}")
+    faults += [f"{name} of portal_c does more than to call {crate}::{name}"] * (body != f"{crate}::{name}({', '.join(words)})")
+faults += [f"portal_c does not export {name} of {crate}" for crate, name in handed_on]
 shown = dict(prototypes(header))
 readme, manual = read("README.md"), read("man/portal.3")
 for name in sorted(offered.keys() | shown.keys()):
@@ -128,7 +143,7 @@ places = {"PORTAL_ROW": constant(words, "GRAPH"), "PORTAL_RECOVERY": constant(wo
 faults += [f"{name} does not begin at {at}" for name, at in places.items() if macro(header, name) != f"({at} + 8 * (v) + (c))"]
 held, opened = (constant(words, name) for name in ("HELD", "OPENED"))
 faults += [f"PORTAL_{name} is not {at}" for name, at in (("HELD", held), ("OPENED", opened)) if macro(header, f"PORTAL_{name}") != str(at)]
-told = dict(re.findall(r"^      (\w+) = .*wordAt words \(1 \+ 4 \* v((?: \+ \d)?)\)", read("crates/portal_words/specs/Words.antt"), re.M))
+told = dict(re.findall(r"^      (\w+) = .*word_at words \(1 \+ 4 \* v((?: \+ \d)?)\)", read("crates/portal_words/specs/Words.antt"), re.M))
 for field in ("kind", "start", "loss", "rank"):
     at = 1 + int(told[field].removeprefix(" + ") or 0)
     faults += [f"PORTAL_{field.upper()} does not begin at {at}"] * (macro(header, f"PORTAL_{field.upper()}") != f"({at} + 4 * (v))")
@@ -151,12 +166,12 @@ faults += ["PORTAL_MAX_VALUE is another number"] * (macro(header, "PORTAL_MAX_VA
 faults += ["man/report.1 has another largest value"] * (f"0 to {largest:,}" not in read("man/report.1"))
 never = constant(read("crates/scores/src/lib.rt"), "NEVER")
 faults += ["PORTAL_NEVER is another number"] * (macro(header, "PORTAL_NEVER") != f"(UINT64_C(1) << {never.bit_length() - 1})" or never.bit_count() != 1)
-longest = re.search(r"^longestSheet = (\d+)$", read("crates/sheet_format/specs/Meaning.antt"), re.M).group(1)
+longest = re.search(r"^longest_sheet = (\d+)$", read("crates/sheet_format/specs/Meaning.antt"), re.M).group(1)
 for name in ("POOL_BYTES", "SAVE_BYTES"):
     faults += [f"PORTAL_{name} is another number"] * (macro(header, f"PORTAL_{name}") != longest)
     faults += [f"rust/portal has another number as {name}"] * (str(constant(read("rust/portal/src/lib.rs"), name)) != longest)
 # The opened set is the last word.
-stated = re.search(r"^setupWords = (\d+)$", read("crates/portal_words/specs/Words.antt"), re.M).group(1)
+stated = re.search(r"^setup_words = (\d+)$", read("crates/portal_words/specs/Words.antt"), re.M).group(1)
 lengths = {macro(header, "PORTAL_SETUP_WORDS"), str(opened + 1), stated}
 faults += [f"a setup has {' and '.join(sorted(lengths))} words"] * (len(lengths) != 1)
 faults += ["PORTAL_VERSION is another number"] * (macro(header, "PORTAL_VERSION") != str(constant(reading, "VERSION")))

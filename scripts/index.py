@@ -5,7 +5,8 @@
 counts and texts are the files' own, a file stands behind those that it uses, and the statements above the list cite each definition in it.
 
 What stands in backquotes in the index is a path, or a name directly behind a path or behind another of its names: the file
-defines it, or the directory has an edit of that name. Every row of a table names a path, and every public function of a crate
+defines it, or the directory has an edit of that name. The folder of a function's proof (crates/NAME/proofs/FUNCTION) need not be there, since the
+prover finds some proofs by itself: then the crate's sources have that function. Every row of a table names a path, and every public function of a crate
 that is offered (crates.txt, no comment with the word `inner`) stands in the index. And a defined name means one thing, whether
 it must be believed or is an inner one: no two crates have a definition of that name. Else the exit status is 1.
 """
@@ -37,6 +38,13 @@ def defines(path, name):
     return re.search(DEFINES.get(Path(path).suffix, "(?!)").format(re.escape(name)), text, re.M) is not None
 
 
+def is_there(path):
+    """Is there such a path? The folder of a proof stands for it where the prover needs nothing in it, and the crate has the function."""
+    proof = re.fullmatch(r"crates/(\w+)/proofs/(?:\w+/)*\+?(\w+)", path)
+    sources = ROOT.glob(f"crates/{proof[1]}/src/**/*.rt") if proof else ()
+    return (ROOT / path).exists() or any(re.search(rf"\bfn {proof[2]}\b", source.read_text(encoding="utf-8")) for source in sources)
+
+
 def two_meanings():
     """The public names that the definitions of two crates share, with the files, and how many names there are."""
     places = {}
@@ -53,12 +61,12 @@ for found in re.finditer(r"`([^`\n]*)`", index):
         files.add(path := token)
     else:
         names.add((path if directly else "", token))
-faults += [f"{path} is not there" for path in sorted(files) if not (ROOT / path).exists()]
+faults += [f"{path} is not there" for path in sorted(files) if not is_there(path)]
 faults += [f"{name} is not in {path or 'any file'}" for path, name in sorted(names) if not defines(path, name)]
 rows = re.findall(r"^\|(?!-)(?!.*\n\|-).*", index, re.M)
 faults += [f"no path in the row {row}" for row in rows if not re.search(r"`[^`]*/[^`]*`", row)]
 calls = []
-for crate in re.findall(r"^(\w+):(?!.*#.*\binner\b)", read("crates.txt"), re.M):
+for crate in re.findall(r"^(\w+)(?: staticlib)?:(?!.*#.*\binner\b)", read("crates.txt"), re.M):
     for source in sorted(ROOT.glob(f"crates/{crate}/src/*.rt")):
         place = str(source.relative_to(ROOT))
         calls += [(place, call) for call in re.findall(r'^\s*pub (?:extern "C" )?fn (\w+)', read(place), re.M)]

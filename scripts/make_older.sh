@@ -6,7 +6,7 @@ cd "$(dirname "$0")/.."
 
 made=$1
 shift
-if [[ ! -f $made || -n $(find crates -path '*/src/*' -newer "$made") ]]; then
+if [[ ! -f $made || -n $(find crates/*/src -newer "$made") ]]; then
     log=$(mktemp)
     trap 'rm -f "$log"' EXIT
     "$@" > "$log" || { cat "$log"; exit 1; }

@@ -12,7 +12,10 @@ from pathlib import Path
 
 ROOT = Path(__file__).resolve().parent.parent
 KIT = {"check", "bytes"}
-LINE = re.compile(r"^(\w+):([^#]*)(?:#\s*(inner: )?(.*))?$")
+LINE = re.compile(r"^(\w+)( staticlib)?:([^#]*)(?:#\s*(inner: )?(.*))?$")
+# What a source names of the standard library, whose parts may be called as a library of the kit, as `io`.
+STD = re.compile(r"^\s*use std\b[^;]*;|\bstd(?:::\w+)+", re.M)
+PATH = re.compile(r"\bRattle\.(\w+)\.")
 # A crate that only passes on a value of another crate's type does not name that crate, and depends on it all the same.
 PASSED_ON = {
     "portal": {"setup"},
@@ -31,7 +34,7 @@ def read_map():
         if line.startswith("# == "):
             layers.append((line[5:].strip(), []))
         elif found and layers:
-            layers[-1][1].append((found[1], found[2].split(), bool(found[3]), (found[4] or "").strip()))
+            layers[-1][1].append((found[1], found[3].split(), bool(found[4]), (found[5] or "").strip()))
         elif found:
             sys.exit(f"map: {found[1]} stands below no heading")
     return layers
@@ -40,12 +43,14 @@ def read_map():
 def named_by(crate, names):
     """The crates that a crate's files name."""
     used = set(PASSED_ON.get(crate, ()))
-    for path in sorted((ROOT / "crates" / crate).rglob("*")):
+    # and not in out/, which `rt` makes
+    for path in sorted(path for folder in ("src", "specs", "proofs") for path in (ROOT / "crates" / crate / folder).rglob("*")):
         if path.suffix == ".antt":
-            used |= set(re.findall(r"Rattle·(\w+?)(?:·specs|·proofs)?\.", path.read_text(encoding="utf-8")))
+            used |= set(PATH.findall(path.read_text(encoding="utf-8")))
         elif path.suffix == ".rt":
             text = re.sub(r"//.*", "", path.read_text(encoding="utf-8"))
-            used |= set(re.findall(r"Rattle·(\w+?)(?:·specs|·proofs)?\.", text)) | set(re.findall(r"\b(\w+)::", text))
+            of_std = set(re.findall(r"\b[a-z]\w*\b", " ".join(re.findall(r"^\s*use (std\b[^;]*);", text, re.M))))
+            used |= set(PATH.findall(text)) | set(re.findall(r"\b(\w+)::", STD.sub("", text))) - of_std
     return used & (set(names) | KIT) - {crate}
 
 
@@ -106,7 +111,7 @@ def write(layers):
         if found:
             used = named_by(found[1], names)
             deps = [name for name in names if name in used] + sorted(used & KIT)
-            lines[at] = " ".join([f"{found[1]}:", *deps]) + f"  # {found[3] or ''}{(found[4] or '').strip()}".rstrip()
+            lines[at] = " ".join([f"{found[1]}{found[2] or ''}:", *deps]) + f"  # {found[4] or ''}{(found[5] or '').strip()}".rstrip()
     (ROOT / "crates.txt").write_text("\n".join(lines) + "\n", encoding="utf-8")
     page = ROOT / "docs" / "MAP.md"
     page.write_text(with_picture(page.read_text(encoding="utf-8"), layers), encoding="utf-8")

@@ -87,7 +87,7 @@ def dependencies():
         code = line.partition("#")[0]
         if ":" in code:
             name, _, names = code.partition(":")
-            table[name.strip()] = names.split()
+            table[name.split()[0]] = names.split()
     return table
 
 

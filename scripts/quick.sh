@@ -4,7 +4,8 @@ set -euo pipefail
 cd "$(dirname "$0")/.."
 
 echo "quick: layout"
-rt fmt --check
+mapfile -t sources < <(find crates/*/src crates/*/specs crates/*/proofs -name '*.rt' -o -name '*.antt' | sort)
+"$(dirname "$(rt doc)")/bin/rattle" fmt --check "${sources[@]}"
 for script in contracts rows map index header command; do
     python3 "scripts/$script.py"
 done

@@ -132,7 +132,7 @@ def read_map(root):
     for line in (root / "crates.txt").read_text(encoding="utf-8").splitlines():
         name, colon, rest = line.partition("#")[0].partition(":")
         if colon:
-            found[name.strip()] = set(rest.split())
+            found[name.split()[0]] = set(rest.split())
     return found
 
 

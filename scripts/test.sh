@@ -4,34 +4,33 @@
 set -euo pipefail
 cd "$(dirname "$0")/.."
 began=$(date +%s)
-log=$(mktemp)
-memory=''
-trap 'rm -rf "$log" "$memory"' EXIT
+log=build/gate.log
+mkdir -p build
+rm -f "$log"
 
 bash scripts/quick.sh
 
 echo "test: the examples of the definitions"
 python3 tests/definitions/alter.py --examples
 
-# For every crate and edit that it checks the prover lays out thousands of small files. In memory that takes a tenth less time;
-# a folder there is taken if programs run in it, since some of what follows runs its own.
-if memory=$(mktemp -d /dev/shm/test.XXXXXX 2> /dev/null) && cp "$(type -P true)" "$memory" && "$memory/true" 2> /dev/null; then
-    chmod 711 "$memory"
-    export TMPDIR=$memory
-fi
-# Many at a time on two cores, since they wait for each other in batches and end at different times; each may take two gigabytes.
-jobs=$(awk '/^MemAvailable:/ { n = int($2 / 2000000); print(n < 2 ? 2 : n < 8 ? n : 8) }' /proc/meminfo)
-
 # The brute force needs nothing that is proved: it is compiled beside the first proofs, which leave a core idle now and then.
 (cd tests && cargo test --release --quiet --no-run -p brute > /dev/null 2>&1) &
 
+# Its lines go to build/gate.log as well, each behind the second at which it came. Where it fails, this script ends with its status.
 echo "test: proofs, must-fail edits and programs"
-RT_JOBS=${RT_JOBS:-$jobs} rt ci 2>&1 | tee "$log"
-verdict=$(tail -n 1 "$log")
+rt ci 2>&1 | python3 scripts/gate_times.py --stamp "$began" "$log"
+verdict=$(tail -n 1 "$log" | cut -d ' ' -f 2-)
 [[ $verdict =~ ^[0-9]+\ passed,\ 0\ failed$ ]] || { echo "test: rt ci did not pass" >&2; exit 1; }
-python3 scripts/refusals.py
+# `rt ci` passes where an edit could not be tried, and says so on its line `rt: ok`.
+grep -qE '^[0-9]+ rt: ok' "$log" || { echo "test: rt ci has no line rt: ok" >&2; exit 1; }
+if grep -E '^[0-9]+ rt: ok.*, [1-9][0-9]* bad' "$log"; then
+    echo "test: must-fail edits are bad" >&2
+    exit 1
+fi
+python3 scripts/refusals.py "$log"
+python3 scripts/prove.py --after-gate
 
-# These come after `rt ci`, which removes target/: they use what it has built.
+# These come after `rt ci`, which removes what was built: they use what it has proved.
 echo "test: the portal's library, from C"
 bash scripts/lib.sh
 bash tests/c/run.sh
@@ -67,6 +66,8 @@ echo "test: the brute force, in Rust"
 echo "test: the proved code and the brute force, side by side"
 (cd tests && cargo run --release --quiet -p harness -- gate)
 
-# scripts/gate_times.py reads this line, and those of `rt ci`.
-echo "test: took $((($(date +%s) - began + 30) / 60)) minutes on $(nproc) cores, $(date +%F)"
-echo "$verdict"
+# scripts/gate_times.py reads these lines, and those of `rt ci`.
+{
+    echo "test: took $((($(date +%s) - began + 30) / 60)) minutes on $(nproc) cores, $(date +%F)"
+    echo "$verdict"
+} | python3 scripts/gate_times.py --stamp "$began" "$log"

@@ -2,7 +2,6 @@
 
 `--record` looks for an example where none is named yet; other words choose files and names. `typed` has the prover see that each is a definition.
 """
-import subprocess
 import sys
 
 import asking
@@ -31,11 +30,11 @@ def typed():
         texts = {"report_writer/Inner/Steps": files.AT}
         for (file, name), b in now.items():
             texts[file] = blocks.replaced(texts.get(file) or blocks.source(file).read_text(), name, b["old"], b["new"])
-        run = subprocess.run(["rt", "check", str(scratch.write("typed", texts, scratch.NO_EXAMPLES, ABOVE))], capture_output=True, text=True)
-        if run.returncode:
-            lines = [line for line in (run.stdout + run.stderr).split("\n") if ": error: " in line and "was not admitted" not in line]
+        out, status = scratch.checked("typed", texts, scratch.NO_EXAMPLES, ABOVE)
+        if status:
+            lines = [line for line in out.split("\n") if ": error: " in line and "was not admitted" not in line]
             print("\n".join(line[:300] for line in lines))
-        bad += run.returncode != 0
+        bad += status != 0
         rounds += 1
         left = [b for b in left if now[b["file"], b["name"]] is not b]
     print(f"by hand: the altered definitions are definitions, in {rounds} rounds, {bad} refused", flush=True)

@@ -3,7 +3,6 @@
 Words choose files and names of computed.txt: of their alterations too the prover says whether the example fails (`.` chooses all, some five seconds each).
 """
 import re
-import subprocess
 import sys
 
 import blocks
@@ -21,13 +20,12 @@ def only(name):
 
 def failing(examples, altered=None):
     """The examples that do not compute, and errors that are about something else."""
-    run = subprocess.run(["rt", "check", str(scratch.write("computed", altered, examples))], capture_output=True, text=True)
-    out = run.stdout + run.stderr
+    out, status = scratch.checked("computed", altered, examples)
     names, other = [], []
     for m in re.finditer(r"^(\S+\.antt):\d+:\d+: error: (?:`([^`]+)`: )?(.*)$", out, re.M):
         wrong_value = m[1].endswith("/Examples.antt") and m[2] and ("the two types" in m[3] or "expected type" in m[3])
         (names if wrong_value else other).append(m[2] if wrong_value else m[0])
-    if run.returncode and not names and not other:
+    if status and not names and not other:
         other.append(out[-500:])
     return names, other
 

@@ -88,7 +88,7 @@ def scores(s, loss):
     """The numbers among which scores are looked for."""
     key = ("scores", s, loss)
     if key not in cache:
-        cache[key] = sorted({sumOf(loss, s, x) for x in world.sets} | {never})
+        cache[key] = sorted({sum_of(loss, s, x) for x in world.sets} | {never})
     return cache[key]
 
 

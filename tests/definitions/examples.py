@@ -17,8 +17,8 @@ def render(d):
     return list(THE.render(d))
 
 
-def wordsOf(s):
-    return list(THE.wordsOf(s))
+def words_of(s):
+    return list(THE.words_of(s))
 
 
 def text(lines):
@@ -930,9 +930,9 @@ def of_soundness(D):
     lists = [[], [1], [4], [1, 4], [2]]
     sums = lambda: D.sum_then_least(False, bench)
     # values of sets that fall as the set grows, and a score that is the largest value
-    falls = lambda: D.Scheme(lambda: range(99), lambda a, b: a <= b, lambda x: 9 - D.sumOf(False, bench, x), D.least_value)
+    falls = lambda: D.Scheme(lambda: range(99), lambda a, b: a <= b, lambda x: 9 - D.sum_of(False, bench, x), D.least_value)
     falls_with_mail = lambda: D.Scheme(lambda: range(99), lambda a, b: a <= b, lambda x: 0 if x & 8 else 1, D.least_value)
-    most = lambda: D.Scheme(lambda: range(99), lambda a, b: a <= b, lambda x: D.sumOf(False, bench, x), lambda l: max(l, default=0))
+    most = lambda: D.Scheme(lambda: range(99), lambda a, b: a <= b, lambda x: D.sum_of(False, bench, x), lambda l: max(l, default=0))
     both = [(a, b, bases[a], bases[b]) for a in (MAIL, ORDER) for b in (MAIL, ORDER)]
     # with a list that is no base, for each, and with targets of which neither base is at most the other
     both += [(ORDER, MAIL, [7], [2]), (ORDER, MAIL, [2, 5], [0]), (2, ORDER, [4], [2, 5])]
@@ -1215,12 +1215,12 @@ def of_living(D):
     on_way = [*setups, EMPTY]
     runs = [(text(BENCH), calls, numbers) for calls, numbers in (([], []), ([IN], [0]), ([IN, ADD], [0, 0]), ([IN, ADD, ADD], [0, 0, 19]), ([OFF], [0]), ([IN, D.TakeIn(MAIL)], [0, 0]))]
     runs += [(text(BENCH), [IN, D.AddEdge(0, MAIL, 0, True)], [0, 0])]
-    words = wordsOf(bench)
+    words = words_of(bench)
     long = words + [7]
-    held, trapped = wordsOf(TAKEN), wordsOf(TRAPPED)
+    held, trapped = words_of(TAKEN), words_of(TRAPPED)
     lives = lambda call, n, entry, exit: D.among(setups=setups)(lambda: D.Redrew(call, n, entry, exit))
     five = REFUSED["refused 5"][0]
-    none = wordsOf(EMPTY)
+    none = words_of(EMPTY)
     stays = [(five, [IN, ADD], [12, 12]), (five, [], []), (text(BENCH), [IN], [0]), (text(BENCH), [], [])]
     kind2 = words[:1] + [2] + words[2:]
     lived = [(text(BENCH), 0, 0, [9] * 1284, words + [9], calls, numbers, exit + [9]) for calls, numbers, exit in (([], [], words), ([IN], [0], held), ([IN, ADD, ADD], [0, 0, 19], trapped))]
@@ -1228,7 +1228,7 @@ def of_living(D):
     on_words = [x + [9] for x in (words, held, trapped)] + [none, words, [9], [8]]
     asked = [(("Closure", 2), ended(D, 0, [26, 3])), (("ScoreOf", False, ORDER), ended(D, 0, [1])), (("BothBases", ORDER, []), ended(D, 15, [], [])), (("WayTo", ORDER, 2, [9, 9], [9, 9]), ended(D, 0, [1, 2], [3, 4], [0, 1])), (("NextSet", ORDER, 2), ended(D, 0, [1, 5]))]
     handed = [(0, 7, ORDER, False, [2], Registered(n, 0), [], []) for n in (12, 13, 26)] + [(0, 7, ORDER, False, (2, 5), Registered(0, 1), [R_ANY], [R_BOTH])]
-    changes = [(v, n, entry, exit) for v in (1, 2) for n in (0, 13) for entry, exit in ((held, held), (held, words), (words, words))] + [(MAIL, 0, held, wordsOf(both))]
+    changes = [(v, n, entry, exit) for v in (1, 2) for n in (0, 13) for entry, exit in ((held, held), (held, words), (words, words))] + [(MAIL, 0, held, words_of(both))]
     return [
         ("holds: the mail password", lambda: D.WellFormed(TAKEN), True),
         ("not well formed: held beyond the count", lambda: D.WellFormed(bench._replace(held=32, opened=32)), False),
@@ -1333,9 +1333,9 @@ def of_living(D):
         ("not made on: another number", lambda: D.among(words=[words, held, trapped], setups=setups)(lambda: D.MadeOn(words, [IN, ADD], [0, 19], trapped)), False),
         ("not made on: a call without a number", lambda: D.among(words=[words], setups=setups)(lambda: D.MadeOn(words, [IN], [], words)), False),
         ("shows: the mail password held", lambda: D.Shows(bench, D.after(IN, D.drawing_of(bench)), held), True),
-        ("not shows: an edge less", lambda: D.Shows(bench, D.drawing_of(bench), wordsOf(LESS)), False),
+        ("not shows: an edge less", lambda: D.Shows(bench, D.drawing_of(bench), words_of(LESS)), False),
         ("not shows: nothing held", lambda: D.Shows(bench, D.drawing_of(bench), held), False),
-        ("not shows: stale", lambda: D.Shows(bench, D.after(IN, D.drawing_of(bench)), wordsOf(stale)), False),
+        ("not shows: stale", lambda: D.Shows(bench, D.after(IN, D.drawing_of(bench)), words_of(stale)), False),
         ("lives in words", lambda: D.among(lived=lived, words=on_words, setups=on_way)(D.LivesInWords), True),
         ("settled call: take in", lambda: D.among(redrawings=answers)(lambda: D.SettledLiving(IN, bench, D.Redrawing(0, TAKEN))), True),
         ("settled call: 13", lambda: D.among(redrawings=answers)(lambda: D.SettledLiving(D.TakeIn(5), bench, D.Redrawing(13, bench))), True),
@@ -1527,7 +1527,7 @@ def of_told(D):
 
 def of_words(D):
     """Words that say a setup, and words that say none."""
-    words, held = wordsOf(bench), wordsOf(TAKEN)
+    words, held = words_of(bench), words_of(TAKEN)
     kind2, last2 = words[:1] + [2] + words[2:], words[:253] + [2] + words[254:]
     rank2, row2 = words[:4] + [2] + words[5:], words[:257] + [6] + words[258:]
     lists = [words, words + [7], words[:-1], [], kind2, last2, rank2, held]
@@ -1538,14 +1538,14 @@ def of_words(D):
         ("not says: a kind of 2", lambda: D.SaysSetup(kind2) or D.says_setup(kind2), False),
         ("not says: the last place's kind is 2", lambda: D.SaysSetup(last2) or D.says_setup(last2), False),
         ("says: a rank of 2", lambda: D.SaysSetup(rank2) and D.says_setup(rank2), True),
-        ("word at: 0 behind the end", lambda: D.wordAt([7], 1) == 0, True),
+        ("word at: 0 behind the end", lambda: D.word_at([7], 1) == 0, True),
         ("says: a row of two vertices behind the last kind", lambda: D.SaysSetup(row2) and D.says_setup(row2), True),
         ("kinds said: of the first place", lambda: D.kinds_said(1, [0, 1]), True),
         ("not kinds said: of the second", lambda: D.kinds_said(2, [0, 1, 0, 0, 0, 2]), False),
         ("kinds said: of one place, whatever the second is", lambda: D.kinds_said(1, [0, 1, 0, 0, 0, 2]), True),
         ("places: held and opened", lambda: held[D.held_place] == 2 and held[D.opened_place] == 26, True),
         ("spelt: the mail password held", lambda: D.spelt(held) == TAKEN, True),
-        ("setup in words", lambda: D.setup_in(words) == bench and D.setup_in(wordsOf(EMPTY)) == EMPTY, True),
+        ("setup in words", lambda: D.setup_in(words) == bench and D.setup_in(words_of(EMPTY)) == EMPTY, True),
         ("setup in words: none", lambda: D.setup_in(kind2) == EMPTY and D.setup_in(words[:-1]) == EMPTY, True),
         ("strict", lambda: D.among(words=lists, setups=[bench, TAKEN, EMPTY], rests=[[], [7]])(D.Strict), True),
     ]
@@ -1554,7 +1554,7 @@ def of_words(D):
 def of_readings(D):
     """What C is told of a sheet: its reading, and an item's name."""
     sheet, five = text(BENCH), REFUSED["refused 5"][0]
-    words, none = wordsOf(bench), wordsOf(EMPTY)
+    words, none = words_of(bench), words_of(EMPTY)
     lent = lambda n: [9] * n
     name = lambda t, i, n, v: D.Fulfils(D.name_call(t, i), ended(D, n, v))
     return [
@@ -1687,13 +1687,13 @@ def of_both_demands(D):
     bytes_ = [35] * len(both)
     ends = [(Pooled(0, 0, 0, len(both)), both), (Pooled(24, 0, 0, 0), bytes_)]
     changed = [D.Redrawing(0, TAKEN), D.Redrawing(0, bench), D.Redrawing(13, bench)]
-    words, held, none = wordsOf(bench), wordsOf(TAKEN), wordsOf(EMPTY)
+    words, held, none = words_of(bench), words_of(TAKEN), words_of(EMPTY)
     score = lambda n, x: (("ScoreOf", False, ORDER), bench, n, x, [])
     in_words = lambda n, x: (D.TakeIn(1), words, n, [], [x])
     named = lambda n, x: (sheet, MAIL, n, x, [])
     only = text([H1, "only a 5 - 0", "", H2])
     report = THE.Report("Start", None)
-    lists, scores, pairs = (list(THE.restOf(lambda v: THE.nameOf(only, v), alone, c)) for c in ("Start", ("Scores", 0), ("Pairs", 0)))
+    lists, scores, pairs = (list(THE.rest_of(lambda v: THE.name_of(only, v), alone, c)) for c in ("Start", ("Scores", 0), ("Pairs", 0)))
     of_calls = {
         "outcomes": outcomes,
         "readings": readings,
@@ -1815,11 +1815,11 @@ def of_spare(D):
     line = read([H1, "a c 1 - 0", *(f"{n} a - - 0" for n in "bcde"), "", H2, *(f"{f} {t} 0 0" for f, t in ("ab", "bc", "cd", "de"))])
     return [
         ("meaning: two that are needed together", lambda: D.among(handed=[[3], [1]])(lambda: D.Meaning(joined, joined.graph)), True),
-        ("way: four steps, the last item last", lambda: D.wayOf(5, line.graph, 4, 1) == tuple(Step(v, 0) for v in (1, 2, 3, 4)), True),
+        ("way: four steps, the last item last", lambda: D.way_of(5, line.graph, 4, 1) == tuple(Step(v, 0) for v in (1, 2, 3, 4)), True),
         ("marks from: right, then loose", lambda: D.marks_from([2, 3], [2], [], [2, 3]) == ("Right", "Loose"), True),
         ("lowest: none below 0, none below 2", lambda: (D.lowest(lambda i: False, 0), D.lowest(lambda i: False, 2)) == (0, 2), True),
         ("colour of: 8 where there is none", lambda: D.colour_of(empty_graph.rows[0], 3) == 8, True),
-        ("count of: 1 where nothing can be added", lambda: D.countOf(False, 0, empty_graph, 0, 5) == 1, True),
+        ("count of: 1 where nothing can be added", lambda: D.count_of(False, 0, empty_graph, 0, 5) == 1, True),
         ("sets up to: of two vertices", lambda: [D.sets_up_to(lambda v: True, 2, k) for k in (0, 2)] == [(0,), (0, 1, 2, 3)], True),
         ("numbers from: 3 and 4", lambda: D.numbers_from(3, 2) == (3, 4), True),
         ("no easier route: useful recovery", lambda: D.NoEasierRoute(useful), True),
@@ -1883,9 +1883,9 @@ def of_bytes(D):
         ("digits", lambda: among(D.is_digit, b"0123456789"), True),
         ("bytes of a name", lambda: among(D.is_name_byte, b"0123456789_abcdefghijklmnopqrstuvwxyz"), True),
         ("bytes of a text", lambda: among(D.is_text_byte, [10, *range(32, 127)]), True),
-        ("not number: nothing", lambda: D.isNumber([]), False),
+        ("not number: nothing", lambda: D.is_number([]), False),
         ("decimal: the last 20 digits", lambda: D.decimal(10**20 + 7) == tuple(b"00000000000000000007"), True),
-        ("number in: as many as there are, for a name that is not there", lambda: D.numberIn(DOC.items, list(b"zz")) == 2, True),
+        ("number in: as many as there are, for a name that is not there", lambda: D.number_in(DOC.items, list(b"zz")) == 2, True),
     ]
 
 
@@ -1924,7 +1924,7 @@ def of_meaning(D):
         ("not first no: 4, a yes", lambda: D.FirstNo([D.Asked(4, True), D.Asked(5, False)], 4), False),
         ("refusal law", lambda: D.among(texts=TEXTS, numbers=NUMBERS, lines=LINES)(D.RefusalLaw), True),
         ("refusal unique", lambda: D.among(texts=TEXTS[:6] + TEXTS[10:11], numbers=NUMBERS, lines=LINES)(D.RefusalUnique), True),
-        ("with row, with item: behind the others", lambda: (D.withRow(DOC, MANY[0]).edges[-1], D.with_item(DOC, item("z")).items[-1]) == (MANY[0], item("z")), True),
+        ("with row, with item: behind the others", lambda: (D.with_row(DOC, MANY[0]).edges[-1], D.with_item(DOC, item("z")).items[-1]) == (MANY[0], item("z")), True),
         ("questions: of an item row, and of an edge row", lambda: [[a.number for a in f(DOC, [])] for f in (D.item_questions, D.edge_questions)] == [[4, 5, 6, 7], [4, 5, 8, 9, 7]], True),
         ("question 11: the second header", lambda: [D.question11(p) for p in ("AtFirstHeader", "AmongItems", "AtSecondHeader", "AmongEdges")] == [False, False, False, True], True),
         ("not too long: 16,384 bytes", lambda: D.TooLong([10] * 16384, 1, 0), False),
@@ -1987,8 +1987,8 @@ def filled(p, *cursors):
 def of_whole(D):
     """The report of a sheet with one item, in parts; and that of a refused sheet. What is known at a place is left open here."""
     sheet, refused = text([H1, "only a 5 - 0", "", H2]), REFUSED["refused 5"][0]
-    name, row = lambda v: THE.nameOf(sheet, v), ("Refused", 5, 2)
-    lists, scores, pairs = (list(THE.restOf(name, alone, c)) for c in ("Start", ("Scores", 0), ("Pairs", 0)))
+    name, row = lambda v: THE.name_of(sheet, v), ("Refused", 5, 2)
+    lists, scores, pairs = (list(THE.rest_of(name, alone, c)) for c in ("Start", ("Scores", 0), ("Pairs", 0)))
     cut = [lists[: -len(scores)], scores[: -len(pairs)] if pairs else scores, pairs]
     cursors = ["Start", ("Scores", 0), ("Pairs", 0), row, "End"]
     at = lambda c: THE.Report(c, None)
@@ -2171,7 +2171,7 @@ def of_saves(D):
     results = [(n, size, exit) for n in (0, 15) for size in (0, len(saved), len(saved) + 1) for exit in (saved + [35, 35], lent)]
     return [
         ("unheld: nothing held, nothing opened", lambda: D.unheld(held) == s, True),
-        ("order of edges: target, colour, source", lambda: [D.orderOf(drawn.items, e) for e in drawn.edges] == [512, 513, 576], True),
+        ("order of edges: target, colour, source", lambda: [D.order_of(drawn.items, e) for e in drawn.edges] == [512, 513, 576], True),
         ("saved rows: in rising order", lambda: D.SavedRows(sheet, s, drawn), True),
         ("saved rows: of a setup with an item held", lambda: D.SavedRows(sheet, held, drawn), True),
         ("saved rows: under the names of a longer sheet", lambda: D.SavedRows(three, s, drawn), True),
@@ -2451,7 +2451,7 @@ def of_saved_drawings(D):
     saved = lambda *a: lambda: D.SavedDrawing(bench, *a)
     return [
         ("drawing saved", lambda: D.among(**g)(D.DrawingSaved), True),
-        ("let go: nothing held, edges and marks kept", lambda: [(d.Held(1), d.Edges(1, MAIL, 0), d.Marks(MAIL, ORDER, 1), d.Marks(1, MAIL, 0)) for d in (D.letGo(after),)] == [(False, True, True, False)], True),
+        ("let go: nothing held, edges and marks kept", lambda: [(d.Held(1), d.Edges(1, MAIL, 0), d.Marks(MAIL, ORDER, 1), d.Marks(1, MAIL, 0)) for d in (D.let_go(after),)] == [(False, True, True, False)], True),
         ("saved drawing: with an item held", saved(after, TAKEN, 0, len(sheet), written_), True),
         ("saved drawing: an edge less", saved(D.drawing_of(LESS), LESS, 0, len(less), less), True),
         ("saved drawing: 15", saved(after, TAKEN, 15, 0, [35]), True),

@@ -12,26 +12,23 @@ import belief
 USE = re.compile(r"use ([^{ ]+?)\.?(?:\{(.*)\})?(?: as (\S+))?$")
 # What report_writer/Whole cites of the report's steps, with the same types: nothing is known at a place, and of a step only what it wrote and what it left.
 AT = """-- What is known at a place of the report: nothing, here.
-use mathlib.Core.Path.{_≡_}
-use mathlib.Core.List.{List, _++_}
-use Prim.Native.Nat.{ℕ}
-use lib.ListN.{take, drop}
-use Rattle·setup.specs.declared.Setup.{Setup}
-use Rattle·sheet_format.specs.Read.{read_sheet}
-use Rattle·sheet_format.specs.Names.{nameOf}
-use Rattle·report_facts.specs.declared.Facts.{Facts}
-use Rattle·report_writer.specs.declared.steps.Cursor.{Cursor}
-use Rattle·report_writer.specs.declared.steps.Step.{Step}
-use Rattle·report_writer.specs.Rest.{restOf}
+use Rattle.std.specs.Prelude.{◌≡◌, List, ◌++◌, ℕ, take, drop}
+use Rattle.setup.specs.declared.Setup.{Setup}
+use Rattle.sheet_format.specs.Read.{read_sheet}
+use Rattle.sheet_format.specs.Names.{name_of}
+use Rattle.report_facts.specs.declared.Facts.{Facts}
+use Rattle.report_writer.specs.declared.steps.Cursor.{Cursor}
+use Rattle.report_writer.specs.declared.steps.Step.{Step}
+use Rattle.report_writer.specs.Rest.{rest_of}
 
 abbrev pub KnownAt : List ℕ → Setup → Facts → List ℕ → List ℕ → List ℕ → Cursor → Type 0
 KnownAt sheet s f opening lockout list c = Unit {0}
 
-abbrev pub leftAt : List ℕ → Cursor → List ℕ
-leftAt sheet c = restOf (nameOf sheet) (read_sheet sheet .setup) c
+abbrev pub left_at : List ℕ → Cursor → List ℕ
+left_at sheet c = rest_of (name_of sheet) (read_sheet sheet).setup c
 
 abbrev pub StepTaken : List ℕ → Facts → List ℕ → List ℕ → List ℕ → Cursor → List ℕ → ℕ → List ℕ → List ℕ → Step → Type 0
-StepTaken sheet f opening lockout list c entry at list′ exit r = leftAt sheet c ≡ drop at (take (r .at) exit) ++ leftAt sheet (r .cursor)
+StepTaken sheet f opening lockout list c entry at list' exit r = left_at sheet c ≡ drop at (take r.at exit) ++ left_at sheet r.cursor
 """
 BEFORE = {"report_writer/Whole": ("report_writer/Inner/Steps", AT)}
 
@@ -82,15 +79,15 @@ def meanings(uses, found, prefix=""):
     here, prefixes = {name: prefix + name for name in found} | {case: f"·{case}" for case in cases(found)}, {}
     for use in uses:
         path, brought, alias = USE.match(use).groups()
-        if "·" not in path:
+        module = re.match(r"Rattle\.(\w+)\.specs\.(.*)", path)
+        if not module or module[1] == "std":
             continue
-        module = re.match(r"Rattle·(\w+?)(?:·specs|·proofs)?\.specs\.(.*)", path)
-        variants, declared = "the-variants" in path, ".declared." in path
+        variants, declared = "TheVariants" in path, ".declared." in path
         if alias:
             prefixes[alias] = "·" if variants else ""
         for word in re.split(r",\s*", brought) if brought else []:
             name, _, local = word.partition(" as ")
-            if module and module[1] == "worked_examples":
+            if module[1] == "worked_examples":
                 here[local or name] = prefix + name
             elif variants or (not declared and name in cases(parsed(f"{module[1]}/{module[2].replace('.', '/')}")[1])):
                 here[local or name] = f"·{name}"

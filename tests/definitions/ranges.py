@@ -41,10 +41,10 @@ RANGES = {
     "Stated": {"x": "d.items", "edges/e": "d.edges", "recovery/e": "d.edges"},
     "ValidOfAccepted": {"s": "given.texts", "st": "(read_sheet(s).setup,)"},
     "FirstNo": {"before after": "[(asked[:i], asked[i + 1:]) for i in range(len(asked))]"},
-    "NoAtLine": {"above line below": "[((), (120,), ()), *((l[:i], l[i], l[i + 1:]) for l in [linesOf(text)] for i in range(len(l)))]", "place": "places(linesOf(text))"},
-    "NoAtEnd": {"place": "places(linesOf(text))"},
+    "NoAtLine": {"above line below": "[((), (120,), ()), *((l[:i], l[i], l[i + 1:]) for l in [lines_of(text)] for i in range(len(l)))]", "place": "places(lines_of(text))"},
+    "NoAtEnd": {"place": "places(lines_of(text))"},
     "RefusalLaw": {"s": "given.texts", "q": "given.numbers", "k": "given.lines"},
-    "RefusalUnique": {"s": "given.texts", **{q: "given.numbers" for q in ("q", "q′")}, **{k: "given.lines" for k in ("k", "k′")}},
+    "RefusalUnique": {"s": "given.texts", **{q: "given.numbers" for q in ("q", "q'")}, **{k: "given.lines" for k in ("k", "k'")}},
     "Accepted": {"setup": "(read_sheet(s).setup,)"},
     "Refused": {"number": "given.numbers", "line": "given.lines"},
     "AcceptedOrRefused": {"s": "given.texts"},
@@ -55,7 +55,7 @@ RANGES = {
     "FindsBackdoor": {n: "scores(s, False)" for n in ("score", "without")},
     "FindsIneffective": {n: "scores(s, True)" for n in ("score", "without")},
     "FindsInconsistent": {n: "scores(s, False)" for n in ("score", "other")},
-    "NoEasierRoute": {"g": "graphs(s)", "held": "[_Part(Member, 2, (x,)) for x in world.sets]", **{r: "sorted({*scores(s, False), *scores(s, True)})" for r in ("r", "r′")}},
+    "NoEasierRoute": {"g": "graphs(s)", "held": "[_Part(Member, 2, (x,)) for x in world.sets]", **{r: "sorted({*scores(s, False), *scores(s, True)})" for r in ("r", "r'")}},
     **{call: YES_NO for call in ("backdoor_call", "ineffective_call", "inconsistent_call")},
     "Meaning": {"target": "range(s.count)", "handed": "given.handed"},
     "ReportMeaning": {"items/x": "(*world.sets, 2 ** 63 + 1, 2 ** 64 + 1)"},
@@ -71,7 +71,7 @@ RANGES = {
     "KindsAtMost": {"u": "KINDS"},
     "KindsSound": ASKED("s kinds a b p q"),
     "attacker_call": {"telling.A": "range(128)"},
-    "OthersUnread": {"s target": "given.targets", "kinds": "given.kinds", "kinds′": "given.kinds"},
+    "OthersUnread": {"s target": "given.targets", "kinds": "given.kinds", "kinds'": "given.kinds"},
     "HeldAtStop": {"steps": "ways(g, target, set_)"},
     "quick_call": {"telling.A": "[Quick(opens, r) for opens in (True, False) for r in world.sets]"},
     "QuickAgrees": {"a": "quick_call(s, target, set_).Answer()", "b": "closure_call(s, set_).Answer()"},
@@ -90,7 +90,7 @@ RANGES = {
     **{n: OF_LISTS("m n") for n in "PairingCounts PairingSorts Antisymmetric OneAtMostAnswer OneArrangement WrittenApart".split()},
     **{n: OF_LISTS("m") for n in "Reflexive Arranges FourteenPlaces".split()},
     "Transitive": OF_LISTS("k m n"),
-    "OrderFree": OF_LISTS("m m′ n n′"),
+    "OrderFree": OF_LISTS("m m' n n'"),
     **{n: ASKED("s target l") for n in "Covered EachListed BagsApart PlacesEach LongestScore".split()},
     "AreBags": {"s target": "given.targets"},
     "NoLonger": ASKED("s target l base"),
@@ -140,7 +140,7 @@ RANGES = {
     "KeepsYes": {"j": "world.vertices", "a": "quick_call(read_sheet(s).setup, i, set_).Answer()", "b": "quick_call(read_sheet(t).setup, j, x).Answer()"},
     "KeepsItems": {"j": "world.vertices"},
     "Pooling": {"a b t": "given.labs"},
-    "PoolDetermined": {"a b entry": "given.lent", "r exit": "given.ends", "r′ exit′": "given.ends"},
+    "PoolDetermined": {"a b entry": "given.lent", "r exit": "given.ends", "r' exit'": "given.ends"},
     "SavedRows": {"x": "d.items"},
     "save_call": {"Answer": "given.docs"},
     "SavedText": {"sheet s entry": "given.lent", "number size exit": "given.saved"},
@@ -152,7 +152,7 @@ RANGES = {
     "RegisterHolds": {"t": "world.times", "times": "itertools.product(world.times, repeat=len(records))"},
     "RegisterLaw": {"s slice": "given.slices", "log": "given.logs"},
     # ---- hand-ins by name
-    "write_set_call": {"Answer": "[(), (45, 45), *(set_names(_Part(nameOf, 2, (sheet,)), y) for y in world.sets)]"},
+    "write_set_call": {"Answer": "[(), (45, 45), *(set_names(_Part(name_of, 2, (sheet,)), y) for y in world.sets)]"},
     **{n: {"d slice log": "given.afternoons"} for n in ("LinesLaw", "RegisterMarks")},
     "EntryOfLine": {"l": "given.written"},
     "SetOfNames": {"ns": "given.names_of", "n": "((), *ns, *(x.name for x in items))"},
@@ -178,7 +178,7 @@ RANGES = {
     # ---- the report part by part
     "Begun": {"list": "((0,) * 2 ** most_chosen,)"},
     "Filled": {"entry exit step": "given.fills"},
-    "Fills": {"list′": "(list_, (0,))", "d": "given.cursors"},
+    "Fills": {"list'": "(list_, (0,))", "d": "given.cursors"},
     "WholeReport": {"sheet r opening₀ lockout₀ opening lockout list": "given.begun", "parts": "given.parts"},
     # ---- the calls for C
     "SaysSetup": {"v": "range(66)"},
@@ -196,7 +196,7 @@ RANGES = {
     "SettledLiving": {"Settled.O": "given.redrawings"},
     "SettledHandIn": {"Settled.O": "given.registers"},
     "SettledWithdrawal": {"Settled.O": "given.registers"},
-    "SettledPool": {"r′ exit′": "given.ends"},
+    "SettledPool": {"r' exit'": "given.ends"},
     "SettledForC": {
         "calls/q s n fields lent": "given.called",
         "living/c words n fields lent": "given.changed",
@@ -204,13 +204,13 @@ RANGES = {
         "write_set/sheet x out n fields lent": "given.written_sets",
         "read_line/sheet line entry": "given.lines_for_c",
         "read_line/r exit": "given.told_for_c",
-        "read_line/r′ exit′": "given.told_for_c",
+        "read_line/r' exit'": "given.told_for_c",
         "check/words": "given.words",
         "check/r": "range(16)",
         "Settled.O": "range(16)",
         "reading/text entry": "given.entries",
         "reading/n l exit": "given.read",
-        "reading/n′ l′ exit′": "given.read",
+        "reading/n' l' exit'": "given.read",
     },
     "Demand1": {
         "hand_in/t used student target loss handed a entry exit": "given.handed_in",
@@ -221,11 +221,11 @@ RANGES = {
         "read_line/sheet line a entry exit": "given.line_readings",
         "enter_line/sheet line used a entry exit": "given.entered",
     },
-    "Papers": {"quick/s target set": "given.quick", "routes/s g": "given.routes", "scores/s v r r′": "given.compared"},
+    "Papers": {"quick/s target set": "given.quick", "routes/s g": "given.routes", "scores/s v r r'": "given.compared"},
 }
 # Which record is meant, where two have the same fields: by the definition that makes it.
 RECORDS = {"with_sets": "LineOutcome", "told_in_numbers": "LineTold", "TellLineCall": "LineTold"}
 # Functions whose answers are kept, though they run over no range: what they compute is asked for again and again.
-KEPT = set("same_text read_sheet render setup_of baseOf target_sets_of score_of closure_of wordsOf setup_in report_of sumOf edgeCount chosen_count nameOf name_start restOf".split())
+KEPT = set("same_text read_sheet render setup_of base_of target_sets_of score_of closure_of words_of setup_in report_of sum_of edge_count chosen_count name_of name_start rest_of".split())
 # Quantifiers that no example reaches, and why.
 NEVER = {}

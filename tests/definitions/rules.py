@@ -21,7 +21,7 @@ COMPARED = {"IsEdge": {(0, 3), (1, 4), (2, 5)}, "OnlyHolding": {(0, 1)}, "Begun"
 # No field of a law is dropped: what is left would be proved as well, so that no example can tell. `Duality` without `forecast` is such a one: `transversals`
 # fixes the list, whose sets lie within what is counted and none within another, so that the forecast bounds them.
 LAWS = set("Duality QuickAgrees NoEasierRoute Meaning ReportMeaning UnmixedPrints PoolingLaw RenamesLowest RegisterAfter Demand1 Demand2 Demand3Reached".split())
-SYMMETRIC = set("eqb min max bitAnd bitOr Iff Full question3 is_meeting Agree Meets SameMultiset SameName SameEdge SameAttempt same_text same_edge same_three".split())
+SYMMETRIC = set("eqb min max bit_and bit_or Iff Full question3 is_meeting Agree Meets SameMultiset SameName SameEdge SameAttempt same_text same_edge same_three".split())
 
 
 def show(e, tight=False):

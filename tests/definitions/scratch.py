@@ -1,14 +1,17 @@
 """The definitions alone, in one scratch crate: copies of the specs, the types of the sources, and examples that are computed by `refl`.
 
 No law stands between a definition and an example here, so an altered definition is refused by the prover exactly where an example no longer
-computes. The crate is written under target/definitions, which git ignores.
+computes. The crate is written to a folder of its own outside the tree, where `rt ci` would find it.
 """
+import hashlib
 import pathlib
 import re
+import subprocess
+import tempfile
 
 ROOT = pathlib.Path(__file__).resolve().parents[2]
-FOLDER = ROOT / "target" / "definitions"
-NO_EXAMPLES = "-- No examples.\nuse mathlib.Core.Path.{_≡_, refl}\n\n"
+FOLDER = pathlib.Path(tempfile.gettempdir()) / f"gemzuleg-definitions-{hashlib.sha256(str(ROOT).encode()).hexdigest()[:8]}"
+NO_EXAMPLES = "-- No examples.\nuse Rattle.std.specs.Prelude.{◌≡◌, refl}\n\n"
 
 # The files with executable definitions, and what they stand on, in order.
 FILES = """
@@ -47,9 +50,9 @@ def types_of(crate):
 
 def renamed(text):
     """A file's text with every project module named as one of the scratch crate."""
-    text = re.sub(r"Rattle·\w+?(?:·specs|·proofs)?\.specs\.declared\.(?:[a-z]\w*\.)?", "Rattle·defs·specs.specs.declared.", text)
-    text = re.sub(r"Rattle·(\w+?)(?:·specs|·proofs)?\.specs\.Inner\.(\w+)", r"Rattle·defs·specs.specs.\1_Inner_\2", text)
-    return re.sub(r"Rattle·(?!defs·)(\w+?)(?:·specs|·proofs)?\.specs\.(\w+)", r"Rattle·defs·specs.specs.\1_\2", text)
+    text = re.sub(r"Rattle\.(?!std\.)\w+\.specs\.declared\.(?:[a-z]\w*\.)?", "Rattle.defs.specs.declared.", text)
+    text = re.sub(r"Rattle\.(?!std\.)(\w+)\.specs\.Inner\.(\w+)", r"Rattle.defs.specs.\1_Inner_\2", text)
+    return re.sub(r"Rattle\.(?!std\.|defs\.)(\w+)\.specs\.(\w+)", r"Rattle.defs.specs.\1_\2", text)
 
 
 def names_of(kind, text):
@@ -60,11 +63,11 @@ def names_of(kind, text):
 def examples_file(text):
     """The file of examples: statements, to each of which the proof by computation is added."""
     unfolded = {f: names_of("unfoldable", (ROOT / "crates" / f.split("/")[0] / "specs" / (f.split("/")[1] + ".antt")).read_text()) for f in FILES}
-    uses = "".join(f"use Rattle·{f.split('/')[0]}.specs.{f.split('/')[1]}.{{{', '.join(n)}}}\n" for f, n in unfolded.items() if n)
+    uses = "".join(f"use Rattle.{f.split('/')[0]}.specs.{f.split('/')[1]}.{{{', '.join(n)}}}\n" for f, n in unfolded.items() if n)
     every = " ".join(n for ns in unfolded.values() for n in ns)
     head, *rest = re.split(r"^(?=pub )", text, flags=re.M)
     first = head.rindex("\n", 0, head.index("\n\n")) + 1
-    out = [head[:first] + uses + "use lib.Count.{ones}\n" + head[first:].rstrip() + "\n"]
+    out = [head[:first] + uses + "use Rattle.std.specs.Int.Count.{ones}\n" + head[first:].rstrip() + "\n"]
     for part in rest:
         name = part.split()[1]
         # a comment that stands behind the statement belongs to the next one
@@ -81,13 +84,14 @@ def examples_file(text):
 def write(folder, altered, examples, more=()):
     """Writes the crate; `altered` maps a file (crate/Name) to its text in place of the project's; `more` are files behind the others."""
     altered = altered or {}
-    crate_folder = FOLDER / folder / "defs"
+    crate_folder = FOLDER / folder / "crates" / "defs"
     specs = crate_folder / "specs"
     proofs = crate_folder / "proofs"
     for d in (specs, proofs, crate_folder / "src"):
         d.mkdir(parents=True, exist_ok=True)
     types = "\n\n".join(t for c in TYPES for t in types_of(c))
-    (crate_folder / "src" / "lib.rt").write_text(f"// The types that the definitions use.\n\n{types}\n")
+    (crate_folder / "src" / "lib.rt").write_text(f"// The types that the definitions use.\n#![tactic(auto)]\n\n{types}\n")
+    (FOLDER / folder / "crates.txt").write_text("defs:\n")
     names = {f: f.replace("/", "_") for f in [*FILES, *more]}
     for left in set(specs.glob("*.antt")) - {specs / f"{name}.antt" for name in names.values()}:
         left.unlink()
@@ -98,3 +102,9 @@ def write(folder, altered, examples, more=()):
     (proofs / "Examples.antt").write_text(renamed(examples_file(examples)))
     (proofs / "Lib.antt").write_text("pub mod Examples\n")
     return crate_folder
+
+
+def checked(folder, altered, examples, more=()):
+    """What the prover says of that crate, and its status."""
+    run = subprocess.run(["rt", "check"], cwd=write(folder, altered, examples, more), stdin=subprocess.DEVNULL, capture_output=True, text=True)
+    return run.stdout + run.stderr, run.returncode

@@ -12,10 +12,10 @@ import files  # noqa: F401, for the place of antt
 from antt import Refused
 
 OPS = {"<": "<", "≤": "<=", "+": "+", "*": "*", "^": "**", "/": "//", "%": "%", "++": "+", "≡": "==", "⊎": "or", "||": "or", "&&": "and"}
-BUILTIN = {"length": ("_len({})", 1), "ones": ("({}).bit_count()", 1), "getD": ("_getD({}, {}, {})", 3), "replicate": ("(({1},) * {0})", 2), "take": ("{1}[:{0}]", 2)}
+BUILTIN = {"length": ("_len({})", 1), "ones": ("({}).bit_count()", 1), "get_or": ("_getD({}, {}, {})", 3), "replicate": ("(({1},) * {0})", 2), "take": ("{1}[:{0}]", 2)}
 BUILTIN |= {"drop": ("{1}[{0}:]", 2), "map": ("_map({}, {})", 2), "eqb": ("({} == {})", 2), "ltb": ("({} < {})", 2), "leb": ("({} <= {})", 2), "max": ("_max({}, {})", 2)}
-BUILTIN |= {"min": ("_min({}, {})", 2), "suc": ("({} + 1)", 1), "cond": ("({1} if {0} else {2})", 3), "not": ("(not {})", 1), "bitAnd": ("({} & {})", 2)}
-BUILTIN |= {"_≤_": ("({} <= {})", 2), "bitOr": ("({} | {})", 2), "set": ("_set({}, {}, {})", 3), "code": ("{}", 1)}
+BUILTIN |= {"min": ("_min({}, {})", 2), "suc": ("({} + 1)", 1), "cond": ("({1} if {0} else {2})", 3), "not": ("(not {})", 1), "bit_and": ("({} & {})", 2)}
+BUILTIN |= {"◌≤◌": ("({} <= {})", 2), "bit_or": ("({} | {})", 2), "set": ("_set({}, {}, {})", 3), "code": ("{}", 1)}
 SIMPLE = {"[]": "()", "⊥": "False", "Unit": "True", "true": "True", "false": "False", "zero": "0"}
 # Fields and parameters of type Type 0: those that are a type, over which a variable may run, and those that are a statement.
 TYPE_FIELDS, STATEMENT_FIELDS = {"Step", "Answer", "Value", "Name"}, {"Yes"}
@@ -23,7 +23,7 @@ RESERVED = {"set", "list", "sum", "max", "min", "all", "any", "len", "map", "giv
 
 
 def py(name):
-    name = name.replace("′", "1").replace("₀", "0").replace("-", "_").replace("·", "_")
+    name = name.replace("'", "1").replace("₀", "0").replace("-", "_").replace("·", "_")
     return name + "_" if keyword.iskeyword(name) or name in RESERVED else name
 
 
@@ -416,7 +416,7 @@ class Translator:
         k, n = pattern[0], pattern[1]
         if k == "num":
             tests.append(f"{place} == {n}")
-        elif (k == "op" and n == "∷") or (k == "app" and n == ("var", "string._∷_")):
+        elif (k == "op" and n == "∷") or (k == "app" and n == ("var", "string.◌∷◌")):
             first, rest = pattern[2:4] if k == "op" else pattern[2]
             tests.append(f"{place}")
             self.match(first, f"{place}[0]", tests, scope)

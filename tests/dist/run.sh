@@ -12,10 +12,13 @@ bash scripts/dist.sh 2> "$at/log" || { cat "$at/log"; exit 1; }
 git clone -q . "$at/other folder"
 git -C "$at/other folder" checkout -q "$(git rev-parse HEAD)"
 mkdir -p "$at/other folder/build"
-cp -a target "$at/other folder/target"
 cp -a build/lib "$at/other folder/build/lib"
+for program in report pool; do
+    mkdir "$at/other folder/crates/$program/out"
+    cp -a "crates/$program/out/$program" "crates/$program/out/$program.o" "$at/other folder/crates/$program/out"
+done
 [[ ! -r build/verdict ]] || cp build/verdict "$at/other folder/build/verdict"
-find "$at/other folder/target/bin" "$at/other folder/build/lib" -exec touch -h {} +
+find "$at/other folder"/crates/*/out "$at/other folder/build/lib" -exec touch -h {} +
 if [[ -z $(git status --porcelain) ]]; then
     bash "$at/other folder/scripts/dist.sh" 2> "$at/log" || { cat "$at/log"; exit 1; }
     diff build/dist/SHA256SUMS "$at/other folder/build/dist/SHA256SUMS" || { echo "dist: two folders, and not the same bytes" >&2; exit 1; }

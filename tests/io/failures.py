@@ -19,8 +19,8 @@ import time
 from pathlib import Path
 
 ROOT = Path(__file__).resolve().parent.parent.parent
-REPORT = os.environ.get("REPORT", str(ROOT / "target/bin/report"))
-POOL = os.environ.get("POOL", str(ROOT / "target/bin/pool"))
+REPORT = os.environ.get("REPORT", str(ROOT / "crates/report/out/report"))
+POOL = os.environ.get("POOL", str(ROOT / "crates/pool/out/pool"))
 PAUSE = 0.2  # widens the window in which a mistaken program goes on; no case depends on it
 LIMIT = 20
 NO_INPUT = "report: cannot read standard input: "

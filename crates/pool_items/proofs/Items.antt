@@ -11,7 +11,7 @@ use native.Mathlib.Omega.{arith}
 use lib.ListN.{length, get_or, take, length-append}
 use lib.Seq.{take_all}
 use lib.Dec.{eqb}
-use borrow.Author.Tests.{lt-ltb, le-ltb, eqb-true, eqb-false, not-true, not-false}
+use borrow.Author.Tests.{lt-ltb, le-ltb, eqb-true, eqb-false}
 use Rattle.vertex_set.specs.Set.{Decides}
 use Rattle.vertex_set.proofs.Cases.{by_test, same_or}
 use Rattle.vertex_set.proofs.Decisions.{decide-yes, decide-no}
@@ -59,17 +59,17 @@ module _ (a b : Vertex) where
   pub kind-other : (m n : ℕ) → m ≡ kind_number a.kind → n ≡ kind_number b.kind → (m ≡ n → ⊥) → Decides (a ≡ b) false
   kind-other m n p q d = decide-no (λ h. d (p ∙ ap (λ (x : Vertex). kind_number x.kind) h ∙ sym q))
 
-  pub start-other : (t : Bool) → Decides (a.start ≡ b.start) t → not t ≡ true → Decides (a ≡ b) false
-  start-other t d e = decide-no (λ h. d.no (not-true t e) (ap (λ (x : Vertex). x.start) h))
+  pub start-other : (t : Bool) → Decides (a.start ≡ b.start) t → t ≡ false → Decides (a ≡ b) false
+  start-other t d e = decide-no (λ h. d.no e (ap (λ (x : Vertex). x.start) h))
 
-  pub loss-other : (t : Bool) → Decides (a.loss ≡ b.loss) t → not t ≡ true → Decides (a ≡ b) false
-  loss-other t d e = decide-no (λ h. d.no (not-true t e) (ap (λ (x : Vertex). x.loss) h))
+  pub loss-other : (t : Bool) → Decides (a.loss ≡ b.loss) t → t ≡ false → Decides (a ≡ b) false
+  loss-other t d e = decide-no (λ h. d.no e (ap (λ (x : Vertex). x.loss) h))
 
-  pub rank-told : (m n : ℕ) → m ≡ kind_number a.kind → n ≡ kind_number b.kind → m ≡ n → (t u : Bool) → Decides (a.start ≡ b.start) t → not t ≡ false
-      → Decides (a.loss ≡ b.loss) u → not u ≡ false → Decides (a ≡ b) (eqb a.rank b.rank)
+  pub rank-told : (m n : ℕ) → m ≡ kind_number a.kind → n ≡ kind_number b.kind → m ≡ n → (t u : Bool) → Decides (a.start ≡ b.start) t → t ≡ true
+      → Decides (a.loss ≡ b.loss) u → u ≡ true → Decides (a ≡ b) (eqb a.rank b.rank)
   rank-told m n p q e t u d f g k =
       record {
-        yes = λ h. same-fields a b (sym p ∙ e ∙ q) (d.yes (not-false t f)) (g.yes (not-false u k)) (eqb-true a.rank b.rank h);
+        yes = λ h. same-fields a b (sym p ∙ e ∙ q) (d.yes f) (g.yes k) (eqb-true a.rank b.rank h);
         no = λ h w. eqb-false a.rank b.rank h (ap (λ (x : Vertex). x.rank) w);
       }
 
@@ -83,9 +83,9 @@ module _ (first : List Vertex) (na : ℕ) (second : List Vertex) (places : List 
       → AllAgree first na second (j + 1) places
   agree-more j h e = record { each = λ i l. ⊎_elim (λ q. rw q e) (λ d. h.each i (omega (arith, d))) (same_or i j) }
 
-  pub agree-not : (nb j : ℕ) → j < nb → get_or places j 0 < na → (t : Bool) → Decides (get_or first (get_or places j 0) unused_vertex ≡ get_or second j unused_vertex) t → not t ≡ true
+  pub agree-not : (nb j : ℕ) → j < nb → get_or places j 0 < na → (t : Bool) → Decides (get_or first (get_or places j 0) unused_vertex ≡ get_or second j unused_vertex) t → t ≡ false
       → Decides (AllAgree first na second nb places) false
-  agree-not nb j l p t d e = decide-no (λ h. d.no (not-true t e) (h.each j l p))
+  agree-not nb j l p t d e = decide-no (λ h. d.no e (h.each j l p))
 
   pub agree-all : (nb j : ℕ) → j ≡ nb → AllAgree first na second j places → Decides (AllAgree first na second nb places) true
   agree-all nb j e h = decide-yes (rw e at h)

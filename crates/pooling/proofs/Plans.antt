@@ -198,18 +198,18 @@ module _ (first second : List ℕ) (a b : Setup) (own keys : Keys) (places : Lis
           second_graph = ap (λ (x : Setup). x.graph) (setup-of second b e accepts.1 w u);
         }
 
-    agrees : (r : Bool) → Decides (AllAgree a.vertices a.count b.vertices b.count places) r → not r ≡ false → Agree d.items e.items
-    agrees r h n = agree_of first second a b d e (sheets d e v w t u) places place (h.yes (not-false r n))
+    agrees : (r : Bool) → Decides (AllAgree a.vertices a.count b.vertices b.count places) r → r ≡ true → Agree d.items e.items
+    agrees r h n = agree_of first second a b d e (sheets d e v w t u) places place (h.yes n)
 
   -- 22
-  pub plan-disagrees : (r : Bool) (q : Plan) → Decides (AllAgree a.vertices a.count b.vertices b.count places) r → not r ≡ true → q.number ≡ 22 → PlanOf first second q
+  pub plan-disagrees : (r : Bool) (q : Plan) → Decides (AllAgree a.vertices a.count b.vertices b.count places) r → r ≡ false → q.number ≡ 22 → PlanOf first second q
   plan-disagrees r q h n z =
       record {
         each = λ d e v w t u.
-            disagrees z (λ y. h.no (not-true r n) (of_agree first second a b d e (sheets d e v w t u) places (place d e v w t u) y));
+            disagrees z (λ y. h.no n (of_agree first second a b d e (sheets d e v w t u) places (place d e v w t u) y));
       }
 
-  module _ (r : Bool) (h : Decides (AllAgree a.vertices a.count b.vertices b.count places) r) (n : not r ≡ false) (s : Bounds) (k : BoundsOf first second places s) where
+  module _ (r : Bool) (h : Decides (AllAgree a.vertices a.count b.vertices b.count places) r) (n : r ≡ true) (s : Bounds) (k : BoundsOf first second places s) where
     -- 23, by a bound
     pub plan-beyond : (q : Plan) → not s.ok ≡ true → q.number ≡ 23 → PlanOf first second q
     plan-beyond q m z =

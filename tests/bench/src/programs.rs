@@ -23,7 +23,7 @@ impl Programs {
         let own = std::env::current_exe().expect("a running program has a file");
         let inputs = root.join("build/bench");
         std::fs::create_dir_all(&inputs).expect("build/bench can be made");
-        let report = root.join("target/bin/report");
+        let report = root.join("crates/report/out/report");
         Programs { report, stand_in: own.with_file_name("stand_in"), inputs }
     }
 

@@ -53,7 +53,7 @@ fn run(
     seed: u64,
     compare: impl FnOnce(&mut Run) -> Result<(), Box<compare::Difference>>,
 ) -> ExitCode {
-    let report = Path::new(env!("CARGO_MANIFEST_DIR")).join("../../target/bin/report");
+    let report = Path::new(env!("CARGO_MANIFEST_DIR")).join("../../crates/report/out/report");
     let start = Instant::now();
     let mut run = Run::new(seed, Program::at(&report));
     let outcome = compare(&mut run);

@@ -22,11 +22,14 @@ loop-place-preserved c =
     let n = c.loop-place.place in (
       omega arith,
       c.loop-place.invariant.1,
-      elim c.if-reaches.branch [ then-reaches x ↦ subst (λ (s : VertexSet). Trying a.graph a.kinds.now a.initial.0 a.target (n + 1) s.0 c.if-reaches.unable.0) (sym x.able-is)
-          (subst (λ (s : VertexSet). Trying a.graph a.kinds.now a.initial.0 a.target (n + 1) x.insert-able.result.0 s.0) (sym x.unable-is)
-          (trying-able _ _ _ _ _ _ _ (omega arith) c.loop-place.invariant.2 _ (d.yes x.if-reaches.true) x.insert-able.ensures)) | else-reaches x ↦ subst (λ (s : VertexSet). Trying a.graph a.kinds.now a.initial.0 a.target (n + 1) s.0 c.if-reaches.unable.0) (sym x.able-is)
-          (subst (λ (s : VertexSet). Trying a.graph a.kinds.now a.initial.0 a.target (n + 1) c.loop-place.able.0 s.0) (sym x.unable-is)
-          (trying-unable _ _ _ _ _ _ _ (omega arith) c.loop-place.invariant.2 _ (d.no x.if-reaches.false) x.insert-unable.ensures)) ],
+      elim c.if-reaches.branch [
+        | then-reaches x ↦ subst (λ (s : VertexSet). Trying a.graph a.kinds.now a.initial.0 a.target (n + 1) s.0 c.if-reaches.unable.0) (sym x.able-is)
+            (subst (λ (s : VertexSet). Trying a.graph a.kinds.now a.initial.0 a.target (n + 1) x.insert-able.result.0 s.0) (sym x.unable-is)
+            (trying-able _ _ _ _ _ _ _ (omega arith) c.loop-place.invariant.2 _ (d.yes x.if-reaches.true) x.insert-able.ensures))
+        | else-reaches x ↦ subst (λ (s : VertexSet). Trying a.graph a.kinds.now a.initial.0 a.target (n + 1) s.0 c.if-reaches.unable.0) (sym x.able-is)
+            (subst (λ (s : VertexSet). Trying a.graph a.kinds.now a.initial.0 a.target (n + 1) c.loop-place.able.0 s.0) (sym x.unable-is)
+            (trying-unable _ _ _ _ _ _ _ (omega arith) c.loop-place.invariant.2 _ (d.no x.if-reaches.false) x.insert-unable.ensures))
+      ],
     )
 
 pub returns : goal.returns

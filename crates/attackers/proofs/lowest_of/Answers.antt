@@ -22,10 +22,13 @@ pub loop-t-preserved : goal.loop-t-preserved
 loop-t-preserved c =
     let a = c.args in (
       omega arith,
-      elim c.if-has.branch [ then-has x ↦ subst (λ (s : VertexSet). Lowering (Member a.able.0) (c.loop-t.t + 1) s.0) (sym x.found-is)
-          (lowering-more (Member a.able.0) c.loop-t.t c.loop-t.found.0 (omega arith) c.loop-t.invariant.1 x.insert-found.result.0
-          (c.has_weaker.ensures.no c.if-has_weaker.false) (c.has.ensures.yes x.if-has.true) x.insert-found.ensures) | else-has x ↦ subst (λ (s : VertexSet). Lowering (Member a.able.0) (c.loop-t.t + 1) s.0) (sym x.found-is)
-          (lowering-not (Member a.able.0) c.loop-t.t c.loop-t.found.0 (omega arith) c.loop-t.invariant.1 (c.has.ensures.no x.if-has.false)) ],
+      elim c.if-has.branch [
+        | then-has x ↦ subst (λ (s : VertexSet). Lowering (Member a.able.0) (c.loop-t.t + 1) s.0) (sym x.found-is)
+            (lowering-more (Member a.able.0) c.loop-t.t c.loop-t.found.0 (omega arith) c.loop-t.invariant.1 x.insert-found.result.0
+            (c.has_weaker.ensures.no c.if-has_weaker.false) (c.has.ensures.yes x.if-has.true) x.insert-found.ensures)
+        | else-has x ↦ subst (λ (s : VertexSet). Lowering (Member a.able.0) (c.loop-t.t + 1) s.0) (sym x.found-is)
+            (lowering-not (Member a.able.0) c.loop-t.t c.loop-t.found.0 (omega arith) c.loop-t.invariant.1 (c.has.ensures.no x.if-has.false))
+      ],
     )
 
 pub returns : goal.returns

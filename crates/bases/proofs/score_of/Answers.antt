@@ -19,10 +19,13 @@ minimal_members-requires c =
     record { f_len = c.family_of.ensures.0; least_below = least-words a.loss a.graph a.target c.chosen-chosen.result.0 _ _ c.family_of.ensures.1 c.words_for-words.ensures; out_len = search rules }
 
 pub least_sum-requires : goal.least_sum-requires
-least_sum-requires c = record { f_len = search rules; summable = record {
+least_sum-requires c = record {
+  f_len = search rules;
+  summable = record {
     few = few c.args.loss c.args.s c.chosen-chosen.result.0 c.requires.0 c.chosen-chosen.ensures;
     small = λ i m. let p = points-range c.args.loss c.args.s c.requires.0 i in let e = c.values_of-values.ensures.each i in omega arith;
-  } }
+  };
+}
 
 pub returns : goal.returns
 returns c =

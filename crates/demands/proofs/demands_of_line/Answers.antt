@@ -5,4 +5,3 @@ pub returns : goal.returns
 returns c =
     let e = c.read_line.ensures in
     record { one = settled-read-line _ _ _ _ _ e; two = e }
-

@@ -8,10 +8,12 @@ returns c =
     let p = c.take_in-taken.ensures in
     let q = c.take_out-freed.ensures in
     let r = c.add_edge-added.ensures in
-    let s = c.remove_edge-removed.ensures in record { one = (
+    let s = c.remove_edge-removed.ensures in record {
+      one = (
         settled-living (TakeIn g.item) _ _ p,
         settled-living (TakeOut g.item) _ _ q,
         settled-living (AddEdge g.from g.to g.colour g.rec) _ _ r,
         settled-living (RemoveEdge g.from g.to g.colour) _ _ s,
-      ); two = (p, q, r, s) }
-
+      );
+      two = (p, q, r, s);
+    }

@@ -6,4 +6,3 @@ returns c =
     let e = c.name_of.ensures in
     let n = named _ _ _ _ _ e.0 e.1.1 in
     record { one = settled-name _ _ _ _ _ n; two = n; within = e.1.0 }
-

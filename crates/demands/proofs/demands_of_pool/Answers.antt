@@ -5,4 +5,3 @@ pub returns : goal.returns
 returns c =
     let e = c.pool_sheets.ensures in
     record { one = settled-pool _ _ _ _ _ e; two = e }
-

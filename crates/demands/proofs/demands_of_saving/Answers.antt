@@ -6,4 +6,3 @@ pub returns : goal.returns
 returns c =
     let e = c.write_sheet.ensures in
     record { one = settled-for-c.calls (Save _ _) _ _ _ _ e; two = e }
-

@@ -5,4 +5,3 @@ pub returns : goal.returns
 returns c =
     let e = c.read_set.ensures in
     record { one = settled-read-set _ _ _ e; two = e }
-

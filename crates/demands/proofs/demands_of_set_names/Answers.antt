@@ -5,4 +5,3 @@ pub returns : goal.returns
 returns c =
     let e = c.write_set.ensures in
     record { one = settled-write-set _ _ _ _ _ _ e; two = e }
-

@@ -27,9 +27,13 @@ bounds-f-b c =
 
 pub put_sized-next-requires : goal.put_sized-next-requires
 put_sized-next-requires c =
-    let o = c.requires.occupied in record { b_lt_family_words = o.below c.loop-i.i c.loop-i-test.true; tables_fit = c.requires.tables_fit; x_in_bounds = size_room (sum_by c.args.low.now c.args.high.now) c.args.s c.args.f.now c.args.index.now
-            c.args.n o c.args.out.now c.args.at c.loop-i.out c.loop-i.next c.loop-i.i c.loop-i.invariant.1
-            c.loop-i-test.true c.requires.f_in_bounds }
+    let o = c.requires.occupied in record {
+      b_lt_family_words = o.below c.loop-i.i c.loop-i-test.true;
+      tables_fit = c.requires.tables_fit;
+      x_in_bounds = size_room (sum_by c.args.low.now c.args.high.now) c.args.s c.args.f.now c.args.index.now
+          c.args.n o c.args.out.now c.args.at c.loop-i.out c.loop-i.next c.loop-i.i c.loop-i.invariant.1
+          c.loop-i-test.true c.requires.f_in_bounds;
+    }
 
 pub loop-i-preserved : goal.loop-i-preserved
 loop-i-preserved c =

@@ -13,8 +13,11 @@ use Rattle.least_sums.proofs.least_by.Goals.{else-x-ne0, then-x-ne0}
 pub loop-b-preserved : goal.loop-b-preserved
 loop-b-preserved c =
     let sums = sum_by c.args.low.now c.args.high.now in
-    let after : c.if-x-ne0.least ≡ least_of c.loop-b.least (map sums (masks_in c.loop-b.b (get_or c.args.f.now c.loop-b.b 0))) = elim c.if-x-ne0.branch [ then-x-ne0 w ↦ w.least-is ∙ w.least_in_word-least.ensures | else-x-ne0 w ↦ w.least-is ∙ remaining-same sums c.args.f.now c.loop-b.least
-    c.loop-b.b w.if-x-ne0.false ] in
+    let after : c.if-x-ne0.least ≡ least_of c.loop-b.least (map sums (masks_in c.loop-b.b (get_or c.args.f.now c.loop-b.b 0))) = elim c.if-x-ne0.branch [
+      | then-x-ne0 w ↦ w.least-is ∙ w.least_in_word-least.ensures
+      | else-x-ne0 w ↦ w.least-is ∙ remaining-same sums c.args.f.now c.loop-b.least
+          c.loop-b.b w.if-x-ne0.false
+    ] in
     let l = c.requires.f_len in
     (omega arith, remaining-more sums c.args.f.now c.loop-b.least c.loop-b.b c.if-x-ne0.least (omega arith) after c.loop-b.invariant.1)
 

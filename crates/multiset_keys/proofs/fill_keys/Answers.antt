@@ -8,4 +8,3 @@ pub sum_tables-requires : goal.sum_tables-requires
 sum_tables-requires c =
     let few = c.requires.chosen_bound in
     record { summable = columns-sum-up _ _ _ _ few c.fill_columns.ensures; low_len = search rules; high_len = search rules }
-

@@ -16,9 +16,12 @@ loop-b-preserved c =
     let a = c.args in
     let s = c.used_colours-taken.result.0 in (
       search rules,
-      elim c.if-second-b-ne0.branch [ then-second-b-ne0 w ↦ subst (λ (x : VertexSet). NewSoFar s a.second (c.loop-b.b + 1) x.0) (sym w.3)
-          (taken_more s a.second c.loop-b.b c.loop-b.taken.0 c.loop-b.invariant.1 w.1.result w.2.result.0 w.if-second-b-ne0.true w.1.ensures w.2.ensures) | else-second-b-ne0 w ↦ subst (λ (x : VertexSet). NewSoFar s a.second (c.loop-b.b + 1) x.0) (sym w.1)
-          (taken-same s a.second c.loop-b.b c.loop-b.taken.0 c.loop-b.invariant.1 w.if-second-b-ne0.false) ],
+      elim c.if-second-b-ne0.branch [
+        | then-second-b-ne0 w ↦ subst (λ (x : VertexSet). NewSoFar s a.second (c.loop-b.b + 1) x.0) (sym w.taken-is)
+            (taken_more s a.second c.loop-b.b c.loop-b.taken.0 c.loop-b.invariant.1 w.lowest_free-new.result w.insert-taken.result.0 w.if-second-b-ne0.true w.lowest_free-new.ensures w.insert-taken.ensures)
+        | else-second-b-ne0 w ↦ subst (λ (x : VertexSet). NewSoFar s a.second (c.loop-b.b + 1) x.0) (sym w.taken-is)
+            (taken-same s a.second c.loop-b.b c.loop-b.taken.0 c.loop-b.invariant.1 w.if-second-b-ne0.false)
+      ],
     )
 
 pub returns : goal.returns

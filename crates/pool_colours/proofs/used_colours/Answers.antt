@@ -15,9 +15,12 @@ pub loop-c-preserved : goal.loop-c-preserved
 loop-c-preserved c =
     let a = c.args in (
       search rules,
-      elim c.if-rows-c-ne0.branch [ then-rows-c-ne0 w ↦ subst (λ (x : VertexSet). UsedBelow a.rows (c.loop-c.c + 1) x.0) (sym w.2)
-          (used-more a.rows c.loop-c.c c.loop-c.r.0 w.1.result.0 (omega arith) c.loop-c.invariant.1 w.if-rows-c-ne0.true w.1.ensures) | else-rows-c-ne0 w ↦ subst (λ (x : VertexSet). UsedBelow a.rows (c.loop-c.c + 1) x.0) (sym w.1)
-          (used-same a.rows c.loop-c.c c.loop-c.r.0 c.loop-c.invariant.1 w.if-rows-c-ne0.false) ],
+      elim c.if-rows-c-ne0.branch [
+        | then-rows-c-ne0 w ↦ subst (λ (x : VertexSet). UsedBelow a.rows (c.loop-c.c + 1) x.0) (sym w.r-is)
+            (used-more a.rows c.loop-c.c c.loop-c.r.0 w.insert-r.result.0 (omega arith) c.loop-c.invariant.1 w.if-rows-c-ne0.true w.insert-r.ensures)
+        | else-rows-c-ne0 w ↦ subst (λ (x : VertexSet). UsedBelow a.rows (c.loop-c.c + 1) x.0) (sym w.r-is)
+            (used-same a.rows c.loop-c.c c.loop-c.r.0 c.loop-c.invariant.1 w.if-rows-c-ne0.false)
+      ],
     )
 
 pub returns : goal.returns

@@ -2,10 +2,9 @@ use borrow.Author.Rules.{rules}
 use mathlib.Core.Logic.{⊎_elim}
 use Prim.Native.Nat.{◌-◌}
 use native.Mathlib.Omega.{arith}
-use borrow.Author.Tests.{not-false}
 use Rattle.pool_items.proofs.Items.{agree-none, agree-more, agree-not, agree-all}
 use Rattle.pool_items.proofs.all_agree.Goals as goal
-use Rattle.pool_items.proofs.all_agree.Goals.{else-place-known, then-place-known}
+use Rattle.pool_items.proofs.all_agree.Goals.{else-place-known, then-place-known+else-not-same_vertex}
 
 pub loop-j-init : goal.loop-j-init
 loop-j-init c = (search rules, agree-none _ _ _ _)
@@ -20,7 +19,7 @@ loop-j-preserved c =
     let a = c.args in (
       search rules,
       agree-more a.first a.known a.second a.places c.loop-j.j c.loop-j.invariant.1 (λ p.
-          elim c.if-place-known.branch [ then-place-known w ↦ w.3.ensures.yes (not-false w.3.result w.4.left) | else-place-known w ↦ absurd (let q = w.if-place-known.false in omega arith) ]),
+          elim c.if-place-known.branch [ then-place-known+else-not-same_vertex w ↦ w.same_vertex.ensures.yes w.if-not-same_vertex.false | else-place-known w ↦ absurd (let q = w.if-place-known.false in omega arith) ]),
     )
 
 pub returns : goal.returns

@@ -49,12 +49,11 @@ bounds-records-at c =
     stored _ _ _ _ _ _ h c.step-d.ensures
 
 pub loop-i-preserved : goal.loop-i-preserved
-loop-i-preserved c =
-    (
-      omega arith,
-      turned c.args.t c.begin-p.result.turns c.loop-i.i c.loop-i.p c.loop-i.records c.step-d.result c.loop-i-test.true c.step-d.ensures ∙ c.loop-i.invariant.1,
-      length-set c.loop-i.records c.step-d.result.at c.step-d.result.row ∙ c.loop-i.invariant.2,
-    )
+loop-i-preserved c = (
+  omega arith,
+  turned c.args.t c.begin-p.result.turns c.loop-i.i c.loop-i.p c.loop-i.records c.step-d.result c.loop-i-test.true c.step-d.ensures ∙ c.loop-i.invariant.1,
+  length-set c.loop-i.records c.step-d.result.at c.step-d.result.row ∙ c.loop-i.invariant.2,
+)
 
 -- What is left when no turn is.
 ended : (t : Task) (n i : ℕ) (p : Pass) (l : List Record) (o : End) → i ≤ n → n ≤ i → end_of t (n - i) i p l ≡ o → record { pass = p; list = l } ≡ o
@@ -67,5 +66,5 @@ returns c =
     let b = c.begin-p.ensures in
     let turns : c.begin-p.result.turns ≡ turns_of (length n) a.used a.t = ap (λ (x : Pass). x.turns) b ∙ begin-turns (length n) a.used a.t in
     let all = ended a.t _ c.loop-i.i c.loop-i.p c.loop-i.records _ c.loop-i.invariant.0 c.loop-i-test.false c.loop-i.invariant.1
-        ∙ ap (λ (k : ℕ). end_of a.t k 0 c.begin-p.result n) turns ∙ ap (λ (p : Pass). end_of a.t (turns_of (length n) a.used a.t) 0 p n) b in
+    ∙ ap (λ (k : ℕ). end_of a.t k 0 c.begin-p.result n) turns ∙ ap (λ (p : Pass). end_of a.t (turns_of (length n) a.used a.t) 0 p n) b in
     told a.t n a.used c.finish.result c.loop-i.records (c.finish.ensures ∙ ap (λ (x : End). finish_of a.t x.pass) all) (ap (λ (x : End). x.list) all)

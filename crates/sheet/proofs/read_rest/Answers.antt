@@ -4,7 +4,6 @@ use native.Mathlib.Omega.{arith}
 use lib.ListN.{length, drop, length-drop}
 use Rattle.sheet_fields.proofs.Cutting.{until-le}
 use Rattle.sheet.proofs.Whole.{rest_over, rest-header, rest-no, rest-yes}
-use borrow.Author.Tests.{not-true, not-false}
 use Rattle.sheet.proofs.read_rest.Goals as goal
 
 pub returns-then-s-at : goal.returns-then-s-at
@@ -25,7 +24,7 @@ pub returns-then-not-is_second_header : goal.returns-then-not-is_second_header
 returns-then-not-is_second_header c =
     let a = c.args in
     rest-header a.s.now a.items c.if-s-at.false c.find-end.result c.find-end.ensures c.refuse-then-not-is_second_header.result
-    (sym c.is_second_header.ensures ∙ not-true c.is_second_header.result c.if-not-is_second_header.true) c.refuse-then-not-is_second_header.ensures
+    (sym c.is_second_header.ensures ∙ c.if-not-is_second_header.true) c.refuse-then-not-is_second_header.ensures
 
 pub overflow_add-end : goal.overflow_add-end
 overflow_add-end c =
@@ -46,11 +45,11 @@ read_edges-edges-requires c =
 pub returns-then-number-ne0 : goal.returns-then-number-ne0
 returns-then-number-ne0 c =
     let a = c.args in
-    rest-no a.s.now a.items c.if-s-at.false c.find-end.result c.find-end.ensures (sym c.is_second_header.ensures ∙ not-false c.is_second_header.result c.if-not-is_second_header.false)
+    rest-no a.s.now a.items c.if-s-at.false c.find-end.result c.find-end.ensures (sym c.is_second_header.ensures ∙ c.if-not-is_second_header.false)
     c.read_edges-edges.result c.read_edges-edges.ensures c.refuse-then-number-ne0.result c.if-number-ne0.true c.refuse-then-number-ne0.ensures
 
 pub returns : goal.returns
 returns c =
     let a = c.args in
-    rest-yes a.s.now a.items c.if-s-at.false c.find-end.result c.find-end.ensures (sym c.is_second_header.ensures ∙ not-false c.is_second_header.result c.if-not-is_second_header.false)
+    rest-yes a.s.now a.items c.if-s-at.false c.find-end.result c.find-end.ensures (sym c.is_second_header.ensures ∙ c.if-not-is_second_header.false)
     c.read_edges-edges.result c.read_edges-edges.ensures c.if-number-ne0.false

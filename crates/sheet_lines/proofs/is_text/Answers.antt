@@ -1,4 +1,3 @@
-use borrow.Author.Tests.{not-true, not-false}
 use mathlib.Core.Path.{refl, sym, ◌∙◌}
 use Prim.Native.Nat.{◌-◌}
 use native.Mathlib.Omega.{arith}
@@ -16,12 +15,12 @@ loop-i-init c = (omega arith, refl)
 pub returns-then-not-is_text_byte : goal.returns-then-not-is_text_byte
 returns-then-not-is_text_byte c =
     let s = c.args.s.now in
-    text-byte s (c.loop-i.invariant.1 ∙ all-not is_text_byte s c.loop-i.i c.loop-i-test.true (sym c.is_text_byte.ensures ∙ not-true c.is_text_byte.result c.if-not-is_text_byte.true))
+    text-byte s (c.loop-i.invariant.1 ∙ all-not is_text_byte s c.loop-i.i c.loop-i-test.true (sym c.is_text_byte.ensures ∙ c.if-not-is_text_byte.true))
 
 pub loop-i-preserved : goal.loop-i-preserved
 loop-i-preserved c =
     let s = c.args.s.now in
-    (omega arith, c.loop-i.invariant.1 ∙ all-next is_text_byte s c.loop-i.i c.loop-i-test.true (sym c.is_text_byte.ensures ∙ not-false c.is_text_byte.result c.if-not-is_text_byte.false))
+    (omega arith, c.loop-i.invariant.1 ∙ all-next is_text_byte s c.loop-i.i c.loop-i-test.true (sym c.is_text_byte.ensures ∙ c.if-not-is_text_byte.false))
 
 pub returns : goal.returns
 returns c =

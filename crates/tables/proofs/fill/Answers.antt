@@ -33,4 +33,3 @@ returns c =
     let a = c.args in
     let t = c.loop-b.invariant.table in
     record { w_len = t.words; table = below_all (rule_of a.loss a.graph) a.chosen.0 _ _ c.loop-b-test.false t }
-

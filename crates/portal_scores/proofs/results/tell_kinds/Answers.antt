@@ -4,7 +4,7 @@ use Rattle.questions.proofs.Told.{tells_as}
 use Rattle.portal_scores.proofs.results.tell_kinds.Goals as goal
 
 pub returns-in-Attackers : goal.returns-in-Attackers
-returns-in-Attackers c = tells_as attacker_reply _ _ c.answer-1.given.1 _ 0 refl
+returns-in-Attackers c = tells_as attacker_reply _ _ c.in-Attackers.is _ 0 refl
 
 pub returns-in-Refused : goal.returns-in-Refused
-returns-in-Refused c = tells_as attacker_reply _ _ c.answer-in-Refused-1.given.1 _ 1 refl
+returns-in-Refused c = tells_as attacker_reply _ _ c.in-Refused.is _ 1 refl

@@ -9,4 +9,4 @@ returns-in-Risk c =
     rw c.number-risk.ensures (tells_as risk_reply _ _ g.1 _ 0 refl)
 
 pub returns-in-Refused : goal.returns-in-Refused
-returns-in-Refused c = tells_as risk_reply _ _ c.answer-in-Refused-1.given.1 _ 1 refl
+returns-in-Refused c = tells_as risk_reply _ _ c.in-Refused.is _ 1 refl

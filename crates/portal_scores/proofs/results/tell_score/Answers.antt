@@ -9,4 +9,4 @@ returns-in-Score c =
     rw c.number-score.ensures (tells_as score_reply _ _ g.1 _ 0 refl)
 
 pub returns-in-Refused : goal.returns-in-Refused
-returns-in-Refused c = tells_as score_reply _ _ c.answer-in-Refused-1.given.1 _ 1 refl
+returns-in-Refused c = tells_as score_reply _ _ c.in-Refused.is _ 1 refl

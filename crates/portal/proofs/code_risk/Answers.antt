@@ -20,4 +20,4 @@ returns-in-Risk c =
     rw c.number.ensures (subst (λ (a : RiskAnswer). Coded (risk_reply a) g.0.0.0) (sym g.1) (coded-value g.0.0.0))
 
 pub returns-in-Refused : goal.returns-in-Refused
-returns-in-Refused c = subst (λ (a : RiskAnswer). Coded (risk_reply a) (never + c.in-Refused.q)) (sym c.in-Refused.is) (coded-refusal c.in-Refused.field-0)
+returns-in-Refused c = subst (λ (a : RiskAnswer). Coded (risk_reply a) (never + c.in-Refused.q)) (sym c.in-Refused.is) (coded-refusal c.in-Refused.q)

@@ -37,9 +37,12 @@ loop-j-preserved c =
     let a = c.args in
     let h = c.loop-j-test.true in (
       search rules,
-      elim c.if-known-places.branch [ then-known-places w ↦ subst (λ (x : Remaining). CountsSoFar a.vertices a.count a.places a.known a.from x (c.loop-j.j + 1)) (sym w.r-is)
-          (counts-more a.vertices a.count a.places a.known a.from c.loop-j.r c.loop-j.j h c.requires c.loop-j.invariant.1 w.with_item-r.result w.if-known-places.true w.with_item-r.ensures) | else-known-places w ↦ subst (λ (x : Remaining). CountsSoFar a.vertices a.count a.places a.known a.from x (c.loop-j.j + 1)) (sym w.r-is)
-          (counts_same a.vertices a.count a.places a.known a.from c.loop-j.r c.loop-j.j h c.requires c.loop-j.invariant.1 w.if-known-places.false) ],
+      elim c.if-known-places.branch [
+        | then-known-places w ↦ subst (λ (x : Remaining). CountsSoFar a.vertices a.count a.places a.known a.from x (c.loop-j.j + 1)) (sym w.r-is)
+            (counts-more a.vertices a.count a.places a.known a.from c.loop-j.r c.loop-j.j h c.requires c.loop-j.invariant.1 w.with_item-r.result w.if-known-places.true w.with_item-r.ensures)
+        | else-known-places w ↦ subst (λ (x : Remaining). CountsSoFar a.vertices a.count a.places a.known a.from x (c.loop-j.j + 1)) (sym w.r-is)
+            (counts_same a.vertices a.count a.places a.known a.from c.loop-j.r c.loop-j.j h c.requires c.loop-j.invariant.1 w.if-known-places.false)
+      ],
     )
 
 pub returns : goal.returns

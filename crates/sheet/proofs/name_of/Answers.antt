@@ -47,4 +47,3 @@ returns c =
     row-there a.sheet.now a.item c.read_sheet-reading.result c.read_sheet-reading.ensures c.if-number-ne0.false c.if-count-item.false in
     let a = c.args in
     let h = item-there a.sheet.now a.item c.read_sheet-reading.result c.read_sheet-reading.ensures c.if-number-ne0.false c.if-count-item.false in record { name = span-name a.sheet.now a.item there c.name_span-span.result c.name_span-span.ensures h; within = refl; place = span-start a.sheet.now a.item there c.name_span-span.result c.name_span-span.ensures a.sheet.ref_ptr.1 h }
-

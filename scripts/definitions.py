@@ -30,11 +30,11 @@ How to read it
     a ≡ b           they are equal. P × Q: both hold. P ⊎ Q: one of them does. Unit always holds, ⊥ never; P → ⊥: P does not hold
     (x : A) → P     P holds for every x of A. (x : A) × P: there is an x of A, and P holds of it. λ x. e: what makes e of x
     [], x ∷ l       the empty list; x, and behind it the list l. l ++ m: one behind the other. length l: how many elements
-    getD l i d      element i of l, counted from 0, and d where there is none. take n l, drop n l: the first n, the others
+    get_or l i d    element i of l, counted from 0, and d where there is none. take n l, drop n l: the first n, the others
     cond b x y      x where b is true, else y. eqb, ltb, leb: are two numbers equal, is the first less, is it at most the second?
-    ones n          how many bits of n are 1. bitAnd, bitOr: bit by bit. suc n: the number after n
-    r .name         the part `name` of r. .0 and .1 are the first and the second part, so s .0 is the number that a VertexSet s is
-    x′              a name of its own, beside x: mostly what a lent place holds afterwards, where x is what it held before
+    ones n          how many bits of n are 1. bit_and, bit_or: bit by bit. suc n: the number after n
+    r.name          the part `name` of r. .0 and .1 are the first and the second part, so s.0 is the number that a VertexSet s is
+    x'              a name of its own, beside x: mostly what a lent place holds afterwards, where x is what it held before
     record          all of its parts: it holds where the conditions do, for some values of the parts that are none. data: one case of several
     abbrev, unfoldable, pub   define a name by equations, and let other files use it; which of the two matters to proofs alone
     map f l         f of each element of l. replicate n x: n times x. set l i x: l with x at place i. max a b: the larger one. a && b, a || b: both, one of them
@@ -99,7 +99,7 @@ def contract_of(call):
     for path in sorted((ROOT / "crates").glob("*/src/*.rt")):
         for _, public, name, head, _ in functions(path.read_text(encoding="utf-8").split("\n")):
             if public and name == call:
-                return set(re.findall(r"[\w′-]+", head.partition("ensures")[2]))
+                return set(re.findall(r"[\w'-]+", head.partition("ensures")[2]))
     sys.exit(f"definitions: no call {call}")
 
 

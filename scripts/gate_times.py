@@ -21,6 +21,8 @@ RECORD = ROOT / "records" / "gate-times.txt"
 
 def stamp(began, path):
     """Copies the lines as they come."""
+    sys.stdin.reconfigure(encoding="utf-8", errors="replace")
+    sys.stdout.reconfigure(encoding="utf-8")
     with open(path, "a", encoding="utf-8") as log:
         for line in sys.stdin:
             print(line, end="", flush=True)
@@ -47,7 +49,8 @@ def main(log):
     if found != int(verdict.group(1)):
         sys.exit(f"gate_times: {found} crates and edits found, but {verdict.group(1)} passed")
     minutes, cores, date = took.groups()
-    lines = [f"date {date}", f"cores {cores}", f"minutes {minutes}", "", "crate proved-at-second edits"]
+    kit = (ROOT / "kit.txt").read_text(encoding="utf-8").split()[0]
+    lines = [f"kit {kit}", f"date {date}", f"cores {cores}", f"minutes {minutes}", "", "crate proved-at-second edits"]
     lines += [f"{name} {second} {edits}" for name, (second, edits) in sorted(crates.items(), key=lambda crate: -crate[1][0])]
     RECORD.write_text("\n".join(lines) + "\n", encoding="utf-8")
     print(f"gate_times: {len(crates)} crates to records/gate-times.txt")

@@ -6,7 +6,7 @@
     python3 scripts/mutate.py --written [bases]  of all such crates, or of this one, the edits in the folder `mutations` alone
     python3 scripts/mutate.py --count            nothing: the record's head is written anew
 
-The crates are copied to target/mutate, so that nothing of the project is changed. records/mutation.md is both the record that is
+The crates are copied to a folder of its own outside the tree, where `rt ci` would find them, so that nothing of the project is changed. records/mutation.md is both the record that is
 read and the one that is written. The exit status is 1 where an edit was not refused and scripts/survivors.txt does not say why, and
 where a written edit did not reach the prover, so that nothing was refused.
 """
@@ -18,8 +18,10 @@ import shutil
 import signal
 import subprocess
 import sys
+import tempfile
 import time
 from dataclasses import dataclass, field
+from pathlib import Path
 
 from edit_files import BadEdit, edited, replacements
 from edits import ROOT, all_edits, functions_of, next_edit, shapes_of
@@ -30,16 +32,16 @@ WANTED = 3
 MOST_TRIES = 14
 TOGETHER = 16
 SECONDS = 240
-SCRATCH = ROOT / "target" / "mutate"
+SCRATCH = Path(tempfile.gettempdir()) / f"gemzuleg-mutate-{hashlib.sha256(str(ROOT).encode()).hexdigest()[:8]}"
 RECORD = ROOT / "records" / "mutation.md"
 NOTES = ROOT / "scripts" / "survivors.txt"
 # A program of test cases, and what serves the tests alone.
 LEFT_OUT = set()
 # The first error of a proof that only does not fit the code's shape any more; no fact is said not to hold.
-SHAPE = re.compile(r"can be named from here|is not in scope|expected .*Need-|takes \d+ argument|unknown name|has no (?:field )?`")
+SHAPE = re.compile(r"can be named from here|is not in scope|expected .*(?:Need-|goal\.)|takes \d+ argument|unknown name|has no (?:field )?`")
 # A proof that goes through the function's code statement by statement has this among its imports.
 WALKED = re.compile(r"^use denote\.Triple\.Walked\b", re.M)
-ERROR = re.compile(r"^(\S*?)crates/(\w+)/(\S+?):(\d+):(\d+): error(.*)$", re.M)
+ERROR = re.compile(r"^(?:\./)?((?:src|specs|proofs)/\S+?):(\d+):(\d+): error(.*)$", re.M)
 
 
 @dataclass
@@ -121,30 +123,29 @@ def written_edits(crate):
 
 
 def lay_out(crate, table):
-    """Copies the crate and those below it to the scratch folder, with what is proved of them."""
+    """Copies the crate and those below it to the scratch folder. What is proved of those, `rt` takes from where it was proved."""
     SCRATCH.mkdir(parents=True, exist_ok=True)
-    shutil.copy(ROOT / "crates.txt", SCRATCH / "crates.txt")
-    for name in [*below(crate, table), crate]:
+    laid = [*below(crate, table), crate]
+    (SCRATCH / "crates.txt").write_text("".join(f"{name}: {' '.join(table[name])}\n" for name in laid))
+    for name in laid:
         home = SCRATCH / "crates" / name
         shutil.rmtree(home, ignore_errors=True)
-        shutil.copytree(ROOT / "crates" / name, home, ignore=shutil.ignore_patterns("must-fail", "mutations"))
-        stamp, own_stamp = ROOT / "target" / "stamp" / name, SCRATCH / "target" / "stamp" / name
-        if stamp.is_file() and name != crate and not (own_stamp.is_file() and own_stamp.read_bytes() == stamp.read_bytes()):
-            rlib, own_rlib = ROOT / "target" / "rlib" / f"{name}.rlib", SCRATCH / "target" / "rlib" / f"{name}.rlib"
-            shutil.rmtree(own_rlib, ignore_errors=True)
-            shutil.copytree(rlib, own_rlib)
-            own_stamp.parent.mkdir(parents=True, exist_ok=True)
-            shutil.copy(stamp, own_stamp)
+        shutil.copytree(ROOT / "crates" / name, home, ignore=shutil.ignore_patterns("must-fail", "mutations", "out"))
 
 
-def run_dev(crate):
-    """What `rt dev` says of the crate in the scratch folder; nothing where it takes too long."""
-    environment = {**os.environ, "RT_CUT": "0"}
+def run_check(crate, seconds=SECONDS):
+    """What `rt check` says of the crate in the scratch folder; nothing where it takes too long."""
     with subprocess.Popen(
-        ["rt", "dev", crate], cwd=SCRATCH, env=environment, stdout=subprocess.PIPE, stderr=subprocess.STDOUT, text=True, start_new_session=True
+        ["rt", "check"],
+        cwd=SCRATCH / "crates" / crate,
+        stdin=subprocess.DEVNULL,
+        stdout=subprocess.PIPE,
+        stderr=subprocess.STDOUT,
+        text=True,
+        start_new_session=True,
     ) as process:
         try:
-            return process.communicate(timeout=SECONDS)[0]
+            return process.communicate(timeout=seconds)[0]
         except subprocess.TimeoutExpired:
             os.killpg(process.pid, signal.SIGKILL)
             process.communicate()
@@ -159,7 +160,7 @@ def lay_edits(crate, edits):
             if edit.path == path:
                 text = text[: edit.start] + edit.new + text[edit.end :]
         (SCRATCH / path.relative_to(ROOT)).write_text(text, encoding="utf-8")
-    checked = SCRATCH / "target" / "inc" / crate
+    checked = SCRATCH / "crates" / crate / "out" / "incremental"
     shutil.rmtree(checked, ignore_errors=True)
     shutil.copytree(SCRATCH / "pristine" / crate, checked)
 
@@ -168,13 +169,12 @@ def start_crate(crate, table):
     """Checks the crate as it is, and keeps what was checked."""
     lay_out(crate, table)
     shutil.rmtree(SCRATCH / "said" / crate, ignore_errors=True)
-    shutil.rmtree(SCRATCH / "target" / "inc" / crate, ignore_errors=True)
-    said = run_dev(crate)
-    if not re.search(r"^logic=proved", said, re.M):
+    said = run_check(crate, None)
+    if not (re.findall(r"^logic=.*", said, re.M) or [""])[-1].startswith("logic=proved"):
         sys.exit(f"mutate: {crate} is not proved as it is\n{said[-2000:]}")
     pristine = SCRATCH / "pristine" / crate
     shutil.rmtree(pristine, ignore_errors=True)
-    shutil.copytree(SCRATCH / "target" / "inc" / crate, pristine)
+    shutil.copytree(SCRATCH / "crates" / crate / "out" / "incremental", pristine)
 
 
 def calls_of(items):
@@ -199,8 +199,9 @@ def proof_homes(function):
 
 
 def proof_files(function):
-    """The files with the function's proof: one, or none."""
-    homes = [ROOT / "crates" / function.crate / home / "Proof.antt" for home in proof_homes(function)]
+    """The files with what was written of the function's proof, if there are any."""
+    names = ("Proof.antt", "Invariants.antt", "Answers.antt")
+    homes = [ROOT / "crates" / function.crate / home / name for home in proof_homes(function) for name in names]
     return [home for home in homes if home.is_file()]
 
 
@@ -256,8 +257,8 @@ def own_verdict(said, trial):
 
 def own_errors(said, function):
     """The errors in the function's proof file that are not about another part that was not admitted."""
-    found = [error for error in ERROR.finditer(said) if error.group(3).startswith(tuple(proof_homes(function)))]
-    return [error for error in found if "was not admitted" not in error.group(6)]
+    found = [error for error in ERROR.finditer(said) if error.group(1).startswith(tuple(proof_homes(function)))]
+    return [error for error in found if "was not admitted" not in error.group(4)]
 
 
 def first_error(said, trial):
@@ -266,7 +267,7 @@ def first_error(said, trial):
     function = trial.function
     errors = list(ERROR.finditer(said)) if function.constant else own_errors(said, function)
     if errors:
-        return f"{errors[0].group(3)}:{errors[0].group(4)}", bool(SHAPE.search(errors[0].group(6)))
+        return f"{errors[0].group(1)}:{errors[0].group(2)}", bool(SHAPE.search(errors[0].group(4)))
     return ("no place" if has_proof(function) else "search"), False
 
 
@@ -285,7 +286,7 @@ def settle(said, trial, alone):
 
 def drop_rejected(said, batch):
     """The trials whose edit the front end rejects, by the lines of its errors."""
-    places = {(found.group(3), int(found.group(4))) for found in ERROR.finditer(said) if found.group(3).startswith("src/")}
+    places = {(found.group(1), int(found.group(2))) for found in ERROR.finditer(said) if found.group(1).startswith("src/")}
 
     def has(function, file, line):
         return file == f"src/{function.path.name}" and function.first <= line <= function.last
@@ -305,7 +306,7 @@ def run_batch(crate, batch):
     while batch:
         lay_edits(crate, [t.edit for t in batch])
         began = time.time()
-        said = run_dev(crate)
+        said = run_check(crate)
         keep_said(crate, said)
         if re.search(r"^logic=", said, re.M):
             again = [t for t in batch if not settle(said, t, len(batch) == 1)]
@@ -368,12 +369,12 @@ def try_written(crate):
         before = {file: (home / file).read_text(encoding="utf-8") for file in texts}
         for file, text in texts.items():
             (home / file).write_text(text, encoding="utf-8")
-        said = run_dev(crate)
+        said = run_check(crate)
         for file, text in before.items():
             (home / file).write_text(text, encoding="utf-8")
         keep_said(crate, said)
         old, new = ("; ".join(code(pair[at].strip()) for pair in replacements(path)) for at in (1, 2))
-        places = [f"{error.group(3)}:{error.group(4)}" for error in ERROR.finditer(said)]
+        places = [f"{error.group(1)}:{error.group(2)}" for error in ERROR.finditer(said)]
         rows.append([f"edit {path.stem}", "-", old, new, verdict_of(said), places[0] if places else "-"])
     return rows
 
@@ -472,6 +473,8 @@ Written by `scripts/mutate.py` (`make mutate`); docs/TESTING.md says what is don
 {constants} constants of {crates} crates, {edits} edits, {written} of them written by hand, {refused} refused ({shape} of them by shape), {survived} not. {walked} functions
 are walked: their proofs go through the code statement by statement, so that any edit is refused by shape, whatever it means, and tells
 nothing. None of them is tried; they decide nothing, and what they call does.
+
+Sections of before 2026-11-26 were made with the kit before the present one, rattle-kit-5b-plain; names and signs are in today's spelling since.
 
 "Where" is the place of the first error about the edited function, or `search` where it has no proof file and the prover finds no proof by
 itself. A crate is tried again when its own files, or the code or definitions of a crate below it, have changed: the sum beside its name

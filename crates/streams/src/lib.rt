@@ -5,7 +5,7 @@
 
 ghost use Rattle.std.specs.Prelude.{◌≡◌, ◌<◌, ◌≤◌, IfNone, IsSome, length, take, drop};
 ghost use Rattle.std.specs.Io.KnownBytes.{Appends};
-ghost use Rattle.streams.specs.Inner.Streams.{failed_by, moved_by, MovedOn, TookFrom, PutTo, ReadInto, GivenBy};
+ghost use Rattle.streams.specs.Inner.Streams.{failed_by, moved_by, MovedOn, TookFrom, PutTo, ReadInto, GivenBy, Grew};
 
 use std::io;
 use std::io::{ErrorKind, Read, Write};
@@ -164,7 +164,9 @@ fn words(text: &[u8]) -> usize
 
 // Writes a line: what failed, as the caller names it, a colon and the reason. Where that fails too,
 // there is nobody left to tell.
-pub fn fail<W: Write>(writer: &mut W, what: &[u8], error: &io::Error) {
+pub fn fail<W: Write>(writer: &mut W, what: &[u8], error: &io::Error)
+    ensures { Grew (W.contents writer.old) (W.contents writer.new) }
+{
     let mut text = [0u8; REASON];
     let mut rest: &mut [u8] = &mut text;
     let _ = write!(rest, "{error}");

@@ -11,7 +11,7 @@ use Rattle.portal.proofs.code_score.Goals as goal
 pub overflow_add-result : goal.overflow_add-result
 overflow_add-result c =
     let s = c.requires.small in
-    let e = ap (λ (a : ScoreAnswer). (score_reply a).number) c.answer-in-Refused-1.given.1 in
+    let e = ap (λ (a : ScoreAnswer). (score_reply a).number) c.in-Refused.is in
     omega arith
 
 pub returns-in-Score : goal.returns-in-Score
@@ -20,4 +20,4 @@ returns-in-Score c =
     rw c.number.ensures (subst (λ (a : ScoreAnswer). Coded (score_reply a) g.0.0.0) (sym g.1) (coded-value g.0.0.0))
 
 pub returns-in-Refused : goal.returns-in-Refused
-returns-in-Refused c = subst (λ (a : ScoreAnswer). Coded (score_reply a) (never + c.answer-in-Refused-1.given.0.0)) (sym c.answer-in-Refused-1.given.1) (coded-refusal c.answer-in-Refused-1.given.0.0)
+returns-in-Refused c = subst (λ (a : ScoreAnswer). Coded (score_reply a) (never + c.in-Refused.q)) (sym c.in-Refused.is) (coded-refusal c.in-Refused.field-0)

@@ -8,17 +8,17 @@ pub loop-i-init : goal.loop-i-init
 loop-i-init c = (omega arith, packed-end c.args.f.now)
 
 pub overflow_cast-b : goal.overflow_cast-b
-overflow_cast-b c = omega (arith, c.shared_slice_known-1.given (c.loop-i.i - 1))
+overflow_cast-b c = omega (arith, c.type_inv.f (c.loop-i.i - 1))
 
 pub overflow_mul-n : goal.overflow_mul-n
 overflow_mul-n c =
-    let z = packed-fits c.args.f.now c.loop-i.i c.loop-i-test.true c.loop-i.invariant.0 c.requires (λ j. (c.shared_slice_known-1.given j).fits) in
+    let z = packed-fits c.args.f.now c.loop-i.i c.loop-i-test.true c.loop-i.invariant.0 c.requires (λ j. (c.type_inv.f j).fits) in
     let e = c.loop-i.invariant.1 in
     omega arith
 
 pub overflow_add-n : goal.overflow_add-n
 overflow_add-n c =
-    let z = packed-fits c.args.f.now c.loop-i.i c.loop-i-test.true c.loop-i.invariant.0 c.requires (λ j. (c.shared_slice_known-1.given j).fits) in
+    let z = packed-fits c.args.f.now c.loop-i.i c.loop-i-test.true c.loop-i.invariant.0 c.requires (λ j. (c.type_inv.f j).fits) in
     let e = c.loop-i.invariant.1 in
     omega arith
 

@@ -57,3 +57,8 @@ PutTo old new rest (moved.Failed error) = Keeps old new
 abbrev pub GivenBy : Option (List ℕ) → Option (List ℕ) → List ℕ → Input → Type 0
 GivenBy old new buf (input.Read n) = Consumes old new (take n buf) × (n < length buf → IsAtEnd new)
 GivenBy old new buf (input.Failed error) = Unit {0}
+
+-- A writer's bytes, where those are known, have grown by some bytes, and lost none.
+pub record Grew (old new : Option (List ℕ)) : Type 0 where
+  pub added : List ℕ
+  pub appended : Appends old new added

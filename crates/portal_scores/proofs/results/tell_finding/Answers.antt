@@ -5,7 +5,7 @@ use Rattle.portal_scores.proofs.Answers.{yes-no}
 use Rattle.portal_scores.proofs.results.tell_finding.Goals as goal
 
 pub returns-in-Is : goal.returns-in-Is
-returns-in-Is c = tells_as finding_reply _ _ c.in-Is.is _ 0 (yes-no c.answer-1.given.0.0)
+returns-in-Is c = tells_as finding_reply _ _ c.in-Is.is _ 0 (yes-no c.in-Is.yes)
 
 pub returns-in-Refused : goal.returns-in-Refused
 returns-in-Refused c = tells_as finding_reply _ _ c.in-Refused.is _ 1 refl

@@ -22,9 +22,12 @@ loop-v-preserved c =
     let below : c.loop-v.v < 64 = omega arith in
     let e = c.is_account.ensures in (
       omega arith,
-      elim c.if-is_account.branch [ then-is_account w ↦ subst (λ (x : VertexSet). TakenBelow (λ i. is_account s i ≡ true) (c.loop-v.v + 1) x.0) (sym w.2)
-          (taken_more (λ i. is_account s i ≡ true) c.loop-v.v c.loop-v.r.0 c.loop-v.invariant.1 w.1.result.0 below (sym e ∙ w.if-is_account.true) w.1.ensures) | else-is_account w ↦ subst (λ (x : VertexSet). TakenBelow (λ i. is_account s i ≡ true) (c.loop-v.v + 1) x.0) (sym w.1)
-          (taken-same (λ i. is_account s i ≡ true) c.loop-v.v c.loop-v.r.0 c.loop-v.invariant.1 (λ t. false-true (sym w.if-is_account.false ∙ e ∙ t))) ],
+      elim c.if-is_account.branch [
+        | then-is_account w ↦ subst (λ (x : VertexSet). TakenBelow (λ i. is_account s i ≡ true) (c.loop-v.v + 1) x.0) (sym w.r-is)
+            (taken_more (λ i. is_account s i ≡ true) c.loop-v.v c.loop-v.r.0 c.loop-v.invariant.1 w.insert-r.result.0 below (sym e ∙ w.if-is_account.true) w.insert-r.ensures)
+        | else-is_account w ↦ subst (λ (x : VertexSet). TakenBelow (λ i. is_account s i ≡ true) (c.loop-v.v + 1) x.0) (sym w.r-is)
+            (taken-same (λ i. is_account s i ≡ true) c.loop-v.v c.loop-v.r.0 c.loop-v.invariant.1 (λ t. false-true (sym w.if-is_account.false ∙ e ∙ t)))
+      ],
     )
 
 pub returns : goal.returns

@@ -22,9 +22,12 @@ loop-w-preserved c =
     let small : c.loop-w.w < 64 = omega arith in
     let d = c.is_above.ensures in (
       omega arith,
-      elim c.if-is_above.branch [ then-is_above w ↦ subst (λ (x : VertexSet). TakenBelow (λ (i : ℕ). Above (get_or a.ranks a.v 0) (get_or a.ranks i 0) (security_at a.scores a.v) (security_at a.scores i)) (c.loop-w.w + 1) x.0) (sym w.2)
-          (taken_more (λ (i : ℕ). Above (get_or a.ranks a.v 0) (get_or a.ranks i 0) (security_at a.scores a.v) (security_at a.scores i)) c.loop-w.w c.loop-w.r.0 c.loop-w.invariant.1 w.1.result.0 small (d.yes w.if-is_above.true) w.1.ensures) | else-is_above w ↦ subst (λ (x : VertexSet). TakenBelow (λ (i : ℕ). Above (get_or a.ranks a.v 0) (get_or a.ranks i 0) (security_at a.scores a.v) (security_at a.scores i)) (c.loop-w.w + 1) x.0) (sym w.1)
-          (taken-same (λ (i : ℕ). Above (get_or a.ranks a.v 0) (get_or a.ranks i 0) (security_at a.scores a.v) (security_at a.scores i)) c.loop-w.w c.loop-w.r.0 c.loop-w.invariant.1 (d.no w.if-is_above.false)) ],
+      elim c.if-is_above.branch [
+        | then-is_above w ↦ subst (λ (x : VertexSet). TakenBelow (λ (i : ℕ). Above (get_or a.ranks a.v 0) (get_or a.ranks i 0) (security_at a.scores a.v) (security_at a.scores i)) (c.loop-w.w + 1) x.0) (sym w.r-is)
+            (taken_more (λ (i : ℕ). Above (get_or a.ranks a.v 0) (get_or a.ranks i 0) (security_at a.scores a.v) (security_at a.scores i)) c.loop-w.w c.loop-w.r.0 c.loop-w.invariant.1 w.insert-r.result.0 small (d.yes w.if-is_above.true) w.insert-r.ensures)
+        | else-is_above w ↦ subst (λ (x : VertexSet). TakenBelow (λ (i : ℕ). Above (get_or a.ranks a.v 0) (get_or a.ranks i 0) (security_at a.scores a.v) (security_at a.scores i)) (c.loop-w.w + 1) x.0) (sym w.r-is)
+            (taken-same (λ (i : ℕ). Above (get_or a.ranks a.v 0) (get_or a.ranks i 0) (security_at a.scores a.v) (security_at a.scores i)) c.loop-w.w c.loop-w.r.0 c.loop-w.invariant.1 (d.no w.if-is_above.false))
+      ],
     )
 
 pub returns : goal.returns

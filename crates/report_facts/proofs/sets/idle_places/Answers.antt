@@ -19,9 +19,12 @@ loop-v-preserved c =
     let small : c.loop-v.v < 64 = omega arith in
     let d = c.at_most.ensures in (
       omega arith,
-      elim c.if-at_most.branch [ then-at_most w ↦ subst (λ (x : VertexSet). TakenBelow (λ i. recoverability_at a.risks i ≤ recoverability_at a.without i) (c.loop-v.v + 1) x.0) (sym w.2)
-          (taken_more (λ i. recoverability_at a.risks i ≤ recoverability_at a.without i) c.loop-v.v c.loop-v.r.0 c.loop-v.invariant.1 w.1.result.0 small (d.yes w.if-at_most.true) w.1.ensures) | else-at_most w ↦ subst (λ (x : VertexSet). TakenBelow (λ i. recoverability_at a.risks i ≤ recoverability_at a.without i) (c.loop-v.v + 1) x.0) (sym w.1)
-          (taken-same (λ i. recoverability_at a.risks i ≤ recoverability_at a.without i) c.loop-v.v c.loop-v.r.0 c.loop-v.invariant.1 (d.no w.if-at_most.false)) ],
+      elim c.if-at_most.branch [
+        | then-at_most w ↦ subst (λ (x : VertexSet). TakenBelow (λ i. recoverability_at a.risks i ≤ recoverability_at a.without i) (c.loop-v.v + 1) x.0) (sym w.r-is)
+            (taken_more (λ i. recoverability_at a.risks i ≤ recoverability_at a.without i) c.loop-v.v c.loop-v.r.0 c.loop-v.invariant.1 w.insert-r.result.0 small (d.yes w.if-at_most.true) w.insert-r.ensures)
+        | else-at_most w ↦ subst (λ (x : VertexSet). TakenBelow (λ i. recoverability_at a.risks i ≤ recoverability_at a.without i) (c.loop-v.v + 1) x.0) (sym w.r-is)
+            (taken-same (λ i. recoverability_at a.risks i ≤ recoverability_at a.without i) c.loop-v.v c.loop-v.r.0 c.loop-v.invariant.1 (d.no w.if-at_most.false))
+      ],
     )
 
 pub returns : goal.returns

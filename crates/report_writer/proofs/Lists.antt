@@ -31,7 +31,6 @@ use Rattle.report_facts.specs.Inner.Facts.{FactsOf}
 use Rattle.report_facts.specs.Texts.{slot_loss, slot_list, slot_row}
 use Rattle.report_sections.specs.declared.lists.RowsStep.{RowsStep}
 use Rattle.report_sections.specs.Inner.Lists.{SetReady, RowsReady, row_of_set, RowsPut, set_rows_from}
-use Rattle.report_writer.specs.Rest.{rows_from}
 use Rattle.report_writer.specs.Inner.Steps.{ValuesBy, CanPutList, ListPut}
 use Rattle.report_writer.proofs.Rest.{rows_next}
 

@@ -1,7 +1,6 @@
 -- Where a report begins, and that what is written from there on, call by call, is the whole of it.
 use Rattle.std.specs.Prelude.{◌≡◌, List, [], ◌∷◌, ◌++◌, ℕ, ◌^◌, length, take}
 use Rattle.setup.specs.Bounds.{most_chosen}
-use Rattle.setup.specs.declared.Setup.{Setup}
 use Rattle.sheet_format.specs.Read.{read_sheet}
 use Rattle.sheet_format.specs.Names.{name_of}
 use Rattle.report_text.specs.Report.{report_of}

@@ -16,8 +16,7 @@ overflow_add-result c =
 
 pub returns-in-Risk : goal.returns-in-Risk
 returns-in-Risk c =
-    let g = c.answer-1.given in
-    rw c.number.ensures (subst (λ (a : RiskAnswer). Coded (risk_reply a) g.0.0.0) (sym g.1) (coded-value g.0.0.0))
+    rw c.number.ensures (subst (λ (a : RiskAnswer). Coded (risk_reply a) c.in-Risk.risk.0) (sym c.in-Risk.is) (coded-value c.in-Risk.risk.0))
 
 pub returns-in-Refused : goal.returns-in-Refused
-returns-in-Refused c = subst (λ (a : RiskAnswer). Coded (risk_reply a) (never + c.in-Refused.q)) (sym c.in-Refused.is) (coded-refusal c.in-Refused.field-0)
+returns-in-Refused c = subst (λ (a : RiskAnswer). Coded (risk_reply a) (never + c.in-Refused.q)) (sym c.in-Refused.is) (coded-refusal c.in-Refused.q)

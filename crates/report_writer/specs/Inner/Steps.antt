@@ -13,7 +13,7 @@ use Rattle.report_sections.specs.declared.lists.RowsStep.{RowsStep}
 use Rattle.report_writer.specs.declared.steps.Cursor.{Cursor}
 use Rattle.report_writer.specs.declared.steps.Cursor.TheVariants as cursor
 use Rattle.report_writer.specs.declared.steps.Step.{Step}
-use Rattle.report_writer.specs.Rest.{rows_from, scores_from, pairs_from, rest_of}
+use Rattle.report_writer.specs.Rest.{rows_from, rest_of}
 
 pub record ValuesBy (loss : Bool) (f : Facts) (r : List ℕ) : Type 0 where
   pub each : (sheet : List ℕ) (s : Setup) → FactsOf sheet s f → Values loss s r

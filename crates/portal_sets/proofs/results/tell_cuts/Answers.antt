@@ -4,7 +4,7 @@ use Rattle.questions.proofs.Told.{tells_as}
 use Rattle.portal_sets.proofs.results.tell_cuts.Goals as goal
 
 pub returns-in-Sets : goal.returns-in-Sets
-returns-in-Sets c = tells_as cuts_reply _ _ c.answer-1.given.1 _ 0 refl
+returns-in-Sets c = tells_as cuts_reply _ _ c.in-Sets.is _ 0 refl
 
 pub returns-in-Refused : goal.returns-in-Refused
-returns-in-Refused c = tells_as cuts_reply _ _ c.answer-in-Refused-1.given.1 _ 1 refl
+returns-in-Refused c = tells_as cuts_reply _ _ c.in-Refused.is _ 1 refl

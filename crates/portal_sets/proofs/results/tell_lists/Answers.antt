@@ -4,7 +4,7 @@ use Rattle.questions.proofs.Told.{tells_as}
 use Rattle.portal_sets.proofs.results.tell_lists.Goals as goal
 
 pub returns-in-Counts : goal.returns-in-Counts
-returns-in-Counts c = tells_as bases_reply _ _ c.answer-1.given.1 _ 0 refl
+returns-in-Counts c = tells_as bases_reply _ _ c.in-Counts.is _ 0 refl
 
 pub returns-in-Refused : goal.returns-in-Refused
-returns-in-Refused c = tells_as bases_reply _ _ c.answer-in-Refused-1.given.1 _ 2 refl
+returns-in-Refused c = tells_as bases_reply _ _ c.in-Refused.is _ 2 refl

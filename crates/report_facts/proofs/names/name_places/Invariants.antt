@@ -1,4 +1,4 @@
-use Prim.Native.Nat.{◌-◌, ◌≤◌}
+use Prim.Native.Nat.{◌≤◌}
 use Rattle.report_facts.proofs.Places.{NamesSoFar}
 use Rattle.report_facts.proofs.names.name_places.Given as goal
 

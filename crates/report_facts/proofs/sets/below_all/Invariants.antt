@@ -1,4 +1,4 @@
-use Prim.Native.Nat.{◌≤◌, ◌-◌}
+use Prim.Native.Nat.{◌≤◌}
 use Rattle.report_facts.specs.Inner.Sets.{BelowOne}
 use Rattle.report_facts.proofs.Gathering.{EachBelow}
 use Rattle.report_facts.proofs.sets.below_all.Given as goal

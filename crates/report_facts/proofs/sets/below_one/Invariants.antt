@@ -1,4 +1,4 @@
-use Prim.Native.Nat.{ℕ, ◌≤◌, ◌-◌}
+use Prim.Native.Nat.{ℕ, ◌≤◌}
 use lib.ListN.{get_or}
 use Rattle.scores.specs.Inner.Lists.{security_at}
 use Rattle.vertex_set.specs.Inner.{TakenBelow}

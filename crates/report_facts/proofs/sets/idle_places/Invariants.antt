@@ -1,4 +1,4 @@
-use Prim.Native.Nat.{◌≤◌, ◌-◌}
+use Prim.Native.Nat.{◌≤◌}
 use Rattle.scores.specs.Inner.Lists.{recoverability_at}
 use Rattle.vertex_set.specs.Inner.{TakenBelow}
 use Rattle.report_facts.proofs.sets.idle_places.Given as goal

@@ -1,4 +1,4 @@
-use Prim.Native.Nat.{◌≤◌, ◌-◌}
+use Prim.Native.Nat.{◌≤◌}
 use Rattle.setup.specs.Setup.{vertex_at}
 use Rattle.bases.proofs.Readers.{FilledBelow}
 use Rattle.report_facts.proofs.sets.ranks_of.Given as goal

@@ -1,5 +1,4 @@
 -- `report_rows::fields::put_items` meets its contract: the loop goes from the lowest vertex to the highest; the set that is left falls.
-use Prim.Native.Nat.{◌-◌}
 use Rattle.sheet_format.specs.Names.{name_of}
 use Rattle.report_rows.proofs.Items.{ItemsWriting}
 use Rattle.report_rows.proofs.fields.put_items.Given as goal

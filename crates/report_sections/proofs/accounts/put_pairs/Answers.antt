@@ -43,10 +43,10 @@ pub loop-rest-preserved : goal.loop-rest-preserved
 loop-rest-preserved c =
     let low : Lowest c.loop-rest.rest = lowest c.loop-rest.rest c.loop-rest.invariant.small c.loop-rest-test.true in
     let less : c.loop-rest.rest - (1 * 2 ^ count_trailing_zeros 64 c.loop-rest.rest) % 2 ^ 64 ≡ c.loop-rest.rest - 2 ^ count_trailing_zeros 64 c.loop-rest.rest = ap (λ (p : ℕ). c.loop-rest.rest - p) low.power in
-    pairs-more _ _ _ _ _ _ _ _ c.loop-rest.invariant _ less c.loop-rest-test.true _ _ c.put_pair_row-next.ensures
+    pairs-more _ _ _ _ _ _ _ _ c.loop-rest.invariant _ less c.loop-rest-test.true _ _ c.put_pair_row-next.ensures.row_written
 
 pub shape_of-out : goal.shape_of-out
 shape_of-out c = c.loop-rest.invariant.writing.long
 
 pub returns : goal.returns
-returns c = pairs_end _ _ _ _ _ _ _ _ c.loop-rest.invariant c.loop-rest-test.false c.requires.x_in_bounds
+returns c = record { row_written = pairs_end _ _ _ _ _ _ _ _ c.loop-rest.invariant c.loop-rest-test.false c.requires.x_in_bounds }

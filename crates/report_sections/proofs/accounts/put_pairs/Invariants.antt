@@ -1,5 +1,4 @@
 -- `report_sections::accounts::put_pairs` meets its contract: the loop goes from the lowest vertex to the highest; the set that is left falls.
-use Prim.Native.Nat.{◌-◌}
 use Rattle.sheet_format.specs.Names.{name_of}
 use Rattle.report_sections.proofs.Pairs.{PairsWriting}
 use Rattle.report_sections.proofs.accounts.put_pairs.Given as goal

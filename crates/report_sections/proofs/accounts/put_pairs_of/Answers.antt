@@ -24,17 +24,17 @@ slice_bounds-put_pairs-end-then-has c =
 pub put_pairs-requires : goal.put_pairs-requires
 put_pairs-requires c =
     let low_below : Fits w64 (get_or c.args.facts.below c.args.v 0) = search rules in
-    let room : c.args.at + length (pairs_with (name_of c.args.sheet.now) c.args.v (get_or c.args.facts.below c.args.v 0)) ≤ length c.args.out.now = below-room c.args.sheet.now c.args.facts c.args.v c.args.out.now c.args.at c.requires low_below.ranges in
+    let room : c.args.at + length (pairs_with (name_of c.args.sheet.now) c.args.v (get_or c.args.facts.below c.args.v 0)) ≤ length c.args.out.now = below-room c.args.sheet.now c.args.facts c.args.v c.args.out.now c.args.at c.requires low_below.fits in
     record { name_place = c.requires.facts.names c.args.v c.requires.vertex; set_name_places = below_names _ _ _ _ _ c.requires; x_in_bounds = room }
 
 pub returns-then-has : goal.returns-then-has
 returns-then-has c =
     let low_below : Fits w64 (get_or c.args.facts.below c.args.v 0) = search rules in
-    let room : c.args.at + length (pairs_with (name_of c.args.sheet.now) c.args.v (get_or c.args.facts.below c.args.v 0)) ≤ length c.args.out.now = below-room c.args.sheet.now c.args.facts c.args.v c.args.out.now c.args.at c.requires low_below.ranges in
+    let room : c.args.at + length (pairs_with (name_of c.args.sheet.now) c.args.v (get_or c.args.facts.below c.args.v 0)) ≤ length c.args.out.now = below-room c.args.sheet.now c.args.facts c.args.v c.args.out.now c.args.at c.requires low_below.fits in
     part-wrote pairs_at _ _ _ _ _ _ _ _
     (pairs-text c.args.sheet.now c.args.facts c.args.v (c.has.ensures.yes c.if-has.true))
     room
-    c.put_pairs.ensures
+    c.put_pairs.ensures.row_written
 
 pub returns : goal.returns
 returns c =

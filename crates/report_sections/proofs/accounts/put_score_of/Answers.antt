@@ -27,7 +27,7 @@ put_score_row-requires c =
     let low-score : Fits w64 c.number-score_number.result = search rules in
     let low-risk : Fits w64 c.number-risk_number.result = search rules in
     let room : (back idle : Bool) → c.args.at + length (score_row (name_of c.args.sheet.now) c.args.v c.number-score_number.result c.number-risk_number.result back idle) ≤ length c.args.out.now = λ back idle. score-room c.args.sheet.now c.args.facts c.args.v c.args.out.now c.args.at c.requires c.number-score_number.result c.number-risk_number.result back idle
-    low-score.fits low-risk.ranges in
+    low-score.fits low-risk.fits in
     record { name_place = c.requires.facts.names c.args.v c.requires.vertex; idle_in_bounds = room _ _ }
 
 pub returns-then-has : goal.returns-then-has
@@ -35,11 +35,11 @@ returns-then-has c =
     let low-score : Fits w64 c.number-score_number.result = search rules in
     let low-risk : Fits w64 c.number-risk_number.result = search rules in
     let room : (back idle : Bool) → c.args.at + length (score_row (name_of c.args.sheet.now) c.args.v c.number-score_number.result c.number-risk_number.result back idle) ≤ length c.args.out.now = λ back idle. score-room c.args.sheet.now c.args.facts c.args.v c.args.out.now c.args.at c.requires c.number-score_number.result c.number-risk_number.result back idle
-    low-score.fits low-risk.ranges in
+    low-score.fits low-risk.fits in
     part-wrote score_at _ _ _ _ _ _ _ _
     (score-text c.args.sheet.now c.args.facts c.args.v _ _ _ _ c.number-score_number.ensures c.number-risk_number.ensures (c.has.ensures.yes c.if-has.true) c.has-back.ensures c.has-idle.ensures)
     (room _ _)
-    c.put_score_row.ensures
+    c.put_score_row.ensures.row_written
 
 pub returns : goal.returns
 returns c =

@@ -1,5 +1,4 @@
 use native.Mathlib.Omega.{arith}
-use Prim.Native.Nat.{◌-◌}
 use Rattle.report_facts.proofs.Parts.{part_length}
 use Rattle.report_sections.proofs.Rows.{row_fits, rows_none, rows_more, rows_end, rows-full}
 use Rattle.report_sections.proofs.lists.put_rows.Goals as goal
@@ -36,7 +35,7 @@ loop-row-preserved c =
     let l = c.loop-row in
     let h = c.requires.rows_ready in
     rows_more _ _ _ _ _ _ _ _ _ _ _ _ l.invariant (omega arith) h.here _ _ _ c.set_sum-sum.ensures
-    (row_fits _ _ _ _ _ _ _ _ _ _ h (omega arith) _ _ _ c.set_sum-sum.ensures (c.shared_slice_known-in-loop-row-1.given l.row).fits (omega arith)) c.put_set_row-next.ensures
+    (row_fits _ _ _ _ _ _ _ _ _ _ h (omega arith) _ _ _ c.set_sum-sum.ensures (c.shared_slice_known-in-loop-row-1.given l.row).fits (omega arith)) c.put_set_row-next.ensures.row_written
 
 pub shape_of-out : goal.shape_of-out
 shape_of-out c = part_length _ _ _ _ _ _ c.loop-row.invariant.part

@@ -9,7 +9,7 @@ pub returns-then-number-ne0 : goal.returns-then-number-ne0
 returns-then-number-ne0 c =
     let number-low : Fits w64 c.read_sheet-reading.result.number = search rules in
     let line_low : Fits w64 c.read_sheet-reading.result.line = search rules in
-    begun-refused _ c.read_sheet-reading.result c.read_sheet-reading.ensures _ _ _ c.if-number-ne0.true number-low.ranges line_low.ranges
+    begun-refused _ c.read_sheet-reading.result c.read_sheet-reading.ensures _ _ _ c.if-number-ne0.true number-low.fits line_low.fits
 
 pub facts_of-facts-requires : goal.facts_of-facts-requires
 facts_of-facts-requires c =

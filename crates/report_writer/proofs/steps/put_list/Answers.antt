@@ -7,17 +7,17 @@ use Rattle.report_writer.proofs.steps.put_list.Goals as goal
 
 pub slice_bounds-put_rows-end-2 : goal.slice_bounds-put_rows-end-2
 slice_bounds-put_rows-end-2 c =
-    let long-from : length c.args.facts.from ≡ 64 = let known = c.well_formed.0.1.1.1.1.1.1.1.1.1.1.1.1.1.0.1.0 in search rules in
+    let long-from : length c.args.facts.from ≡ 64 = search rules in
     sym long-from
 
 pub slice_bounds-put_rows-end-3 : goal.slice_bounds-put_rows-end-3
 slice_bounds-put_rows-end-3 c =
-    let long-to : length c.args.facts.to ≡ 64 = let known = c.well_formed.0.1.1.1.1.1.1.1.1.1.1.1.1.1.1.0.1.0 in search rules in
+    let long-to : length c.args.facts.to ≡ 64 = search rules in
     sym long-to
 
 pub put_rows-requires : goal.put_rows-requires
 put_rows-requires c =
-    (list-ready _ _ _ _ _ _ _ c.values_by-values.ensures c.requires.can_put_list, let r = c.requires.at_in_bounds in omega arith)
+    record { rows_ready = list-ready _ _ _ _ _ _ _ c.values_by-values.ensures c.requires.can_put_list; at_in_bounds = let r = c.requires.at_in_bounds in omega arith }
 
 pub returns : goal.returns
 returns c =

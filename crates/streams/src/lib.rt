@@ -3,7 +3,7 @@
 
 #![tactic(auto)]
 
-ghost use Rattle.std.specs.Prelude.{◌≡◌, ◌≤◌, IfNone, IsSome, length, take, drop};
+ghost use Rattle.std.specs.Prelude.{◌≡◌, ◌<◌, ◌≤◌, IfNone, IsSome, length, take, drop};
 ghost use Rattle.std.specs.Io.KnownBytes.{Appends};
 ghost use Rattle.streams.specs.Inner.Streams.{failed_by, moved_by, MovedOn, TookFrom, PutTo, ReadInto, GivenBy, Grew};
 
@@ -110,6 +110,7 @@ pub fn write_whole<W: Write>(writer: &mut W, bytes: &[u8]) -> Output
     ensures written { result.written ≤ length bytes.now }
     ensures bytes { Appends (W.contents writer.old) (W.contents writer.new) (take result.written bytes.now) }
     ensures whole { IfNone result.failure (result.written ≡ length bytes.now) }
+    ensures short { IsSome result.failure → result.written < length bytes.now }
 {
     let mut done = 0;
     // How often an interrupted write may still be made again: more than any run uses up, and a

@@ -38,7 +38,7 @@ NOTES = ROOT / "scripts" / "survivors.txt"
 # A program of test cases, and what serves the tests alone.
 LEFT_OUT = set()
 # The first error of a proof that only does not fit the code's shape any more; no fact is said not to hold.
-SHAPE = re.compile(r"can be named from here|is not in scope|expected .*(?:Need-|goal\.)|takes \d+ argument|unknown name|has no (?:field )?`")
+SHAPE = re.compile(r"can be named from here|is not in scope|expected (?:type )?`(?:goal\.|\S*Need-)|takes \d+ argument|unknown name|has no (?:field )?`")
 # A proof that goes through the function's code statement by statement has this among its imports.
 WALKED = re.compile(r"^use denote\.Triple\.Walked\b", re.M)
 ERROR = re.compile(r"^(?:\./)?((?:src|specs|proofs)/\S+?):(\d+):(\d+): error(.*)$", re.M)

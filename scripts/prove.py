@@ -61,7 +61,10 @@ def is_newest(path):
 def over_gate(name, table, is_static):
     """The command that builds the crate over the libraries that a gate of just these sources has proved: [] where all is there, None where no gate was."""
     below, out = stands_on(name, table), ROOT / "crates" / name / "out"
-    if not NOTE.is_file() or NOTE.read_text().strip() != sources() or not all(rlib(one).is_dir() for one in below):
+    if not NOTE.is_file() or NOTE.read_text().strip() != sources():
+        return None
+    # A library with a stamp is of a check of its own, which `rt ci` has put back, perhaps of other sources: `rt` can tell.
+    if not all(rlib(one).is_dir() and not (rlib(one).parent / "stamp").is_file() for one in below):
         return None
     # `rt ci` makes programs, and neither their objects nor static libraries.
     if not is_static and not is_newest(out / name):

@@ -14,7 +14,7 @@ LINE = re.compile(r"^(?:\d+ )?rt: must-fail (\w+)/(\S+)\.edit: (.*)$", re.M)
 REFUSED = re.compile(r"refused, as it must be(?: \((.*?)\))?(?:: (.*))?$")
 # What the first error says where the proof does not fit the code.
 SHAPE = re.compile(
-    r"can be named from here|is not in scope|expected .*(?:Need-|goal\.)|takes \d+ argument|unknown name|has no (?:field|`)"
+    r"can be named from here|is not in scope|expected (?:type )?`(?:goal\.|\S*Need-)|takes \d+ argument|unknown name|has no (?:field|`)"
     r"|this pattern needs a function|parse error|unexpected token"
 )
 # Lines that the check has to tell apart: so it is seen in every run that it can fail.

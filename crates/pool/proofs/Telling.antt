@@ -2,7 +2,7 @@
 -- Assumes nothing.
 use mathlib.Core.Path.{◌≡◌, refl, sym, ap, ◌∙◌, subst}
 use mathlib.Core.List.{List, [], ◌∷◌, ◌++◌, append_assoc}
-use mathlib.Core.Logic.{◌⊎◌, inl, inr, ⊎_elim}
+use mathlib.Core.Logic.{inl, inr}
 use Prim.Native.Nat.{ℕ, ◌+◌, ◌^◌, ◌≤◌, ◌<◌}
 use native.Mathlib.Omega.{arith}
 use lib.ListN.{length, take, drop, length-append, length-take, length-drop}
@@ -13,8 +13,7 @@ use Rattle.vertex_set.specs.Order.{Listed}
 use Rattle.written.specs.Rows.{RowWritten}
 use Rattle.written.proofs.Rows.{row_written}
 use Rattle.sheet_format.specs.Fields.{decimal}
-use Rattle.sheet_format.specs.Rows.{line_text, render}
-use Rattle.sheet_format.specs.Read.{read_sheet}
+use Rattle.sheet_format.specs.Rows.{line_text}
 use Rattle.sheet_format.proofs.Meaning.{number-most}
 use Rattle.sheet_format.proofs.Numbers.{decimal-length}
 use Rattle.writing.specs.Inner.{ended}

@@ -8,7 +8,7 @@ use Rattle.handins.proofs.put_names.Goals as goal
 pub put_items-size-requires : goal.put_items-size-requires
 put_items-size-requires c =
     let k = c.requires.short in
-    record { items_named = set-named c.args.sheet.now c.args.count c.args.set c.name_places-places.result c.requires c.name_places-places.ensures; count_in_bounds = omega arith }
+    record { set_name_places = set-named c.args.sheet.now c.args.count c.args.set c.name_places-places.result c.requires c.name_places-places.ensures; x_in_bounds = omega arith }
 
 pub returns : goal.returns
 returns c =

@@ -20,8 +20,8 @@ keys_of-keys-requires c =
 pub check_line-read-requires : goal.check_line-read-requires
 check_line-read-requires c =
     let wide : (c.read_sheet-reading.result.setup.count ≤ length c.keys_of-keys.result.low) × (c.read_sheet-reading.result.setup.count ≤ length c.keys_of-keys.result.high) × (c.read_sheet-reading.result.setup.count ≤ 64) = let few = (lines-there _ _ (accepts-of _ c.read_sheet-reading.result c.read_sheet-reading.ensures c.if-number-ne0.false)).few in
-    let low : length c.keys_of-keys.result.low ≡ 64 = search (rules, c.keys_of-keys.type-inv) in
-    let high : length c.keys_of-keys.result.high ≡ 64 = search (rules, c.keys_of-keys.type-inv) in
+    let low : length c.keys_of-keys.result.low ≡ 64 = search (rules, c.keys_of-keys.type_inv) in
+    let high : length c.keys_of-keys.result.high ≡ 64 = search (rules, c.keys_of-keys.type_inv) in
     (omega (arith, few, low), omega (arith, few, high), few) in
     wide
 
@@ -37,13 +37,13 @@ returns-then-handed-read c =
 
 pub slice_bounds-put_sets-end-2 : goal.slice_bounds-put_sets-end-2
 slice_bounds-put_sets-end-2 c =
-    search (rules, c.keys_of-keys.type-inv)
+    search (rules, c.keys_of-keys.type_inv)
 
 pub put_sets-requires : goal.put_sets-requires
 put_sets-requires c =
     let wide : (c.read_sheet-reading.result.setup.count ≤ length c.keys_of-keys.result.low) × (c.read_sheet-reading.result.setup.count ≤ length c.keys_of-keys.result.high) × (c.read_sheet-reading.result.setup.count ≤ 64) = let few = (lines-there _ _ (accepts-of _ c.read_sheet-reading.result c.read_sheet-reading.ensures c.if-number-ne0.false)).few in
-    let low : length c.keys_of-keys.result.low ≡ 64 = search (rules, c.keys_of-keys.type-inv) in
-    let high : length c.keys_of-keys.result.high ≡ 64 = search (rules, c.keys_of-keys.type-inv) in
+    let low : length c.keys_of-keys.result.low ≡ 64 = search (rules, c.keys_of-keys.type_inv) in
+    let high : length c.keys_of-keys.result.high ≡ 64 = search (rules, c.keys_of-keys.type_inv) in
     (omega (arith, few, low), omega (arith, few, high), few) in
     let a = c.args in
     let w = wide in

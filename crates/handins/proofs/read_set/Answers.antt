@@ -20,8 +20,8 @@ keys_of-keys-requires c =
 pub set_of-field-requires : goal.set_of-field-requires
 set_of-field-requires c =
     let wide : (c.read_sheet-reading.result.setup.count ≤ length c.keys_of-keys.result.low) × (c.read_sheet-reading.result.setup.count ≤ length c.keys_of-keys.result.high) × (c.read_sheet-reading.result.setup.count ≤ 64) = let few = (lines-there _ _ (accepts-of _ c.read_sheet-reading.result c.read_sheet-reading.ensures c.if-number-ne0.false)).few in
-    let low : length c.keys_of-keys.result.low ≡ 64 = search (rules, c.keys_of-keys.type-inv) in
-    let high : length c.keys_of-keys.result.high ≡ 64 = search (rules, c.keys_of-keys.type-inv) in
+    let low : length c.keys_of-keys.result.low ≡ 64 = search (rules, c.keys_of-keys.type_inv) in
+    let high : length c.keys_of-keys.result.high ≡ 64 = search (rules, c.keys_of-keys.type_inv) in
     (omega (arith, few, low), omega (arith, few, high), few) in
     wide
 

@@ -25,7 +25,7 @@ pub put_set_row-next-requires : goal.put_set_row-next-requires
 put_set_row-next-requires c =
     let l = c.loop-row in
     let h = c.requires.rows_ready in
-    record { name_place = h.name; set_name_places = (h.sets l.row (omega arith)).names; sum_in_bounds = row_fits _ _ _ _ _ _ _ _ _ _ h (omega arith) _ _ _ c.set_sum-sum.ensures (c.shared_slice_known-in-loop-row-1.given l.row).fits (omega arith) }
+    record { name_place = h.name; set_name_places = (h.sets l.row (omega arith)).names; sum_in_bounds = row_fits _ _ _ _ _ _ _ _ _ _ h (omega arith) _ _ _ c.set_sum-sum.ensures (omega arith) (omega arith) }
 
 pub loop-row-smaller : goal.loop-row-smaller
 loop-row-smaller c = omega arith
@@ -35,7 +35,7 @@ loop-row-preserved c =
     let l = c.loop-row in
     let h = c.requires.rows_ready in
     rows_more _ _ _ _ _ _ _ _ _ _ _ _ l.invariant (omega arith) h.here _ _ _ c.set_sum-sum.ensures
-    (row_fits _ _ _ _ _ _ _ _ _ _ h (omega arith) _ _ _ c.set_sum-sum.ensures (c.shared_slice_known-in-loop-row-1.given l.row).fits (omega arith)) c.put_set_row-next.ensures.row_written
+    (row_fits _ _ _ _ _ _ _ _ _ _ h (omega arith) _ _ _ c.set_sum-sum.ensures (omega arith) (omega arith)) c.put_set_row-next.ensures.row_written
 
 pub shape_of-out : goal.shape_of-out
 shape_of-out c = part_length _ _ _ _ _ _ c.loop-row.invariant.part

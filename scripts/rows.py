@@ -108,6 +108,7 @@ CHANGES = [
     ("report", "fn print_report() {", "use std::io::Cursor;\nfn print_report() {", 1),
     ("report", "fn print_report() {", "use std::io as ready;\nfn print_report() {", 1),
     ("report", "fn print_report() {", "use std::io::Write;\nfn print_report() {", 0),
+    ("report", "fn print_report() {", "use std::io;\nfn print_report() {\n    let n = io::copy(a, b);", 1),
     ("report", "fn print_report() {", 'fn print_report() {\n    let line = std::str::from_utf8(b"row");', 1),
     ("report", "fn print_report() {", "fn print_report(alloc: Global) {\n    let line = Vec::new(alloc);", 2),
     ("report_rows", "{\n", "{\n    let line = Vec::new(rt.alloc());\n", 1),
@@ -272,6 +273,9 @@ def line_faults(lines):
             yield number, "memory from an allocator"
         if re.search(r"\bstd\b", line) and line.strip() not in LIBRARY:
             yield number, f"{line.strip()}, of which it is not known what it gives"
+        for found in re.finditer(r"(?<!::)\bio::(?!(?:Error|Result)\b)\w+", line):
+            if line.strip() not in LIBRARY:
+                yield number, f"{found[0]}, of which it is not known what it gives"
 
 
 def faults_of(crate, text, constants, seen, signatures):

@@ -13,7 +13,7 @@ help:
 	@echo 'make dist       a tarball and a Debian package in build/dist, which need no kit'
 	@echo 'make definitions  prints every definition that must be believed; DEMAND=3, CALL=portal_kinds, POINT=9 for what one rests on'
 	@echo 'make quick      layout, contracts, rows, map, index and header, in seconds'
-	@echo 'make test       the gate: proves every crate, tries the edits that must fail, runs all tests (hours where nothing was proved before)'
+	@echo 'make test       the gate: proves every crate, tries the edits that must fail, runs all tests (about an hour of processor time where nothing was proved before)'
 	@echo 'make prove      the proofs alone'
 	@echo 'make fuzz       fresh inputs against the brute force; SECONDS=600, SEED=7'
 	@echo 'make bench, make mutate, make alter   measurements and records: README has a line for each'

@@ -95,8 +95,8 @@ def types(file):
 
 
 def declaration(path, name):
-    """A struct or an enum of a source file, with the comment above it."""
-    found = re.search(rf"^(?://.*\n|#\[.*\n)*pub (?:struct|enum) {name}\b(?:.*;$| \{{\n(?:.*\n)*?\}}$)", path.read_text(encoding="utf-8"), re.M)
+    """A struct, an enum or another name of one in a source file, with the comment above it."""
+    found = re.search(rf"^(?://.*\n|#\[.*\n)*pub (?:struct|enum|type) {name}\b(?:.*;$| \{{\n(?:.*\n)*?\}}$)", path.read_text(encoding="utf-8"), re.M)
     if not found:
         raise SystemExit(f"no type {name} in {path.relative_to(ROOT)}")
     return found[0]
@@ -118,9 +118,10 @@ def named_in(crate, module, name):
     path = source(crate, module)
     text = path.read_text(encoding="utf-8")
     words = re.findall(r"\b[A-Z]\w*", re.sub(r"//.*", "", declaration(path, name)))
-    here = {word: (crate, module, word) for word in re.findall(r"^pub (?:struct|enum) (\w+)", text, re.M)}
+    here = {word: (crate, module, word) for word in re.findall(r"^pub (?:struct|enum|type) (\w+)", text, re.M)}
     for home, part, word in re.findall(r"\b(\w+)(?:::(\w+))?::([A-Z]\w*)", declaration(path, name)) + list(brought(text)):
-        here[word] = (crate if home == "crate" else home, part or "lib", word)
+        if home != "std":
+            here[word] = (crate if home == "crate" else home, part or "lib", word)
     return [here[word] for word in dict.fromkeys(words) if word in here and word != name]
 
 

@@ -38,7 +38,8 @@ How to read it
     record          all of its parts: it holds where the conditions do, for some values of the parts that are none. data: one case of several
     abbrev, unfoldable, pub   define a name by equations, and let other files use it; which of the two matters to proofs alone
     map f l         f of each element of l. replicate n x: n times x. set l i x: l with x at place i. max a b: the larger one. a && b, a || b: both, one of them
-    struct, enum    types of the code: numbers of any width are ℕ here, an array is a list, and a case may have a short name before it"""
+    Option A        Some a, for an a of A, or None. Result A E: Ok a, or Err e for an e of E
+    struct, enum, type   types of the code: numbers of any width are ℕ here, an array is a list, and a case may have a short name before it"""
 
 
 def paragraphs(file):

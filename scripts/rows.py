@@ -2,8 +2,8 @@
 """Checks that rows are written straight into the bytes that go out, with none built elsewhere and copied (document 02, point 7).
 
 The crates of the program `report` that write rows, and all crates below them, have no byte array: none that a function makes, no field, no
-constant and no answer, and no memory from an allocator. The program has two, named below, and one more, for the words of a failed read or
-write. Of the library they use what is named below, and nothing else. So there is no byte array to build a row in, or its digits, names and
+constant and no answer, and no memory from an allocator. The program has two, named below, and two more: one for the words of a failed read or
+write, and one for the eight bytes of a name that are read as one number. Of the library they use what is named below, and nothing else. So there is no byte array to build a row in, or its digits, names and
 sums, and to copy them from. Byte strings are no such place: they are constants, and rows have their fixed words from them. Where rows are written, arrays of words and of structs are named below too, by function, so that no row is packed
 into words; and no function reads from the bytes that are lent to it for writing, so that no row is built behind its place and moved. Pooling is
 not looked at, which writes a sheet and no report. The exit status is 1 where something of this does not hold. `rows.py FOLDER` looks at another
@@ -19,35 +19,38 @@ from contracts import functions
 WHOLE = "report"
 # All crates of that program that stand on one of these write rows, and these two: one puts bytes into a lent buffer, one hands bytes to the system.
 GROUND = {"writing", "streams"}
-# The byte arrays that there are, by crate, function and name: what is read, the bytes that go out, and an error's words. Each is made once.
-OWN = {("report", "main", "sheet"), ("report", "print_report", "out"), ("streams", "fail", "text")}
+# The byte arrays that there are, by crate, function and name: what is read, the bytes that go out, an error's words, and eight bytes of a name. Each is
+# made once.
+OWN = {("report", "main", "sheet"), ("report", "print_report", "out"), ("streams", "fail", "text"), ("sheet_fields", "pack", "bytes")}
 # The arrays of words and of structs that functions make where rows are written, by crate, function and name (empty where it has none): tables,
 # lists and figures, and no bytes. Each is made once.
 PERMITTED = {
     ("report", "print_report", "opening"),
     ("report", "print_report", "lockout"),
     ("report", "print_report", "list"),
-    ("report_facts", "ranks_of", "r"),
     ("report_facts", "below_all", "r"),
     ("report_facts", "name_places", "from"),
     ("report_facts", "name_places", "to"),
     *(("report_writer", "no_facts", field) for field in ("starts", "losses", "scores", "risks", "below", "from", "to")),
 }
-# What is used of the library, each by a line of its own: none of it gives a byte array.
-LIBRARY = {"use std::io;", "use std::io::Write;", "use std::io::{ErrorKind, Read, Write};"}
+# What is used of the library, each by a line of its own: none of it gives a byte array. The one array by a closure is of numbers of sets.
+LIBRARY = {"use std::io;", "use std::io::Write;", "use std::io::{ErrorKind, Read, Write};", "use std::marker::PhantomData;", "std::array::from_fn(|v| 1 << v)"}
 # The method of the library that writes to bytes lent for writing, which is how a file or the standard input is read.
 READ = ".read"
 # What allocates is passed an allocator.
 HEAP = re.compile(r"\b(?:alloc|Global)\b")
 # A type of byte arrays, or one that may be one: of signed bytes, or of a parameter.
 TYPE = re.compile(r"\[\s*(?:[ui]8|[A-Z])\s*;")
-# Another name for a type could hide such an array.
-ALIAS = re.compile(r"^\s*(?:pub\s+)?type\b")
+# Another name for a type could hide such an array. These two are of scores, and the type of what an iterator gives is no array where it is a word.
+ALIAS = re.compile(r"^\s*(?:pub\s+)?type\b(?! Item = (?:[ui](?:16|32|64|128|size)|bool);$)")
+ALIASES = {"pub type SecurityScore = Score<Security>;", "pub type RecoverabilityScore = Score<Recoverability>;"}
 WORDS = re.compile(r"(?:[ui](?:16|32|64|128|size)|bool|[A-Z]\w+)")
+# Bytes lent for writing, as a parameter's type.
+LENT = re.compile(r"&mut \[(?:u8|[A-Z])\]")
 # A byte string by value.
 COPIED = re.compile(r'\*\s*b""')
 LITERAL = re.compile(r"""//[^\n]*|/\*.*?\*/|b"(?:[^"\\]|\\.)*"|b'(?:[^'\\]|\\.)*'""", re.S)
-CLAUSE = re.compile(r"^\s*(requires|ensures|ghost)\b")
+CLAUSE = re.compile(r"^\s*(requires|ensures|ghost|#!?\[tactic)\b")
 # Bodies that the check has to tell apart, with how many byte arrays each makes: so it is seen in every run that it can fail.
 BODIES = {
     "let mut digits = [0u8; 20];": 1,
@@ -72,6 +75,7 @@ BODIES = {
     "let sums: [u64; 64] = [0u64; 64];": 0,
     "let none = SecurityScore::of(0); let scores = [none; 64];": 0,
     "let mut vertices = [rows::UNUSED; 64];": 0,
+    "let mut r = [0; 64]; r": 1,
 }
 # A program that has no fault, by crates: what each depends on, and its source.
 PROGRAM = {
@@ -79,7 +83,8 @@ PROGRAM = {
     "beside": ("", "pub fn copy() {\n    let line = [0u8; 300];\n}"),
     "writing": ("", "pub fn put_byte(b: u8, out: &mut [u8], at: usize) {\n    out[at] = b;\n}"),
     "pool": ("writing", "pub fn colours() {\n    let digits = [0u8; 256];\n}"),
-    "report_rows": ("ground writing", "pub fn put_row(out: &mut [u8]) {\n    writing::put_byte(ground::least(1) as u8, out, 0);\n}"),
+    "sheet_fields": ("", "fn pack() -> u64 {\n    let mut bytes = [0; WORD_BYTES];\n    u64::from_le_bytes(bytes)\n}"),
+    "report_rows": ("ground writing sheet_fields", "pub fn put_row(out: &mut [u8]) {\n    writing::put_byte(ground::least(1) as u8, out, 0);\n}"),
     "streams": (
         "",
         "use std::io::{ErrorKind, Read, Write};\npub fn read_once<R: Read>(r: &mut R, b: &mut [u8]) {\n    let n = r.read(&mut b[1..]);\n}\n"
@@ -97,6 +102,11 @@ CHANGES = [
     ("ground", "pub fn", "struct Line {\n    bytes: [u8; 300],\n}\npub fn", 1),
     ("ground", "pub fn", "struct Line<T> {\n    items: [T; 300],\n}\npub fn", 1),
     ("ground", "pub fn", "type Line = u8;\npub fn", 1),
+    ("ground", "pub fn", "    type Item = usize;\npub fn", 0),
+    ("ground", "pub fn", "    type Item = Line;\npub fn", 1),
+    ("ground", "pub fn", "fn all() -> [u64; 9] {\n    let mut r = [0; 9];\n    r\n}\npub fn", 0),
+    ("ground", "pub fn", "fn all() -> [u64; 9] {\n    let mut r = [0; 9];\n    let w = [0u64; 9];\n    w\n}\npub fn", 1),
+    ("ground", "    n", "    let w = std::array::from_fn(|v| v as u8); n", 1),
     ("beside", "300", "301", 0),
     ("pool", "256", "257", 0),
     ("report_rows", "pub fn", "const BLANK: [u8; 2] = [32, 32];\npub fn", 1),
@@ -119,6 +129,9 @@ CHANGES = [
     ("ground", "    n", "    let mut words = [0u64; 40]; n", 0),
     ("report_rows", "ground::least(1) as u8", "out[9]", 1),
     ("report_rows", "{\n", "{\n    let free = out;\n", 1),
+    ("report_rows", "pub fn", "fn put<T>(self, out: &mut [T], at: usize) {\n    out[at..].copy_from_slice(items);\n}\nfn put_all(out: &mut [u8]) {\n    row.put(out, 0);\n}\npub fn", 0),
+    ("report_rows", "pub fn", "fn put<T>(out: &mut [T], at: usize) {\n    out[at..].copy_from_slice(&out[..at]);\n}\npub fn", 1),
+    ("report_rows", "pub fn", "fn put<T>(out: &mut [T], at: usize) {\n    out.copy_within(at..at + 9, 0);\n}\npub fn", 1),
     ("report_rows", "{\n", "{\n    shown(&out[9..]);\n", 1),
     ("writing", "out[at] = b;", "if out[at] == b { out[at] = b; }", 1),
     ("writing", "out[at] = b;", "out[at] = out[at + 1];", 1),
@@ -205,19 +218,25 @@ def made(body):
             yield found.start(), before, first, field.group(1) if field else ""
 
 
+def is_answer(name, head, body):
+    """Is the variable what the function hands back, and that an array of words?"""
+    kind = re.search(r"->\s*\[\s*(\w+)\s*;", head)
+    return bool(kind and name and WORDS.fullmatch(kind.group(1)) and re.search(rf"[;}}]\s*{name}\s*}}\s*$", body))
+
+
 def arrays(head, body, constants):
     """Yields the place and the name of each byte array that a body makes; the name is empty where it has none."""
     for place, before, first, field in made(body):
         # A field of a struct has its type where the struct is declared.
-        if not field and is_byte(first, head, body, constants):
+        if not field and not is_answer(name_of(before), head, body) and is_byte(first, head, body, constants):
             yield place, name_of(before)
     for found in COPIED.finditer(body):
         yield found.start(), name_of(body[: found.start()].rstrip())
 
 
 def lent_for_writing(head):
-    """The parameters that are bytes lent for writing."""
-    return re.findall(r"\b(\w+)\s*:\s*&\s*mut\s*\[\s*u8\s*\]", head)
+    """The parameters that are bytes lent for writing, or may be: of a parameter's type."""
+    return re.findall(r"\b(\w+)\s*:\s*&\s*mut\s*\[\s*(?:u8|[A-Z])\s*\]", head)
 
 
 def calls(body):
@@ -239,7 +258,7 @@ def lends_on(body, name, signatures):
     for called, args in calls(body):
         kinds = signatures.get(called.lstrip(".").split("::")[-1], set())
         for at, (start, arg) in enumerate(args):
-            if whole.fullmatch(arg) and (called == READ or kinds and all(len(k) > at and "&mut [u8]" in k[at] for k in kinds)):
+            if whole.fullmatch(arg) and (called == READ or kinds and all(len(k) > at and LENT.search(k[at]) for k in kinds)):
                 yield start + body[start:].index(name)
 
 
@@ -249,7 +268,7 @@ def reads_back(head, body, signatures):
         fine = set(lends_on(body, name, signatures))
         for found in re.finditer(rf"\b{name}\b", body):
             behind = body[found.end() :]
-            stored = re.match(r"\[[^\[\]]*(?:\[[^\]]*\][^\[\]]*)*\]\s*=(?!=)", behind)
+            stored = re.match(r"\[[^\[\]]*(?:\[[^\]]*\][^\[\]]*)*\](?:\s*=(?!=)|\.copy_from_slice\()", behind)
             if not stored and not behind.startswith(".len()") and found.start() not in fine:
                 yield found.start()
 
@@ -267,7 +286,7 @@ def line_faults(lines):
             continue
         if TYPE.search(line):
             yield number, "a type of byte arrays"
-        if ALIAS.match(line):
+        if ALIAS.match(line) and line.strip() not in ALIASES:
             yield number, "another name for a type"
         if HEAP.search(line):
             yield number, "memory from an allocator"
@@ -318,7 +337,8 @@ def signatures_of(texts):
     for text in texts:
         for _, _, name, head, _ in functions(text.split("\n")):
             inside = re.sub(r"\s+", " ", head.partition("(")[2].partition(")")[0])
-            kinds = tuple(part.partition(":")[2].strip() for part in inside.split(",") if part.strip())
+            # The value that a method is called on stands before its arguments.
+            kinds = tuple(part.partition(":")[2].strip() for part in inside.split(",") if part.strip() and not re.fullmatch(r"\s*(?:&|mut |\s)*self\s*", part))
             found.setdefault(name, set()).add(kinds)
     return found
 

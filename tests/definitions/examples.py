@@ -12,6 +12,11 @@ Attempt, Doc, EdgeRow, Graph, ItemRow, Made, Record, Registered, Rows, Setup, St
 Account, Credential, empty_graph, never, unused_vertex = "Account", "Credential", THE.empty_graph, THE.never, THE.unused_vertex
 less_recovery, pooled, read_sheet, setup_of = THE.less_recovery, THE.pooled, THE.read_sheet, THE.setup_of
 
+# The refusals by their numbers.
+REFUSALS = "TooLong NoText Header Fields Form NameUsed Bound NameUnknown EdgeTwice NoRows NoEdgePart NoSetup NoItem Outside Short KindsLength".split()
+REFUSALS += "NoKind NoColour EdgeThere NoEdge Stranger Disagree PoolBound PoolShort Overfull AllUsed NoRecord".split()
+NO = dict(enumerate(REFUSALS, 1))
+
 
 def render(d):
     return list(THE.render(d))
@@ -1309,6 +1314,8 @@ def of_living(D):
         ("take out: 13", lambda: living_call(D, D.TakeOut(5), bench, 13, bench), True),
         ("not take in: another number", lambda: living_call(D, IN, bench, 13, TAKEN), False),
         ("back: the setup as it was", lambda: D.back(stale, 12) == D.Redrawing(12, stale), True),
+        ("handed back: the setup as it then is", lambda: D.handed_back(stale, ("Ok", bench)) == D.Redrawing(0, bench), True),
+        ("handed back: a refusal, and the setup as it was", lambda: D.handed_back(stale, ("Err", NO[12])) == D.Redrawing(12, stale), True),
         ("refused stays", lambda: D.among(runs=stays, ends=[EMPTY, bench], setups=on_way)(D.RefusedStays), True),
         ("opened always: a refused text", lambda: D.among(runs=stays, ends=[EMPTY], setups=on_way)(D.OpenedAlways), True),
         ("contracts: order and mail out of rank", lambda: D.Fulfils(D.contract_of(("OutOfRank", ORDER, MAIL), bench), ended(D, 0, [1])), True),
@@ -1492,15 +1499,16 @@ def of_contracts(D):
         ("not asks 12: no item", lambda: D.asks12(EMPTY).Yes(), False),
         ("not asks 13: the count", lambda: D.asks13(bench, 5).Yes(), False),
         ("not asks 14: item 5", lambda: D.asks14(bench, 32).Yes(), False),
-        ("replies: closure and lost set", lambda: [D.closure_reply(("Opened", 26, 3)), D.closure_reply(("Refused", 14)), D.lost_reply(("Lost", 10)), D.lost_reply(("Refused", 12))] == [D.gives([26, 3]), D.refuses(14), D.gives([10]), D.refuses(12)], True),
-        ("replies: way", lambda: [D.way_reply(("Steps", 2)), D.way_reply("Shut"), D.way_reply(("Refused", 15))] == [D.gives([1, 2]), D.gives([0]), D.refuses(15)], True),
-        ("replies: quick", lambda: [D.quick_reply(("Yes", 26)), D.quick_reply(("No", 2)), D.quick_reply(("Refused", 14))] == [D.gives([1, 26]), D.gives([0, 2]), D.refuses(14)], True),
-        ("replies: lists, score, risk", lambda: [D.bases_reply(("Counts", 2, 3)), D.bases_reply(("Refused", 15)), D.score_reply(("Score", 1)), D.score_reply(("Refused", 13)), D.risk_reply(("Risk", 3)), D.risk_reply(("Refused", 12))] == [D.gives([2, 3]), D.refuses(15), D.gives([1]), D.refuses(13), D.gives([3]), D.refuses(12)], True),
-        ("replies: marks", lambda: [D.marks_reply(("Marked", D.Marks(1, 2, 3, 4, 5))), D.marks_reply(("Refused", 13))] == [D.gives([1, 2, 3, 4, 5]), D.refuses(13)], True),
-        ("replies: findings", lambda: [D.finding_reply(("Is", True)), D.finding_reply(("Is", False)), D.finding_reply(("Refused", 13))] == [D.gives([1]), D.gives([0]), D.refuses(13)], True),
-        ("replies: forecast, cut sets, kinds, bags", lambda: [f((kind, 9)) for f, kind in ((D.forecast_reply, "Sets"), (D.cuts_reply, "Sets"), (D.attacker_reply, "Attackers"), (D.bags_reply, "Multisets"))] == [D.gives([9])] * 4, True),
-        ("replies: their refusals", lambda: [f(("Refused", 13)) for f in (D.forecast_reply, D.cuts_reply, D.attacker_reply, D.bags_reply)] == [D.refuses(13)] * 4, True),
-        ("replies: next", lambda: [D.next_reply(("Set", 5)), D.next_reply("NoMoreSets"), D.next_reply(("Refused", 21))] == [D.gives([1, 5]), D.gives([0]), D.refuses(21)], True),
+        ("refusals: their numbers", lambda: [D.number(refusal) for refusal in REFUSALS] == [*range(1, 28)], True),
+        ("replies: closure and lost set", lambda: [D.closure_reply(("Ok", D.Opened(26, 3))), D.closure_reply(("Err", NO[14])), D.lost_reply(("Ok", 10)), D.lost_reply(("Err", NO[12]))] == [D.gives([26, 3]), D.refuses(14), D.gives([10]), D.refuses(12)], True),
+        ("replies: way", lambda: [D.way_reply(("Ok", 2)), D.way_reply(("Ok", None)), D.way_reply(("Err", NO[15]))] == [D.gives([1, 2]), D.gives([0]), D.refuses(15)], True),
+        ("replies: quick", lambda: [D.quick_reply(("Ok", D.QuickAnswer(True, 26))), D.quick_reply(("Ok", D.QuickAnswer(False, 2))), D.quick_reply(("Err", NO[14]))] == [D.gives([1, 26]), D.gives([0, 2]), D.refuses(14)], True),
+        ("replies: lists, score, risk", lambda: [D.bases_reply(("Ok", D.Lengths(2, 3))), D.bases_reply(("Err", NO[15])), D.score_reply(("Ok", 1)), D.score_reply(("Err", NO[13])), D.risk_reply(("Ok", 3)), D.risk_reply(("Err", NO[12]))] == [D.gives([2, 3]), D.refuses(15), D.gives([1]), D.refuses(13), D.gives([3]), D.refuses(12)], True),
+        ("replies: marks", lambda: [D.marks_reply(("Ok", D.Marks(1, 2, 3, 4, 5))), D.marks_reply(("Err", NO[13]))] == [D.gives([1, 2, 3, 4, 5]), D.refuses(13)], True),
+        ("replies: findings", lambda: [D.finding_reply(("Ok", True)), D.finding_reply(("Ok", False)), D.finding_reply(("Err", NO[13]))] == [D.gives([1]), D.gives([0]), D.refuses(13)], True),
+        ("replies: forecast, cut sets, kinds, bags", lambda: [f(("Ok", 9)) for f in (D.forecast_reply, D.cuts_reply, D.attacker_reply, D.bags_reply)] == [D.gives([9])] * 4, True),
+        ("replies: their refusals", lambda: [f(("Err", NO[13])) for f in (D.forecast_reply, D.cuts_reply, D.attacker_reply, D.bags_reply)] == [D.refuses(13)] * 4, True),
+        ("replies: next", lambda: [D.next_reply(("Ok", 5)), D.next_reply(("Ok", None)), D.next_reply(("Err", NO[21]))] == [D.gives([1, 5]), D.gives([0]), D.refuses(21)], True),
     ]
 
 
@@ -1660,21 +1668,22 @@ Two = namedtuple("Two", "closure lost way quick backdoor idle pair forecast cuts
 def answered(D, r):
     """The same as the code has it."""
     sets, findings = D.SetAnswers(r.closure, r.lost, r.way, r.quick), D.FindingAnswers(r.backdoor, r.idle, r.pair, r.formed)
-    return D.AnswersStruct(sets, r.lists, findings, D.SheetAnswers(r.reading, r.score, r.risk), r.forecast, r.cuts, r.attackers, r.next, D.BagAnswers(r.compared, r.bags))
+    reading = ("Err", D.SheetRefusal(NO[r.reading.number], r.reading.line)) if r.reading.number else ("Ok", r.reading.setup)
+    return D.AnswersStruct(sets, r.lists, findings, D.SheetAnswers(reading, r.score, r.risk), r.forecast, r.cuts, r.attackers, r.next, D.BagAnswers(r.compared, r.bags))
 
 
 def of_both_demands(D):
     """Demands 1 and 2 whole: of an input that is answered and of ones that are refused, and with one answer replaced."""
     sheet, five, lent, out = text(BENCH), REFUSED["refused 5"][0], [9, 9], LENT[:4]
-    three = D.AllAnswers(("Counts", 2, 2), ("Score", 1), ("Risk", 3), ("Marked", D.Marks(1, 0, 0, 0, 1)), ("Marked", D.Marks(2, 0, 0, 0, 0)))
+    three = D.AllAnswers(("Ok", D.Lengths(2, 2)), ("Ok", 1), ("Ok", 3), ("Ok", D.Marks(1, 0, 0, 0, 1)), ("Ok", D.Marks(2, 0, 0, 0, 0)))
     yes = Two(
-        *[("Opened", 26, 3), ("Lost", 10), ("Steps", 2), ("Yes", 26), ("Is", True), ("Is", False), ("Is", True), ("Sets", 3), ("Sets", 2), ("Attackers", 20)],
-        *[("Set", 5), ("Multisets", 1), three, True, True, D.accepted(bench), 1, 3],
+        *[("Ok", D.Opened(26, 3)), ("Ok", 10), ("Ok", 2), ("Ok", D.QuickAnswer(True, 26)), ("Ok", True), ("Ok", False), ("Ok", True), ("Ok", 3), ("Ok", 2), ("Ok", 20)],
+        *[("Ok", 5), ("Ok", 1), three, True, True, D.accepted(bench), 1, 3],
     )
     calls = Two._fields[:12]
-    refused = lambda q: {**{n: ("Refused", q) for n in calls}, "lists": D.AllAnswers(*[("Refused", q)] * 5)}
-    outside = yes._replace(**refused(13), reading=D.refused(5, 2), score=never + 5, risk=never + 5)._replace(closure=("Refused", 14), lost=("Refused", 14))
-    set_outside = yes._replace(risk=1, next=("Refused", 21), **{n: ("Refused", 14) for n in ("closure", "lost", "way", "quick")})
+    refused = lambda q: {**{n: ("Err", NO[q]) for n in calls}, "lists": D.AllAnswers(*[("Err", NO[q])] * 5)}
+    outside = yes._replace(**refused(13), reading=D.refused(5, 2), score=never + 5, risk=never + 5)._replace(closure=("Err", NO[14]), lost=("Err", NO[14]))
+    set_outside = yes._replace(risk=1, next=("Err", NO[21]), **{n: ("Err", NO[14]) for n in ("closure", "lost", "way", "quick")})
     malformed = yes._replace(**refused(12), formed=False)
     one_bag = [1] + [0] * 13
     values = ([0], [1], [3], [10], [0, 1], [26, 2], [26, 3], [1, 26], [0, 26], [1, 0, 0, 0, 1], [2, 0, 0, 0, 0], [20], [1, 5])
@@ -1741,24 +1750,24 @@ def of_both_demands(D):
     listed = [out, [2, 5, 3, 6], lent, [3, 6], [9] * 14, one_bag, [9], [1]]
     untouched = [lent, lent, lent, lent, out, out, lent, lent, [9] * 14, [9] * 14, [9], [9]]
     no_way, way = [lent, lent, lent, lent, *listed], [lent, [3, 4], lent, [0, 1], *listed]
-    order = (sheet, ORDER, bench, 2, ORDER, MAIL, way)
+    order, none_there = (sheet, ORDER, bench, 2, ORDER, MAIL, way), (five, 5, bench, 32, 5, MAIL, untouched)
     inputs = [
         ("order from mailpw", order, yes, True),
-        ("a refused sheet, no item, no set", (five, 5, bench, 32, 5, MAIL, untouched), outside, True),
+        ("a refused sheet, no item, no set", none_there, outside, True),
         ("a set outside", (sheet, MAIL, bench, 32, ORDER, MAIL, no_way), set_outside, True),
         ("a malformed setup", (sheet, ORDER, EMPTY, 2, ORDER, MAIL, untouched), malformed, True),
-        ("mail and order the other way round", order, yes._replace(pair=("Is", False)), False),
+        ("mail and order the other way round", order, yes._replace(pair=("Ok", False)), False),
         ("the risk for the portal's score", order, yes._replace(score=3), False),
         ("no to question 12", order, yes._replace(formed=False), False),
-        ("another line", order, yes._replace(reading=D.accepted(bench)._replace(line=1)), False),
-        ("both kinds and all above them", order, yes._replace(attackers=("Attackers", 52)), False),
-        ("the list's length for the forecast", order, yes._replace(forecast=("Sets", 2)), False),
-        ("no to what mailpw opens", order, yes._replace(quick=("No", 26)), False),
-        ("one cut set too few", order, yes._replace(cuts=("Sets", 1)), False),
-        ("the first set for the next", order, yes._replace(next=("Set", 2)), False),
+        ("another line", none_there, outside._replace(reading=D.refused(5, 3)), False),
+        ("both kinds and all above them", order, yes._replace(attackers=("Ok", 52)), False),
+        ("the list's length for the forecast", order, yes._replace(forecast=("Ok", 2)), False),
+        ("no to what mailpw opens", order, yes._replace(quick=("Ok", D.QuickAnswer(False, 26))), False),
+        ("one cut set too few", order, yes._replace(cuts=("Ok", 1)), False),
+        ("the first set for the next", order, yes._replace(next=("Ok", 2)), False),
         ("no to {2} at most {3, 6}", order, yes._replace(compared=False), False),
-        ("one bag too many", order, yes._replace(bags=("Multisets", 2)), False),
-        ("the score for the risk", order, yes._replace(lists=three._replace(risk=("Risk", 1))), False),
+        ("one bag too many", order, yes._replace(bags=("Ok", 2)), False),
+        ("the score for the risk", order, yes._replace(lists=three._replace(risk=("Ok", 1))), False),
     ]
 
     def demand(f, a, r):
@@ -2098,6 +2107,8 @@ def of_pools(D):
         ("call: pool, the second refused in line 3", lambda: D.among(docs=docs)(lambda: D.PoolCall(a, REFUSED["refused 6"][0], no(6, 2, 3), lent, lent)), True),
         ("call: pooled", lambda: D.among(docs=docs)(lambda: D.PoolCall(a, b, yes, lent, end)), True),
         ("not call: pooled, another length", lambda: D.among(docs=docs)(lambda: D.PoolCall(a, b, Pooled(0, 0, 0, 1), lent, end)), False),
+        ("pool answer: the number of bytes", lambda: D.pool_answer(("Ok", 9)) == Pooled(0, 0, 0, 9), True),
+        ("pool answer: a refusal with sheet and line", lambda: D.pool_answer(("Err", D.PoolRefusalStruct(NO[5], 2, 3))) == Pooled(5, 2, 3, 0), True),
         ("call: pool, 22", lambda: D.among(docs=docs)(lambda: D.PoolCall(a, r, no(22), lent, lent)), True),
         ("not call: pool, 22 and written", lambda: D.among(docs=docs)(lambda: D.PoolCall(a, r, no(22), lent, end)), False),
         ("call: pool, 22 before 23", lambda: D.among(docs=[five, ranked_five])(lambda: D.PoolCall(f, render(ranked_five), no(22), lent, lent)), True),
@@ -2198,6 +2209,8 @@ def of_saves(D):
         ("call: save, the sheet's number", lambda: call(4, [], lent, bad, EMPTY), True),
         ("not call: save, 12 before the sheet's number", lambda: call(12, [], lent, bad, EMPTY), False),
         ("saved there", lambda: D.among(sheets=sheets, setups=setups, docs=docs)(D.SavedThere), True),
+        ("saved: the number of bytes", lambda: D.saved(("Ok", 9)) == D.Saved(0, 9), True),
+        ("saved: a refusal", lambda: D.saved(("Err", NO[15])) == D.Saved(15, 0), True),
         ("saved unique", lambda: D.among(sheets=sheets, setups=setups, docs=docs)(D.SavedUnique), True),
         ("sheet of: what is saved", lambda: D.IsSheetOf(sheet, held, saved), True),
         ("not sheet of: other names", lambda: D.IsSheetOf(sheet, s, render(other)), False),

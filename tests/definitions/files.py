@@ -9,6 +9,8 @@ sys.path.append(str(ROOT / "scripts"))
 import antt
 import belief
 
+# The cases of std's data types: they are matched and made as those of the believed files are.
+STD_CASES = {"None", "Some", "Ok", "Err"}
 USE = re.compile(r"use ([^{ ]+?)\.?(?:\{(.*)\})?(?: as (\S+))?$")
 # What report_writer/Whole cites of the report's steps, with the same types: nothing is known at a place, and of a step only what it wrote and what it left.
 AT = """-- What is known at a place of the report: nothing, here.
@@ -81,6 +83,7 @@ def meanings(uses, found, prefix=""):
         path, brought, alias = USE.match(use).groups()
         module = re.match(r"Rattle\.(\w+)\.specs\.(.*)", path)
         if not module or module[1] == "std":
+            here |= {word: f"·{word}" for word in re.split(r",\s*", brought or "") if word in STD_CASES}
             continue
         variants, declared = "TheVariants" in path, ".declared." in path
         if alias:

@@ -75,7 +75,7 @@ class Translator:
         """`types` are those of the code, as files.py reads them."""
         self.R, self.defs, self.arity, self.implicit = ranges, {}, {}, {}
         self.heavy, self.looking, self.alias = set(), set(), {}
-        self.data = {"ℕ", "Bool", "List", "String", "Char", "Type"} | set(types)
+        self.data = {"ℕ", "Bool", "List", "Option", "Result", "String", "Char", "Type"} | set(types)
         self.records = {}
         for name, fields in types.items():
             if fields:
@@ -149,7 +149,7 @@ class Translator:
             return a[2] in TYPE_FIELDS
         if a[0] == "op" and a[1] == "×":
             return self.is_data(a[2], here) and self.is_data(a[3], here)
-        return head(a) in self.data or head(a) in here
+        return head(a) in self.data | TYPE_FIELDS or head(a) in here
 
     # ---- ranges
 
@@ -374,9 +374,9 @@ class Translator:
         raise Refused(f"{self.current}: unknown name {n}")
 
     def case_value(self, n, args):
-        if n == "Blank":
+        if n == "None":
             return "None"
-        if n == "Of":
+        if n == "Some":
             return args[0]
         return f"({n!r}, {', '.join(args)})" if args else repr(n)
 
@@ -434,7 +434,7 @@ class Translator:
             raise Refused(f"{self.current}: pattern {pattern}")
 
     def match_case(self, case, args, place, tests, scope):
-        if case in ("Blank", "Of"):
+        if case in ("None", "Some"):
             tests.append(f"{place} is {'not ' if args else ''}None")
             for p in args:
                 self.match(p, place, tests, scope)

@@ -19,10 +19,22 @@ use Rattle.successors.specs.Inner.{VertexOf, Without}
 use Rattle.successors.proofs.Members.{Passed, passed_none, passed-more, passed-all, left-within}
 use Rattle.attackers.specs.Inner.{BothAtMost, FitOver, OfKind, HeldBy, KindOpens}
 
-module _ (kinds : List ℕ) (initial : ℕ) (word : initial < 2 ^ 64) where
-  pub fit-done : ((i : ℕ) → i < 64 → Member initial i × (6 ≤ get_or kinds i 0) → ⊥) → FitOver kinds initial
-  fit-done none =
-      record { each = λ v m. ⊎_elim (λ l. omega arith) (λ l. absurd (none v (member_below 64 initial v word m) (m, l))) (less-or (get_or kinds v 0) 6) }
+-- each vertex that is no longer left has one of the six kinds
+abbrev pub Fitting : List ℕ → ℕ → ℕ → Type 0
+Fitting kinds initial left = Within left initial × ((v : ℕ) → Passed initial left v → get_or kinds v 0 ≤ 5)
+
+module _ (kinds : List ℕ) (initial : ℕ) where
+  pub fitting-none : Fitting kinds initial initial
+  fitting-none = (within-refl initial, λ v p. absurd (passed_none initial v p))
+
+  pub fitting-more : (left v rest : ℕ) → Fitting kinds initial left → VertexOf left v → Without left v rest → get_or kinds v 0 < 6 → Fitting kinds initial rest
+  fitting-more left v rest f p o l = (
+    left-within initial left v rest f.0 o,
+    λ u q. ⊎_elim (λ x. f.1 u x) (λ e. subst (λ (x : ℕ). get_or kinds x 0 ≤ 5) (sym e) (omega arith)) ((passed-more initial left v rest f.0 p.member o u).from q),
+  )
+
+  pub fitting-done : (left : ℕ) → left ≡ 0 → Fitting kinds initial left → FitOver kinds initial
+  fitting-done left e f = record { each = λ v m. f.1 v ((passed-all initial left e v).from m) }
 
 -- ---- the vertices that a kind holds
 

@@ -19,7 +19,7 @@ use Rattle.derivations.proofs.Rules.{held, least}
 use Rattle.derivations.proofs.Graphs.{access-lawful}
 use Rattle.derivations.proofs.Admits.{admits-local, admits-some, admits-derived, step-admits}
 use Rattle.successors.specs.Inner.{VertexOf, Without, Successors}
-use Rattle.closures.specs.Inner.{LowestColour, ToLookAt}
+use Rattle.closures.specs.Inner.{ToLookAt}
 use Rattle.closures.proofs.Passes.{look-all, falls-next}
 
 -- From s all of now can be opened. What now opens besides is left to be looked at.
@@ -40,10 +40,10 @@ module _ (g : Graph) (list : List ℕ) (known : Successors g list) (s : ℕ) whe
       }
 
   module _ (now left : ℕ) (h : Reaching g s now left) where
-    module _ (v rest r : ℕ) (p : VertexOf left v) (o : Without left v rest) (low : LowestColour (rows_at g v) (Member now) r) where
+    module _ (v rest : ℕ) (p : VertexOf left v) (o : Without left v rest) where
       -- v has no complete colour
-      pub reaching-skip : 8 ≤ r → Reaching g s now rest
-      reaching-skip l =
+      pub reaching-skip : (SomeComplete (rows_at g v) (Member now) → ⊥) → Reaching g s now rest
+      reaching-skip none =
           record {
             grows = h.grows;
             sound = h.sound;
@@ -51,18 +51,15 @@ module _ (g : Graph) (list : List ℕ) (known : Successors g list) (s : ℕ) whe
             whole = λ u a. ⊎_elim (λ m. inl m)
                 (λ m. inr ((o.each u).from (m, λ e. none (subst (λ (x : ℕ). SomeComplete (rows_at g x) (Member now)) e a)))) (h.whole u a);
           }
-        where
-          none : SomeComplete (rows_at g v) (Member now) → ⊥
-          none a = let q = low.lower a.colour a.complete in let x = q.0 in let y = q.1 in omega arith
 
       module _ (now' : ℕ) (t : Inserted now v now') where
         keep : (u : ℕ) → Member now u → Member now' u
         keep u m = (t.taken p.place u).from (inl m)
 
         -- v has one, and is taken in: what it helps to open needs it
-        pub reaching-take : r < 8 → rest < 2 ^ 64 → get_or list v 0 < 2 ^ 64 → now' < 2 ^ 64
+        pub reaching-take : SomeComplete (rows_at g v) (Member now) → rest < 2 ^ 64 → get_or list v 0 < 2 ^ 64 → now' < 2 ^ 64
             → Reaching g s now' (bit_and (bit_or rest (get_or list v 0)) ((2 ^ 64 - 1) - now'))
-        reaching-take l few fits small =
+        reaching-take some few fits small =
             record {
               grows = record { each = λ u m. keep u (h.grows.each u m) };
               sound = λ u m. ⊎_elim (h.sound u) (λ e. subst (HasAccess g (Member s)) (sym e) here) ((t.taken p.place u).to m);
@@ -74,7 +71,7 @@ module _ (g : Graph) (list : List ℕ) (known : Successors g list) (s : ℕ) whe
             less u = in-less (bit_or rest (get_or list v 0)) now' u (or_lt 64 rest (get_or list v 0) few fits) small
 
             here : HasAccess g (Member s) v
-            here = admits-derived false g (Member s) (Member now) v h.sound (record { colour = r; complete = low.complete l })
+            here = admits-derived false g (Member s) (Member now) v h.sound some
 
             before : (u : ℕ) → (Member (get_or list v 0) u → ⊥) → SomeComplete (rows_at g u) (Member now') → SomeComplete (rows_at g u) (Member now)
             before u n =

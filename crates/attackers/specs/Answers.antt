@@ -1,18 +1,17 @@
 -- What the call for a score by kinds of attacker answers, for every setup, target and list of kinds.
-use Rattle.std.specs.Prelude.{◌≡◌, false, List, [], ◌∷◌, ℕ, length, get_or}
+use Rattle.std.specs.Prelude.{Result, ◌≡◌, false, List, [], ◌∷◌, ℕ, length, get_or}
 use Rattle.setup.specs.declared.Setup.{Setup}
 use Rattle.setup.specs.Setup.{Chosen}
 use Rattle.questions.specs.Asks.{Question}
-use Rattle.questions.specs.Contract.{Reply, gives, refuses, Outcome, Contract, telling, Fulfils}
+use Rattle.questions.specs.declared.Refusal.{Refusal}
+use Rattle.questions.specs.Contract.{Reply, Outcome, Contract, telling, Fulfils}
+use Rattle.questions.specs.Refusals.{replies}
 use Rattle.questions.specs.Questions.{asks12, asks13}
-use Rattle.attackers.specs.declared.AttackerAnswer.{AttackerAnswer}
-use Rattle.attackers.specs.declared.AttackerAnswer.TheVariants.{Attackers, Refused}
 use Rattle.attackers.specs.Attackers.{AttackerScore, EntriesFit}
 
 -- The papers' number and values for each case of an answer: the score alone.
-abbrev pub attacker_reply : AttackerAnswer → Reply
-attacker_reply (Attackers r) = gives (r ∷ [])
-attacker_reply (Refused q) = refuses q
+abbrev pub attacker_reply : Result ℕ Refusal → Reply
+attacker_reply = replies (λ r. r ∷ [])
 
 -- 16: is the list's length the item count?
 abbrev pub asks16 : Setup → List ℕ → Question

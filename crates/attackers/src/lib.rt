@@ -11,6 +11,7 @@ ghost use Rattle.questions.specs.Contract.{ends, Fulfils};
 ghost use Rattle.attackers.specs.Answers.{attacker_reply, attacker_call};
 ghost use Rattle.attackers.specs.Inner.{BothAtMost, BothWeaker, FitOver, HeldBy, SettlesKind, KindSettled, SomeWeaker, LowestKinds, LowestOpen};
 
+use questions::Refusal;
 use setup::{Graph, Setup};
 use vertex_set::VertexSet;
 
@@ -31,44 +32,27 @@ const AT_MOST: [[bool; 6]; 6] = [
 // The order in which the kinds are tried: one in the middle first, which settles most others.
 const ORDER: [usize; 6] = [4, 1, 3, 0, 5, 2];
 
-#[derive(Drop)]
-pub enum AttackerAnswer {
-    Attackers(u64),
-    Refused(u64),
-}
-
 // Is one of the six kinds at most another of them?
 fn at_most(a: usize, b: usize) -> bool
     ensures { Decides (BothAtMost a b) result }
 {
-    if a < KINDS {
-        if b < KINDS {
-            return AT_MOST[a][b];
-        }
-    }
-    false
+    a < KINDS && b < KINDS && AT_MOST[a][b]
 }
 
 // The entry of a vertex; 0 behind the list's end.
 fn entry_of(kinds: &[u8], v: usize) -> usize
     ensures { result ≡ get_or kinds.now v 0 }
 {
-    if v < kinds.len() {
-        return kinds[v] as usize;
-    }
-    0
+    kinds.get(v).copied().unwrap_or(0) as usize
 }
 
 // Question 17: is each initial vertex's entry one of the six kinds? No other entry is read.
 fn entries_fit(kinds: &[u8], initial: VertexSet) -> bool
     ensures { Decides (FitOver kinds.now initial.0) result }
 {
-    for v in 0..64usize {
-        if initial.has(v) {
-            let kind = entry_of(kinds, v);
-            if KINDS <= kind {
-                return false;
-            }
+    for v in successors::vertices_of(initial.0) {
+        if KINDS <= entry_of(kinds, v) {
+            return false;
         }
     }
     true
@@ -79,12 +63,8 @@ fn held_by(kinds: &[u8], initial: VertexSet, t: usize) -> VertexSet
     ensures { HeldBy kinds.now initial.0 t result.0 }
 {
     let mut held = VertexSet(0);
-    let mut left = initial.0;
-    while left != 0 {
-        let v = successors::lowest(left);
-        left = successors::without(left, v);
-        let kind = entry_of(kinds, v);
-        if at_most(kind, t) {
+    for v in successors::vertices_of(initial.0) {
+        if at_most(entry_of(kinds, v), t) {
             held = held.insert(v);
         }
     }
@@ -109,7 +89,7 @@ fn reaches(graph: Graph, list: &[u64], set: VertexSet, target: usize) -> bool
         let v = successors::lowest(left);
         left = successors::without(left, v);
         let rows = graph.rows[v];
-        if closures::lowest_colour(rows, held) < successors::COLOURS {
+        if closures::lowest_colour(rows, held).is_some() {
             held = held.insert(v);
             // Of the vertices outside `left`, only one that needs v can be opened now.
             left = (left | list[v]) & !held.0;
@@ -122,22 +102,14 @@ fn reaches(graph: Graph, list: &[u64], set: VertexSet, target: usize) -> bool
 fn settles(able: VertexSet, unable: VertexSet, j: usize, t: usize) -> bool
     ensures { Decides (SettlesKind able.0 unable.0 j t) result }
 {
-    if able.has(j) {
-        if at_most(j, t) {
-            return true;
-        }
-    }
-    if unable.has(j) {
-        return at_most(t, j);
-    }
-    false
+    able.has(j) && at_most(j, t) || unable.has(j) && at_most(t, j)
 }
 
 // Does some kind that was tried settle the kind t?
 fn is_known(able: VertexSet, unable: VertexSet, t: usize) -> bool
     ensures { Decides (KindSettled able.0 unable.0 t) result }
 {
-    for j in 0..6usize {
+    for j in 0..KINDS {
         if settles(able, unable, j, t) {
             return true;
         }
@@ -149,21 +121,16 @@ fn is_known(able: VertexSet, unable: VertexSet, t: usize) -> bool
 fn is_weaker(a: usize, b: usize) -> bool
     ensures { Decides (BothWeaker a b) result }
 {
-    if a == b {
-        return false;
-    }
-    at_most(a, b)
+    a != b && at_most(a, b)
 }
 
 // Is a kind of the set below the kind k?
 fn has_weaker(set: VertexSet, k: usize) -> bool
     ensures { Decides (SomeWeaker set.0 k) result }
 {
-    for j in 0..6usize {
-        if set.has(j) {
-            if is_weaker(j, k) {
-                return true;
-            }
+    for j in 0..KINDS {
+        if set.has(j) && is_weaker(j, k) {
+            return true;
         }
     }
     false
@@ -175,11 +142,8 @@ fn lowest_of(able: VertexSet) -> VertexSet
     ensures { LowestKinds (Member able.0) result.0 }
 {
     let mut found = VertexSet(0);
-    for t in 0..6usize {
-        if has_weaker(found, t) {
-            continue;
-        }
-        if able.has(t) {
+    for t in 0..KINDS {
+        if able.has(t) && !has_weaker(found, t) {
             found = found.insert(t);
         }
     }
@@ -195,8 +159,7 @@ fn lowest_kinds(graph: Graph, kinds: &[u8], initial: VertexSet, target: usize) -
     successors::fill(graph, &mut list);
     let mut able = VertexSet(0);
     let mut unable = VertexSet(0);
-    for place in 0..6usize {
-        let t = ORDER[place];
+    for t in ORDER {
         if is_known(able, unable, t) {
             continue;
         }
@@ -212,22 +175,18 @@ fn lowest_kinds(graph: Graph, kinds: &[u8], initial: VertexSet, target: usize) -
 
 // The target's score by kinds of attacker. `kinds` has one for each vertex; those of initial vertices
 // alone are read.
-pub fn attacker_score(s: Setup, target: usize, kinds: &[u8]) -> AttackerAnswer
+pub fn attacker_score(s: Setup, target: usize, kinds: &[u8]) -> Result<u64, Refusal>
     ensures { Fulfils (attacker_call s target kinds.now) (ends (attacker_reply result) []) }
 {
     let formed = formed::well_formed(s);
-    let asked = questions::ask_target(formed, s.count, target);
-    if asked != 0 {
-        return AttackerAnswer::Refused(asked);
-    }
+    questions::ask_target(formed, s.count, target)?;
     if kinds.len() != s.count {
-        return AttackerAnswer::Refused(questions::KINDS_LENGTH);
+        return Err(Refusal::KindsLength);
     }
     let initial = setup::chosen(s, false);
-    if entries_fit(kinds, initial) {
-        let graph = s.graph;
-        let score = lowest_kinds(graph, kinds, initial, target);
-        return AttackerAnswer::Attackers(score.0);
+    if !entries_fit(kinds, initial) {
+        return Err(Refusal::NoKind);
     }
-    AttackerAnswer::Refused(questions::NO_KIND)
+    let score = lowest_kinds(s.graph, kinds, initial, target);
+    Ok(score.0)
 }

@@ -9,7 +9,7 @@ use native.Mathlib.Omega.{arith}
 use lib.ListN.{length}
 use lib.Count.{ones}
 use Rattle.vertex_set.specs.Set.{Within, Iff}
-use Rattle.vertex_set.specs.Order.{Smallest, ListsExactly, sum_over}
+use Rattle.vertex_set.specs.Order.{Smallest, sum_over}
 use Rattle.vertex_set.proofs.Cases.{search-below}
 use Rattle.vertex_set.proofs.Lists.{exactly-same}
 use Rattle.vertex_set.proofs.Sets.{within-trans}

@@ -3,7 +3,7 @@
 use mathlib.Core.Path.{◌≡◌, refl, sym, ap, subst, ◌∙◌}
 use mathlib.Core.Bool.{Bool, true, false}
 use mathlib.Core.List.{List, [], ◌∷◌}
-use mathlib.Core.Logic.{◌⊎◌, ⊎_elim}
+use mathlib.Core.Logic.{⊎_elim}
 use Prim.Native.Nat.{ℕ, suc, ◌*◌, ◌/◌, ◌≤◌, ◌<◌}
 use native.Mathlib.Omega.{arith}
 use lib.Count.{ones}
@@ -15,8 +15,7 @@ use Rattle.vertex_set.proofs.Digits.{digit-first, digit-suc}
 use Rattle.vertex_set.proofs.Sets.{member-or, not-member}
 use Rattle.vertex_set.proofs.Sums.{sum_first}
 use Rattle.setup.specs.Bounds.{largest, most_chosen}
-use Rattle.setup.specs.declared.Value.{Value}
-use Rattle.setup.specs.declared.Value.TheVariants.{Blank, Of}
+use Rattle.std.specs.Prelude.{Option, None, Some}
 use Rattle.setup.specs.declared.Vertex.{Vertex}
 use Rattle.setup.specs.declared.Setup.{Setup}
 use Rattle.setup.specs.Setup.{points, given, value_of, vertex_at, unused_vertex, total, chosen_count, ChosenSet}
@@ -29,9 +28,9 @@ pub few : (loss : Bool) (s : Setup) (chosen : ℕ) → WellFormed s → ChosenSe
 few false s chosen w c = let a = w.initial in let b = c.size in omega arith
 few true s chosen w c = let a = w.losable in let b = c.size in omega arith
 
-in-range : (x : Value) → InRange x → points x ≤ largest
-in-range Blank h = omega arith
-in-range (Of n) h = h
+in-range : (x : Option ℕ) → InRange x → points x ≤ largest
+in-range None h = omega arith
+in-range (Some n) h = h
 
 -- a place not in use has no value
 pub blank : (loss : Bool) → points (value_of loss unused_vertex) ≡ 0

@@ -3,11 +3,12 @@
 use mathlib.Core.Path.{◌≡◌, sym, ap, subst, ◌∙◌}
 use mathlib.Core.Bool.{Bool}
 use mathlib.Core.List.{List}
-use mathlib.Core.Logic.{◌⊎◌, ⊎_elim}
+use mathlib.Core.Logic.{⊎_elim}
 use Prim.Native.Nat.{ℕ, ◌+◌, ◌*◌, ◌/◌, ◌%◌, ◌≤◌, ◌<◌}
 use native.Mathlib.Omega.{arith}
 use lib.Count.{ones}
-use lib.ListN.{length, get_or, set, length-set, get_or-eq_default}
+use lib.ListN.{length, get_or, set, take, drop, length-set, length-drop, get_or-eq_default}
+use lib.Seq.{get_or-take, get_or-drop, length-take-le}
 use Rattle.vertex_set.specs.Set.{Member, Iff}
 use Rattle.vertex_set.proofs.Cases.{less-or}
 use Rattle.vertex_set.proofs.Decisions.{iff-trans}
@@ -48,6 +49,18 @@ filled_more g long n x out l b e =
     }
 
 -- ---- values
+
+pub filled-all : (g : ℕ → ℕ) (long n : ℕ) (out : List ℕ) → long ≤ n → FilledBelow g long n out → FilledBelow g long long out
+filled-all g long n out h b = record { words = b.words; each = λ i l. b.each i (omega arith) }
+
+-- words that are copied from a place on
+pub copied : (w : List ℕ) (from n m : ℕ) (out : List ℕ) → m ≡ n → from + n ≤ length w → out ≡ take m (drop from w) → FilledBelow (λ b. get_or w (from + b) 0) n n out
+copied w from n m out q h e =
+    let all : out ≡ take n (drop from w) = e ∙ ap (λ (k : ℕ). take k (drop from w)) q in
+    record {
+      words = ap length all ∙ length-take-le n (drop from w) (omega (arith, length-drop from w));
+      each = λ i l. ap (λ (k : List ℕ). get_or k i 0) all ∙ get_or-take n (drop from w) i 0 l ∙ get_or-drop from w i 0;
+    }
 
 pub values-all : (loss : Bool) (s : Setup) (r : List ℕ) → length s.vertices ≡ 64 → FilledBelow (points_at loss s) 64 64 r → Values loss s r
 values-all loss s r long b = record { long = b.words; each = λ v. ⊎_elim (b.each v) (outside v) (less-or v 64) }

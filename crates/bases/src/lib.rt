@@ -26,9 +26,7 @@ fn family_by_table(graph: Graph, chosen: VertexSet, loss: bool, target: usize, o
     let mut w = [0u64; TABLE];
     tables::fill(graph, chosen, loss, &mut w);
     let from = target * WORDS;
-    for b in 0..WORDS {
-        out[b] = w[from + b];
-    }
+    out.copy_from_slice(&w[from..from + WORDS]);
 }
 
 // The same by one block of a table. At most ten vertices are chosen: no mask's set heeds a bit that
@@ -41,8 +39,8 @@ fn family_by_block(graph: Graph, chosen: VertexSet, loss: bool, target: usize, o
     let mut x = [0u64; BLOCK];
     tables::fill_block(graph, chosen, loss, &mut x);
     let from = target * PART;
-    for b in 0..WORDS {
-        out[b] = x[from + b % PART];
+    for (b, word) in out.iter_mut().enumerate() {
+        *word = x[from + b % PART];
     }
 }
 
@@ -69,9 +67,8 @@ pub fn values_of(s: Setup, loss: bool) -> [u64; 64]
     ensures { Values loss s result }
 {
     let mut r = [0u64; 64];
-    for v in 0..64usize {
-        let vertex = s.vertices[v];
-        let value = setup::value_of(loss, vertex);
+    for (v, vertex) in s.vertices.iter().enumerate() {
+        let value = setup::value_of(loss, *vertex);
         r[v] = setup::points_of(value);
     }
     r

@@ -6,11 +6,11 @@ use mathlib.Core.List.{List}
 use mathlib.Core.Logic.{◌⊎◌, inl, inr, ⊎_elim}
 use Prim.Native.Nat.{ℕ, suc, ◌+◌, ◌-◌, ◌*◌, ◌^◌, ◌≤◌, ◌<◌}
 use native.Mathlib.Omega.{arith}
-use lib.Bits.{bit_and}
-use Rattle.vertex_set.specs.Set.{Member, Within, Inserted, count_outside}
-use Rattle.vertex_set.proofs.Cases.{same_or}
+use lib.Bits.{bit_and, bit_or}
+use Rattle.vertex_set.specs.Set.{Member, Within, Inserted, Iff, count_outside}
+use Rattle.vertex_set.proofs.Decisions.{iff-trans}
 use Rattle.vertex_set.proofs.Outside.{outside-most, outside-falls}
-use Rattle.vertex_set.proofs.Sets.{in-less, member-or, member_below, none-in-zero, within-refl}
+use Rattle.vertex_set.proofs.Sets.{none-in-zero, in-or, in-less, member-or, member_below, within-refl}
 use Rattle.setup.specs.declared.Graph.{Graph}
 use Rattle.setup.specs.Setup.{row_of, rows_at}
 use Rattle.derivations.specs.Both.{rule_of}
@@ -18,7 +18,8 @@ use Rattle.derivations.specs.Passes.{Pass, Passes}
 use Rattle.derivations.specs.Inner.Admits.{Admits}
 use Rattle.derivations.proofs.Admits.{admits-local, admits-allows, allows-admits}
 use Rattle.successors.specs.Inner.{Without, Successors, AllSuccessors}
-use Rattle.closures.specs.Inner.{ToLookAt}
+use Rattle.closures.specs.Inner.{ToLookAt, Admitted}
+use Rattle.successors.proofs.Members.{Passed, passed_none, passed-more, passed-all, left-within}
 
 -- ---- what is to be looked at
 
@@ -61,99 +62,127 @@ module _ (loss : Bool) (g : Graph) (list : List ℕ) (suc-of : Successors g list
           ))))
           (member-or held i)
 
--- ---- the loop
+-- ---- one pass
 
--- n passes have led from s to held. Of the pass that is being made, grown has what was taken in, and left what is still to be looked at.
-pub record Passing (loss : Bool) (g : Graph) (s held grown left n : ℕ) : Type 0 where
-  pub small : grown < 2 ^ 64
-  pub rest : (m t : ℕ) → Passes (rule_of loss g) m held t → Passes (rule_of loss g) (n + m) s t
-  pub few : n + count_outside 64 held ≤ 64
-  pub grows : Within held grown
-  pub sound : (v : ℕ) → Member grown v → Member held v ⊎ Admits loss (rows_at g v) (Member held)
-  pub whole : (v : ℕ) → Admits loss (rows_at g v) (Member held) → Member grown v ⊎ Member left v
+-- Of the vertices of s, those that are not left have been looked at: r has those of them that held admits.
+pub record Admitting (loss : Bool) (g : Graph) (held s left r : ℕ) : Type 0 where
+  pub within : Within left s
+  pub each : (v : ℕ) → Iff (Member r v) (Passed s left v × Admits loss (rows_at g v) (Member held))
 
-module _ (loss : Bool) (g : Graph) (s : ℕ) where
-  pub passing-none : (left : ℕ) → s < 2 ^ 64 → ((v : ℕ) → Admits loss (rows_at g v) (Member s) → Member s v ⊎ Member left v) → Passing loss g s s s left 0
-  passing-none left h w =
+module _ (loss : Bool) (g : Graph) (held s : ℕ) where
+  pub admitting-none : Admitting loss g held s s 0
+  admitting-none =
       record {
-        small = h;
-        rest = λ m t p. let e : m ≡ 0 + m = omega arith in subst (λ (k : ℕ). Passes (rule_of loss g) k s t) e p;
-        few = let o = outside-most 64 s in omega arith;
-        grows = within-refl s;
-        sound = λ v m. inl m;
-        whole = w;
+        within = within-refl s;
+        each = λ v. record { to = λ m. absurd (none-in-zero v m); from = λ p. absurd (passed_none s v p.0) };
       }
 
-  module _ (held grown left n : ℕ) (h : Passing loss g s held grown left n) where
+  module _ (left r v rest : ℕ) (h : Admitting loss g held s left r) (m : Member left v) (o : Without left v rest) where
+    passed : (u : ℕ) → Iff (Passed s left u ⊎ (u ≡ v)) (Passed s rest u)
+    passed = passed-more s left v rest h.within m o
+
     -- a vertex that is not admitted
-    pub passing-skip : (v rest : ℕ) → Without left v rest → (Admits loss (rows_at g v) (Member held) → ⊥) → Passing loss g s held grown rest n
-    passing-skip v rest o d =
+    pub admitting-skip : (Admits loss (rows_at g v) (Member held) → ⊥) → Admitting loss g held s rest r
+    admitting-skip d =
         record {
-          small = h.small;
-          rest = h.rest;
-          few = h.few;
-          grows = h.grows;
-          sound = h.sound;
-          whole = λ u a. ⊎_elim (λ m. inl m)
-              (λ m. inr ((o.each u).from (m, λ e. d (subst (λ (x : ℕ). Admits loss (rows_at g x) (Member held)) e a)))) (h.whole u a);
+          within = left-within s left v rest h.within o;
+          each = λ u. record {
+            to = λ k. let p = (h.each u).to k in ((passed u).to (inl p.0), p.1);
+            from = λ p. ⊎_elim (λ q. (h.each u).from (q, p.1))
+                (λ e. absurd (d (subst (λ (x : ℕ). Admits loss (rows_at g x) (Member held)) e p.1))) ((passed u).from p.0);
+          };
         }
 
     -- a vertex that is
-    pub passing-take : (v rest grown' : ℕ) → v < 64 → grown' < 2 ^ 64 → Without left v rest → Admits loss (rows_at g v) (Member held) → Inserted grown v grown'
-        → Passing loss g s held grown' rest n
-    passing-take v rest grown' l k o a t =
+    pub admitting-take : (r' : ℕ) → v < 64 → Admits loss (rows_at g v) (Member held) → Inserted r v r' → Admitting loss g held s rest r'
+    admitting-take r' l a t =
         record {
-          small = k;
-          rest = h.rest;
-          few = h.few;
-          grows = record { each = λ i m. keep i (h.grows.each i m) };
-          sound = λ u m. ⊎_elim (h.sound u) (λ e. inr (subst (λ (x : ℕ). Admits loss (rows_at g x) (Member held)) (sym e) a)) ((t.taken l u).to m);
-          whole = λ u b. ⊎_elim (λ m. inl (keep u m))
-              (λ m. ⊎_elim (λ e. inl ((t.taken l u).from (inr e))) (λ e. inr ((o.each u).from (m, e))) (same_or u v)) (h.whole u b);
+          within = left-within s left v rest h.within o;
+          each = λ u. record {
+            to = λ k. ⊎_elim (λ p. let q = (h.each u).to p in ((passed u).to (inl q.0), q.1))
+                (λ e. ((passed u).to (inr e), subst (λ (x : ℕ). Admits loss (rows_at g x) (Member held)) (sym e) a)) ((t.taken l u).to k);
+            from = λ p. ⊎_elim (λ q. (t.taken l u).from (inl ((h.each u).from (q, p.1)))) (λ e. (t.taken l u).from (inr e)) ((passed u).from p.0);
+          };
         }
-      where
-        keep : (i : ℕ) → Member grown i → Member grown' i
-        keep i m = (t.taken l i).from (inl m)
+
+  pub admitting-done : (left r : ℕ) → left ≡ 0 → Admitting loss g held s left r → Admitted loss g held s r
+  admitting-done left r z h =
+      record {
+        each = λ v. iff-trans (h.each v) (record {
+          to = λ p. ((passed-all s left z v).to p.0, p.1);
+          from = λ p. ((passed-all s left z v).from p.0, p.1);
+        });
+      }
+
+-- grown has beside what held has the vertices of left that held admits.
+pub record Grown (loss : Bool) (g : Graph) (held left grown : ℕ) : Type 0 where
+  pub each : (v : ℕ) → Iff (Member grown v) (Member held v ⊎ (Member left v × Admits loss (rows_at g v) (Member held)))
+
+pub grown-by : (loss : Bool) (g : Graph) (held left r : ℕ) → Admitted loss g held left r → Grown loss g held left (bit_or held r)
+grown-by loss g held left r a =
+    record {
+      each = λ v. record {
+        to = λ m. ⊎_elim (λ p. inl p) (λ p. inr ((a.each v).to p)) ((in-or held r v).to m);
+        from = λ p. (in-or held r v).from (⊎_elim (λ m. inl m) (λ m. inr ((a.each v).from m)) p);
+      };
+    }
+
+-- ---- the loop
+
+-- n passes have led from s to held, and left has what held admits and has not.
+pub record Passing (loss : Bool) (g : Graph) (s held left n : ℕ) : Type 0 where
+  pub rest : (m t : ℕ) → Passes (rule_of loss g) m held t → Passes (rule_of loss g) (n + m) s t
+  pub few : n + count_outside 64 held ≤ 64
+  pub whole : (v : ℕ) → Admits loss (rows_at g v) (Member held) → Member held v ⊎ Member left v
+
+module _ (loss : Bool) (g : Graph) (s : ℕ) where
+  pub passing-none : (left : ℕ) → ((v : ℕ) → Admits loss (rows_at g v) (Member s) → Member s v ⊎ Member left v) → Passing loss g s s left 0
+  passing-none left w =
+      record {
+        rest = λ m t p. let e : m ≡ 0 + m = omega arith in subst (λ (k : ℕ). Passes (rule_of loss g) k s t) e p;
+        few = let o = outside-most 64 s in omega arith;
+        whole = w;
+      }
+
+  module _ (held grown left n : ℕ) (h : Passing loss g s held left n) (o : Grown loss g held left grown) where
+    grows : Within held grown
+    grows = record { each = λ v m. (o.each v).from (inl m) }
 
     -- where it grew, fewer vertices are outside
-    pub fewer-outside : (grown ≡ held → ⊥) → count_outside 64 grown < count_outside 64 held
-    fewer-outside d = outside-falls 64 held grown h.grows d (λ v m. inr (member_below 64 grown v h.small m))
+    pub fewer-outside : grown < 2 ^ 64 → (grown ≡ held → ⊥) → count_outside 64 grown < count_outside 64 held
+    fewer-outside k d = outside-falls 64 held grown grows d (λ v m. inr (member_below 64 grown v k m))
 
-    module _ (z : left ≡ 0) where
-      -- nothing is left: the pass is made
-      made : Pass (rule_of loss g) held grown
-      made =
-          record {
-            each = λ v. record {
-              to = λ m. ⊎_elim (λ x. inl x) (λ a. inr (admits-allows loss g (Member held) v a)) (h.sound v m);
-              from = ⊎_elim (h.grows.each v)
-                  (λ a. ⊎_elim (λ x. x) (λ m. absurd (none-in-zero v (subst (λ (x : ℕ). Member x v) z m))) (h.whole v (allows-admits loss g (Member held) v a)));
-            };
-          }
+    made : Pass (rule_of loss g) held grown
+    made =
+        record {
+          each = λ v. record {
+            to = λ m. ⊎_elim (λ x. inl x) (λ p. inr (admits-allows loss g (Member held) v p.1)) ((o.each v).to m);
+            from = ⊎_elim (λ x. (o.each v).from (inl x))
+                (λ a. let k = allows-admits loss g (Member held) v a in
+                ⊎_elim (λ x. (o.each v).from (inl x)) (λ m. (o.each v).from (inr (m, k))) (h.whole v k));
+          };
+        }
 
-      -- it has added nothing
-      pub passing-done : grown ≡ held → Passes (rule_of loss g) (n + 1) s held
-      passing-done e = h.rest 1 held (inl (subst (Pass (rule_of loss g) held) e made, refl, refl))
+    -- the pass has added nothing
+    pub passing-done : grown ≡ held → Passes (rule_of loss g) (n + 1) s held
+    passing-done e = h.rest 1 held (inl (subst (Pass (rule_of loss g) held) e made, refl, refl))
 
-      -- it has added something, and the next one begins
-      pub passing-next : (left' : ℕ) → (grown ≡ held → ⊥)
-          → ((v : ℕ) → Admits loss (rows_at g v) (Member grown) → Member grown v ⊎ Member left' v)
-          → Passing loss g s grown grown left' (n + 1)
-      passing-next left' d w =
-          record {
-            small = h.small;
-            rest = λ m t p.
-                let e : n + suc m ≡ n + 1 + m = omega arith in
-                subst (λ (k : ℕ). Passes (rule_of loss g) k s t) e (h.rest (suc m) t (inr (grown, made, d, p)));
-            few = let f = fewer-outside d in let k = h.few in omega arith;
-            grows = within-refl grown;
-            sound = λ v m. inl m;
-            whole = w;
-          }
+    -- it has added something, and the next one begins
+    pub passing-next : (left' : ℕ) → grown < 2 ^ 64 → (grown ≡ held → ⊥)
+        → ((v : ℕ) → Admits loss (rows_at g v) (Member grown) → Member grown v ⊎ Member left' v)
+        → Passing loss g s grown left' (n + 1)
+    passing-next left' small d w =
+        record {
+          rest = λ m t p.
+              let e : n + suc m ≡ n + 1 + m = omega arith in
+              subst (λ (k : ℕ). Passes (rule_of loss g) k s t) e (h.rest (suc m) t (inr (grown, made, d, p)));
+          few = let f = fewer-outside small d in let k = h.few in omega arith;
+          whole = w;
+        }
 
-      -- all that held admits has been taken in
-      pub passing-all : (v : ℕ) → Admits loss (rows_at g v) (Member held) → Member grown v
-      passing-all v a = (made.each v).from (inr (admits-allows loss g (Member held) v a))
+    -- all that held admits has been taken in
+    pub passing-all : (v : ℕ) → Admits loss (rows_at g v) (Member held) → Member grown v
+    passing-all v a = (made.each v).from (inr (admits-allows loss g (Member held) v a))
 
 -- ---- the measure: fewer vertices are outside, or as many and fewer are left to look at
 

@@ -1,16 +1,15 @@
 -- What the call for cut sets answers, for every setup, target and lent list.
-use Rattle.std.specs.Prelude.{List, [], ◌∷◌, ℕ, length}
+use Rattle.std.specs.Prelude.{Result, List, [], ◌∷◌, ℕ, length}
 use Rattle.setup.specs.declared.Setup.{Setup}
-use Rattle.questions.specs.Contract.{Reply, gives, refuses, Contract}
+use Rattle.questions.specs.declared.Refusal.{Refusal}
+use Rattle.questions.specs.Contract.{Reply, Contract}
+use Rattle.questions.specs.Refusals.{replies}
 use Rattle.questions.specs.Questions.{asks12, asks13}
-use Rattle.cut_sets.specs.declared.CutsAnswer.{CutsAnswer}
-use Rattle.cut_sets.specs.declared.CutsAnswer.TheVariants.{Sets, Refused}
 use Rattle.cut_sets.specs.Cuts.{CutList, Duality}
 
 -- The papers' number and values for each case of an answer: the number of sets.
-abbrev pub cuts_reply : CutsAnswer → Reply
-cuts_reply (Sets n) = gives (n ∷ [])
-cuts_reply (Refused q) = refuses q
+abbrev pub cuts_reply : Result ℕ Refusal → Reply
+cuts_reply = replies (λ n. n ∷ [])
 
 -- The smallest cut sets, and what they are to the access base.
 pub record AreCuts (s : Setup) (target : ℕ) (cuts : List ℕ) : Type 0 where

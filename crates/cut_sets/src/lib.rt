@@ -14,23 +14,17 @@ ghost use Rattle.formed.specs.Inner.Answerable.{Answerable};
 ghost use Rattle.cut_sets.specs.Inner.{CutFamily};
 
 use families::WORDS;
+use questions::Refusal;
 use setup::Setup;
 use vertex_set::VertexSet;
-
-#[derive(Drop)]
-pub enum CutsAnswer {
-    Sets(usize),
-    Refused(u64),
-}
 
 // The family of the target's smallest cut sets, and their number.
 fn cut_family(s: Setup, target: usize, initial: VertexSet, out: &mut [u64]) -> usize
     requires { CanList false s target initial.0 out.old }
     ensures { CutFamily s target initial.0 out.new result }
 {
-    let graph = s.graph;
     let mut opening = [0u64; WORDS];
-    bases::family_of(graph, initial, false, target, &mut opening);
+    bases::family_of(s.graph, initial, false, target, &mut opening);
     duals::dual(&opening, out);
     families::keep_minimal(out);
     families::count_members(out)
@@ -38,7 +32,7 @@ fn cut_family(s: Setup, target: usize, initial: VertexSet, out: &mut [u64]) -> u
 
 // The smallest cut sets of a target of a well-formed setup. Their number is known before a set is
 // written, so that a lent list which is too short stays as it was.
-fn write_cuts(s: Setup, target: usize, out: &mut [u64]) -> CutsAnswer
+fn write_cuts(s: Setup, target: usize, out: &mut [u64]) -> Result<usize, Refusal>
     requires { Answerable s target }
     ensures { Answers (cuts_call s target out.old) (ends (cuts_reply result) (out.new ∷ [])) }
 {
@@ -46,20 +40,16 @@ fn write_cuts(s: Setup, target: usize, out: &mut [u64]) -> CutsAnswer
     let mut cuts = [0u64; WORDS];
     let n = cut_family(s, target, initial, &mut cuts);
     if out.len() < n {
-        return CutsAnswer::Refused(questions::SHORT);
+        return Err(Refusal::Short);
     }
-    let count = family_lists::write_sets(&cuts, initial, out);
-    CutsAnswer::Sets(count)
+    Ok(family_lists::write_sets(&cuts, initial, out))
 }
 
 // The smallest cut sets of the target, written to the front of a lent list.
-pub fn smallest_cuts(s: Setup, target: usize, out: &mut [u64]) -> CutsAnswer
+pub fn smallest_cuts(s: Setup, target: usize, out: &mut [u64]) -> Result<usize, Refusal>
     ensures { Fulfils (cuts_call s target out.old) (ends (cuts_reply result) (out.new ∷ [])) }
 {
     let formed = formed::well_formed(s);
-    let asked = questions::ask_target(formed, s.count, target);
-    if asked != 0 {
-        return CutsAnswer::Refused(asked);
-    }
+    questions::ask_target(formed, s.count, target)?;
     write_cuts(s, target, out)
 }

@@ -16,7 +16,7 @@ use Rattle.questions.specs.Asks.{TurnedAway}
 use Rattle.questions.proofs.Asks.{all-numbered, turned, settled-asks}
 use Rattle.questions.proofs.Contract.{settled}
 use Rattle.findings.proofs.Unique.{decided-once}
-use Rattle.living.specs.declared.Redrawing.{Redrawing}
+use Rattle.living.specs.Calls.{Redrawing}
 use Rattle.living.specs.Calls.{Call, TakeIn, TakeOut, AddEdge, RemoveEdge, drawing_of, after, asks_of, back, Done, CallOf}
 use Rattle.living.proofs.Unique.{redrawn-unique}
 use Rattle.living.proofs.Kept.{living-numbered}
@@ -26,10 +26,10 @@ use Rattle.records.specs.Records.{RegisterOutcome, with_slice, hands_back}
 use Rattle.register.specs.Calls.{HandInCall, WithdrawCall}
 use Rattle.register.proofs.Outcomes.{Turned, answer-number, hand_in_numbers, withdraw_numbers, hand-in-outcome, withdraw-outcome, hand-in-no, withdraw-no}
 use Rattle.register.proofs.Unique.{one-hand-in, one-withdrawal}
-use Rattle.sheet_format.specs.declared.Reading.{Reading}
+use Rattle.sheet_format.specs.Read.{Reading}
 use Rattle.sheet_format.specs.Read.{read_sheet}
 use Rattle.sheet_format.proofs.Meaning.{accepted-or-refused}
-use Rattle.pool_format.specs.declared.Pooled.{Pooled}
+use Rattle.pool_format.specs.Call.{Pooled}
 use Rattle.pool_format.specs.Call.{PoolOutcome, with_buffer, pool_refusal, pools_text, PoolCall}
 use Rattle.pool_format.specs.Meaning.{IsPooled}
 use Rattle.pool_format.proofs.Meaning.{PoolComes, of-first, of-second, of-both, of-short, of-text, pool-comes, pool-determined}

@@ -36,6 +36,7 @@ use Rattle.handin_format.proofs.Marks.{line-marks, register-marks}
 use Rattle.answers.specs.Demand3.{Demand3}
 use Rattle.answers.specs.declared.AllAnswers.{AllAnswers}
 use Rattle.answers.specs.Answers.{bases_reply, bases_call, score_reply, risk_reply, score_call, marks_reply, marks_call}
+use Rattle.sheet_format.specs.Read.{reading as as_read}
 use Rattle.demands.specs.declared.Answers.{Answers}
 use Rattle.demands.specs.Calls.{Every, MadeCall, SettledOn, FulfilledOn, three_made}
 use Rattle.demands.specs.Demands.{Demand1, Papers, Demand2, Demand3Reached}
@@ -85,7 +86,7 @@ one_of_two text item s calls opened locked r d =
       on_setup = every_of (FulfilledOn s) (SettledOn s) calls (settled_on s) d.on_setup;
       formed = settled-yes-no (Reached s) r.findings.formed d.formed;
       bag_at_most = settled-yes-no (BagAtMost opened locked) r.bags.compared d.bag_at_most;
-      reading = settled-reading text r.sheet.reading d.reading d.asked;
+      reading = settled-reading text (as_read r.sheet.reading) d.reading d.asked;
       portal_score = settled-portal false text item r.sheet.score d.portal_score;
       portal_risk = settled-portal true text item r.sheet.risk d.portal_risk;
       hand_in = settled-hand-in;

@@ -10,7 +10,7 @@ use lib.ListN.{length}
 use Rattle.vertex_set.specs.Order.{Listed}
 use Rattle.vertex_set.proofs.Cases.{same_or, less-or, false-true}
 use Rattle.scores.specs.Never.{never}
-use Rattle.sheet_format.specs.declared.Reading.{Reading}
+use Rattle.sheet_format.specs.Read.{Reading}
 use Rattle.sheet_format.specs.Fields.{is_name}
 use Rattle.sheet_format.specs.Rows.{ItemRow, Doc, Each, ValidItem, setup_of}
 use Rattle.sheet_format.specs.Read.{accepted, refused, read_sheet}

@@ -15,13 +15,13 @@ use Rattle.findings.specs.Answers.{finding_reply}
 use Rattle.cut_sets.specs.Answers.{cuts_reply}
 use Rattle.attackers.specs.Answers.{attacker_reply}
 use Rattle.multiset_scores.specs.Answers.{bags_reply}
-use Rattle.living.specs.declared.Redrawing.{Redrawing}
+use Rattle.living.specs.Calls.{Redrawing}
 use Rattle.living.specs.Calls.{Call, asks_of, back, CallOf}
 use Rattle.records.specs.declared.Record.{Record}
 use Rattle.records.specs.declared.Registered.{Registered}
 use Rattle.records.specs.Records.{with_slice, hands_back}
 use Rattle.register.specs.Calls.{HandInCall, WithdrawCall}
-use Rattle.pool_format.specs.declared.Pooled.{Pooled}
+use Rattle.pool_format.specs.Call.{Pooled}
 use Rattle.pool_format.specs.Call.{with_buffer, PoolCall}
 use Rattle.pool_format.specs.Meaning.{IsPooled}
 use Rattle.histories.specs.Requests.{Request, Closure, Lost, WayTo, QuickYes, BothBases, ScoreOf, MarksOf, Backdoor, Idle, OutOfRank, ForecastOf, Cuts, Attackers, NextSet, Bags, contract_of}

@@ -13,17 +13,17 @@ use Rattle.bases.specs.Score.{SumsHold}
 use Rattle.quick_yes.specs.Agrees.{QuickAgrees}
 use Rattle.next_sets.specs.Walks.{WholeWalk}
 use Rattle.findings.specs.Findings.{Compared}
-use Rattle.living.specs.declared.Redrawing.{Redrawing}
+use Rattle.living.specs.Calls.{Redrawing}
 use Rattle.living.specs.Calls.{Call, CallOf, NothingChanges}
 use Rattle.multisets.specs.Multisets.{BagAtMost}
 use Rattle.records.specs.declared.Record.{Record}
 use Rattle.records.specs.declared.Registered.{Registered}
 use Rattle.register.specs.Calls.{HandInCall, WithdrawCall}
 use Rattle.register.specs.Afternoon.{RegisterLaw}
-use Rattle.pool_format.specs.declared.Pooled.{Pooled}
+use Rattle.pool_format.specs.Call.{Pooled}
 use Rattle.pool_format.specs.Call.{PoolCall}
 use Rattle.pool_format.specs.Meaning.{Renaming, PooledValid, AlwaysEnough, PooledText, Pooling}
-use Rattle.sheet_format.specs.Read.{read_sheet}
+use Rattle.sheet_format.specs.Read.{read_sheet, reading as as_read}
 use Rattle.sheet_format.specs.Meaning.{FreshHoldsNothing}
 use Rattle.report_text.specs.Unmixed.{UnmixedPrints}
 use Rattle.report_writer.specs.Whole.{WholeReport}
@@ -75,7 +75,7 @@ pub record Demand1 (text : List ℕ) (item : ℕ) (s : Setup) (calls : List Made
   pub formed : SettledYesNo (Reached s) r.findings.formed
   pub bag_at_most : SettledYesNo (BagAtMost opened locked) r.bags.compared
   -- a sheet: 1 to 11; the portal: 2^62 plus these, or plus 13
-  pub reading : SettledReading text r.sheet.reading
+  pub reading : SettledReading text (as_read r.sheet.reading)
   pub portal_score : SettledPortal false text item r.sheet.score
   pub portal_risk : SettledPortal true text item r.sheet.risk
   -- for every answer that a call may give: the class register, pooling, a setup that lives, the calls for C
@@ -151,8 +151,8 @@ pub record Demand2 (text : List ℕ) (item : ℕ) (s : Setup) (calls : List Made
   -- whether both lists have at most 14 values, and those of the one can be paired, one to one, with values of the other that are at least as high
   pub bag_at_most : Decides (BagAtMost opened locked) r.bags.compared
   -- the text's rows and the setup that they state, or its first no; this reading is also the one that the portal's contract cites
-  pub reading : Reads text r.sheet.reading
-  pub asked : r.sheet.reading ≡ read_sheet text
+  pub reading : Reads text (as_read r.sheet.reading)
+  pub asked : as_read r.sheet.reading ≡ read_sheet text
   pub portal_score : PortalCall false text item r.sheet.score
   pub portal_risk : PortalCall true text item r.sheet.risk
   pub papers : Papers

@@ -4,7 +4,7 @@ use Rattle.vertex_set.specs.Set.{Iff}
 use Rattle.vertex_set.specs.Order.{Listed}
 use Rattle.setup.specs.Setup.{no_items}
 use Rattle.scores.specs.Never.{never}
-use Rattle.sheet_format.specs.declared.Reading.{Reading}
+use Rattle.sheet_format.specs.Read.{Reading}
 use Rattle.sheet_format.specs.Rows.{ItemRow, Doc, first_header, item_lines, Valid, render, setup_of}
 use Rattle.sheet_format.specs.Stated.{StandsAt, Stated}
 use Rattle.sheet_format.specs.Meaning.{Refusal}

@@ -13,12 +13,12 @@ ghost use Rattle.quick_yes.specs.Answers.{quick_reply, quick_call};
 ghost use Rattle.multisets.specs.Multisets.{BagAtMost};
 ghost use Rattle.multiset_scores.specs.Answers.{bags_reply, bags_call};
 ghost use Rattle.findings.specs.Answers.{finding_reply, backdoor_call, ineffective_call, inconsistent_call};
-ghost use Rattle.living.specs.Calls.{TakeIn, TakeOut, AddEdge, RemoveEdge, CallOf};
+ghost use Rattle.living.specs.Calls.{handed_back, TakeIn, TakeOut, AddEdge, RemoveEdge, CallOf};
 ghost use Rattle.register.specs.Calls.{HandInCall, WithdrawCall};
-ghost use Rattle.pool_format.specs.Call.{PoolCall};
-ghost use Rattle.save_format.specs.Call.{save_call};
+ghost use Rattle.pool_format.specs.Call.{pool_answer, PoolCall};
+ghost use Rattle.save_format.specs.Call.{saved, save_call};
 ghost use Rattle.handin_format.specs.Calls.{ReadSetCall, write_set_call, ReadLineCall};
-ghost use Rattle.sheet_format.specs.Read.{read_sheet};
+ghost use Rattle.sheet_format.specs.Read.{reading, read_sheet};
 ghost use Rattle.portal.specs.Portal.{PortalCall};
 ghost use Rattle.histories.specs.Histories.{Reached};
 ghost use Rattle.demands.specs.Sheets.{Reads, Named, SettledName};
@@ -26,44 +26,37 @@ ghost use Rattle.demands.specs.Calls.{three_made, all_made, SettledLiving, Settl
 ghost use Rattle.demands.specs.HandIns.{SettledReadSet, SettledReadLine};
 ghost use Rattle.demands.specs.Demands.{Demand1, Demand2, Demand3Reached};
 
-use access::{ClosureAnswer, LostAnswer, WayAnswer};
+use access::Opened;
 use answers::AllAnswers;
-use attackers::AttackerAnswer;
-use cut_sets::CutsAnswer;
-use findings::FindingAnswer;
-use forecasts::ForecastAnswer;
 use handin_format::{LineAnswer, NamedSet, SetWritten};
-use living::Redrawing;
-use multiset_scores::MultisetAnswer;
-use next_sets::NextAnswer;
-use pool_format::Pooled;
+use pool_format::PoolRefusal;
+use questions::Refusal;
 use quick_yes::QuickAnswer;
 use records::{Record, Registered};
-use save_format::Saved;
 use setup::Setup;
-use sheet_format::Reading;
+use sheet_format::SheetRefusal;
 use vertex_set::VertexSet;
 
 #[derive(Drop)]
 pub struct SetAnswers {
-    pub closure: ClosureAnswer,
-    pub lost: LostAnswer,
-    pub way: WayAnswer,
-    pub quick: QuickAnswer,
+    pub closure: Result<Opened, Refusal>,
+    pub lost: Result<VertexSet, Refusal>,
+    pub way: Result<Option<usize>, Refusal>,
+    pub quick: Result<QuickAnswer, Refusal>,
 }
 
 #[derive(Drop)]
 pub struct FindingAnswers {
-    pub backdoor: FindingAnswer,
-    pub idle: FindingAnswer,
-    pub pair: FindingAnswer,
+    pub backdoor: Result<bool, Refusal>,
+    pub idle: Result<bool, Refusal>,
+    pub pair: Result<bool, Refusal>,
     pub formed: bool,
 }
 
 // The reading, and the portal's two numbers.
 #[derive(Drop)]
 pub struct SheetAnswers {
-    pub reading: Reading,
+    pub reading: Result<Setup, SheetRefusal>,
     pub score: u64,
     pub risk: u64,
 }
@@ -72,7 +65,7 @@ pub struct SheetAnswers {
 #[derive(Drop)]
 pub struct BagAnswers {
     pub compared: bool,
-    pub score: MultisetAnswer,
+    pub score: Result<usize, Refusal>,
 }
 
 // What the calls answer, all on one input. An item's name is not here: it is a part of the sheet,
@@ -83,20 +76,20 @@ pub struct Answers {
     pub lists: AllAnswers,
     pub findings: FindingAnswers,
     pub sheet: SheetAnswers,
-    pub forecast: ForecastAnswer,
-    pub cuts: CutsAnswer,
-    pub attackers: AttackerAnswer,
-    pub next: NextAnswer,
+    pub forecast: Result<u64, Refusal>,
+    pub cuts: Result<usize, Refusal>,
+    pub attackers: Result<u64, Refusal>,
+    pub next: Result<Option<VertexSet>, Refusal>,
     pub bags: BagAnswers,
 }
 
 // What the calls on a setup that lives hand back.
 #[derive(Drop)]
 pub struct LivingAnswers {
-    pub taken: Redrawing,
-    pub freed: Redrawing,
-    pub added: Redrawing,
-    pub removed: Redrawing,
+    pub taken: Result<Setup, Refusal>,
+    pub freed: Result<Setup, Refusal>,
+    pub added: Result<Setup, Refusal>,
+    pub removed: Result<Setup, Refusal>,
 }
 
 // Asks for closure, lost set, way in and quick yes.
@@ -145,8 +138,8 @@ fn ask_findings(s: Setup, target: usize, other: usize) -> FindingAnswers
 
 // Makes the calls on a sheet's bytes.
 fn ask_sheet(sheet: &[u8], item: u64) -> SheetAnswers
-    ensures reading { Reads sheet.now result.reading }
-    ensures asked { result.reading ≡ read_sheet sheet.now }
+    ensures reading { Reads sheet.now (reading result.reading) }
+    ensures asked { reading result.reading ≡ read_sheet sheet.now }
     ensures score { PortalCall false sheet.now item result.score }
     ensures risk { PortalCall true sheet.now item result.risk }
 {
@@ -299,8 +292,8 @@ pub fn demands_of_living(
     colour: usize,
     rec: bool,
 ) -> LivingAnswers
-    ensures one { SettledLiving (TakeIn item) s result.taken × SettledLiving (TakeOut item) s result.freed × SettledLiving (AddEdge from to colour rec) s result.added × SettledLiving (RemoveEdge from to colour) s result.removed }
-    ensures two { CallOf (TakeIn item) s result.taken × CallOf (TakeOut item) s result.freed × CallOf (AddEdge from to colour rec) s result.added × CallOf (RemoveEdge from to colour) s result.removed }
+    ensures one { SettledLiving (TakeIn item) s (handed_back s result.taken) × SettledLiving (TakeOut item) s (handed_back s result.freed) × SettledLiving (AddEdge from to colour rec) s (handed_back s result.added) × SettledLiving (RemoveEdge from to colour) s (handed_back s result.removed) }
+    ensures two { CallOf (TakeIn item) s (handed_back s result.taken) × CallOf (TakeOut item) s (handed_back s result.freed) × CallOf (AddEdge from to colour rec) s (handed_back s result.added) × CallOf (RemoveEdge from to colour) s (handed_back s result.removed) }
 {
     let taken = living::take_in(s, item);
     let freed = living::take_out(s, item);
@@ -315,17 +308,17 @@ pub fn demands_of_living(
 }
 
 // Both demands of pooling, whose input is two sheets.
-pub fn demands_of_pool(first: &[u8], second: &[u8], out: &mut [u8]) -> Pooled
-    ensures one { SettledPool first.now second.now result out.old out.new }
-    ensures two { PoolCall first.now second.now result out.old out.new }
+pub fn demands_of_pool(first: &[u8], second: &[u8], out: &mut [u8]) -> Result<usize, PoolRefusal>
+    ensures one { SettledPool first.now second.now (pool_answer result) out.old out.new }
+    ensures two { PoolCall first.now second.now (pool_answer result) out.old out.new }
 {
     pooling::pool_sheets(first, second, out)
 }
 
 // Both demands of saving, whose input is a sheet and a setup.
-pub fn demands_of_saving(sheet: &[u8], s: Setup, out: &mut [u8]) -> Saved
-    ensures one { SettledTold (save_call sheet.now s out.old) result.number (result.length ∷ []) (out.new ∷ []) }
-    ensures two { Told (save_call sheet.now s out.old) result.number (result.length ∷ []) (out.new ∷ []) }
+pub fn demands_of_saving(sheet: &[u8], s: Setup, out: &mut [u8]) -> Result<usize, Refusal>
+    ensures one { SettledTold (save_call sheet.now s out.old) (saved result).number ((saved result).length ∷ []) (out.new ∷ []) }
+    ensures two { Told (save_call sheet.now s out.old) (saved result).number ((saved result).length ∷ []) (out.new ∷ []) }
 {
     saving::write_sheet(sheet, s, out)
 }

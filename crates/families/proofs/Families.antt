@@ -100,26 +100,6 @@ least-minimal f m mono h l =
 pub minimal-least : (f : List ℕ) (m : ℕ) → Minimal f m → Least f m
 minimal-least f m l = record { is = l.is; none = λ j k i. l.none (m - 2 ^ j) (removed-proper m j k) i }
 
--- the words from n to b are 0
-pub record ClearedTo (n b : ℕ) (d : List ℕ) : Type 0 where
-  pub words : length d ≡ 256
-  pub place : b ≤ 256
-  pub each : (k : ℕ) → n ≤ k → k < b → get_or d k 0 ≡ 0
-
-pub cleared-none : (n : ℕ) (d : List ℕ) → length d ≡ 256 → n ≤ 256 → ClearedTo n n d
-cleared-none n d e h = record { words = e; place = h; each = λ k a b. absurd (omega arith) }
-
-pub cleared_more : (n b : ℕ) (d : List ℕ) → b < 256 → ClearedTo n b d → ClearedTo n (b + 1) (set d b 0)
-cleared_more n b d h c =
-    record {
-      words = length-set d b 0 ∙ c.words;
-      place = omega arith;
-      each = λ k a l. ⊎_elim
-          (λ e. subst (λ (j : ℕ). get_or (set d b 0) j 0 ≡ 0) (sym e) (get_or-set_same d b 0 0 (let w = c.words in omega arith)))
-          (λ o. get_or-set_other d b k 0 0 o ∙ c.each k a (omega (arith, o)))
-          (same_or k b);
-    }
-
 -- a word that has no least lane
 least-none : (f : List ℕ) (n b : ℕ) → LeastBelow n f → n ≤ b → b < 256 → LeastWord f b 0
 least-none f n b l h k =

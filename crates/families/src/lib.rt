@@ -12,7 +12,9 @@ ghost use Rattle.families.specs.Inner.Steps.{StepsInWord, StepsToWord, LeastWord
 
 use vertex_set::VertexSet;
 
-// A family has 256 words of 64 bits, a bit for each of 2^14 masks. The number of masks is no mask.
+// A family has 256 words of 64 bits, a bit for each of 2^14 masks. The number of masks is no mask. A family
+// is lent as a slice, whose length a contract states, and not as an array: many are parts of a table, and
+// what is cut out of a table is a slice.
 pub const WORDS: usize = 256;
 
 pub const MASKS: usize = WORDS * 64;
@@ -22,12 +24,11 @@ pub fn words_for(chosen: VertexSet) -> usize
     requires { ones chosen.0 ≤ mask_bits }
     ensures { WordsFor chosen.0 result }
 {
-    let n = u64::count_ones(chosen.0) as usize;
+    let n = chosen.0.count_ones() as usize;
     if n <= 6 {
         return 1;
     }
-    let one: usize = 1;
-    one << (n - 6)
+    1 << (n - 6)
 }
 
 // The number of a word's members. Most words have none.
@@ -37,7 +38,7 @@ fn count_word(x: u64) -> usize
     if x == 0 {
         return 0;
     }
-    u64::count_ones(x) as usize
+    x.count_ones() as usize
 }
 
 // The number of the family's members.
@@ -46,8 +47,8 @@ pub fn count_members(f: &[u64]) -> usize
     ensures { result ≡ size f.now }
 {
     let mut n: usize = 0;
-    for b in 0..WORDS {
-        n += count_word(f[b]);
+    for x in f {
+        n += count_word(*x);
     }
     n
 }
@@ -71,12 +72,12 @@ fn steps_to_word(f: &[u64], b: usize) -> u64
     requires b_lt_family_words { b < family_words }
     ensures { StepsToWord f.now b 8 result }
 {
-    let one: usize = 1;
     let mut lanes: u64 = 0;
+    // By number: the place of the bit says which word is looked at.
     for j in 0..8usize {
         let bit = (b >> j) % 2;
         if bit == 1 {
-            lanes = lanes | f[b - (one << j)];
+            lanes |= f[b - (1 << j)];
         }
     }
     lanes
@@ -100,9 +101,7 @@ fn clear_from(n: usize, d: &mut [u64])
     requires n_le_family_words { n ≤ family_words }
     ensures { ClearedFrom n d.new }
 {
-    for b in n..WORDS {
-        d[b] = 0;
-    }
+    d[n..].fill(0);
 }
 
 // The family's minimal members, written to out; they are all in the first n words. One step down is
@@ -114,6 +113,7 @@ pub fn minimal_members(f: &[u64], n: usize, out: &mut [u64])
     ensures { MinimalMembers f.now out.new }
 {
     clear_from(n, out);
+    // By number, since a word is judged by the words of smaller numbers.
     for b in 0..n {
         out[b] = least_word(f, b);
     }
@@ -125,9 +125,7 @@ pub fn keep_minimal(f: &mut [u64])
     requires { length f.old ≡ family_words }
     ensures { MinimalMembers f.old f.new }
 {
-    let mut b = WORDS;
-    while b != 0 {
-        b = b - 1;
+    for b in (0..WORDS).rev() {
         f[b] = least_word(f, b);
     }
 }
@@ -137,16 +135,12 @@ pub fn mask_of(chosen: VertexSet, x: u64) -> usize
     requires { ones chosen.0 ≤ mask_bits }
     ensures { MaskOf chosen.0 x result }
 {
-    let one: u64 = 1;
-    let mut rest = chosen.0;
     let mut mask: u64 = 0;
     let mut n: u32 = 0;
-    while rest != 0 {
-        let v = u64::trailing_zeros(rest);
+    for v in successors::vertices_of(chosen.0) {
         let bit = (x >> v) % 2;
-        mask = mask + (bit << n);
-        n = n + 1;
-        rest = rest - (one << v);
+        mask += bit << n;
+        n += 1;
     }
     mask as usize
 }

@@ -207,59 +207,56 @@ module _ (f index : List ℕ) (n b : ℕ) (p : Indexing f index n b) (e : length
             ∙ sym (ap (λ (k : List ℕ). of_words f (take n index) ++ k) skip) ∙ p.all;
       }
 
-pub indexing-end : (f index : List ℕ) (n b : ℕ) → length f ≡ 256 → b ≡ 256 → Indexing f index n b → Occupied f index n
+pub indexing-end : (f index : List ℕ) (n b : ℕ) → length f ≡ 256 → b ≡ 256 → Indexing f index n b → (n ≤ 256) × Occupied f (take n index)
 indexing-end f index n b e z p =
-    record {
-      long = p.long;
-      most = omega (arith, p.most);
-      below = p.below;
-      all = sym (append-nil (of_words f (take n index)))
-          ∙ sym (ap (λ (k : List ℕ). of_words f (take n index) ++ k) (rising-end f b (omega arith))) ∙ p.all;
-    }
+    let some : n ≤ length index = omega (arith, p.most, p.long) in (
+      omega (arith, p.most),
+      record {
+        below = λ i h. let l : i < n = omega (arith, length-take-le n index some) in rw (get_or-take n index i 0 l) (p.below i l);
+        all = sym (append-nil (of_words f (take n index)))
+            ∙ sym (ap (λ (k : List ℕ). of_words f (take n index) ++ k) (rising-end f b (omega arith))) ∙ p.all;
+      },
+    )
 
 -- ---- the loop over these words, with those from place i on still to come
 
 abbrev pub SizeWriting : (ℕ → ℕ) → ℕ → List ℕ → List ℕ → List ℕ → ℕ → List ℕ → ℕ → ℕ → Type 0
 SizeWriting N s f ws entry at out next i = Writing entry at (map N (of_size s (of_words f ws))) (map N (of_size s (of_words f (drop i ws)))) out next
 
-module _ (N : ℕ → ℕ) (s : ℕ) (f index : List ℕ) (n : ℕ) (o : Occupied f index n) (entry : List ℕ) (at : ℕ) (out : List ℕ) (next i : ℕ)
-    (w : SizeWriting N s f (take n index) entry at out next i) where
-  words-front : i < n → map N (of_size s (of_words f (drop i (take n index))))
-      ≡ map N (of_size s (masks_in (get_or index i 0) (get_or f (get_or index i 0) 0))) ++ map N (of_size s (of_words f (drop (i + 1) (take n index))))
+module _ (N : ℕ → ℕ) (s : ℕ) (f ws : List ℕ) (o : Occupied f ws) (entry : List ℕ) (at : ℕ) (out : List ℕ) (next i : ℕ)
+    (w : SizeWriting N s f ws entry at out next i) where
+  words-front : i < length ws → map N (of_size s (of_words f (drop i ws)))
+      ≡ map N (of_size s (masks_in (get_or ws i 0) (get_or f (get_or ws i 0) 0))) ++ map N (of_size s (of_words f (drop (i + 1) ws)))
   words-front h =
-      let b : ℕ = get_or index i 0 in
-      let long : length (take n index) ≡ n = length-take-le n index (omega (arith, o.long, o.most)) in
-      let here : drop i (take n index) ≡ b ∷ drop (i + 1) (take n index) =
-      drop-cons (take n index) i 0 (omega arith) ∙ rw (get_or-take n index i 0 h, add-one i) in
+      let b : ℕ = get_or ws i 0 in
+      let here : drop i ws ≡ b ∷ drop (i + 1) ws = drop-cons ws i 0 h ∙ rw (add-one i) in
       ap (λ (l : List ℕ). map N (of_size s (of_words f l))) here
-      ∙ ap (map N) (only-append (λ (m : ℕ). eqb (ones m) s) (masks_in b (get_or f b 0)) (of_words f (drop (i + 1) (take n index))))
-      ∙ map-append N (of_size s (masks_in b (get_or f b 0))) (of_size s (of_words f (drop (i + 1) (take n index))))
+      ∙ ap (map N) (only-append (λ (m : ℕ). eqb (ones m) s) (masks_in b (get_or f b 0)) (of_words f (drop (i + 1) ws)))
+      ∙ map-append N (of_size s (masks_in b (get_or f b 0))) (of_size s (of_words f (drop (i + 1) ws)))
 
-  front : i < n → Writing entry at (map N (of_size s (of_words f (take n index))))
-      (map N (of_size s (masks_in (get_or index i 0) (get_or f (get_or index i 0) 0))) ++ map N (of_size s (of_words f (drop (i + 1) (take n index))))) out next
-  front h = subst (λ (l : List ℕ). Writing entry at (map N (of_size s (of_words f (take n index)))) l out next) (words-front h) w
+  front : i < length ws → Writing entry at (map N (of_size s (of_words f ws)))
+      (map N (of_size s (masks_in (get_or ws i 0) (get_or f (get_or ws i 0) 0))) ++ map N (of_size s (of_words f (drop (i + 1) ws)))) out next
+  front h = subst (λ (l : List ℕ). Writing entry at (map N (of_size s (of_words f ws))) l out next) (words-front h) w
 
-  pub size_room : i < n → at + length (of_size s (rising 0 f)) ≤ length entry
-      → next + length (of_size s (masks_in (get_or index i 0) (get_or f (get_or index i 0) 0))) ≤ length out
+  pub size_room : i < length ws → at + length (of_size s (rising 0 f)) ≤ length entry
+      → next + length (of_size s (masks_in (get_or ws i 0) (get_or f (get_or ws i 0) 0))) ≤ length out
   size_room h room =
-      let here : List ℕ = of_size s (masks_in (get_or index i 0) (get_or f (get_or index i 0) 0)) in
-      let all : List ℕ = of_size s (of_words f (take n index)) in
+      let here : List ℕ = of_size s (masks_in (get_or ws i 0) (get_or f (get_or ws i 0) 0)) in
+      let all : List ℕ = of_size s (of_words f ws) in
       let e : length all ≡ length (of_size s (rising 0 f)) = ap (λ (l : List ℕ). length (of_size s l)) o.all in
       let l = length-map all N in
       let k = length-map here N in
-      let r = writing-room entry at (map N all) (map N here) (map N (of_size s (of_words f (drop (i + 1) (take n index))))) out next (front h) (omega arith) in
+      let r = writing-room entry at (map N all) (map N here) (map N (of_size s (of_words f (drop (i + 1) ws)))) out next (front h) (omega arith) in
       omega arith
 
-  pub size-next : i < n → (after : List ℕ) (r : ℕ) → Wrote out next (map N (of_size s (masks_in (get_or index i 0) (get_or f (get_or index i 0) 0)))) after r
-      → SizeWriting N s f (take n index) entry at after r (i + 1)
+  pub size-next : i < length ws → (after : List ℕ) (r : ℕ) → Wrote out next (map N (of_size s (masks_in (get_or ws i 0) (get_or f (get_or ws i 0) 0)))) after r
+      → SizeWriting N s f ws entry at after r (i + 1)
   size-next h after r p =
-      let rest : List ℕ = map N (of_size s (of_words f (drop (i + 1) (take n index)))) in
-      writing-part entry at _ (map N (of_size s (masks_in (get_or index i 0) (get_or f (get_or index i 0) 0)))) rest out next after r (front h) p
+      let rest : List ℕ = map N (of_size s (of_words f (drop (i + 1) ws))) in
+      writing-part entry at _ (map N (of_size s (masks_in (get_or ws i 0) (get_or f (get_or ws i 0) 0)))) rest out next after r (front h) p
 
-  pub size-end : i ≡ n → Wrote entry at (map N (of_size s (rising 0 f))) out next
-  size-end e =
-      let long : length (take n index) ≡ n = length-take-le n index (omega (arith, o.long, o.most)) in
-      let past : length (take n index) ≤ i = omega arith in
-      let none : drop i (take n index) ≡ [] = drop_of_length-le (take n index) past in
+  pub size-end : length ws ≤ i → Wrote entry at (map N (of_size s (rising 0 f))) out next
+  size-end past =
+      let none : drop i ws ≡ [] = drop_of_length-le ws past in
       subst (λ (l : List ℕ). Wrote entry at (map N (of_size s l)) out next) o.all
       (writing-end entry at _ _ out next (ap (λ (l : List ℕ). map N (of_size s (of_words f l))) none) w)

@@ -2,13 +2,12 @@
 -- Assumes nothing.
 use mathlib.Core.Path.{◌≡◌, sym, ap, ◌∙◌, subst}
 use mathlib.Core.List.{List, ◌++◌, map, map-append}
-use Prim.Native.Nat.{ℕ, suc, ◌+◌, ◌-◌, ◌/◌, ◌%◌, ◌^◌, ◌≤◌, ◌<◌}
+use Prim.Native.Nat.{ℕ, suc, ◌+◌, ◌-◌, ◌^◌, ◌≤◌, ◌<◌}
 use native.Mathlib.Nat.{lt_of_le_of_lt}
 use native.Mathlib.Numerals.{add-one}
 use native.Mathlib.Omega.{arith}
 use lib.Count.{ones, ones-le}
 use lib.ListN.{length, length-map}
-use lib.Seq.{sets}
 use Rattle.vertex_set.specs.Order.{Listed, Before, sum_over}
 use Rattle.vertex_set.proofs.Sets.{member_below, within-le}
 use Rattle.vertex_set.proofs.Sorted.{listed-map, listed-of-map, map_same, sorted-map, sorted-ordered}
@@ -18,11 +17,11 @@ use Rattle.families.specs.Inner.Masks.{SetOfMask}
 use Rattle.families.specs.Inner.Exact.{OnChosen}
 use Rattle.families.proofs.Masks.{spread, set-of, set_before, set-within}
 use Rattle.sums.specs.Inner.Sums.{sum_at, WeightsOf, SumsFit, SumTable}
-use Rattle.sums.proofs.Weights.{at_split}
+use Rattle.sums.proofs.Tables.{tables-sum}
 use Rattle.written.specs.Inner.{Wrote}
 use Rattle.written.proofs.Writing.{Writing, writing-part, writing-room, writing-end, wrote-front}
 use Rattle.family_lists.specs.Inner.Lists.{ListOf, WroteSets}
-use Rattle.family_lists.specs.Inner.Tables.{TablesFit, sum_by, rising, of_size, by_size}
+use Rattle.family_lists.specs.Inner.Tables.{sum_by, rising, of_size, by_size}
 use Rattle.family_lists.proofs.Order.{listed-members, sorted-rising, Words, length-rising, member-small, listed-by-size, sorted-by-size, length-by-size}
 
 -- The masks of the family's members, by size.
@@ -94,19 +93,6 @@ module _ (N : ℕ → ℕ) (f entry out : List ℕ) (next s : ℕ) (w : AllWriti
   all_end e =
       let z : 15 - s ≡ 0 = omega arith in
       writing-end entry 0 _ _ out next (ap (λ (n : ℕ). map N (by_size (rising 0 f) s n)) z) w
-
--- ---- the two tables
-
-pub tables-sum : (ws low high : List ℕ) → SumTable ws 0 low → SumTable ws 7 high → (m : ℕ) → m < 16384 → sum_by low high m ≡ sum_at ws m
-tables-sum ws low high p q m h =
-    let a = q.each (m / 128) (omega arith) in
-    let b = p.each (m % 128) (omega arith) in
-    let e = at_split 7 ws m in
-    omega arith
-
-pub tables-fit : (ws low high : List ℕ) → SumTable ws 0 low → SumTable ws 7 high → SumsFit ws → length low ≡ 128 → length high ≡ 128 → TablesFit low high
-tables-fit ws low high p q f a b =
-    record { long-low = a; long-high = b; fits = λ m h. let e = tables-sum ws low high p q m h in let g = f.fits m in omega arith }
 
 -- ---- set numbers as sums
 

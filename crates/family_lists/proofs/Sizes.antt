@@ -8,7 +8,7 @@ use Prim.Native.Nat.{ℕ, ◌+◌, ◌*◌, ◌/◌, ◌%◌, ◌^◌, ◌<◌}
 use native.Mathlib.Omega.{arith}
 use lib.Bits.{bit_and, bit_or}
 use lib.Count.{ones, ones-le}
-use lib.ListN.{length, get_or, take, set, replicate}
+use lib.ListN.{length, get_or, set, replicate}
 use lib.Seq.{get_or-set_same, get_or-set_other}
 use Rattle.vertex_set.specs.Set.{Member, Iff}
 use Rattle.vertex_set.specs.Order.{Listed}
@@ -86,9 +86,9 @@ module _ (f ws joined : List ℕ) (j : Joining f ws joined) (b : ℕ) where
       }
 
 -- all members are in the listed words
-pub joining-end : (f index joined : List ℕ) (n : ℕ) → Occupied f index n → Joining f (take n index) joined → JoinedBySize f joined
+pub joining-end : (f ws joined : List ℕ) → Occupied f ws → Joining f ws joined → JoinedBySize f joined
 unfolding In
-joining-end f index joined n o j =
+joining-end f ws joined o j =
     record {
       each = λ k i h. record {
         to = λ m. let p = (j.each k i).to m in (p.0, p.2, p.3);
@@ -97,7 +97,7 @@ joining-end f index joined n o j =
             let word : (b * 64 + i) / 64 ≡ b = omega arith in
             let lane : (b * 64 + i) % 64 ≡ i = omega arith in
             let listed = rw (sym o.all) at ((listed-members f (b * 64 + i)).from (rw (word, lane) p.2)) in
-            let at = (listed-words f (take n index) (b * 64 + i)).to listed in
+            let at = (listed-words f ws (b * 64 + i)).to listed in
             (j.each k i).from (b, rw word at at.0, p.1, p.2);
       };
     }

@@ -3,14 +3,15 @@
 
 #![tactic(auto)]
 
-ghost use Rattle.std.specs.Prelude.{◌≡◌, map, ◌+◌, ◌≤◌, ◌<◌, length};
+ghost use Rattle.std.specs.Prelude.{◌≡◌, map, ◌+◌, ◌≤◌, ◌<◌, length, take};
 ghost use Rattle.std.specs.Int.Count.{ones};
 ghost use Rattle.families.specs.Inner.Family.{size, family_words};
 ghost use Rattle.written.specs.Inner.{Wrote};
 ghost use Rattle.family_lists.specs.Inner.Lists.{Writable, WroteSets};
-ghost use Rattle.family_lists.specs.Inner.Tables.{Layer, LanesOfSize, TablesFit, masks_in, rising, Occupied, JoinedBySize, SomeOfSize, of_size, by_size, sum_by};
+ghost use Rattle.family_lists.specs.Inner.Tables.{Layer, LanesOfSize, masks_in, rising, Occupied, JoinedBySize, SomeOfSize, of_size, by_size, sum_by};
 
 use families::WORDS;
+use sums::MaskSums;
 use vertex_set::VertexSet;
 
 // At place k stand the lanes of a word whose numbers have k bits.
@@ -39,119 +40,98 @@ fn layer(k: usize, s: usize) -> u64
 pub fn lanes_of_size(b: usize, s: usize) -> u64
     ensures { LanesOfSize b s result }
 {
-    let k = usize::count_ones(b) as usize;
+    let k = b.count_ones() as usize;
     layer(k, s)
 }
 
 // Writes the sums of the masks of word b in the lanes of y, from `at` on, and gives the next place.
-fn put_word(y: u64, b: usize, low: &[u64], high: &[u64], out: &mut [u64], at: usize) -> usize
+fn put_word(y: u64, b: usize, sums: &MaskSums, out: &mut [u64], at: usize) -> usize
     requires b_lt_family_words { b < family_words }
-    requires tables_fit { TablesFit low.now high.now }
     requires y_in_bounds { at + ones y ≤ length out.old }
-    ensures { Wrote out.old at (map (sum_by low.now high.now) (masks_in b y)) out.new result }
+    ensures { Wrote out.old at (map (sum_by sums.now.low sums.now.high) (masks_in b y)) out.new result }
 {
-    let one: u64 = 1;
-    let base = high[b / 2];
+    let base = sums.high[b / 2];
     let from = b % 2 * 64;
-    let mut rest = y;
     let mut next = at;
-    while rest != 0 {
-        let i = u64::trailing_zeros(rest);
-        out[next] = base + low[from + i as usize];
-        next = next + 1;
-        rest = rest - (one << i);
+    for i in successors::vertices_of(y) {
+        out[next] = base + sums.low[from + i];
+        next += 1;
     }
     next
 }
 
 // Of the masks of word b in the lanes of x, writes the sums of those that have s bits, from `at`
 // on, and gives the next place.
-fn put_sized(
-    x: u64,
-    b: usize,
-    s: usize,
-    low: &[u64],
-    high: &[u64],
-    out: &mut [u64],
-    at: usize,
-) -> usize
+fn put_sized(x: u64, b: usize, s: usize, sums: &MaskSums, out: &mut [u64], at: usize) -> usize
     requires b_lt_family_words { b < family_words }
-    requires tables_fit { TablesFit low.now high.now }
     requires x_in_bounds { at + length (of_size s (masks_in b x)) ≤ length out.old }
-    ensures { Wrote out.old at (map (sum_by low.now high.now) (of_size s (masks_in b x))) out.new result }
+    ensures { Wrote out.old at (map (sum_by sums.now.low sums.now.high) (of_size s (masks_in b x))) out.new result }
 {
     let lanes = lanes_of_size(b, s);
-    put_word(x & lanes, b, low, high, out, at)
+    put_word(x & lanes, b, sums, out, at)
 }
 
 // Writes the numbers of the family's words that are not empty to the front of `index`, and gives
 // their count. By them the other loops pass over empty words.
-fn occupied_words(f: &[u64], index: &mut [usize]) -> usize
-    requires f_len { length f.now ≡ family_words }
-    requires index_len { length index.old ≡ family_words }
-    ensures { Occupied f.now index.new result }
+fn occupied_words(f: &[u64], index: &mut [usize; WORDS]) -> usize
+    requires { length f.now ≡ family_words }
+    ensures { (result ≤ family_words) × Occupied f.now (take result index.new) }
 {
     let mut n: usize = 0;
-    for b in 0..WORDS {
+    for (b, x) in f.iter().enumerate() {
         index[n] = b;
-        let x = f[b];
-        if x != 0 {
-            n = n + 1;
+        if *x != 0 {
+            n += 1;
         }
     }
     n
 }
 
 // Writes the sums of the family's members that have s bits, from `at` on, and gives the next place.
-// All members are in the words whose numbers stand in the first n places of `index`.
+// All members are in the words with the listed numbers.
 fn put_size(
     f: &[u64],
-    index: &[usize],
-    n: usize,
+    occupied: &[usize],
     s: usize,
-    low: &[u64],
-    high: &[u64],
+    sums: &MaskSums,
     out: &mut [u64],
     at: usize,
 ) -> usize
     requires f_len { length f.now ≡ family_words }
-    requires occupied { Occupied f.now index.now n }
-    requires tables_fit { TablesFit low.now high.now }
+    requires words { Occupied f.now occupied.now }
     requires f_in_bounds { at + length (of_size s (rising 0 f.now)) ≤ length out.old }
-    ensures { Wrote out.old at (map (sum_by low.now high.now) (of_size s (rising 0 f.now))) out.new result }
+    ensures { Wrote out.old at (map (sum_by sums.now.low sums.now.high) (of_size s (rising 0 f.now))) out.new result }
 {
     let mut next = at;
-    for i in 0..n {
-        let b = index[i];
-        next = put_sized(f[b], b, s, low, high, out, next);
+    for b in occupied {
+        next = put_sized(f[*b], *b, s, sums, out, next);
     }
     next
 }
 
 // At place k stand the lanes that are in some word of the family whose number has k bits. All
-// members are in the words whose numbers stand in the first n places of `index`.
-fn joined_words(f: &[u64], index: &[usize], n: usize) -> [u64; 9]
+// members are in the words with the listed numbers.
+fn joined_words(f: &[u64], occupied: &[usize]) -> [u64; 9]
     requires f_len { length f.now ≡ family_words }
-    requires occupied { Occupied f.now index.now n }
+    requires words { Occupied f.now occupied.now }
     ensures { JoinedBySize f.now result }
 {
     let mut joined = [0u64; 9];
-    for i in 0..n {
-        let b = index[i];
-        let k = usize::count_ones(b) as usize;
-        joined[k] = joined[k] | f[b];
+    for b in occupied {
+        let k = b.count_ones() as usize;
+        joined[k] |= f[*b];
     }
     joined
 }
 
 // Has the family a member of s bits? `joined` has at place k the lanes that are in some word of the
 // family whose number has k bits.
-fn some_of_size(joined: [u64; 9], s: usize) -> bool
-    ensures { SomeOfSize joined s result }
+fn some_of_size(joined: &[u64; 9], s: usize) -> bool
+    ensures { SomeOfSize joined.now s result }
 {
-    for k in 0..9usize {
+    for (k, x) in joined.iter().enumerate() {
         let lanes = layer(k, s);
-        if joined[k] & lanes != 0 {
+        if *x & lanes != 0 {
             return true;
         }
     }
@@ -160,20 +140,19 @@ fn some_of_size(joined: [u64; 9], s: usize) -> bool
 
 // Writes the sums of all members of the family to the front of `out`, fewer bits first, and gives
 // their number. Sizes that no member has are passed over.
-fn put_all(f: &[u64], low: &[u64], high: &[u64], out: &mut [u64]) -> usize
+fn put_all(f: &[u64], sums: &MaskSums, out: &mut [u64]) -> usize
     requires f_len { length f.now ≡ family_words }
-    requires tables_fit { TablesFit low.now high.now }
     requires f_in_bounds { size f.now ≤ length out.old }
-    ensures { Wrote out.old 0 (map (sum_by low.now high.now) (by_size (rising 0 f.now) 0 15)) out.new result }
+    ensures { Wrote out.old 0 (map (sum_by sums.now.low sums.now.high) (by_size (rising 0 f.now) 0 15)) out.new result }
 {
     let mut index = [0usize; WORDS];
     let n = occupied_words(f, &mut index);
-    let joined = joined_words(f, &index, n);
+    let joined = joined_words(f, &index[..n]);
     let mut next: usize = 0;
     for s in 0..15usize {
-        let some = some_of_size(joined, s);
+        let some = some_of_size(&joined, s);
         if some {
-            next = put_size(f, &index, n, s, low, high, out, next);
+            next = put_size(f, &index[..n], s, sums, out, next);
         }
     }
     next
@@ -188,9 +167,6 @@ pub fn write_sets(f: &[u64], chosen: VertexSet, out: &mut [u64]) -> usize
 {
     let values = sums::singles();
     let weights = sums::weights_of(chosen, values);
-    let mut low = [0u64; 128];
-    let mut high = [0u64; 128];
-    sums::fill_sums(weights, 0, &mut low);
-    sums::fill_sums(weights, 7, &mut high);
-    put_all(f, &low, &high, out)
+    let sums = MaskSums::of(weights);
+    put_all(f, &sums, out)
 }

@@ -1,6 +1,7 @@
 -- From one member of a family to the next: the lanes of a word that come into question, the first member of a size, the first after a mask.
 -- Assumes nothing.
-use mathlib.Core.Path.{◌≡◌, sym, subst}
+use mathlib.Core.Path.{◌≡◌, refl, sym, subst}
+use Rattle.std.specs.Prelude.{Option, None, Some}
 use mathlib.Core.Logic.{◌⊎◌, inl, inr, ⊎_elim}
 use mathlib.Core.List.{List}
 use Prim.Native.Nat.{ℕ, ◌+◌, ◌-◌, ◌*◌, ◌/◌, ◌%◌, ◌^◌, ◌≤◌, ◌<◌}
@@ -81,19 +82,24 @@ module _ (f : List ℕ) (s from b sized later : ℕ) (z : LanesOfSize b s sized)
       }
 
   -- and in the first word that has one, the lowest is the first member
-  pub first-here : (i : ℕ) → LowestOf asked i → NoneBefore f s from b → FirstOfSize f s from (b * 64 + i)
-  first-here i w n =
+  pub first-here : b < 256 → (i : ℕ) → LowestOf asked i → NoneBefore f s from b → FirstOfSize f s from (Some (b * 64 + i))
+  first-here small i w n =
       record {
-        found = λ l. asked-lane i w.vertex.place w.vertex.member;
-        lowest = λ k l m o h. ⊎_elim (λ g. absurd (n.none k g m o h))
-            (λ g. ⊎_elim (λ e. let q = w.lower (k % 64) (lane-asked k e m o h) in omega arith)
-            (λ d. let p = w.vertex.place in omega (arith, d)) (same_or (k / 64) b))
-            (less-or k (b * 64));
+        found = λ m e. let here = asked-lane i w.vertex.place w.vertex.member in let p = w.vertex.place in
+            let same : m ≡ b * 64 + i = cc in rw same (omega arith, here.0, here.1, here.2);
+        lowest = λ k l m o h. (
+          b * 64 + i,
+          refl,
+          ⊎_elim (λ g. absurd (n.none k g m o h))
+              (λ g. ⊎_elim (λ e. let q = w.lower (k % 64) (lane-asked k e m o h) in omega arith)
+              (λ d. let p = w.vertex.place in omega (arith, d)) (same_or (k / 64) b))
+              (less-or k (b * 64)),
+        );
       }
 
-pub none_at_all : (f : List ℕ) (s from b : ℕ) → 256 ≤ b → NoneBefore f s from b → FirstOfSize f s from masks
+pub none_at_all : (f : List ℕ) (s from b : ℕ) → 256 ≤ b → NoneBefore f s from b → FirstOfSize f s from None
 none_at_all f s from b h n =
-    record { found = λ l. absurd (omega arith); lowest = λ k l m o q. absurd (n.none k (omega arith) m o q) }
+    record { found = λ m e. cc; lowest = λ k l m o q. absurd (n.none k (omega arith) m o q) }
 
 -- ---- the first member after a mask
 
@@ -112,38 +118,40 @@ seeking-first f m =
       here = λ k e. record { to = λ h. inr (omega arith, omega arith); from = ⊎_elim (λ g. omega arith) (λ g. let q = g.1 in omega arith) };
     }
 
-module _ (f : List ℕ) (m from s r : ℕ) (g : Seeking f m from s) (o : FirstOfSize f s from r) where
+module _ (f : List ℕ) (m from s : ℕ) (r : Option ℕ) (g : Seeking f m from s) (o : FirstOfSize f s from r) where
   -- no member of s bits comes after m: one size on, any member does
-  pub seeking-more : masks ≤ r → Seeking f m 0 (s + 1)
+  pub seeking-more : r ≡ None → Seeking f m 0 (s + 1)
   unfolding Before
   seeking-more h =
       record {
         size = let q = g.size in omega arith;
         none = λ k l i b. let q = g.none k l i b in
-            ⊎_elim (λ e. absurd (let j = o.lowest k l i e ((g.here k e).from b) in omega arith)) (λ d. omega (arith, d)) (same_or (ones k) s);
+            ⊎_elim (λ e. let j = (o.lowest k l i e ((g.here k e).from b)).1 in cc) (λ d. omega (arith, d)) (same_or (ones k) s);
         here = λ k e. record { to = λ j. let q = g.size in inl (omega arith); from = λ b. omega arith };
       }
 
   -- else the first of them is the next
-  pub seeking-found : r < masks → NextMember f m r
+  pub seeking-found : (n : ℕ) → r ≡ Some n → NextMember f m r
   unfolding Before
-  seeking-found h =
-      let w = o.found h in
+  seeking-found n h =
+      let w = o.found n h in
       record {
-        found = λ l. (w.0, (g.here r w.1).to w.2);
-        first = λ k l i b. (h, ⊎_elim (λ e. same k l i e ((g.here k e).from b)) (λ d. let q = g.none k l i b in let p = w.1 in inr (inl (omega (arith, d)))) (same_or (ones k) s));
+        found = λ k e. let v = o.found k e in (v.0, v.1, (g.here k v.2).to v.3);
+        first = λ k l i b. (n, h, ⊎_elim (λ e. same k l i e ((g.here k e).from b)) (λ d. let q = g.none k l i b in let p = w.2 in inr (inl (omega (arith, d)))) (same_or (ones k) s));
       }
     where
-      same : (k : ℕ) → k < masks → In f k → ones k ≡ s → from ≤ k → (r ≡ k) ⊎ Before r k
+      same : (k : ℕ) → k < masks → In f k → ones k ≡ s → from ≤ k → (n ≡ k) ⊎ Before n k
       same k l i e j =
           let q = o.lowest k l i e j in
-          let p = (o.found h).1 in
-          ⊎_elim (λ z. inl z) (λ d. inr (inr (omega arith, omega (arith, d)))) (same_or r k)
+          let is : q.0 ≡ n = let a = q.1 in cc in
+          let le = q.2 in
+          let p = (o.found n h).2 in
+          ⊎_elim (λ z. inl z) (λ d. inr (inr (omega arith, omega (arith, d)))) (same_or n k)
 
 -- no size is left
-pub seeking-end : (f : List ℕ) (m from s : ℕ) → 15 ≤ s → Seeking f m from s → NextMember f m masks
+pub seeking-end : (f : List ℕ) (m from s : ℕ) → 15 ≤ s → Seeking f m from s → NextMember f m None
 seeking-end f m from s h g =
     record {
-      found = λ l. absurd (omega arith);
+      found = λ n e. cc;
       first = λ k l i b. absurd (let q = g.none k l i b in let p = ones-le 14 k (omega arith) in omega arith);
     }

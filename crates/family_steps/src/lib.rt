@@ -8,7 +8,7 @@ ghost use Rattle.families.specs.Inner.Family.{family_words, masks};
 ghost use Rattle.families.specs.Inner.Masks.{SetOfMask};
 ghost use Rattle.family_steps.specs.Inner.{LanesFrom, FirstOfSize, NextMember};
 
-use families::{MASKS, WORDS};
+use families::WORDS;
 use vertex_set::VertexSet;
 
 // The most bits that a mask has, and one more.
@@ -27,8 +27,8 @@ fn lanes_from(b: usize, from: usize) -> u64
     !low.0
 }
 
-// The lowest member that has s bits and is `from` or above it; MASKS where there is none.
-fn first_of_size(f: &[u64], s: usize, from: usize) -> usize
+// The lowest member that has s bits and is `from` or above it.
+fn first_of_size(f: &[u64], s: usize, from: usize) -> Option<usize>
     requires { length f.now ≡ family_words }
     ensures { FirstOfSize f.now s from result }
 {
@@ -37,44 +37,39 @@ fn first_of_size(f: &[u64], s: usize, from: usize) -> usize
         let later = lanes_from(b, from);
         let lanes = f[b] & sized & later;
         if lanes != 0 {
-            return b * 64 + successors::lowest(lanes);
+            return Some(b * 64 + successors::lowest(lanes));
         }
     }
-    MASKS
+    None
 }
 
-// The first member after the mask m; MASKS where there is none. Of m's own size only larger masks
-// come after it, of the sizes above all do.
-pub fn next_member(f: &[u64], m: usize) -> usize
+// The first member after the mask m. Of m's own size only larger masks come after it, of the sizes
+// above all do.
+pub fn next_member(f: &[u64], m: usize) -> Option<usize>
     requires f_len { length f.now ≡ family_words }
     requires m_lt_masks { m < masks }
     ensures { NextMember f.now m result }
 {
-    let size = usize::count_ones(m) as usize;
+    let size = m.count_ones() as usize;
     let mut from = m + 1;
     for s in size..SIZES {
-        let found = first_of_size(f, s, from);
-        if found < MASKS {
-            return found;
+        if let Some(next) = first_of_size(f, s, from) {
+            return Some(next);
         }
         from = 0;
     }
-    MASKS
+    None
 }
 
 // The set that a mask stands for: its lowest bit is for the lowest chosen vertex, and so on.
 pub fn set_of(chosen: VertexSet, mask: usize) -> VertexSet
     ensures { SetOfMask chosen.0 mask result.0 }
 {
-    let one: u64 = 1;
-    let mut rest = chosen.0;
     let mut bits = mask as u64;
     let mut set: u64 = 0;
-    while rest != 0 {
-        let v = u64::trailing_zeros(rest);
-        set = set + ((bits % 2) << v);
-        bits = bits / 2;
-        rest = rest - (one << v);
+    for v in successors::vertices_of(chosen.0) {
+        set += (bits % 2) << v;
+        bits /= 2;
     }
     VertexSet(set)
 }

@@ -1,13 +1,13 @@
 -- Laws of parts: what the word operations make of their bits.
 -- Assumes nothing.
-use mathlib.Core.Path.{sym, subst}
+use mathlib.Core.Path.{◌≡◌, sym, ap, subst, ◌∙◌}
 use mathlib.Core.Bool.{Bool, true, false}
 use mathlib.Core.List.{List}
 use Prim.Native.Nat.{ℕ, ◌-◌, ◌^◌, ◌≤◌, ◌<◌}
 use native.Mathlib.Omega.{arith}
-use lib.ListN.{get_or}
+use lib.ListN.{length, get_or, replicate, length-replicate, get_or-replicate}
 use Rattle.vertex_set.specs.Set.{Member, Iff}
-use Rattle.vertex_set.proofs.Decisions.{iff-trans}
+use Rattle.vertex_set.proofs.Decisions.{iff-trans, iff-refl}
 use Rattle.vertex_set.proofs.Sets.{in_and, in-or, below_power}
 use Rattle.family_words.specs.Inner.Words.{At, PartWhere, merged_word, Merged}
 use Rattle.family_words.proofs.Words.{Mapped}
@@ -30,6 +30,16 @@ mapped-part f P d₀ d n m h p =
     record {
       words = m.words;
       each = λ b i hb hi. subst (λ (x : ℕ). Iff (Member x i) (P b i)) (sym (m.done b (omega arith))) (p b i hb hi);
+    }
+
+-- every word is x
+pub filled-part : (x : ℕ) (d₀ d : List ℕ) → length d₀ ≡ 16 → d ≡ replicate (length d₀) x → PartWhere (λ b i. Member x i) d
+unfolding At
+filled-part x d₀ d e f =
+    let all : d ≡ replicate 16 x = rw e at f in
+    record {
+      words = ap length all ∙ length-replicate 16 x;
+      each = λ b i hb hi. subst (λ (y : ℕ). Iff (Member y i) (Member x i)) (sym (ap (λ (l : List ℕ). get_or l b 0) all ∙ get_or-replicate 16 b x 0 hb)) iff-refl;
     }
 
 in-merged : (any : Bool) (x y i : ℕ) → Iff (Member (merged_word any x y) i) (Merged any (Member x i) (Member y i))

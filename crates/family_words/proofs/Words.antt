@@ -2,11 +2,11 @@
 -- Assumes nothing.
 use mathlib.Core.Path.{◌≡◌, sym, ◌∙◌, subst}
 use mathlib.Core.List.{List}
-use mathlib.Core.Logic.{◌⊎◌, ⊎_elim}
+use mathlib.Core.Logic.{⊎_elim}
 use Prim.Native.Nat.{ℕ, ◌+◌, ◌≤◌, ◌<◌}
 use native.Mathlib.Omega.{arith}
 use lib.ListN.{length, get_or, set, length-set}
-use lib.Seq.{get_or-set_same, get_or-set_other, ext_get_or}
+use lib.Seq.{get_or-set_same, get_or-set_other}
 use Rattle.vertex_set.proofs.Cases.{same_or}
 
 -- The first n words of d are f's; the others are those of d₀ still.
@@ -28,7 +28,3 @@ module _ (f : ℕ → ℕ) (d₀ : List ℕ) where
             (same_or b n);
         left = λ b l. get_or-set_other d n b x 0 (λ q. omega arith) ∙ m.left b (omega arith);
       }
-
--- all words written: a list of the same length that has them
-pub mapped-copy : (d₀ s d : List ℕ) (n : ℕ) → length s ≡ 16 → Mapped (λ b. get_or s b 0) d₀ d n → 16 ≤ n → d ≡ s
-mapped-copy d₀ s d n e m h = ext_get_or 0 d s (m.words ∙ sym e) (λ b l. m.done b (let w = m.words in omega arith))

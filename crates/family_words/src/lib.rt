@@ -7,7 +7,9 @@ ghost use Rattle.std.specs.Prelude.{◌≡◌, ◌+◌, ◌*◌, ◌<◌, length
 ghost use Rattle.vertex_set.specs.Set.{Member};
 ghost use Rattle.family_words.specs.Inner.Words.{part_words, At, PartWhere, Merged, merged_word, Joined};
 
-// A part of a family has 16 words of 64 bits, a bit for each of 2^10 masks.
+// A part of a family has 16 words of 64 bits, a bit for each of 2^10 masks. It is lent as a slice, whose
+// length a contract states, and not as an array: parts are cut out of a block, and what is cut out is a
+// slice.
 pub const PART: usize = 16;
 
 // Every word of the part becomes x.
@@ -15,23 +17,11 @@ pub fn set_all(d: &mut [u64], x: u64)
     requires { length d.old ≡ part_words }
     ensures { PartWhere (λ b i. Member x i) d.new }
 {
-    for b in 0..PART {
-        d[b] = x;
-    }
-}
-
-// The part becomes a copy of the other.
-pub fn copy_in(d: &mut [u64], s: &[u64])
-    requires d_len { length d.old ≡ part_words }
-    requires s_len { length s.now ≡ part_words }
-    ensures { d.new ≡ s.now }
-{
-    for b in 0..PART {
-        d[b] = s[b];
-    }
+    d.fill(x);
 }
 
 // The bits that both words have or, with `any`, that one of them has.
+#[tactic(auto, unfolding(crate::specs::Inner::Words::merged_word))]
 fn merged(any: bool, x: u64, y: u64) -> u64
     ensures { result ≡ merged_word any x y }
 {
@@ -45,8 +35,8 @@ pub fn merge_in(any: bool, d: &mut [u64], s: &[u64])
     requires s_len { length s.now ≡ part_words }
     ensures { PartWhere (λ b i. Merged any (At d.old b i) (At s.now b i)) d.new }
 {
-    for b in 0..PART {
-        d[b] = merged(any, d[b], s[b]);
+    for (b, y) in s.iter().enumerate() {
+        d[b] = merged(any, d[b], *y);
     }
 }
 
@@ -57,11 +47,10 @@ pub fn join(d: &mut [u64], s: &[u64]) -> bool
     ensures { Joined d.old s.now result d.new }
 {
     let mut fresh: u64 = 0;
-    for b in 0..PART {
+    for (b, more) in s.iter().enumerate() {
         let old = d[b];
-        let more = s[b];
-        d[b] = old | more;
-        fresh = fresh | (more & !old);
+        d[b] = old | *more;
+        fresh |= *more & !old;
     }
     fresh != 0
 }
@@ -87,8 +76,8 @@ pub fn start_words(d: &mut [u64], k: usize)
         return;
     }
     let j = k - 6;
-    for b in 0..PART {
+    for (b, word) in d.iter_mut().enumerate() {
         let bit = (b >> j) % 2;
-        d[b] = (bit as u64) * 0xFFFF_FFFF_FFFF_FFFF;
+        *word = (bit as u64) * u64::MAX;
     }
 }

@@ -1,10 +1,10 @@
 -- What the calls answer, for every setup and all vertices.
-use Rattle.std.specs.Prelude.{Bool, true, false, [], ◌∷◌, ℕ}
+use Rattle.std.specs.Prelude.{Result, Bool, true, false, [], ◌∷◌, ℕ}
 use Rattle.setup.specs.declared.Setup.{Setup}
-use Rattle.questions.specs.Contract.{Reply, gives, refuses, Contract, telling}
+use Rattle.questions.specs.declared.Refusal.{Refusal}
+use Rattle.questions.specs.Contract.{Reply, Contract, telling}
+use Rattle.questions.specs.Refusals.{replies}
 use Rattle.questions.specs.Questions.{asks12, asks13}
-use Rattle.findings.specs.declared.FindingAnswer.{FindingAnswer}
-use Rattle.findings.specs.declared.FindingAnswer.TheVariants.{Is, Refused}
 use Rattle.findings.specs.Findings.{FindsBackdoor, FindsIneffective, FindsInconsistent}
 
 -- 1 for yes, 0 for no.
@@ -13,9 +13,8 @@ yes_no true = 1
 yes_no false = 0
 
 -- Document 01's number and values for each case of an answer: one for yes or no.
-abbrev pub finding_reply : FindingAnswer → Reply
-finding_reply (Is b) = gives (yes_no b ∷ [])
-finding_reply (Refused q) = refuses q
+abbrev pub finding_reply : Result Bool Refusal → Reply
+finding_reply = replies (λ b. yes_no b ∷ [])
 
 -- 12, 13; else: has v a backdoor?
 abbrev pub backdoor_call : Setup → ℕ → Contract

@@ -12,7 +12,7 @@ use lib.Dec.{leb}
 use lib.ListN.{length, take}
 use lib.Seq.{take_all}
 use borrow.Author.Count.{below_none, below_more}
-use Rattle.vertex_set.specs.Set.{Within, Decides, Iff, Below}
+use Rattle.vertex_set.specs.Set.{Within, Decides, Iff}
 use Rattle.vertex_set.proofs.Sets.{member_below, none-in-zero, in-or, within-le, within-test}
 use Rattle.vertex_set.proofs.Decisions.{decide_iff, decide-leb}
 use Rattle.setup.specs.Bounds.{most_edges}
@@ -20,10 +20,6 @@ use Rattle.setup.specs.declared.Rows.{Rows}
 use Rattle.setup.specs.declared.Graph.{Graph}
 use Rattle.setup.specs.Setup.{rows_at, row_of, total, edge_count}
 use Rattle.formed.specs.Inner.Parts.{RowsFit, MayNeed, EdgesFit, GraphsFit}
-
-pub need-used : (count v set : ℕ) → v < count → Below count set → MayNeed count v set
-need-used count v set l b =
-    record { each = λ f. record { to = λ m. let n = (b.each f).to m in (l, n.0, n.1); from = λ n. (b.each f).from (n.1, n.2) } }
 
 pub need-unused : (count v : ℕ) → count ≤ v → MayNeed count v 0
 need-unused count v l =
@@ -73,23 +69,23 @@ abbrev less : ℕ → ℕ → ℕ
 less a b = bit_and a ((2 ^ 64 - 1) - b)
 
 pub fit-more : (bound : ℕ) (rows recovery : Rows) (n stray : ℕ) → bound < 2 ^ 64 → row_of rows n < 2 ^ 64 → row_of recovery n < 2 ^ 64 → Iff (stray ≡ 0) (FitBelow bound rows recovery n)
-    → Iff (bit_or (bit_or stray (bit_and (row_of rows n) ((2 ^ 64 - 1) - bound))) (bit_and (row_of recovery n) ((2 ^ 64 - 1) - row_of rows n)) ≡ 0) (FitBelow bound rows recovery (n + 1))
+    → Iff (bit_or stray (bit_or (bit_and (row_of rows n) ((2 ^ 64 - 1) - bound)) (bit_and (row_of recovery n) ((2 ^ 64 - 1) - row_of rows n))) ≡ 0) (FitBelow bound rows recovery (n + 1))
 fit-more bound rows recovery n stray hb hr hm i =
     let outside = less (row_of rows n) bound in
     let unmatched = less (row_of recovery n) (row_of rows n) in
-    let both = empty-or (bit_or stray outside) unmatched in
-    let first = empty-or stray outside in
+    let both = empty-or stray (bit_or outside unmatched) in
+    let strays = empty-or outside unmatched in
     let row = within-test (row_of rows n) bound hr hb in
     let mark = within-test (row_of recovery n) (row_of rows n) hm hr in
     record {
       to = λ e.
           let p = both.to e in
-          let q = first.to p.0 in
-          let f = i.to q.0 in
-          record { bounded = below_more _ n f.bounded (row.to q.1); marked = below_more _ n f.marked (mark.to p.1) };
+          let q = strays.to p.1 in
+          let f = i.to p.0 in
+          record { bounded = below_more _ n f.bounded (row.to q.0); marked = below_more _ n f.marked (mark.to q.1) };
       from = λ f.
           let before : FitBelow bound rows recovery n = record { bounded = λ c l. f.bounded c (omega arith); marked = λ c l. f.marked c (omega arith) } in
-          both.from (first.from (i.from before, row.from (f.bounded n (omega arith))), mark.from (f.marked n (omega arith)));
+          both.from (i.from before, strays.from (row.from (f.bounded n (omega arith)), mark.from (f.marked n (omega arith))));
     }
 
 pub rows-by-colours : (bound : ℕ) (rows recovery : Rows) (stray : ℕ) → length rows.needs ≡ 8 → length recovery.needs ≡ 8
@@ -108,3 +104,6 @@ unfolding edge_count
 graphs-by-edges count graph recovery v edges long e each h =
     let n : edges ≡ edge_count graph = rw (e, take_all 64 graph.rows (omega arith)) at h in
     decide_iff (record { to = λ l. record { each = rw e at each; edges = omega arith }; from = λ g. let l = g.edges in omega arith }) (decide-leb edges most_edges)
+
+-- what a place that is not in use may need
+pub ruleset place_answers = (need-unused)

@@ -1,7 +1,6 @@
 -- The question about what is held, and what it opens.
 -- Assumes nothing.
 use mathlib.Core.Path.{◌≡◌, sym, subst}
-use mathlib.Core.Bool.{Bool}
 use Prim.Native.Nat.{ℕ, ◌^◌, ◌<◌}
 use lib.Dec.{eqb}
 use Rattle.vertex_set.specs.Set.{Member, Within, Decides, Below}

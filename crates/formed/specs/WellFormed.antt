@@ -1,8 +1,7 @@
 -- What makes a setup well formed. `histories` proves that these are exactly the setups that an accepted sheet and a list of calls reach (question 12).
 use Rattle.std.specs.Prelude.{◌≡◌, true, false, ℕ, ◌≤◌, ◌<◌}
 use Rattle.setup.specs.Bounds.{most_items, largest, highest, most_edges, most_chosen}
-use Rattle.setup.specs.declared.Value.{Value}
-use Rattle.setup.specs.declared.Value.TheVariants.{Blank, Of}
+use Rattle.std.specs.Prelude.{Option, None, Some}
 use Rattle.setup.specs.declared.Vertex.{Vertex}
 use Rattle.setup.specs.declared.Setup.{Setup}
 use Rattle.setup.specs.Calls.{Inside}
@@ -10,9 +9,9 @@ use Rattle.derivations.specs.Access.{AccessFrom}
 use Rattle.setup.specs.Setup.{unused_vertex, vertex_at, Edge, edge_count, chosen_count, Shaped}
 
 -- A value is in range: a blank, or a number up to the largest.
-abbrev pub InRange : Value → Type 0
-InRange Blank = Unit {0}
-InRange (Of n) = n ≤ largest
+abbrev pub InRange : Option ℕ → Type 0
+InRange None = Unit {0}
+InRange (Some n) = n ≤ largest
 
 -- A vertex is valid: start and loss are in range, and so is the rank.
 pub record ValidVertex (x : Vertex) : Type 0 where

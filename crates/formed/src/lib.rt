@@ -7,57 +7,21 @@ ghost use Rattle.std.specs.Int.Count.{ones};
 ghost use Rattle.vertex_set.specs.Set.{Decides};
 ghost use Rattle.setup.specs.Setup.{unused_vertex, total};
 ghost use Rattle.formed.specs.WellFormed.{InRange, ValidVertex, WellFormed};
-ghost use Rattle.formed.specs.Inner.Parts.{VertexFits, RowsFit, MayNeed, EdgesFit, GraphsFit, VerticesFit, HoldingFits};
+ghost use Rattle.formed.specs.Inner.Parts.{VertexFits, RowsFit, MayNeed, EdgesFit, graph_of, GraphsFit, VerticesFit, HoldingFits};
 
-use setup::{Graph, Kind, Rows, Setup, Value, Vertex};
+use setup::{Graph, Rows, Setup, Vertex};
 use vertex_set::VertexSet;
 
-fn value_in_range(x: Value) -> bool
+fn value_in_range(x: Option<u64>) -> bool
     ensures { Decides (InRange x) result }
 {
-    match x {
-        Value::Blank => true,
-        Value::Of(n) => n <= setup::MAX_VALUE,
-    }
-}
-
-fn is_blank(x: Value) -> bool
-    ensures { Decides (x ≡ Value.Blank) result }
-{
-    match x {
-        Value::Blank => true,
-        Value::Of(_) => false,
-    }
+    x.is_none_or(|n| n <= setup::MAX_VALUE)
 }
 
 fn valid_vertex(x: Vertex) -> bool
     ensures { Decides (ValidVertex x) result }
 {
-    let start = x.start;
-    let loss = x.loss;
-    if value_in_range(start) {
-        if value_in_range(loss) {
-            return x.rank <= setup::MAX_RANK;
-        }
-    }
-    false
-}
-
-fn is_unused(x: Vertex) -> bool
-    ensures { Decides (x ≡ unused_vertex) result }
-{
-    let kind = x.kind;
-    let start = x.start;
-    let loss = x.loss;
-    if let Kind::Account = kind {
-        return false;
-    }
-    if is_blank(start) {
-        if is_blank(loss) {
-            return x.rank == 0;
-        }
-    }
-    false
+    value_in_range(x.start) && value_in_range(x.loss) && x.rank <= setup::MAX_RANK
 }
 
 fn vertex_fits(count: usize, v: usize, x: Vertex) -> bool
@@ -66,7 +30,7 @@ fn vertex_fits(count: usize, v: usize, x: Vertex) -> bool
     if v < count {
         valid_vertex(x)
     } else {
-        is_unused(x)
+        x == setup::UNUSED
     }
 }
 
@@ -76,122 +40,84 @@ fn vertex_fits(count: usize, v: usize, x: Vertex) -> bool
 fn rows_fit(bound: VertexSet, rows: Rows, recovery: Rows) -> bool
     ensures { Decides (RowsFit bound.0 rows recovery) result }
 {
-    let mut stray: u64 = 0;
-    for c in 0..8usize {
-        let row = rows.needs[c];
-        let marked = recovery.needs[c];
-        stray = stray | (row & !bound.0) | (marked & !row);
+    let mut stray = 0;
+    for (row, marked) in rows.needs.iter().zip(&recovery.needs) {
+        stray |= (*row & !bound.0) | (*marked & !*row);
     }
     stray == 0
 }
 
 // The vertices that the place v may need: none where it is not in use.
+#[tactic(auto, using(crate::proofs::Edges::place_answers))]
 fn may_need(count: usize, v: usize) -> VertexSet
     ensures { MayNeed count v result.0 }
 {
     if v < count {
-        return VertexSet::below(count);
+        VertexSet::below(count)
+    } else {
+        VertexSet(0)
     }
-    VertexSet(0)
 }
 
 fn edges_fit(count: usize, v: usize, rows: Rows, recovery: Rows) -> bool
     ensures { Decides (EdgesFit count v rows recovery) result }
 {
-    let bound = may_need(count, v);
-    rows_fit(bound, rows, recovery)
+    rows_fit(may_need(count, v), rows, recovery)
 }
 
 // How many edges run into a vertex with these rows.
 pub fn row_sizes(rows: Rows) -> u32
     ensures { (result ≡ total ones rows.needs) × (result ≤ 512) }
 {
-    let mut n: u32 = 0;
-    for c in 0..8usize {
-        let row = rows.needs[c];
-        n += u64::count_ones(row);
-    }
-    n
+    rows.needs.iter().map(|row| row.count_ones()).sum()
 }
 
-fn graphs_fit(count: usize, graph: Graph, recovery: Graph) -> bool
-    ensures { Decides (GraphsFit count graph recovery) result }
+fn graphs_fit(count: usize, graph: &[Rows; 64], recovery: &[Rows; 64]) -> bool
+    ensures { Decides (GraphsFit count (graph_of graph.now) (graph_of recovery.now)) result }
 {
-    let mut edges: u32 = 0;
-    for v in 0..64usize {
-        let rows = graph.rows[v];
-        let marked = recovery.rows[v];
-        if edges_fit(count, v, rows, marked) {
-            edges += row_sizes(rows);
-        } else {
+    let mut edges = 0;
+    for (v, rows) in graph.iter().enumerate() {
+        if !edges_fit(count, v, *rows, recovery[v]) {
             return false;
         }
+        edges += row_sizes(*rows);
     }
     edges <= setup::MAX_EDGES as u32
 }
 
-fn vertices_fit(count: usize, vertices: [Vertex; 64]) -> bool
-    ensures { Decides (VerticesFit count vertices) result }
+fn vertices_fit(count: usize, vertices: &[Vertex; 64]) -> bool
+    ensures { Decides (VerticesFit count vertices.now) result }
 {
-    let mut initial: usize = 0;
-    let mut losable: usize = 0;
-    for v in 0..64usize {
-        let vertex = vertices[v];
-        if vertex_fits(count, v, vertex) {
-            let start = vertex.start;
-            let loss = vertex.loss;
-            initial += setup::count_given(start);
-            losable += setup::count_given(loss);
-        } else {
+    let mut initial = 0;
+    let mut losable = 0;
+    for (v, vertex) in vertices.iter().enumerate() {
+        if !vertex_fits(count, v, *vertex) {
             return false;
         }
+        initial += setup::count_given(vertex.start);
+        losable += setup::count_given(vertex.loss);
     }
-    if setup::MAX_CHOSEN < initial {
-        return false;
-    }
-    losable <= setup::MAX_CHOSEN
+    initial <= setup::MAX_CHOSEN && losable <= setup::MAX_CHOSEN
 }
 
 // Are only vertices of the setup held, and is `opened` what they open? A test for a closed set
 // would let in a ring that holds itself up. Where nothing is held nothing is open, so most setups
 // need no passes.
-fn holding_fits(count: usize, graph: Graph, held: VertexSet, opened: VertexSet) -> bool
-    ensures { Decides (HoldingFits count graph held.0 opened.0) result }
+fn holding_fits(count: usize, graph: &Graph, held: VertexSet, opened: VertexSet) -> bool
+    ensures { Decides (HoldingFits count graph.now held.0 opened.0) result }
 {
-    if held.0 == 0 {
-        return opened.0 == 0;
+    if held == VertexSet(0) {
+        return opened == VertexSet(0);
     }
-    let all = VertexSet::below(count);
-    if held.within(all) {
-        let closed = closures::closure(false, graph, held);
-        let set = closed.set;
-        return set.0 == opened.0;
-    }
-    false
+    held.within(VertexSet::below(count)) && closures::closure(false, *graph, held).set == opened
 }
 
-// Question 12: is the setup one that an accepted sheet and a list of calls reach? Its parts are
-// handed on, each once, since a call by value copies what it is given.
+// Question 12: is the setup one that an accepted sheet and a list of calls reach?
 pub fn well_formed(s: Setup) -> bool
     ensures { Decides (WellFormed s) result }
 {
-    let count = s.count;
-    if count == 0 {
-        return false;
-    }
-    if setup::MAX_ITEMS < count {
-        return false;
-    }
-    let graph = s.graph;
-    let recovery = s.recovery;
-    if graphs_fit(count, graph, recovery) {
-        let vertices = s.vertices;
-        if vertices_fit(count, vertices) {
-            let held = s.held;
-            let opened = s.opened;
-            return holding_fits(count, graph, held, opened);
-        }
-        return false;
-    }
-    false
+    (1..=setup::MAX_ITEMS).contains(&s.count)
+        && graphs_fit(s.count, &s.graph.rows, &s.recovery.rows)
+        && vertices_fit(s.count, &s.vertices)
+        && holding_fits(s.count, &s.graph, s.held, s.opened)
 }

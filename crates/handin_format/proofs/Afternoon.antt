@@ -12,7 +12,7 @@ use Rattle.setup.specs.declared.Setup.{Setup}
 use Rattle.questions.specs.Asks.{Asks}
 use Rattle.questions.specs.Questions.{asks12, asks13}
 use Rattle.questions.proofs.Asks.{ask-no}
-use Rattle.sheet_format.specs.declared.Reading.{Reading}
+use Rattle.sheet_format.specs.Read.{Reading}
 use Rattle.sheet_format.specs.Rows.{Doc, Valid, render, setup_of}
 use Rattle.sheet_format.proofs.Meaning.{accepted-of-valid, rows-unique}
 use Rattle.records.specs.declared.Record.{Record}

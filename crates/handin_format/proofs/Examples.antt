@@ -9,9 +9,9 @@ use Prim.Native.String.{String}
 use native.Mathlib.Omega.{arith}
 use lib.ListN.{length}
 use Rattle.setup.specs.declared.Kind.TheVariants.{Credential, Account}
-use Rattle.setup.specs.declared.Value.TheVariants.{Blank, Of}
+use Rattle.std.specs.Prelude.{None, Some}
 use Rattle.questions.specs.Asks.{Asks}
-use Rattle.sheet_format.specs.declared.Reading.{Reading}
+use Rattle.sheet_format.specs.Read.{Reading}
 use Rattle.sheet_format.specs.Text.{bytes_of, fields_of, grow, all, is_empty, same_text}
 use Rattle.sheet_format.specs.Fields.{is_number_to, is_number, number_of, value_behind, is_digit, is_name, is_name_byte, decimal, digits_in}
 use Rattle.sheet_format.specs.Rows.{ItemRow, Doc, Valid, number_in, render}
@@ -32,11 +32,11 @@ use Rattle.handin_format.proofs.Unique.{LineComes, line-no-sheet, line-no, line-
 -- the item rows of document 01's sheet
 abbrev bench : List ItemRow
 bench =
-    record { name = bytes_of "ordpw"; kind = Credential; start = Of 1; loss = Of 2; rank = 0 }
-    ∷ record { name = bytes_of "mailpw"; kind = Credential; start = Of 1; loss = Of 1; rank = 0 }
-    ∷ record { name = bytes_of "token"; kind = Credential; start = Of 3; loss = Of 2; rank = 0 }
-    ∷ record { name = bytes_of "mail"; kind = Account; start = Blank; loss = Blank; rank = 1 }
-    ∷ record { name = bytes_of "order"; kind = Account; start = Blank; loss = Blank; rank = 3 }
+    record { name = bytes_of "ordpw"; kind = Credential; start = Some 1; loss = Some 2; rank = 0 }
+    ∷ record { name = bytes_of "mailpw"; kind = Credential; start = Some 1; loss = Some 1; rank = 0 }
+    ∷ record { name = bytes_of "token"; kind = Credential; start = Some 3; loss = Some 2; rank = 0 }
+    ∷ record { name = bytes_of "mail"; kind = Account; start = None; loss = None; rank = 1 }
+    ∷ record { name = bytes_of "order"; kind = Account; start = None; loss = None; rank = 3 }
     ∷ []
 
 -- the line is accepted, and says the call
@@ -136,7 +136,7 @@ refused-lines =
 
 -- items above the 32nd keep their own bits
 abbrev many : List ItemRow
-many = map (λ v. record { name = decimal v; kind = Credential; start = Blank; loss = Blank; rank = 0 }) (numbers_from 0 64)
+many = map (λ v. record { name = decimal v; kind = Credential; start = None; loss = None; rank = 0 }) (numbers_from 0 64)
 
 pub high-items : set_from many (bytes_of "63+32+0") ≡ some_set (2 ^ 63 + 2 ^ 32 + 1)
 unfolding set_from with_names with_name parts_of grow all same_text is_digit is_name is_name_byte is_known number_in numbers_from decimal digits_in

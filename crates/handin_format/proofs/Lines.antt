@@ -23,7 +23,7 @@ use Rattle.sheet_format.proofs.Lines.{Without, spaced, fields-spaced, spaced-fie
 use Rattle.sheet_format.proofs.Fields.{Visible, Plain, visible_without, name-plain, decimal-plain}
 use Rattle.report_text.specs.Rows.{way_text}
 use Rattle.register.specs.Afternoon.{HandIn, Withdraw}
-use Rattle.handin_format.specs.declared.SetField.{SetField}
+use Rattle.handin_format.specs.Sets.{SetField}
 use Rattle.handin_format.specs.Sets.{joined_by, names_text, set_named, set_from}
 use Rattle.handin_format.specs.Entries.{NamedAttempt, LineEntry, HandsIn, Withdraws, withdraw_text, entry_text, most_handed, ValidNames, ValidAttempt, ValidEntry, stated}
 use Rattle.handin_format.specs.Lines.{FieldAsked, ask_of, is_line_byte, fields_filled, fields_there, is_student, is_way, set_questions, field_questions, line_questions, first_no_of, line_no, call_of_fields, line_call}

@@ -23,7 +23,7 @@ use Rattle.sheet_format.proofs.Lists.{each_map}
 use Rattle.sheet_format.proofs.Tests.{text-decided, same_refl, all-decided, known-decided}
 use Rattle.sheet_format.proofs.Lines.{Without}
 use Rattle.sheet_format.proofs.Stated.{number-stands}
-use Rattle.handin_format.specs.declared.SetField.{SetField}
+use Rattle.handin_format.specs.Sets.{SetField}
 use Rattle.handin_format.specs.Sets.{joined_by, names_text, set_named, no_set, some_set, parts_of, with_name, with_names, set_from}
 use Rattle.handin_format.specs.Entries.{ValidNames}
 use Rattle.handin_format.specs.Meaning.{NamedRows, OneOf, SetOfNames}

@@ -30,7 +30,7 @@ use Rattle.register.specs.Calls.{asks25}
 use Rattle.register.specs.Afternoon.{RegisterCall, HandIn, Withdraw, MeetsCall}
 use Rattle.register.proofs.Outcomes.{answer-number}
 use Rattle.register.proofs.Unique.{one-hand-in, one-withdrawal}
-use Rattle.handin_format.specs.declared.SetField.{SetField}
+use Rattle.handin_format.specs.Sets.{SetField}
 use Rattle.handin_format.specs.declared.NamedSet.{NamedSet}
 use Rattle.handin_format.specs.declared.LineAnswer.{LineAnswer}
 use Rattle.handin_format.specs.Sets.{no_set, some_set, parts_of, with_name, with_names, set_from}

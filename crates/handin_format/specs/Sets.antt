@@ -7,7 +7,6 @@ use Rattle.sheet_format.specs.Fields.{is_name, dash}
 use Rattle.sheet_format.specs.Rows.{ItemRow, number_in}
 use Rattle.sheet_format.specs.Questions.{is_known}
 use Rattle.report_text.specs.Rows.{set_text}
-use Rattle.handin_format.specs.declared.SetField.{SetField}
 
 -- ---- how a set is written
 
@@ -32,6 +31,11 @@ set_named items [] = 0
 set_named items (n ∷ ns) = bit_or (2 ^ number_in items n) (set_named items ns)
 
 -- ---- how it is read
+
+-- A set that was named. Where `number` is not 0, it is that of the first no, and the set is 0.
+pub record SetField : Type 0 where
+  pub number : ℕ
+  pub set : ℕ
 
 -- A text that names no set: the number of the no.
 abbrev pub no_set : ℕ → SetField

@@ -3,13 +3,6 @@
 
 #![tactic(auto)]
 
-// A set that was named. Where `number` is not 0, it is that of the first no, and the set is 0.
-#[derive(Drop)]
-pub struct SetField {
-    pub number: u64,
-    pub set: u64,
-}
-
 // In the two answers below `number` is that of the refusal, or 0. `text` is 1 where the sheet is refused and
 // 2 where the handed-in text is, else 0; `place` is then the sheet's line, or the line's field, counted from
 // 1, and 0 where the no is about the whole text.

@@ -11,9 +11,10 @@ use Rattle.written.specs.Inner.{Wrote}
 use Rattle.written.proofs.Writing.{wrote-front}
 use Rattle.setup.specs.declared.Setup.{Setup}
 use Rattle.records.specs.declared.Task.{Task}
-use Rattle.records.specs.Inner.{Attempts, leaving}
+use Rattle.records.specs.declared.Task.TheVariants as task
+use Rattle.records.specs.Inner.{refused_by, Attempts}
 use Rattle.register.specs.Afternoon.{RegisterCall}
-use Rattle.sheet_format.specs.declared.Reading.{Reading}
+use Rattle.sheet_format.specs.Read.{Reading}
 use Rattle.sheet_format.specs.Rows.{ItemRow, Doc, Valid, render, setup_of}
 use Rattle.sheet_format.specs.Read.{read_sheet}
 use Rattle.sheet_format.proofs.Meaning.{accepted-of-valid}
@@ -23,7 +24,7 @@ use Rattle.sheet_lines.specs.Inner.Keys.{SheetKeys}
 use Rattle.sheet_lines.proofs.Accepted.{accepts-of, setup-of, count_of, rows-of-text}
 use Rattle.handin_format.specs.Sets.{set_from}
 use Rattle.handin_format.specs.Lines.{LineNo, line_no}
-use Rattle.handin_lines.specs.declared.lines.LineRead.{LineRead}
+use Rattle.handin_lines.specs.Inner.Lines.{LineFound}
 use Rattle.handin_lines.specs.Inner.Splitting.{split_from}
 use Rattle.handin_lines.specs.Inner.Sets.{sets_from, PutsSets}
 use Rattle.handin_lines.specs.Inner.Lines.{call_read, ChecksLine}
@@ -36,7 +37,7 @@ unfolding sets_from
 sets-many items at l = length-map (split_from 32 at l) (λ x. (set_from items x).set)
 
 -- what stands in the first places
-handed-are : (items : List ItemRow) (l : List ℕ) (r : LineRead) (entry exit : List ℕ) (n : ℕ) → CanHandOver l r → r.count ≤ length entry
+handed-are : (items : List ItemRow) (l : List ℕ) (r : LineFound) (entry exit : List ℕ) (n : ℕ) → CanHandOver l r → r.count ≤ length entry
     → Wrote entry 0 (sets_from items r.start l) exit n → take r.count exit ≡ sets_from items r.start l
 handed-are items l r entry exit n h room w =
     let m = sets-many items r.start l in
@@ -44,7 +45,7 @@ handed-are items l r entry exit n h room w =
     ap (take r.count) (wrote-front entry (sets_from items r.start l) exit n (omega arith) w)
     ∙ take_at (sets_from items r.start l) (drop (length (sets_from items r.start l)) entry) r.count (omega arith)
 
-pub hands-over : (low high : List ℕ) (count : ℕ) (s : Setup) (l : List ℕ) (r : LineRead) (t : Task) (entry exit : List ℕ) (n : ℕ) → CanHandOver l r → r.count ≤ length entry
+pub hands-over : (low high : List ℕ) (count : ℕ) (s : Setup) (l : List ℕ) (r : LineFound) (t : Task) (entry exit : List ℕ) (n : ℕ) → CanHandOver l r → r.count ≤ length entry
     → PutsSets low high count l r.start n entry exit → Attempts s r.student r.target r.loss (take r.count exit) t → HandsOver low high count s l r t
 hands-over low high count s l r t entry exit n h room p a =
     record {
@@ -61,7 +62,7 @@ module _ (sheet line : List ℕ) (r : Reading) (is : r ≡ read_sheet sheet) whe
   never-written : (r.number ≡ 0 → ⊥) → (d : Doc) → Valid d → sheet ≡ render d → ⊥
   never-written n d v t = n (number_is ∙ ap (λ (x : List ℕ). (read_sheet x).number) t ∙ ap (λ (x : Reading). x.number) (accepted-of-valid d v))
 
-  pub task-no-sheet : (t : Task) → (r.number ≡ 0 → ⊥) → t.refused ≡ r.number → TaskOfLine sheet line t
+  pub task-no-sheet : (t : Task) → (r.number ≡ 0 → ⊥) → refused_by t ≡ r.number → TaskOfLine sheet line t
   task-no-sheet t n e =
       record {
         no_sheet = λ _. e ∙ number_is;
@@ -70,14 +71,14 @@ module _ (sheet line : List ℕ) (r : Reading) (is : r ≡ read_sheet sheet) whe
       }
 
   module _ (zero : r.number ≡ 0) (keys : Keys) (has : SheetKeys sheet r.setup.count keys) where
-    pub keys-are : (d : Doc) → Valid d → sheet ≡ render d → NameKeys d.items keys.low keys.high r.setup.count
+    pub keys-are : (d : Doc) → Valid d → sheet ≡ render d → NameKeys d.items keys.keys.low keys.keys.high keys.keys.count
     keys-are d v t = has.keys d v t (count_of sheet r.setup d (accepts-of sheet r is zero) v t)
 
-    module _ (read : LineRead) (c : ChecksLine keys.low keys.high r.setup.count line read) where
+    module _ (read : LineFound) (c : ChecksLine keys.keys.low keys.keys.high keys.keys.count line read) where
       first-is : (d : Doc) → Valid d → sheet ≡ render d → (line_no d.items line).number ≡ read.number
       first-is d v t = ap (λ (x : LineNo). x.number) (c.first d.items (keys-are d v t))
 
-      pub task-no-line : (t : Task) → (read.number ≡ 0 → ⊥) → t.refused ≡ read.number → TaskOfLine sheet line t
+      pub task-no-line : (t : Task) → (read.number ≡ 0 → ⊥) → refused_by t ≡ read.number → TaskOfLine sheet line t
       task-no-line t n e =
           record {
             no_sheet = λ m. absurd (m (sym number_is ∙ zero));
@@ -100,11 +101,11 @@ module _ (sheet line : List ℕ) (r : Reading) (is : r ≡ read_sheet sheet) whe
             let y = c.says z d.doc.items (keys-are d.doc d.valid d.text) in
             record { counted = y.counted; few = y.few }
 
-        pub task-leaves : (t : Task) → read.withdraws ≡ true → t ≡ leaving read.student → TaskOfLine sheet line t
+        pub task-leaves : (t : Task) → read.withdraws ≡ true → t ≡ task.Withdraw read.student → TaskOfLine sheet line t
         unfolding call_read
         task-leaves t w e = task-says t (λ d v q. rw w e)
 
-        pub task-hands-over : (t : Task) → read.withdraws ≡ false → HandsOver keys.low keys.high r.setup.count r.setup line read t → TaskOfLine sheet line t
+        pub task-hands-over : (t : Task) → read.withdraws ≡ false → HandsOver keys.keys.low keys.keys.high keys.keys.count r.setup line read t → TaskOfLine sheet line t
         unfolding call_read
         task-hands-over t w h =
             task-says t (λ d v q. rw (w, ← (setup-of sheet r.setup d (accepts-of sheet r is zero) v q)) (h.each d.items (keys-are d v q)))

@@ -10,23 +10,22 @@ use lib.Dec.{eqb, leb}
 use lib.ListN.{length, take}
 use borrow.Author.Tests.{eq-eqb, ne_eqb, le-leb, lt-leb}
 use Rattle.vertex_set.proofs.Cases.{by_test, less-or, false-true}
-use Rattle.setup.specs.Bounds.{largest}
 use Rattle.sheet_format.specs.Text.{fields_of, same_text}
 use Rattle.sheet_format.specs.Fields.{is_name, number_of}
 use Rattle.sheet_format.specs.Rows.{ItemRow, number_in}
 use Rattle.sheet_format.specs.Questions.{is_known}
-use Rattle.sheet_fields.specs.Inner.Forms.{capped_number}
-use Rattle.sheet_fields.proofs.Forms.{number-to, number_small}
 use Rattle.sheet_rows.specs.Inner.NameKeys.{NameKeys}
 use Rattle.report_text.specs.Rows.{way_text}
 use Rattle.handin_format.specs.Sets.{set_from}
 use Rattle.handin_format.specs.Entries.{most_handed}
-use Rattle.handin_format.specs.Lines.{FieldAsked, ask_of, is_student, is_way, set_questions, field_questions, LineNo, first_no_of, call_of_fields, line_call}
-use Rattle.handin_lines.specs.declared.by_name.ItemField.{ItemField}
-use Rattle.handin_lines.specs.declared.sets.Checked.{Checked}
-use Rattle.handin_lines.specs.declared.lines.Form.{Form}
-use Rattle.handin_lines.specs.declared.lines.WayField.{WayField}
-use Rattle.handin_lines.specs.declared.lines.LineRead.{LineRead}
+use Rattle.handin_format.specs.Lines.{FieldAsked, ask_of, is_student, is_way, set_questions, field_questions, first_no_of, call_of_fields, line_call}
+use Rattle.std.specs.Prelude.{Result}
+use Rattle.questions.specs.declared.Refusal.{Refusal}
+use Rattle.handin_lines.specs.Inner.Naming.{ItemField, item_field}
+use Rattle.handin_lines.specs.Inner.Sets.{Checked}
+use Rattle.handin_lines.specs.Inner.Lines.{FormFound}
+use Rattle.handin_lines.specs.Inner.Lines.{WayField}
+use Rattle.handin_lines.specs.Inner.Lines.{LineFound}
 use Rattle.handin_lines.specs.Inner.Splitting.{split_from}
 use Rattle.handin_lines.specs.Inner.Naming.{item_from, NamesItem}
 use Rattle.handin_lines.specs.Inner.Sets.{sets_from, ChecksSets, handed_questions, ChecksHanded}
@@ -94,26 +93,29 @@ module _ (low high : List ℕ) (count : ℕ) (l : List ℕ) (start : ℕ) (r : C
 
 target-asked : (items : List ItemRow) (g : List ℕ) (later : List FieldAsked)
     → first_no_of (ask_of 5 2 (is_name g) ∷ ask_of 8 2 (is_known items g) ∷ later)
-    ≡ cond (eqb (item_from items g).number 0) (first_no_of later) (record { number = (item_from items g).number; place = 2 })
+    ≡ cond (eqb (item_field (item_from items g)).number 0) (first_no_of later) (record { number = (item_field (item_from items g)).number; place = 2 })
 unfolding first_no_of item_from
 target-asked items g later = by_test (is_name g) (λ e. by_test (is_known items g) (λ k. rw (e, k)) (λ k. rw (e, k))) (λ e. rw e)
 
-item-is : (items : List ItemRow) (g : List ℕ) → (item_from items g).number ≡ 0 → (item_from items g).item ≡ number_in items g
+item-is : (items : List ItemRow) (g : List ℕ) → (item_field (item_from items g)).number ≡ 0 → (item_field (item_from items g)).item ≡ number_in items g
 unfolding item_from
 item-is items g z =
     by_test (is_name g)
     (λ e. by_test (is_known items g) (λ k. rw (e, k)) (λ k. absurd (let w = rw (e, k) at z in omega arith)))
     (λ e. absurd (let w = rw e at z in omega arith))
 
-module _ (low high : List ℕ) (count : ℕ) (l : List ℕ) (form : Form) (student : ℕ) where
-  module _ (target : ItemField) (t : NamesItem low high count (part_of l (form.first + 1) form.second) target) where
+module _ (low high : List ℕ) (count : ℕ) (l : List ℕ) (form : FormFound) (student : ℕ) where
+  module _ (item : Result ℕ Refusal) (t : NamesItem low high count (part_of l (form.first + 1) form.second) item) where
+    abbrev target : ItemField
+    target = item_field item
+
     target_first : (items : List ItemRow) → NameKeys items low high count
         → first_no_of (attempt_questions items (part_of l (form.first + 1) form.second) (part_of l (form.second + 1) form.third) (split_from 32 (form.third + 1) l))
         ≡ cond (eqb target.number 0) (first_no_of (ask_of 5 3 (is_way (part_of l (form.second + 1) form.third)) ∷ handed_questions items (split_from 32 (form.third + 1) l))) (record { number = target.number; place = 2 })
     unfolding attempt_questions
     target_first items k =
         target-asked items (part_of l (form.first + 1) form.second) (ask_of 5 3 (is_way (part_of l (form.second + 1) form.third)) ∷ handed_questions items (split_from 32 (form.third + 1) l))
-        ∙ rw (← (t.each items k))
+        ∙ rw (← (ap item_field (t.each items k)))
 
     pub attempt-target : (target.number ≡ 0 → ⊥) → ChecksAttempt low high count l form student (no_line target.number 2)
     attempt-target n =
@@ -151,49 +153,42 @@ module _ (low high : List ℕ) (count : ℕ) (l : List ℕ) (form : Form) (stude
               first = λ items k. sets_first items k ∙ rw (m, h.plain m);
               says = λ _ items k.
                   let i : target.item ≡ number_in items (part_of l (form.first + 1) form.second) =
-                  ap (λ (x : ItemField). x.item) (t.each items k) ∙ item-is items (part_of l (form.first + 1) form.second) (sym (ap (λ (x : ItemField). x.number) (t.each items k)) ∙ z) in
+                  ap (λ (x : ItemField). x.item) (ap item_field (t.each items k)) ∙ item-is items (part_of l (form.first + 1) form.second) (sym (ap (λ (x : ItemField). x.number) (ap item_field (t.each items k))) ∙ z) in
                   rw (i, w.way, h.counted m);
               few = λ _. h.few m;
             }
 
 -- ---- the whole line
 
-module _ (low high : List ℕ) (count : ℕ) (l : List ℕ) (form : Form) (f : FormOf l form) where
+module _ (low high : List ℕ) (count : ℕ) (l : List ℕ) (form : FormFound) (f : FormOf l form) where
   pub line-form : (form.number ≡ 0 → ⊥) → ChecksLine low high count l (no_line form.number form.place)
   line-form n = record { first = λ items t. f.no n items; says = λ z. absurd (n z) }
 
-  module _ (z : form.number ≡ 0) (student : ℕ) (q : student ≡ capped_number (take form.first l)) where
-    student-is : is_student (take form.first l) ≡ leb student largest
-    unfolding is_student
-    student-is = number-to largest (take form.first l) (omega arith) ∙ rw q
-
+  module _ (z : form.number ≡ 0) where
     -- the first question of the fields is that of the student
-    first_field : (items : List ItemRow) → leb student largest ≡ false → first_no_of (field_questions items (fields_of l)) ≡ record { number = 5; place = 1 }
+    first_field : (items : List ItemRow) → is_student (take form.first l) ≡ false → first_no_of (field_questions items (fields_of l)) ≡ record { number = 5; place = 1 }
     unfolding field_questions first_no_of
     first_field items e =
         ⊎_elim
-        (λ m. rw (((f.cut z).more m).fields, student-is, e))
-        (λ a. rw ((f.cut z).alone a, student-is, e))
+        (λ m. rw (((f.cut z).more m).fields, e))
+        (λ a. rw ((f.cut z).alone a, e))
         (less-or form.second (length l))
 
-    pub line-student : largest < student → ChecksLine low high count l (no_line 5 1)
+    pub line-student : is_student (take form.first l) ≡ false → ChecksLine low high count l (no_line 5 1)
     line-student h =
         record {
-          first = λ items t. f.yes z items ∙ first_field items (lt-leb student largest h);
+          first = λ items t. f.yes z items ∙ first_field items h;
           says = λ y. absurd (omega arith);
         }
 
-    module _ (h : student ≤ largest) where
-      number_is : number_of (take form.first l) ≡ student
-      number_is = (number_small (take form.first l) (omega arith)).1 ∙ sym q
-
+    module _ (student : ℕ) (yes : is_student (take form.first l) ≡ true) (number_is : number_of (take form.first l) ≡ student) where
       pub line-withdraws : length l ≤ form.second
           → ChecksLine low high count l
           (record { number = 0; place = 0; withdraws = true; student = student; target = 0; loss = false; start = form.second + 1; count = 0 })
       unfolding first_no_of field_questions line_call call_of_fields call_read
       line-withdraws a =
           record {
-            first = λ items t. f.yes z items ∙ rw ((f.cut z).alone a, student-is, le-leb student largest h);
+            first = λ items t. f.yes z items ∙ rw ((f.cut z).alone a, yes);
             says = λ _ items t. record {
               call = rw ((f.cut z).alone a, number_is);
               counted = ap length (sym (split-over 32 l (form.second + 1) (omega arith)));
@@ -206,21 +201,21 @@ module _ (low high : List ℕ) (count : ℕ) (l : List ℕ) (form : Form) (f : F
         attempt-asked : (items : List ItemRow) → first_no_of (field_questions items (fields_of l))
             ≡ first_no_of (attempt_questions items (part_of l (form.first + 1) form.second) (part_of l (form.second + 1) form.third) (split_from 32 (form.third + 1) l))
         unfolding first_no_of field_questions attempt_questions handed_questions
-        attempt-asked items = rw (((f.cut z).more m).fields, student-is, le-leb student largest h)
+        attempt-asked items = rw (((f.cut z).more m).fields, yes)
 
-        attempt-says : (items : List ItemRow) (r : LineRead)
+        attempt-says : (items : List ItemRow) (r : LineFound)
             → r ≡ attempt_read student (number_in items (part_of l (form.first + 1) form.second)) (same_text (part_of l (form.second + 1) form.third) (way_text true)) (form.third + 1) (length (split_from 32 (form.third + 1) l))
             → r.count ≤ most_handed → SaysCall items l r
         unfolding line_call call_of_fields call_read sets_from
         attempt-says items r e few =
             record {
               call = rw (e, ((f.cut z).more m).fields, number_is);
-              counted = ap (λ (x : LineRead). x.count) e ∙ sym (ap (λ (x : LineRead). length (split_from 32 x.start l)) e);
+              counted = ap (λ (x : LineFound). x.count) e ∙ sym (ap (λ (x : LineFound). length (split_from 32 x.start l)) e);
               few = few;
-              alone = λ w. absurd (false-true (sym (ap (λ (x : LineRead). x.withdraws) e) ∙ w));
+              alone = λ w. absurd (false-true (sym (ap (λ (x : LineFound). x.withdraws) e) ∙ w));
             }
 
-        pub line-attempt : (r : LineRead) → ChecksAttempt low high count l form student r → ChecksLine low high count l r
+        pub line-attempt : (r : LineFound) → ChecksAttempt low high count l form student r → ChecksLine low high count l r
         line-attempt r c =
             record {
               first = λ items t. f.yes z items ∙ attempt-asked items ∙ c.first items t;

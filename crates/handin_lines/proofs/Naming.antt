@@ -12,77 +12,92 @@ use borrow.Author.Tests.{lt-ltb, le-ltb, eq-eqb, ne_eqb}
 use Rattle.sheet_format.specs.Fields.{is_name}
 use Rattle.sheet_format.specs.Rows.{ItemRow, number_in}
 use Rattle.sheet_format.specs.Questions.{is_known}
-use Rattle.sheet_fields.specs.declared.NameField.{NameField}
-use Rattle.sheet_fields.specs.Inner.Keys.{ReadsName}
-use Rattle.sheet_rows.specs.Inner.NameKeys.{NameKeys, place_of}
-use Rattle.sheet_rows.proofs.Tables.{table-place, known-test}
+use Rattle.std.specs.Prelude.{Some, None, Result, Ok, Err}
+use Rattle.questions.specs.declared.Refusal.{Refusal}
+use Rattle.questions.specs.declared.Refusal.TheVariants.{Form, NameUnknown}
+use Rattle.questions.specs.Refusals.{number}
+use Rattle.sheet_fields.specs.declared.Key.{Key}
+use Rattle.sheet_fields.specs.Inner.Forms.{read_if}
+use Rattle.sheet_fields.specs.Inner.Keys.{key_of}
+use Rattle.sheet_rows.proofs.Items.{none-no, some-yes}
+use Rattle.sheet_rows.specs.Inner.NameKeys.{NameKeys, place_of, place_in}
+use Rattle.sheet_rows.proofs.Tables.{found-some, found-none, table-place, known-test}
 use Rattle.vertex_set.proofs.Cases.{by_test}
 use Rattle.vertex_set.proofs.Sets.{shifted_one}
 use Rattle.sheet_format.specs.Text.{same_text}
 use Rattle.sheet_format.specs.Fields.{dash}
 use Rattle.sheet_fields.specs.Inner.Parts.{until}
-use Rattle.handin_lines.specs.declared.by_name.ItemField.{ItemField}
 use Rattle.handin_lines.specs.Inner.Splitting.{split_from}
-use Rattle.handin_lines.specs.Inner.Naming.{no_item, item_from, NamesItem, TakesName, ReadsNames}
+use Rattle.handin_lines.specs.Inner.Naming.{item_from, set_field, NamesItem, TakesName, ReadsNames}
 use Rattle.handin_lines.proofs.Splitting.{parts-split, split_at, split-over}
-use Rattle.handin_format.specs.declared.SetField.{SetField}
+use Rattle.handin_format.specs.Sets.{SetField}
 use Rattle.handin_format.specs.Sets.{no_set, some_set, with_name, with_names, set_from}
 
 -- ---- an item by its name
 
-module _ (l low high : List ℕ) (count : ℕ) (name : NameField) (reads : ReadsName l name) where
-  pub item-unnamed : name.ok ≡ false → NamesItem low high count l (no_item 5)
+module _ (l low high : List ℕ) (count : ℕ) where
+  pub item-unnamed : None ≡ read_if (is_name l) (key_of l) → NamesItem low high count l (Err Form)
   unfolding item_from
-  item-unnamed n = record { each = λ items t. rw (sym reads.answer ∙ n); inside = λ z. absurd (omega arith) }
+  item-unnamed e = record { each = λ items t. rw (none-no (is_name l) (key_of l) e); inside = tt }
 
-  module _ (ok : name.ok ≡ true) (found : ℕ) (place : found ≡ place_of (take count low) (take count high) name.key.low name.key.high) where
+  module _ (key : Key) (reads : Some key ≡ read_if (is_name l) (key_of l)) where
     named : is_name l ≡ true
-    named = sym reads.answer ∙ ok
+    named = (some-yes (is_name l) (key_of l) key reads).0
 
-    number_is : (items : List ItemRow) → NameKeys items low high count → number_in items l ≡ found
-    number_is items t = sym (place ∙ rw (reads.key ok) (table-place items low high count l t named))
+    key-is : key ≡ key_of l
+    key-is = (some-yes (is_name l) (key_of l) key reads).1
 
-    known_is : (items : List ItemRow) → NameKeys items low high count → is_known items l ≡ ltb found count
-    known_is items t = known-test items l ∙ rw (number_is items t, t.size)
+    place-is : (items : List ItemRow) → NameKeys items low high count → place_of (take count low) (take count high) key.low key.high ≡ number_in items l
+    place-is items t = rw key-is (table-place items low high count l t named)
 
-    pub item-known : found < count → NamesItem low high count l (record { number = 0; item = found })
+    known_is : (items : List ItemRow) → NameKeys items low high count → is_known items l ≡ ltb (place_of (take count low) (take count high) key.low key.high) count
+    known_is items t = known-test items l ∙ rw (place-is items t, t.size)
+
+    pub item-known : (item : ℕ) → Some item ≡ place_in low high count key → NamesItem low high count l (Ok item)
     unfolding item_from
-    item-known h = record { each = λ items t. rw (named, known_is items t ∙ lt-ltb found count h, number_is items t); inside = λ z. h }
+    item-known item e =
+        let f = found-some low high count key item e in
+        record {
+          each = λ items t. rw (named, known_is items t ∙ lt-ltb _ count (rw f.0 at f.1)) (ap Ok (f.0 ∙ place-is items t));
+          inside = f.1;
+        }
 
-    pub item-unknown : count ≤ found → NamesItem low high count l (no_item 8)
+    pub item-unknown : None ≡ place_in low high count key → NamesItem low high count l (Err NameUnknown)
     unfolding item_from
-    item-unknown h = record { each = λ items t. rw (named, known_is items t ∙ le-ltb found count h); inside = λ z. absurd (omega arith) }
+    item-unknown e =
+        let f = found-none low high count key e in
+        record { each = λ items t. rw (named, known_is items t ∙ le-ltb _ count f); inside = tt }
 
 -- ---- a set takes in an item
 
 -- the item is taken into the set x
-unfoldable with_item : ℕ → ItemField → SetField
-with_item x f = cond (eqb f.number 0) (cond (eqb (x / 2 ^ f.item % 2) 1) (no_set 6) (some_set (bit_or x (2 ^ f.item)))) (no_set f.number)
+unfoldable with_item : ℕ → Result ℕ Refusal → SetField
+with_item x (Ok v) = cond (eqb (x / 2 ^ v % 2) 1) (no_set 6) (some_set (bit_or x (2 ^ v)))
+with_item x (Err q) = no_set (number q)
 
 -- reading a name first, and then taking its item in
 by-item : (items : List ItemRow) (x : ℕ) (n : List ℕ) → with_name items x n ≡ with_item x (item_from items n)
 unfolding with_name with_item item_from
 by-item items x n = by_test (is_name n) (λ e. by_test (is_known items n) (λ k. rw (e, k)) (λ k. rw (e, k))) (λ e. rw e)
 
-module _ (l low high : List ℕ) (count x : ℕ) (f : ItemField) (reads : NamesItem low high count l f) where
-  taken : (r : SetField) → r ≡ with_item x f → TakesName low high count x l r
-  taken r e = record { each = λ items t. e ∙ ap (with_item x) (reads.each items t) ∙ sym (by-item items x l) }
+module _ (l low high : List ℕ) (count x : ℕ) where
+  taken : (f : Result ℕ Refusal) → NamesItem low high count l f → (r : SetField) → r ≡ with_item x f → TakesName low high count x l r
+  taken f reads r e = record { each = λ items t. e ∙ ap (with_item x) (reads.each items t) ∙ sym (by-item items x l) }
 
-  pub name-refused : (f.number ≡ 0 → ⊥) → TakesName low high count x l (no_set f.number)
+  pub name-refused : (q : Refusal) → NamesItem low high count l (Err q) → TakesName low high count x l (set_field (Err q))
   unfolding with_item
-  name-refused n = taken (no_set f.number) (rw (ne_eqb f.number 0 n))
+  name-refused q reads = taken (Err q) reads (set_field (Err q)) refl
 
-  module _ (zero : f.number ≡ 0) where
-    pub name-there : x / 2 ^ f.item % 2 ≡ 1 → TakesName low high count x l (no_set 6)
+  module _ (v : ℕ) (reads : NamesItem low high count l (Ok v)) where
+    pub name-there : x / 2 ^ v % 2 ≡ 1 → TakesName low high count x l (no_set 6)
     unfolding with_item
-    name-there e = taken (no_set 6) (rw (eq-eqb f.number 0 zero, eq-eqb (x / 2 ^ f.item % 2) 1 e))
+    name-there e = taken (Ok v) reads (no_set 6) (rw (eq-eqb (x / 2 ^ v % 2) 1 e))
 
-    pub name_new : count ≤ 64 → (x / 2 ^ f.item % 2 ≡ 1 → ⊥) → TakesName low high count x l (record { number = 0; set = bit_or x ((1 * 2 ^ f.item) % 2 ^ 64) })
+    pub name_new : count ≤ 64 → (x / 2 ^ v % 2 ≡ 1 → ⊥) → TakesName low high count x l (some_set (bit_or x ((1 * 2 ^ v) % 2 ^ 64)))
     unfolding with_item
     name_new h n =
-        let v = reads.inside zero in
-        taken (record { number = 0; set = bit_or x ((1 * 2 ^ f.item) % 2 ^ 64) })
-        (rw (eq-eqb f.number 0 zero, ne_eqb (x / 2 ^ f.item % 2) 1 n, shifted_one f.item (omega arith)))
+        let i = reads.inside in
+        taken (Ok v) reads (some_set (bit_or x ((1 * 2 ^ v) % 2 ^ 64))) (rw (ne_eqb (x / 2 ^ v % 2) 1 n, shifted_one v (omega arith)))
 
 -- ---- the names from the left
 

@@ -6,21 +6,28 @@ use Prim.Native.Nat.{ℕ, suc, ◌+◌, ◌-◌, ◌≤◌, ◌<◌}
 use native.Mathlib.Omega.{arith}
 use lib.ListN.{length, take, drop, set, length-set}
 use borrow.Author.Tests.{eq-eqb, ne_eqb}
-use Rattle.written.specs.Inner.{Wrote}
 use Rattle.written.proofs.Writing.{Writing, wrote_one, writing-none, writing-part, writing-end}
 use Rattle.sheet_format.specs.Rows.{ItemRow}
 use Rattle.sheet_fields.specs.Inner.Parts.{until}
 use Rattle.sheet_rows.specs.Inner.NameKeys.{NameKeys}
-use Rattle.handin_format.specs.declared.SetField.{SetField}
+use Rattle.handin_format.specs.Sets.{SetField}
 use Rattle.handin_format.specs.Sets.{set_from}
-use Rattle.handin_format.specs.Lines.{LineNo, first_no_of, set_questions}
-use Rattle.handin_lines.specs.declared.sets.Checked.{Checked}
+use Rattle.handin_format.specs.Lines.{first_no_of, set_questions}
+use Rattle.std.specs.Prelude.{Result, Ok, Err}
+use Rattle.std.specs.Result.{result_unwrap_or}
+use Rattle.questions.specs.declared.Refusal.{Refusal}
+use Rattle.handin_lines.specs.Inner.Naming.{set_field}
+use Rattle.handin_lines.specs.Inner.Sets.{Checked}
 use Rattle.handin_lines.specs.Inner.Splitting.{split_from}
 use Rattle.handin_lines.specs.Inner.Naming.{ReadsNames}
 use Rattle.handin_lines.specs.Inner.Sets.{sets_from, ChecksSets, PutsSets}
 use Rattle.handin_lines.proofs.Splitting.{split_at, split-over}
 
 -- the first no, where the first set is one, and where it is not
+pub set-read : (r : Result ℕ Refusal) → result_unwrap_or r 0 ≡ (set_field r).set
+set-read (Ok x) = refl
+set-read (Err q) = refl
+
 set-yes : (items : List ItemRow) (k : ℕ) (f : List ℕ) (fs : List (List ℕ)) → (set_from items f).number ≡ 0
     → first_no_of (set_questions items k (f ∷ fs)) ≡ first_no_of (set_questions items (suc k) fs)
 unfolding first_no_of set_questions

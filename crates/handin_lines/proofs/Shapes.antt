@@ -14,8 +14,9 @@ use Rattle.sheet_format.specs.Rows.{ItemRow}
 use Rattle.sheet_fields.specs.Inner.Parts.{until}
 use Rattle.sheet_fields.proofs.Cutting.{until-le}
 use Rattle.handin_format.specs.Entries.{withdraw_text}
-use Rattle.handin_format.specs.Lines.{FieldAsked, is_line_byte, fields_filled, fields_there, field_questions, LineNo, first_no_of, line_questions, line_no}
-use Rattle.handin_lines.specs.declared.lines.Form.{Form}
+use Rattle.handin_format.specs.Lines.{FieldAsked, is_line_byte, fields_filled, fields_there, field_questions, first_no_of, line_questions, line_no}
+use Rattle.std.specs.Prelude.{Some, None}
+use Rattle.handin_lines.specs.Inner.Lines.{FormFound}
 use Rattle.handin_lines.specs.Inner.Splitting.{split_from}
 use Rattle.handin_lines.specs.Inner.Lines.{no_form, part_of, FirstEmpty, CutsFields, FormOf}
 use Rattle.handin_lines.proofs.Splitting.{split_at, split-over, fields_split}
@@ -67,11 +68,11 @@ module _ (l : List ℕ) (n at e : ℕ) (here : Filled l n at) (h : at ≤ length
       → first_no_of (fields_filled 1 (fields_of l) ++ later) ≡ first_no_of (fields_filled (n + 1) (take (e - at) (drop at l) ∷ split_from 32 (e + 1) l) ++ later)
   cut later = here.asked later ∙ ap (λ (fs : List (List ℕ)). first_no_of (fields_filled (n + 1) fs ++ later)) (split_at 32 l at e h q)
 
-  pub filled-found : e ≡ at → FirstEmpty l (n + 1)
+  pub filled-found : e ≡ at → FirstEmpty l (Some (n + 1))
   filled-found z =
       record {
-        some = λ _ later. cut later ∙ filled-no (n + 1) (take (e - at) (drop at l)) (split_from 32 (e + 1) l) later (take_none (e - at) (drop at l) (omega arith));
-        none = λ w. absurd (omega arith);
+        some = λ m i later. let j : n + 1 ≡ m = cc in rw (← j) (cut later ∙ filled-no (n + 1) (take (e - at) (drop at l)) (split_from 32 (e + 1) l) later (take_none (e - at) (drop at l) (omega arith)));
+        none = λ i. absurd (cc);
       }
 
   pub filled_next : (e ≡ at → ⊥) → Filled l (n + 1) (e + 1)
@@ -86,10 +87,10 @@ module _ (l : List ℕ) (n at e : ℕ) (here : Filled l n at) (h : at ≤ length
             ∙ ap (λ (k : ℕ). first_no_of (fields_filled k (split_from 32 (e + 1) l) ++ later)) s;
       }
 
-pub filled-over : (l : List ℕ) (n at : ℕ) → Filled l n at → length l < at → FirstEmpty l 0
+pub filled-over : (l : List ℕ) (n at : ℕ) → Filled l n at → length l < at → FirstEmpty l None
 filled-over l n at here h =
     record {
-      some = λ w. absurd (w refl);
+      some = λ m i. absurd (cc);
       none = λ _ later.
           here.asked later ∙ ap (λ (fs : List (List ℕ)). first_no_of (fields_filled (n + 1) fs ++ later)) (split-over 32 l at h) ∙ filled_none (n + 1) later;
     }
@@ -177,16 +178,16 @@ module _ (l : List ℕ) where
     unfolding line_no line_questions first_no_of
     behind-bytes items = rw e
 
-    pub form-empty : (r : ℕ) → FirstEmpty l r → (r ≡ 0 → ⊥) → FormOf l (no_form 4 r)
-    form-empty r h n =
+    pub form-empty : (r : ℕ) → FirstEmpty l (Some r) → FormOf l (no_form 4 r)
+    form-empty r h =
         record {
-          no = λ _ items. behind-bytes items ∙ h.some n (fields_there (fields_of l) ∷ field_questions items (fields_of l));
+          no = λ _ items. behind-bytes items ∙ h.some r refl (fields_there (fields_of l) ∷ field_questions items (fields_of l));
           yes = λ z. absurd (omega arith);
           cut = λ z. absurd (omega arith);
         }
 
-    pub form-cut : (r : ℕ) → FirstEmpty l r → r ≡ 0 → (f : Form) → CutsFields l f → FormOf l f
-    form-cut r h z f c =
+    pub form-cut : FirstEmpty l None → (f : FormFound) → CutsFields l f → FormOf l f
+    form-cut h f c =
         record {
           no = λ n items. filled items ∙ c.no n (field_questions items (fields_of l));
           yes = λ y items. filled items ∙ (c.yes y).there (field_questions items (fields_of l));
@@ -194,4 +195,4 @@ module _ (l : List ℕ) where
         }
       where
         filled : (items : List ItemRow) → line_no items l ≡ first_no_of (fields_there (fields_of l) ∷ field_questions items (fields_of l))
-        filled items = behind-bytes items ∙ h.none z (fields_there (fields_of l) ∷ field_questions items (fields_of l))
+        filled items = behind-bytes items ∙ h.none refl (fields_there (fields_of l) ∷ field_questions items (fields_of l))

@@ -1,97 +1,43 @@
 // Items and sets by their names: an item's name, and a set as names joined by `+`. A name is looked up
 // among the keys of a sheet's item names.
-ghost use Rattle.std.specs.Prelude.{◌≡◌, ◌≤◌, length};
-ghost use Rattle.sheet_format.specs.Text.{same_text};
-ghost use Rattle.sheet_format.specs.Fields.{dash};
-ghost use Rattle.handin_format.specs.Sets.{no_set};
-ghost use Rattle.handin_lines.specs.Inner.Naming.{no_item, NamesItem, TakesName, ReadsNames};
+ghost use Rattle.handin_lines.specs.Inner.Naming.{NamesItem, set_field, TakesName, ReadsNames};
 
-use handin_format::SetField;
-
-const PLUS: u8 = 43;
-
-// The number of an item, by its name. Where `number` is not 0, it is that of the first no.
-#[derive(Drop)]
-pub struct ItemField {
-    pub number: u64,
-    pub item: usize,
-}
-
-fn no_item(number: u64) -> ItemField
-    ensures { result ≡ no_item number }
-{
-    ItemField { number, item: 0 }
-}
+use questions::Refusal;
+use sheet_rows::ItemKeys;
 
 // The item with this name.
-pub fn item_of(l: &[u8], low: &[u64], high: &[u64], count: usize) -> ItemField
-    requires { (count ≤ length low.now) × (count ≤ length high.now) }
-    ensures { NamesItem low.now high.now count l.now result }
+pub fn item_of(l: &[u8], keys: &ItemKeys) -> Result<usize, Refusal>
+    ensures { NamesItem keys.now.low keys.now.high keys.now.count l.now result }
 {
-    let name = sheet_fields::read_name(l);
-    if name.ok {
-        let key = name.key;
-        let item = sheet_rows::find_name(low, high, count, key);
-        if item < count {
-            return ItemField { number: 0, item };
-        }
-        return no_item(questions::NAME_UNKNOWN);
-    }
-    no_item(questions::FORM)
-}
-
-fn no_set(number: u64) -> SetField
-    ensures { result ≡ no_set number }
-{
-    SetField { number, set: 0 }
+    let key = sheet_fields::read_name(l).ok_or(Refusal::Form)?;
+    let item = keys.find(key).ok_or(Refusal::NameUnknown)?;
+    Ok(item)
 }
 
 // The set x with the item of this name.
-fn take_name(x: u64, l: &[u8], low: &[u64], high: &[u64], count: usize) -> SetField
-    requires { (count ≤ length low.now) × (count ≤ length high.now) × (count ≤ 64) }
-    ensures { TakesName low.now high.now count x l.now result }
+fn take_name(x: u64, l: &[u8], keys: &ItemKeys) -> Result<u64, Refusal>
+    ensures { TakesName keys.now.low keys.now.high keys.now.count x l.now (set_field result) }
 {
-    let found = item_of(l, low, high, count);
-    let number = found.number;
-    if number != 0 {
-        return no_set(number);
-    }
-    let v = found.item;
-    let one: u64 = 1;
+    let v = item_of(l, keys)?;
     if (x >> v) % 2 == 1 {
-        return no_set(questions::NAME_USED);
+        return Err(Refusal::NameUsed);
     }
-    SetField {
-        number: 0,
-        set: x | (one << v),
-    }
+    Ok(x | (1 << v))
 }
 
-// `-` is the empty set.
-fn is_dash(l: &[u8]) -> bool
-    ensures { result ≡ same_text l.now dash }
+// The set that the text names: `-` is the empty one.
+pub fn set_of(l: &[u8], keys: &ItemKeys) -> Result<u64, Refusal>
+    ensures { ReadsNames keys.now.low keys.now.high keys.now.count l.now (set_field result) }
 {
-    sheet_lines::same_text(l, b"-")
-}
-
-// The set that the text names.
-pub fn set_of(l: &[u8], low: &[u64], high: &[u64], count: usize) -> SetField
-    requires { (count ≤ length low.now) × (count ≤ length high.now) × (count ≤ 64) }
-    ensures { ReadsNames low.now high.now count l.now result }
-{
-    if is_dash(l) {
-        return no_set(0);
+    if sheet_lines::same_text(l, b"-") {
+        return Ok(0);
     }
     let mut x: u64 = 0;
     let mut at = 0;
     while at <= l.len() {
-        let end = sheet_fields::find(l, at, PLUS);
-        let next = take_name(x, &l[at..end], low, high, count);
-        if next.number != 0 {
-            return next;
-        }
-        x = next.set;
+        let end = sheet_fields::find(l, at, b'+');
+        x = take_name(x, &l[at..end], keys)?;
         at = end + 1;
     }
-    SetField { number: 0, set: x }
+    Ok(x)
 }

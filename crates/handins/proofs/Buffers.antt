@@ -2,8 +2,8 @@
 -- Assumes nothing.
 use mathlib.Core.Path.{◌≡◌, sym, ap, ◌∙◌}
 use mathlib.Core.List.{List, [], ◌∷◌, map}
-use mathlib.Core.Logic.{inl, inr}
-use Prim.Native.Nat.{ℕ, zero, suc, ◌-◌, ◌^◌, ◌≤◌, ◌<◌}
+use mathlib.Core.Logic.{inr}
+use Prim.Native.Nat.{ℕ, zero, suc, ◌^◌, ◌≤◌, ◌<◌}
 use native.Mathlib.Omega.{arith}
 use lib.Count.{ones-le}
 use lib.ListN.{length, get_or, take, drop}
@@ -12,7 +12,7 @@ use Rattle.vertex_set.specs.Set.{Member}
 use Rattle.vertex_set.proofs.Places.{places, length-places, listed-places}
 use Rattle.written.specs.Inner.{Wrote}
 use Rattle.written.proofs.Writing.{wrote-front}
-use Rattle.sheet_format.specs.declared.Reading.{Reading}
+use Rattle.sheet_format.specs.Read.{Reading}
 use Rattle.sheet_format.specs.Rows.{ItemRow, Doc, Each, ValidItem, Valid, render}
 use Rattle.sheet_format.specs.Read.{read_sheet}
 use Rattle.sheet_format.specs.Names.{name_of}
@@ -25,7 +25,6 @@ use Rattle.report_text.proofs.Lengths.{joined_length}
 use Rattle.report_rows.specs.Inner.Writing.{SetNamePlaces}
 use Rattle.report_facts.specs.declared.names.Names.{Names}
 use Rattle.report_facts.specs.Inner.Places.{NamesPlaced}
-use Rattle.handin_format.specs.declared.SetWritten.{SetWritten}
 use Rattle.handins.specs.Inner.{CanName, HandsNames}
 
 -- ---- the first bytes of a text
@@ -33,9 +32,6 @@ use Rattle.handins.specs.Inner.{CanName, HandsNames}
 module _ (text : List ℕ) (size : ℕ) (entry : List ℕ) (few : size ≤ length text) where
   long : length (take size text) ≡ size
   long = length-take-le size text few
-
-  pub written-short : (r : SetWritten) (exit : List ℕ) → length entry < size → r ≡ record { number = 15; length = 0 } → exit ≡ entry → HandsNames (take size text) r entry exit
-  written-short r exit h e u = inl (let n = long in omega arith, e, u)
 
   pub written-room : (exit : List ℕ) (n : ℕ) → size ≤ length entry → Wrote entry 0 (take size text) exit n → HandsNames (take size text) (record { number = 0; length = size }) entry exit
   written-room exit n h w =

@@ -15,10 +15,10 @@ use Rattle.records.specs.declared.Record.{Record}
 use Rattle.records.specs.declared.Registered.{Registered}
 use Rattle.records.specs.declared.Task.{Task}
 use Rattle.records.specs.Records.{with_slice, hands_back}
-use Rattle.records.specs.Inner.{outcome_of, Leaves}
+use Rattle.records.specs.Inner.{refused_by, outcome_of, Leaves}
 use Rattle.register.specs.Afternoon.{RegisterCall, HandIn, Withdraw, MeetsCall}
 use Rattle.register.proofs.Calls.{over, turned, withdraws, hands_in}
-use Rattle.sheet_format.specs.declared.Reading.{Reading}
+use Rattle.sheet_format.specs.Read.{Reading}
 use Rattle.sheet_format.specs.Rows.{ItemRow, Doc, Valid, render, setup_of}
 use Rattle.sheet_format.specs.Read.{read_sheet}
 use Rattle.sheet_lines.specs.declared.item_keys.Keys.{Keys}
@@ -27,7 +27,7 @@ use Rattle.sheet_lines.proofs.Accepted.{accepts-of, rows-of-text}
 use Rattle.handin_format.specs.declared.LineAnswer.{LineAnswer}
 use Rattle.handin_format.specs.Lines.{LineNo, line_no, line_call}
 use Rattle.handin_format.specs.Calls.{answer_of, handed_of, with_sets, line_refused, TellsCall, ReadLineCall, EnterCall}
-use Rattle.handin_lines.specs.declared.lines.LineRead.{LineRead}
+use Rattle.handin_lines.specs.Inner.Lines.{LineFound}
 use Rattle.handin_lines.specs.Inner.Splitting.{split_from}
 use Rattle.handin_lines.specs.Inner.Sets.{sets_from, PutsSets}
 use Rattle.handin_lines.specs.Inner.Lines.{call_read, SaysCall, ChecksLine}
@@ -38,10 +38,10 @@ use Rattle.handins.specs.Inner.{unread_line}
 -- ---- a line by itself
 
 -- What is told of a line that was read.
-abbrev pub told_of : LineRead → LineAnswer
+abbrev pub told_of : LineFound → LineAnswer
 told_of r = record { number = 0; text = 0; place = 0; withdraws = r.withdraws; student = r.student; target = r.target; loss = r.loss; count = r.count }
 
-module _ (items : List ItemRow) (l : List ℕ) (r : LineRead) (s : SaysCall items l r) where
+module _ (items : List ItemRow) (l : List ℕ) (r : LineFound) (s : SaysCall items l r) where
   -- no sets are written of a withdrawal
   no-sets : r.count ≡ 0 → sets_from items r.start l ≡ []
   no-sets z = none (sets_from items r.start l) (sets-many items r.start l ∙ sym s.counted ∙ z)
@@ -89,7 +89,7 @@ module _ (sheet line lent : List ℕ) (r : Reading) (is : r ≡ read_sheet sheet
   read-no-sheet a exit n e u =
       inl (λ z. n (number_is ∙ z), ap (with_sets a) u ∙ ap (λ (b : LineAnswer). with_sets b lent) e ∙ ap (λ (x : Reading). line_refused 1 x.line lent x.number) is)
 
-  module _ (zero : r.number ≡ 0) (keys : Keys) (has : SheetKeys sheet r.setup.count keys) (read : LineRead) (c : ChecksLine keys.low keys.high r.setup.count line read) where
+  module _ (zero : r.number ≡ 0) (keys : Keys) (has : SheetKeys sheet r.setup.count keys) (read : LineFound) (c : ChecksLine keys.keys.low keys.keys.high keys.keys.count line read) where
     read_told : (a : LineAnswer) (exit : List ℕ)
         → ((d : Doc) → Valid d → sheet ≡ render d
         → (((line_no d.items line).number ≡ 0 → ⊥) × (with_sets a exit ≡ line_refused 2 (line_no d.items line).place lent (line_no d.items line).number))
@@ -123,7 +123,7 @@ module _ (sheet line lent : List ℕ) (r : Reading) (is : r ≡ read_sheet sheet
       pub read-counted : read.count ≡ length (split_from 32 read.start line)
       read-counted = let d = rows-of-text sheet r.setup (accepts-of sheet r is zero) in (says d.doc d.valid d.text).1.counted
 
-      pub read_all : (n : ℕ) (exit : List ℕ) → read.count ≤ length lent → PutsSets keys.low keys.high r.setup.count line read.start n lent exit
+      pub read_all : (n : ℕ) (exit : List ℕ) → read.count ≤ length lent → PutsSets keys.keys.low keys.keys.high keys.keys.count line read.start n lent exit
           → ReadLineCall sheet line (told_of read) lent exit
       read_all n exit h p =
           read_told (told_of read) exit (λ d v t.
@@ -141,9 +141,9 @@ module _ (sheet line lent : List ℕ) (r : Reading) (is : r ≡ read_sheet sheet
 module _ (used : ℕ) (t : Task) (a : Registered) (ys zs : List Record) (h : Leaves a zs (outcome_of ys used t)) where
   made : (s : Setup) (c : RegisterCall) → TaskFor s c t → MeetsCall s c used ys a zs
   made s (HandIn x) k = hands_in s used x.student x.target x.loss x.handed t a ys zs k h
-  made s (Withdraw k) e = withdraws used k t a ys zs e h
+  made s (Withdraw k) e = withdraws used k a ys zs (h ∙ ap (outcome_of ys used) e)
 
-  refused-with : (q : ℕ) → used ≤ length ys → (q ≡ 0 → ⊥) → t.refused ≡ q → with_slice a zs ≡ hands_back used ys q
+  refused-with : (q : ℕ) → used ≤ length ys → (q ≡ 0 → ⊥) → refused_by t ≡ q → with_slice a zs ≡ hands_back used ys q
   refused-with q l n e = h ∙ turned ys used t l (λ z. n (sym e ∙ z)) ∙ ap (hands_back used ys) e
 
   pub line-entered : (sheet line : List ℕ) → TaskOfLine sheet line t → EnterCall sheet line used a ys zs

@@ -13,8 +13,8 @@ use Rattle.setup.specs.Calls.{written}
 use Rattle.questions.specs.Asks.{Asks}
 use Rattle.questions.specs.Contract.{Outcome, gives, ends, turns_away, Room, Fulfils}
 use Rattle.questions.specs.Told.{Told}
-use Rattle.questions.specs.Inner.{FirstRefusal, answered12, inside14}
-use Rattle.sheet_format.specs.declared.Reading.{Reading}
+use Rattle.questions.specs.Inner.{FirstNumber, answered12, inside14}
+use Rattle.sheet_format.specs.Read.{Reading}
 use Rattle.sheet_format.specs.Fields.{dash}
 use Rattle.sheet_format.specs.Rows.{ItemRow}
 use Rattle.sheet_format.specs.Read.{read_sheet}
@@ -23,7 +23,7 @@ use Rattle.sheet_lines.specs.declared.item_keys.Keys.{Keys}
 use Rattle.sheet_lines.specs.Inner.Keys.{SheetKeys}
 use Rattle.sheet_lines.proofs.Accepted.{accepts-of, count_of, rows-of-text}
 use Rattle.report_text.specs.Rows.{set_text}
-use Rattle.handin_format.specs.declared.SetField.{SetField}
+use Rattle.handin_format.specs.Sets.{SetField}
 use Rattle.handin_format.specs.declared.NamedSet.{NamedSet}
 use Rattle.handin_format.specs.declared.SetWritten.{SetWritten}
 use Rattle.handin_format.specs.Sets.{set_from, set_names}
@@ -41,7 +41,7 @@ module _ (sheet l : List ℕ) (r : Reading) (is : r ≡ read_sheet sheet) where
   unfolding Asks
   set-no-sheet a n e = inl (λ z. n (number_is ∙ z), e ∙ ap (λ (x : Reading). set_refused 1 x.line x.number) is)
 
-  module _ (zero : r.number ≡ 0) (keys : Keys) (has : SheetKeys sheet r.setup.count keys) (f : SetField) (reads : ReadsNames keys.low keys.high r.setup.count l f) where
+  module _ (zero : r.number ≡ 0) (keys : Keys) (has : SheetKeys sheet r.setup.count keys) (f : SetField) (reads : ReadsNames keys.keys.low keys.keys.high keys.keys.count l f) where
     named : (a : NamedSet)
         → ((items : List ItemRow) → f ≡ set_from items l
         → (((set_from items l).number ≡ 0 → ⊥) × (a ≡ set_refused 2 0 (set_from items l).number)) ⊎ (((set_from items l).number ≡ 0) × (a ≡ set_told (set_from items l).set)))
@@ -71,11 +71,11 @@ module _ (sheet l : List ℕ) (r : Reading) (is : r ≡ read_sheet sheet) where
 -- ---- writing
 
 -- question 14, where question 12 is no question
-inside-no : (count x r : ℕ) → FirstRefusal (answered12 true ∷ inside14 count x ∷ []) r → (r ≡ 0 → ⊥) → (((v : ℕ) → Member x v → v < count) → ⊥) × (r ≡ 14)
+inside-no : (count x r : ℕ) → FirstNumber (answered12 true ∷ inside14 count x ∷ []) r → (r ≡ 0 → ⊥) → (((v : ℕ) → Member x v → v < count) → ⊥) × (r ≡ 14)
 unfolding Asks
 inside-no count x r h n = ⊎_elim (λ a. absurd (a.0 refl)) (λ b. ⊎_elim (λ a. (a.0, a.1)) (λ c. absurd (n c.1)) b.1) h
 
-pub inside-yes : (count x r : ℕ) → FirstRefusal (answered12 true ∷ inside14 count x ∷ []) r → r ≡ 0 → (v : ℕ) → Member x v → v < count
+pub inside-yes : (count x r : ℕ) → FirstNumber (answered12 true ∷ inside14 count x ∷ []) r → r ≡ 0 → (v : ℕ) → Member x v → v < count
 unfolding Asks
 inside-yes count x r h z = ⊎_elim (λ a. absurd (a.0 refl)) (λ b. ⊎_elim (λ a. absurd (let e = a.1 in omega arith)) (λ c. c.0) b.1) h
 
@@ -121,7 +121,7 @@ module _ (sheet : List ℕ) (x : ℕ) (r : SetWritten) (entry exit : List ℕ) w
       count-is : read.setup.count ≡ (read_sheet sheet).setup.count
       count-is = ap (λ (y : Reading). y.setup.count) is
 
-      module _ (asked : ℕ) (first : FirstRefusal (answered12 true ∷ inside14 read.setup.count x ∷ []) asked) where
+      module _ (asked : ℕ) (first : FirstNumber (answered12 true ∷ inside14 read.setup.count x ∷ []) asked) where
         pub write-outside : (asked ≡ 0 → ⊥) → r ≡ record { number = asked; length = 0 } → exit ≡ entry → Tells
         unfolding Fulfils Asks
         write-outside n e u =

@@ -4,6 +4,7 @@
 #![tactic(auto)]
 
 ghost use Rattle.std.specs.Prelude.{◌≡◌, [], ◌∷◌, ◌≤◌, length, take};
+ghost use Rattle.questions.specs.Refusals.{number};
 ghost use Rattle.questions.specs.Told.{Told};
 ghost use Rattle.sheet_format.specs.Names.{name_of};
 ghost use Rattle.report_text.specs.Rows.{set_text};
@@ -12,20 +13,21 @@ ghost use Rattle.handins.specs.Inner.{CanName, HandsNames, unread_line};
 
 use handin_format::{LineAnswer, NamedSet, SetWritten};
 use handin_lines::{by_name, lines, sets, tasks};
+use questions::Refusal;
 use records::{Record, Registered};
 use report_facts::names;
-use report_rows::fields;
+use report_rows::fields::ItemNames;
 use sheet_lines::item_keys;
 use vertex_set::VertexSet;
 
 // No set has longer names: 64 of 16 bytes, and a `+` between each two.
 pub const SET_BYTES: usize = 1087;
 
-fn no_set(number: u64, text: u64, place: u64) -> NamedSet
-    ensures { result ≡ set_refused text place number }
+fn no_set(refusal: Refusal, text: u64, place: u64) -> NamedSet
+    ensures { result ≡ set_refused text place (number refusal) }
 {
     NamedSet {
-        number,
+        number: refusal.number(),
         text,
         place,
         set: 0,
@@ -38,33 +40,29 @@ fn no_set(number: u64, text: u64, place: u64) -> NamedSet
 pub fn read_set(sheet: &[u8], text: &[u8]) -> NamedSet
     ensures { ReadSetCall sheet.now text.now result }
 {
-    let reading = sheet::read_sheet(sheet);
-    let number = reading.number;
-    if number != 0 {
-        return no_set(number, 1, reading.line);
-    }
-    let setup = reading.setup;
-    let count = setup.count;
-    let keys = item_keys::keys_of(sheet, count);
-    let low = keys.low;
-    let high = keys.high;
-    let field = by_name::set_of(text, &low, &high, count);
-    let refused = field.number;
-    if refused != 0 {
-        return no_set(refused, 2, 0);
-    }
-    NamedSet {
-        number: 0,
-        text: 0,
-        place: 0,
-        set: field.set,
+    let count = match sheet::read_sheet(sheet) {
+        Ok(setup) => setup.count,
+        Err(refused) => return no_set(refused.refusal, 1, refused.line),
+    };
+    let found = item_keys::keys_of(sheet, count);
+    match by_name::set_of(text, &found.keys) {
+        Ok(set) => NamedSet {
+            number: 0,
+            text: 0,
+            place: 0,
+            set,
+        },
+        Err(refusal) => no_set(refusal, 2, 0),
     }
 }
 
-fn no_text(number: u64) -> SetWritten
-    ensures { result ≡ record { number = number; length = 0 } }
+fn no_text(refusal: Refusal) -> SetWritten
+    ensures { result ≡ record { number = number refusal; length = 0 } }
 {
-    SetWritten { number, length: 0 }
+    SetWritten {
+        number: refusal.number(),
+        length: 0,
+    }
 }
 
 // The first `size` bytes of the text, to the start of the buffer where they have room.
@@ -73,9 +71,9 @@ fn hand_out(text: &[u8], size: usize, out: &mut [u8]) -> SetWritten
     ensures { HandsNames (take size text.now) result out.old out.new }
 {
     if out.len() < size {
-        return no_text(questions::SHORT);
+        return no_text(Refusal::Short);
     }
-    writing::put_text(&text[..size], out, 0);
+    written::put(&text[..size], out, 0);
     SetWritten {
         number: 0,
         length: size,
@@ -89,10 +87,13 @@ fn put_names(sheet: &[u8], count: usize, set: u64, out: &mut [u8]) -> SetWritten
     ensures { HandsNames (set_text (name_of sheet.now) set) result out.old out.new }
 {
     let places = names::name_places(sheet, count);
-    let starts = places.from;
-    let ends = places.to;
+    let names = ItemNames {
+        sheet,
+        from: &places.from,
+        to: &places.to,
+    };
     let mut text = [0u8; SET_BYTES];
-    let size = fields::put_items(set, sheet, &starts, &ends, &mut text, 0);
+    let size = names.put_items(set, &mut text, 0);
     hand_out(&text, size, out)
 }
 
@@ -102,16 +103,12 @@ fn put_names(sheet: &[u8], count: usize, set: u64, out: &mut [u8]) -> SetWritten
 pub fn write_set(sheet: &[u8], set: u64, out: &mut [u8]) -> SetWritten
     ensures { Told (write_set_call sheet.now set out.old) result.number (result.length ∷ []) (out.new ∷ []) }
 {
-    let reading = sheet::read_sheet(sheet);
-    let number = reading.number;
-    if number != 0 {
-        return no_text(number);
-    }
-    let setup = reading.setup;
-    let count = setup.count;
-    let asked = questions::ask_set(true, count, VertexSet(set));
-    if asked != 0 {
-        return no_text(asked);
+    let count = match sheet::read_sheet(sheet) {
+        Ok(setup) => setup.count,
+        Err(refused) => return no_text(refused.refusal),
+    };
+    if let Err(refusal) = questions::ask_set(true, count, VertexSet(set)) {
+        return no_text(refusal);
     }
     if set == 0 {
         return hand_out(b"-", 1, out);
@@ -119,11 +116,11 @@ pub fn write_set(sheet: &[u8], set: u64, out: &mut [u8]) -> SetWritten
     put_names(sheet, count, set, out)
 }
 
-fn no_line(number: u64, text: u64, place: u64) -> LineAnswer
-    ensures { result ≡ unread_line number text place }
+fn no_line(refusal: Refusal, text: u64, place: u64) -> LineAnswer
+    ensures { result ≡ unread_line (number refusal) text place }
 {
     LineAnswer {
-        number,
+        number: refusal.number(),
         text,
         place,
         withdraws: false,
@@ -140,25 +137,19 @@ fn no_line(number: u64, text: u64, place: u64) -> LineAnswer
 pub fn read_line(sheet: &[u8], line: &[u8], handed: &mut [u64]) -> LineAnswer
     ensures { ReadLineCall sheet.now line.now result handed.old handed.new }
 {
-    let reading = sheet::read_sheet(sheet);
-    let number = reading.number;
-    if number != 0 {
-        return no_line(number, 1, reading.line);
-    }
-    let setup = reading.setup;
-    let count = setup.count;
-    let keys = item_keys::keys_of(sheet, count);
-    let low = keys.low;
-    let high = keys.high;
-    let read = lines::check_line(line, &low, &high, count);
-    let refused = read.number;
-    if refused != 0 {
-        return no_line(refused, 2, read.place);
-    }
+    let count = match sheet::read_sheet(sheet) {
+        Ok(setup) => setup.count,
+        Err(refused) => return no_line(refused.refusal, 1, refused.line),
+    };
+    let found = item_keys::keys_of(sheet, count);
+    let read = match lines::check_line(line, &found.keys) {
+        Ok(read) => read,
+        Err(no) => return no_line(no.refusal, 2, no.place),
+    };
     if handed.len() < read.count {
-        return no_line(questions::SHORT, 0, 0);
+        return no_line(Refusal::Short, 0, 0);
     }
-    sets::put_sets(line, read.start, &low, &high, count, handed);
+    sets::put_sets(line, read.start, &found.keys, handed);
     LineAnswer {
         number: 0,
         text: 0,

@@ -1,6 +1,6 @@
 -- The drawing that calls have left is what is saved; what is held is not.
 -- Assumes nothing.
-use mathlib.Core.Path.{◌≡◌, sym, ap, subst, ◌∙◌}
+use mathlib.Core.Path.{◌≡◌, sym, ap, subst}
 use mathlib.Core.List.{List, [], ◌∷◌}
 use mathlib.Core.Logic.{◌⊎◌, inl, inr, ⊎_elim}
 use Prim.Native.Nat.{ℕ, ◌≤◌}
@@ -9,11 +9,11 @@ use Rattle.vertex_set.proofs.Sets.{none-in-zero}
 use Rattle.setup.specs.declared.Setup.{Setup}
 use Rattle.derivations.proofs.Closures.{none-opens}
 use Rattle.questions.specs.Asks.{Asks}
-use Rattle.questions.specs.Contract.{Outcome, ends}
+use Rattle.questions.specs.Contract.{Outcome}
 use Rattle.questions.specs.Told.{Told}
 use Rattle.questions.proofs.Contract.{answers_of}
 use Rattle.living.specs.Calls.{Drawing, Redrawn, drawing_of}
-use Rattle.sheet_format.specs.declared.Reading.{Reading}
+use Rattle.sheet_format.specs.Read.{Reading}
 use Rattle.sheet_format.specs.Read.{read_sheet}
 use Rattle.sheet_format.proofs.Question12.{accepted-formed}
 use Rattle.save_format.specs.Rows.{unheld}

@@ -5,7 +5,7 @@ use mathlib.Core.Bool.{Bool, true, false}
 use mathlib.Core.List.{List, [], ◌∷◌, ◌++◌}
 use Prim.Native.Nat.{ℕ}
 use Rattle.vertex_set.specs.declared.VertexSet.{VertexSet}
-use Rattle.vertex_set.specs.Set.{Iff, Decides}
+use Rattle.vertex_set.specs.Set.{Iff}
 use Rattle.vertex_set.specs.Order.{Smallest}
 use Rattle.vertex_set.proofs.Decisions.{decide_iff, iff-refl}
 use Rattle.vertex_set.proofs.Lists.{exactly-same}
@@ -14,9 +14,8 @@ use Rattle.setup.specs.declared.Setup.{Setup}
 use Rattle.setup.specs.Calls.{Inside}
 use Rattle.setup.specs.Inner.{holding}
 use Rattle.formed.specs.WellFormed.{WellFormed}
-use Rattle.questions.specs.Asks.{Question}
 use Rattle.questions.specs.Questions.{asks12, asks13, asks14}
-use Rattle.questions.specs.Contract.{Outcome, Contract, Fulfils}
+use Rattle.questions.specs.Contract.{Outcome, Fulfils}
 use Rattle.questions.proofs.Asks.{Alike, asks-alike}
 use Rattle.questions.proofs.Contract.{fulfils-alike}
 use Rattle.bases.specs.Base.{TargetSet, MinimalSet, Base}
@@ -24,13 +23,11 @@ use Rattle.bases.specs.Score.{Score}
 use Rattle.bases.specs.Marks.{Mark, Repeated, Shut, Loose, Right, CountsAs, MarkedAs, Counts, IsBaseOnce}
 use Rattle.findings.specs.Findings.{Compared, Backdoor, IneffectiveRecovery, Inconsistent, FindsBackdoor, FindsIneffective, FindsInconsistent}
 use Rattle.forecasts.proofs.Bounds.{forecast-holds}
-use Rattle.next_sets.specs.Next.{OfInitial, NextSet, NoMore}
 use Rattle.cut_sets.specs.Cuts.{CutSet}
 use Rattle.cut_sets.proofs.Theorems.{duality-holds}
-use Rattle.attackers.specs.Attackers.{OfBase, KindInScore, AttackerScore, EntriesFit}
+use Rattle.attackers.specs.Attackers.{OfBase, KindInScore, AttackerScore}
 use Rattle.multisets.specs.Multisets.{places_of}
 use Rattle.multiset_scores.specs.Scores.{multiset_of, FirstInScore, all_places, all_lengths}
-use Rattle.access.specs.Answers.{IsClosure}
 use Rattle.next_sets.specs.Answers.{Next, Shown, End, IsNext}
 use Rattle.records.specs.declared.Record.{Record}
 use Rattle.records.specs.Records.{RegisterOutcome, with_slice, hands_back}

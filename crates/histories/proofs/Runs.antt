@@ -18,9 +18,9 @@ use Rattle.questions.specs.Questions.{asks12}
 use Rattle.questions.proofs.Asks.{first-no}
 use Rattle.formed.specs.WellFormed.{WellFormed}
 use Rattle.living.specs.Calls.{Call, TakeIn, TakeOut, AddEdge, RemoveEdge, asks_of, back, Done, CallOf, Drawing, drawing_of, after, Redrawn}
-use Rattle.living.specs.declared.Redrawing.{Redrawing}
+use Rattle.living.specs.Calls.{Redrawing}
 use Rattle.living.proofs.Unique.{itself}
-use Rattle.sheet_format.specs.declared.Reading.{Reading}
+use Rattle.sheet_format.specs.Read.{Reading}
 use Rattle.sheet_format.specs.Read.{read_sheet}
 use Rattle.sheet_format.proofs.Meaning.{accepted-or-refused, empty-setup}
 use Rattle.sheet_format.proofs.Question12.{accepted-formed}

@@ -12,10 +12,6 @@ ghost use Rattle.lanes.specs.Inner.Lanes.{Lane, Over, Takes, untaken_word, block
 
 use family_words::PART;
 use setup::Rows;
-use successors::COLOURS;
-
-// The word that has all 64 lanes.
-const ALL: u64 = 0xFFFF_FFFF_FFFF_FFFF;
 
 // The masks whose sets have every vertex of the row or, with `any`, some vertex of the row. The row
 // is not empty.
@@ -27,13 +23,10 @@ fn scan(w: &[u64], row: u64, any: bool, out: &mut [u64])
 {
     let first = successors::lowest(row);
     let at = first * PART;
-    family_words::copy_in(out, &w[at..at + PART]);
-    let mut left = successors::without(row, first);
-    while left != 0 {
-        let v = successors::lowest(left);
+    out.copy_from_slice(&w[at..at + PART]);
+    for v in successors::vertices_of(successors::without(row, first)) {
         let a = v * PART;
         family_words::merge_in(any, out, &w[a..a + PART]);
-        left = successors::without(left, v);
     }
 }
 
@@ -58,7 +51,7 @@ fn take_colour(w: &[u64], row: u64, loss: bool, out: &mut [u64])
 fn untaken(loss: bool) -> u64
     ensures { result ≡ untaken_word loss }
 {
-    if loss { ALL } else { 0 }
+    if loss { u64::MAX } else { 0 }
 }
 
 // The masks by whose sets a vertex with these rows is opened or, with loss, lost. A vertex without
@@ -74,7 +67,7 @@ pub fn admitted(w: &[u64], rows: Rows, loss: bool, out: &mut [u64])
     }
     let first = untaken(loss);
     family_words::set_all(out, first);
-    for c in 0..COLOURS {
-        take_colour(w, rows.needs[c], loss, out);
+    for row in rows.needs {
+        take_colour(w, row, loss, out);
     }
 }

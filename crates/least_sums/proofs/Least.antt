@@ -17,11 +17,11 @@ use Rattle.families.specs.Inner.Family.{In}
 use Rattle.families.proofs.Masks.{spread, set-of, set-within}
 use Rattle.family_lists.specs.Inner.Lists.{Summable, SumTables, SumOfMember, LeastSum, LeastBy}
 use Rattle.sums.specs.Inner.Sums.{sum_at, WeightsOf, SumsFit, SumTable}
-use Rattle.family_lists.specs.Inner.Tables.{sum_by, masks_in, rising}
+use Rattle.family_lists.specs.Inner.Tables.{TablesFit, sum_by, masks_in, rising}
 use Rattle.least_sums.specs.Inner.Least.{least_of}
 use Rattle.family_lists.proofs.Lists.{rising-drop, rising-end}
 use Rattle.family_lists.proofs.Order.{listed-members, member-small}
-use Rattle.family_lists.proofs.SetLists.{tables-sum, tables-fit}
+use Rattle.sums.proofs.Tables.{tables-sum}
 
 -- ---- the least of a list
 
@@ -97,10 +97,10 @@ module _ (c : ℕ) (value : ℕ → ℕ) (h : c < 2 ^ 64) (s : Summable c value)
   pub value-fits : SumsFit ws
   value-fits = record { fits = λ m. let b = value-bound m in omega arith }
 
-  pub value-tables : (low high : List ℕ) → SumTable ws 0 low → SumTable ws 7 high → length low ≡ 128 → length high ≡ 128 → SumTables c value low high
-  value-tables low high p q a b =
+  pub value-tables : (low high : List ℕ) → TablesFit low high → SumTable ws 0 low → SumTable ws 7 high → SumTables c value low high
+  value-tables low high fit p q =
       record {
-        fit = tables-fit ws low high p q value-fits a b;
+        fit = fit;
         word = h;
         below = λ m l. let e = tables-sum ws low high p q m l in let v = value-bound m in omega arith;
         sum = λ m x l o. tables-sum ws low high p q m l ∙ w.sum m x o;

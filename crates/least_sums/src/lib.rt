@@ -4,63 +4,50 @@
 
 ghost use Rattle.std.specs.Prelude.{◌≡◌, map, ℕ, ◌<◌, length, get_or};
 ghost use Rattle.family_lists.specs.Inner.Lists.{Summable, SumTables, LeastSum, LeastBy};
-ghost use Rattle.family_lists.specs.Inner.Tables.{TablesFit, masks_in, sum_by};
+ghost use Rattle.family_lists.specs.Inner.Tables.{masks_in, sum_by};
 ghost use Rattle.families.specs.Inner.Family.{family_words};
 ghost use Rattle.least_sums.specs.Inner.Least.{least_of};
 
-use families::WORDS;
 use scores::NEVER;
+use sums::MaskSums;
 use vertex_set::VertexSet;
 
 // The least of `best` and the sums of the masks of word b in the lanes of y.
-fn least_in_word(y: u64, b: usize, low: &[u64], high: &[u64], best: u64) -> u64
-    requires b_lt_family_words { b < family_words }
-    requires tables_fit { TablesFit low.now high.now }
-    ensures { result ≡ least_of best (map (sum_by low.now high.now) (masks_in b y)) }
+fn least_in_word(y: u64, b: usize, sums: &MaskSums, best: u64) -> u64
+    requires { b < family_words }
+    ensures { result ≡ least_of best (map (sum_by sums.now.low sums.now.high) (masks_in b y)) }
 {
-    let one: u64 = 1;
-    let base = high[b / 2];
+    let base = sums.high[b / 2];
     let from = b % 2 * 64;
-    let mut rest = y;
     let mut least = best;
-    while rest != 0 {
-        let i = u64::trailing_zeros(rest);
-        let sum = base + low[from + i as usize];
-        if sum < least {
-            least = sum;
-        }
-        rest = rest - (one << i);
+    for i in successors::vertices_of(y) {
+        let sum = base + sums.low[from + i];
+        least = least.min(sum);
     }
     least
 }
 
 // The least sum over the family's members by two tables of sums; NEVER for an empty family.
-pub fn least_by(f: &[u64], low: &[u64], high: &[u64]) -> u64
-    requires f_len { length f.now ≡ family_words }
-    requires tables_fit { TablesFit low.now high.now }
-    ensures { LeastBy f.now low.now high.now result }
+pub fn least_by(f: &[u64], sums: &MaskSums) -> u64
+    requires { length f.now ≡ family_words }
+    ensures { LeastBy f.now sums.now.low sums.now.high result }
 {
     let mut least = NEVER;
-    for b in 0..WORDS {
-        let x = f[b];
-        if x != 0 {
-            least = least_in_word(x, b, low, high, least);
+    for (b, x) in f.iter().enumerate() {
+        if *x != 0 {
+            least = least_in_word(*x, b, sums, least);
         }
     }
     least
 }
 
-// Fills two tables with sums of the chosen vertices' values. They serve every family on these
-// vertices.
-pub fn sum_tables(chosen: VertexSet, values: [u64; 64], low: &mut [u64], high: &mut [u64])
-    requires summable { Summable chosen.0 (λ (v : ℕ). get_or values v 0) }
-    requires low_len { length low.old ≡ 128 }
-    requires high_len { length high.old ≡ 128 }
-    ensures { SumTables chosen.0 (λ (v : ℕ). get_or values v 0) low.new high.new }
+// The sums of the chosen vertices' values. They serve every family on these vertices.
+pub fn sum_tables(chosen: VertexSet, values: [u64; 64]) -> MaskSums
+    requires { Summable chosen.0 (λ (v : ℕ). get_or values v 0) }
+    ensures { SumTables chosen.0 (λ (v : ℕ). get_or values v 0) result.low result.high }
 {
     let weights = sums::weights_of(chosen, values);
-    sums::fill_sums(weights, 0, low);
-    sums::fill_sums(weights, 7, high);
+    MaskSums::of(weights)
 }
 
 // The least sum of values over the sets of the family's members; NEVER for an empty family.
@@ -69,8 +56,6 @@ pub fn least_sum(f: &[u64], chosen: VertexSet, values: [u64; 64]) -> u64
     requires summable { Summable chosen.0 (λ (v : ℕ). get_or values v 0) }
     ensures { LeastSum chosen.0 f.now (λ (v : ℕ). get_or values v 0) result }
 {
-    let mut low = [0u64; 128];
-    let mut high = [0u64; 128];
-    sum_tables(chosen, values, &mut low, &mut high);
-    least_by(f, &low, &high)
+    let sums = sum_tables(chosen, values);
+    least_by(f, &sums)
 }

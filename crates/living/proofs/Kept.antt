@@ -20,7 +20,7 @@ use Rattle.setup.proofs.Graphs.{graph_same}
 use Rattle.setup.proofs.OneRow.{row_count}
 use Rattle.formed.specs.WellFormed.{WellFormed}
 use Rattle.living.specs.Calls.{Call, TakeIn, TakeOut, AddEdge, RemoveEdge, Drawing, drawing_of, after, Redrawn, asks_of, back, Done, CallOf}
-use Rattle.living.specs.declared.Redrawing.{Redrawing}
+use Rattle.living.specs.Calls.{Redrawing}
 use Rattle.questions.specs.Questions.{asks12}
 use Rattle.questions.proofs.Asks.{AllYes, positive, not-zero, first-no, asks-either}
 use Rattle.living.specs.Inner.{RowPlace, EdgeMore, EdgeLess, Placed}

@@ -1,6 +1,6 @@
 // A setup that lives (document 02, point 8): calls that take a vertex into the held set or out of it,
-// and that add an edge or remove one. Each takes the setup and hands it back, with a number: 0, or
-// that of the refusal, and then the setup is the one that was handed in.
+// and that add an edge or remove one. Each takes the setup and hands back the one that it becomes; a
+// refused call leaves the setup as it is.
 //
 // A function copies what it is given by value, and a setup has 11 KB. So question 12 is asked in the
 // calls themselves, and its answer is handed on; where an edge changes, the rows of one vertex are
@@ -12,17 +12,12 @@ ghost use Rattle.std.specs.Prelude.{◌≡◌, ◌≤◌};
 ghost use Rattle.vertex_set.specs.Set.{Decides};
 ghost use Rattle.setup.specs.Setup.{Edge, edge_count};
 ghost use Rattle.questions.specs.Inner.{FirstRefusal};
-ghost use Rattle.living.specs.Calls.{TakeIn, TakeOut, AddEdge, RemoveEdge, CallOf};
+ghost use Rattle.living.specs.Calls.{handed_back, TakeIn, TakeOut, AddEdge, RemoveEdge, CallOf};
 ghost use Rattle.living.specs.Inner.{LetGo, RowPlace, EdgePlace, WithHeld, Drawn, place_questions, RowsWithEdge, RowsWithoutEdge, RowsMarked, EdgeAdded, EdgeRemoved};
 
+use questions::Refusal;
 use setup::{Graph, Rows, Setup};
 use vertex_set::VertexSet;
-
-#[derive(Drop)]
-pub struct Redrawing {
-    pub number: u64,
-    pub setup: Setup,
-}
 
 // The set without the vertex v, which need not be in it.
 fn let_go(s: VertexSet, v: usize) -> VertexSet
@@ -38,101 +33,85 @@ fn has_edge(graph: Graph, from: usize, to: usize, colour: usize) -> bool
     requires { RowPlace to colour }
     ensures { Decides (Edge graph from to colour) result }
 {
-    let rows = graph.rows[to];
-    let needed = VertexSet(rows.needs[colour]);
-    needed.has(from)
+    VertexSet(graph.rows[to].needs[colour]).has(from)
 }
 
 fn edge_count(graph: Graph) -> u32
     ensures { (result ≡ edge_count graph) × (result ≤ 32768) }
 {
     let mut edges: u32 = 0;
-    for v in 0..64usize {
-        let rows = graph.rows[v];
-        edges += formed::row_sizes(rows);
+    for rows in &graph.rows {
+        edges += formed::row_sizes(*rows);
     }
     edges
 }
 
 // Accepts: the setup with this held set; its opened set is what `start` opens.
-fn hold(s: Setup, held: VertexSet, start: VertexSet) -> Redrawing
-    ensures { (result.number ≡ 0) × WithHeld s held.0 start.0 result.setup }
+fn hold(s: Setup, held: VertexSet, start: VertexSet) -> Setup
+    ensures { WithHeld s held.0 start.0 result }
 {
-    let graph = s.graph;
-    let closed = closures::closure(false, graph, start);
-    let opened = closed.set;
+    let closed = closures::closure(false, s.graph, start);
     let mut setup = s;
     setup.held = held;
-    setup.opened = opened;
-    Redrawing { number: 0, setup }
+    setup.opened = closed.set;
+    setup
 }
 
 // Takes a vertex into the held set. What is open stays open, so that the passes go on from there.
-pub fn take_in(s: Setup, v: usize) -> Redrawing
-    ensures { CallOf (TakeIn v) s result }
+pub fn take_in(s: Setup, v: usize) -> Result<Setup, Refusal>
+    ensures { CallOf (TakeIn v) s (handed_back s result) }
 {
     let formed = formed::well_formed(s);
-    let asked = questions::ask_target(formed, s.count, v);
-    if asked != 0 {
-        return Redrawing {
-            number: asked,
-            setup: s,
-        };
-    }
+    questions::ask_target(formed, s.count, v)?;
     let held = s.held.insert(v);
     let start = s.opened.insert(v);
-    hold(s, held, start)
+    Ok(hold(s, held, start))
 }
 
 // Takes a vertex out of the held set. It may still be open, by what else is held: the passes start
 // from what is held.
-pub fn take_out(s: Setup, v: usize) -> Redrawing
-    ensures { CallOf (TakeOut v) s result }
+pub fn take_out(s: Setup, v: usize) -> Result<Setup, Refusal>
+    ensures { CallOf (TakeOut v) s (handed_back s result) }
 {
     let formed = formed::well_formed(s);
-    let asked = questions::ask_target(formed, s.count, v);
-    if asked != 0 {
-        return Redrawing {
-            number: asked,
-            setup: s,
-        };
-    }
+    questions::ask_target(formed, s.count, v)?;
     let held = let_go(s.held, v);
-    hold(s, held, held)
+    Ok(hold(s, held, held))
 }
 
-// Questions 12, 13 of both ends, and 18, which come first where an edge is named: the number of the
-// first no, and 0 where there is none. `formed` is the answer to question 12.
-fn ask_place(formed: bool, count: usize, from: usize, to: usize, colour: usize) -> u64
+// Questions 12, 13 of both ends, and 18, which come first where an edge is named. `formed` is the
+// answer to question 12.
+#[tactic(auto, unfolding(questions::specs::Asks::Asks))]
+fn ask_place(
+    formed: bool,
+    count: usize,
+    from: usize,
+    to: usize,
+    colour: usize,
+) -> Result<(), Refusal>
     ensures { FirstRefusal (place_questions formed count from to colour) result }
 {
-    if formed {
-        if count <= from {
-            return questions::NO_ITEM;
-        }
-        if count <= to {
-            return questions::NO_ITEM;
-        }
-        if setup::MAX_COLOUR < colour {
-            return questions::NO_COLOUR;
-        }
-        return 0;
+    questions::ask_target(formed, count, from)?;
+    if count <= to {
+        return Err(Refusal::NoItem);
     }
-    questions::NO_SETUP
+    if setup::MAX_COLOUR < colour {
+        return Err(Refusal::NoColour);
+    }
+    Ok(())
 }
 
 // Accepts: the setup with these graphs. An edge more can shut what was open, and an edge less can open
 // more: the passes start from what is held.
-fn redraw(s: Setup, graph: Graph, recovery: Graph) -> Redrawing
-    ensures { (result.number ≡ 0) × Drawn s graph recovery result.setup }
+fn redraw(s: Setup, graph: Graph, recovery: Graph) -> Setup
+    ensures { Drawn s graph recovery result }
 {
     let closed = closures::closure(false, graph, s.held);
-    let opened = closed.set;
     let mut setup = s;
     setup.graph = graph;
     setup.recovery = recovery;
-    setup.opened = opened;
-    Redrawing { number: 0, setup }
+    setup.opened = closed.set;
+    setup
 }
 
 // The rows of a vertex with an edge more.
@@ -140,10 +119,8 @@ fn with_edge(rows: Rows, from: usize, colour: usize) -> Rows
     requires { RowPlace from colour }
     ensures { RowsWithEdge rows from colour result }
 {
-    let needed = VertexSet(rows.needs[colour]);
-    let more = needed.insert(from);
     let mut r = rows;
-    r.needs[colour] = more.0;
+    r.needs[colour] = VertexSet(rows.needs[colour]).insert(from).0;
     r
 }
 
@@ -152,10 +129,8 @@ fn without_edge(rows: Rows, from: usize, colour: usize) -> Rows
     requires { RowPlace from colour }
     ensures { RowsWithoutEdge rows from colour result }
 {
-    let needed = VertexSet(rows.needs[colour]);
-    let less = let_go(needed, from);
     let mut r = rows;
-    r.needs[colour] = less.0;
+    r.needs[colour] = let_go(VertexSet(rows.needs[colour]), from).0;
     r
 }
 
@@ -171,83 +146,58 @@ fn with_mark(marks: Rows, from: usize, colour: usize, rec: bool) -> Rows
 }
 
 // Accepts: the setup with an edge more, and with its mark.
-fn draw_edge(s: Setup, from: usize, to: usize, colour: usize, rec: bool) -> Redrawing
+fn draw_edge(s: Setup, from: usize, to: usize, colour: usize, rec: bool) -> Setup
     requires { EdgePlace from to colour }
-    ensures { (result.number ≡ 0) × EdgeAdded s from to colour rec result.setup }
+    ensures { EdgeAdded s from to colour rec result }
 {
     let mut graph = s.graph;
-    let rows = graph.rows[to];
-    let more = with_edge(rows, from, colour);
-    graph.rows[to] = more;
+    graph.rows[to] = with_edge(graph.rows[to], from, colour);
     let mut recovery = s.recovery;
-    let marks = recovery.rows[to];
-    let marked = with_mark(marks, from, colour, rec);
-    recovery.rows[to] = marked;
+    recovery.rows[to] = with_mark(recovery.rows[to], from, colour, rec);
     redraw(s, graph, recovery)
 }
 
 // Accepts: the setup without an edge, and without its mark.
-fn erase_edge(s: Setup, from: usize, to: usize, colour: usize) -> Redrawing
+fn erase_edge(s: Setup, from: usize, to: usize, colour: usize) -> Setup
     requires { EdgePlace from to colour }
-    ensures { (result.number ≡ 0) × EdgeRemoved s from to colour result.setup }
+    ensures { EdgeRemoved s from to colour result }
 {
     let mut graph = s.graph;
-    let rows = graph.rows[to];
-    let less = without_edge(rows, from, colour);
-    graph.rows[to] = less;
+    graph.rows[to] = without_edge(graph.rows[to], from, colour);
     let mut recovery = s.recovery;
-    let marks = recovery.rows[to];
-    let unmarked = without_edge(marks, from, colour);
-    recovery.rows[to] = unmarked;
+    recovery.rows[to] = without_edge(recovery.rows[to], from, colour);
     redraw(s, graph, recovery)
 }
 
 // Adds an edge. A yes for `rec` marks it as a recovery edge, which stands in both graphs.
-pub fn add_edge(s: Setup, from: usize, to: usize, colour: usize, rec: bool) -> Redrawing
-    ensures { CallOf (AddEdge from to colour rec) s result }
+pub fn add_edge(
+    s: Setup,
+    from: usize,
+    to: usize,
+    colour: usize,
+    rec: bool,
+) -> Result<Setup, Refusal>
+    ensures { CallOf (AddEdge from to colour rec) s (handed_back s result) }
 {
     let formed = formed::well_formed(s);
-    let asked = ask_place(formed, s.count, from, to, colour);
-    if asked != 0 {
-        return Redrawing {
-            number: asked,
-            setup: s,
-        };
+    ask_place(formed, s.count, from, to, colour)?;
+    if has_edge(s.graph, from, to, colour) {
+        return Err(Refusal::EdgeThere);
     }
-    let graph = s.graph;
-    if has_edge(graph, from, to, colour) {
-        return Redrawing {
-            number: questions::EDGE_THERE,
-            setup: s,
-        };
+    if setup::MAX_EDGES as u32 <= edge_count(s.graph) {
+        return Err(Refusal::Bound);
     }
-    if setup::MAX_EDGES as u32 <= edge_count(graph) {
-        return Redrawing {
-            number: questions::BOUND,
-            setup: s,
-        };
-    }
-    draw_edge(s, from, to, colour, rec)
+    Ok(draw_edge(s, from, to, colour, rec))
 }
 
 // Removes an edge from both graphs, whatever its mark.
-pub fn remove_edge(s: Setup, from: usize, to: usize, colour: usize) -> Redrawing
-    ensures { CallOf (RemoveEdge from to colour) s result }
+pub fn remove_edge(s: Setup, from: usize, to: usize, colour: usize) -> Result<Setup, Refusal>
+    ensures { CallOf (RemoveEdge from to colour) s (handed_back s result) }
 {
     let formed = formed::well_formed(s);
-    let asked = ask_place(formed, s.count, from, to, colour);
-    if asked != 0 {
-        return Redrawing {
-            number: asked,
-            setup: s,
-        };
+    ask_place(formed, s.count, from, to, colour)?;
+    if !has_edge(s.graph, from, to, colour) {
+        return Err(Refusal::NoEdge);
     }
-    let graph = s.graph;
-    if has_edge(graph, from, to, colour) {
-        return erase_edge(s, from, to, colour);
-    }
-    Redrawing {
-        number: questions::NO_EDGE,
-        setup: s,
-    }
+    Ok(erase_edge(s, from, to, colour))
 }

@@ -10,19 +10,19 @@ ghost use Rattle.multiset_keys.specs.Inner.{CountKey};
 ghost use Rattle.multiset_fronts.specs.Inner.{both_le, Comparable, SomeBelow, Dropped, CanTakeIn, SetTakenIn, CanKeep, KeptLowest};
 
 use antichains::MOST_SETS;
+use sums::MaskSums;
 
 // Is the pair of keys a, b at most the pair c, d: at most in each lane of both?
 fn both_at_most(a: u64, b: u64, c: u64, d: u64) -> bool
     requires { CountKey a × CountKey b × CountKey c × CountKey d }
     ensures { result ≡ both_le a b c d }
 {
-    if multiset_keys::key_at_most(a, c) {
-        return multiset_keys::key_at_most(b, d);
-    }
-    false
+    multiset_keys::key_at_most(a, c) && multiset_keys::key_at_most(b, d)
 }
 
-// Is one of the first n pairs of keys at most a, b?
+// Is one of the first n pairs of keys at most a, b? The keys stand in two lists beside that of the sets, and
+// the three go by one index: the sets are numbers in a list that is lent, and with the keys in a list of pairs
+// there would still be two lists to keep in step.
 fn some_below(low: &[u64], high: &[u64], n: usize, a: u64, b: u64) -> bool
     requires { Comparable low.now high.now n a b }
     ensures { Decides (SomeBelow low.now high.now n a b) result }
@@ -60,7 +60,7 @@ fn drop_above(
         if both_at_most(a, b, c, d) {
             continue;
         }
-        left = left + 1;
+        left += 1;
     }
     left
 }
@@ -90,26 +90,20 @@ fn take_in(
 }
 
 // Keeps of the first n masks of the list those of the lowest sets, at its front, and gives their
-// count. A mask's first key is found by the tables `low1` and `high1`, its second by the others. No
-// more are kept than were seen, so that no mask is overwritten before it is looked at.
-pub fn keep_lowest(
-    list: &mut [u64],
-    n: usize,
-    low1: &[u64],
-    high1: &[u64],
-    low2: &[u64],
-    high2: &[u64],
-) -> usize
-    requires { CanKeep list.old n low1.now high1.now low2.now high2.now }
-    ensures { KeptLowest list.old n low1.now high1.now low2.now high2.now list.new result }
+// count. The sums give each mask's two keys. No more are kept than were seen, so that no mask is
+// overwritten before it is looked at.
+pub fn keep_lowest(list: &mut [u64], n: usize, firsts: &MaskSums, seconds: &MaskSums) -> usize
+    requires { CanKeep list.old n firsts.now.low firsts.now.high seconds.now.low seconds.now.high }
+    ensures { KeptLowest list.old n firsts.now.low firsts.now.high seconds.now.low seconds.now.high list.new result }
 {
     let mut first = [0u64; MOST_SETS];
     let mut second = [0u64; MOST_SETS];
     let mut count: usize = 0;
+    // By index, since the masks that stay move within the same list.
     for i in 0..n {
         let x = list[i];
-        let a = multiset_keys::key_of(low1, high1, x);
-        let b = multiset_keys::key_of(low2, high2, x);
+        let a = firsts.at(x as usize);
+        let b = seconds.at(x as usize);
         count = take_in(list, &mut first, &mut second, count, x, a, b);
     }
     count

@@ -7,14 +7,13 @@ use mathlib.Core.Logic.{⊎_elim}
 use Prim.Native.Nat.{ℕ, zero, suc, ◌+◌, ◌-◌, ◌*◌, ◌%◌, ◌^◌, ◌≤◌, ◌<◌}
 use native.Mathlib.Omega.{arith}
 use lib.Count.{ones, ones-le}
-use lib.ListN.{length, get_or, drop, set, length-drop, length-set, get_or-eq_default}
+use lib.ListN.{length, get_or, drop, length-drop, get_or-eq_default}
 use lib.Seq.{drop-cons, drop-length}
 use Rattle.vertex_set.specs.Set.{Iff}
 use Rattle.vertex_set.specs.Order.{Listed, sum_below, sum_over}
 use Rattle.vertex_set.proofs.Cases.{less-or}
 use Rattle.vertex_set.proofs.Digits.{digit, digit_lt}
 use Rattle.vertex_set.proofs.Sorted.{map_same}
-use Rattle.vertex_set.proofs.Filling.{fill_more}
 use Rattle.families.proofs.Masks.{spread, set-of}
 use Rattle.family_lists.specs.Inner.Lists.{Summable}
 use Rattle.multisets.specs.Multisets.{values_below, values_over}
@@ -71,26 +70,6 @@ module _ (l : List ℕ) (value : ℕ) where
 
   pub pushing-all : (k key : ℕ) → k ≡ 0 → Pushing l value k key → key ≡ packed_counts (high_marks l value)
   pushing-all k key z p = p.is ∙ ap (λ (j : ℕ). packed_counts (high_marks (drop j l) value)) z
-
--- The columns of the vertices below n are there.
-pub record ColumnsBelow (values thresholds : List ℕ) (n : ℕ) (out : List ℕ) : Type 0 where
-  pub long : length out ≡ 64
-  pub each : (v : ℕ) → v < n → get_or out v 0 ≡ packed_counts (high_marks thresholds (get_or values v 0))
-
-pub columns-none : (values thresholds out : List ℕ) → length out ≡ 64 → ColumnsBelow values thresholds 0 out
-columns-none values thresholds out e = record { long = e; each = λ v l. absurd (omega arith) }
-
-pub columns-more : (values thresholds : List ℕ) (n : ℕ) (out : List ℕ) (key : ℕ) → n < 64 → ColumnsBelow values thresholds n out
-    → key ≡ packed_counts (high_marks thresholds (get_or values n 0)) → ColumnsBelow values thresholds (n + 1) (set out n key)
-columns-more values thresholds n out key l b e =
-    record {
-      long = length-set out n key ∙ b.long;
-      each = fill_more 0 (λ v y. y ≡ packed_counts (high_marks thresholds (get_or values v 0))) out n key (let w = b.long in omega arith) b.each e;
-    }
-
-pub columns-all : (values thresholds : List ℕ) (n : ℕ) (out : List ℕ) → length thresholds ≤ 7 → n ≡ 64 → ColumnsBelow values thresholds n out
-    → Columns values thresholds out
-columns-all values thresholds n out h z b = record { long = b.long; few = h; each = λ v l. b.each v (omega arith) }
 
 -- the columns can be summed up
 pub columns-sum-up : (chosen : ℕ) (values thresholds columns : List ℕ) → ones chosen ≤ 14 → Columns values thresholds columns

@@ -4,13 +4,13 @@
 
 #![tactic(auto)]
 
-ghost use Rattle.std.specs.Prelude.{◌≡◌, ◌≤◌, ◌<◌, length};
+ghost use Rattle.std.specs.Prelude.{◌≡◌, ◌≤◌, length};
 ghost use Rattle.std.specs.Int.Count.{ones};
-ghost use Rattle.families.specs.Inner.Family.{mask_bits, masks};
-ghost use Rattle.family_lists.specs.Inner.Tables.{TablesFit, sum_by};
+ghost use Rattle.families.specs.Inner.Family.{mask_bits};
 ghost use Rattle.multisets.specs.Meaning.{is_high};
 ghost use Rattle.multiset_keys.specs.Inner.{packed_counts, high_marks, key_le, CountKey, Columns, MaskKeys};
 
+use sums::MaskSums;
 use vertex_set::VertexSet;
 
 // The free bits of the seven lanes.
@@ -20,10 +20,7 @@ const GUARDS: u64 = 0x0080_8080_8080_8080;
 fn is_high(threshold: u64, value: u64) -> u64
     ensures { result ≡ is_high threshold value }
 {
-    if threshold <= value {
-        return 1;
-    }
-    0
+    u64::from(threshold <= value)
 }
 
 // The key of one value. The last threshold is taken first, so that it ends in the highest lane.
@@ -32,9 +29,7 @@ fn column(value: u64, thresholds: &[u64]) -> u64
     ensures { result ≡ packed_counts (high_marks thresholds.now value) }
 {
     let mut key: u64 = 0;
-    let mut k = thresholds.len();
-    while 0 < k {
-        k = k - 1;
+    for k in (0..thresholds.len()).rev() {
         let bit = is_high(thresholds[k], value);
         key = key * 256 + bit;
     }
@@ -42,45 +37,21 @@ fn column(value: u64, thresholds: &[u64]) -> u64
 }
 
 // The keys of all vertices' values.
-fn fill_columns(values: [u64; 64], thresholds: &[u64], out: &mut [u64])
-    requires thresholds_len_bound { length thresholds.now ≤ 7 }
-    requires out_len { length out.old ≡ 64 }
-    ensures { Columns values thresholds.now out.new }
+fn columns_of(values: [u64; 64], thresholds: &[u64]) -> [u64; 64]
+    requires { length thresholds.now ≤ 7 }
+    ensures { Columns values thresholds.now result }
 {
-    for v in 0..64usize {
-        let key = column(values[v], thresholds);
-        out[v] = key;
-    }
+    values.map(|value| column(value, thresholds))
 }
 
-// Fills two tables by which the key of each set of chosen vertices is found, as the sum of its
-// vertices' columns.
-pub fn fill_keys(
-    chosen: VertexSet,
-    values: [u64; 64],
-    thresholds: &[u64],
-    low: &mut [u64],
-    high: &mut [u64],
-)
+// The key of each set of chosen vertices, as the sum of its vertices' columns.
+pub fn mask_keys(chosen: VertexSet, values: [u64; 64], thresholds: &[u64]) -> MaskSums
     requires chosen_bound { ones chosen.0 ≤ mask_bits }
     requires thresholds_len_bound { length thresholds.now ≤ 7 }
-    requires low_len { length low.old ≡ 128 }
-    requires high_len { length high.old ≡ 128 }
-    ensures { MaskKeys chosen.0 values thresholds.now low.new high.new }
+    ensures { MaskKeys chosen.0 values thresholds.now result.low result.high }
 {
-    let mut columns = [0u64; 64];
-    fill_columns(values, thresholds, &mut columns);
-    least_sums::sum_tables(chosen, columns, low, high);
-}
-
-// The key of a mask's set, by two tables of sums: the bits from 7 on by `high`, the others by `low`.
-pub fn key_of(low: &[u64], high: &[u64], mask: u64) -> u64
-    requires tables_fit { TablesFit low.now high.now }
-    requires mask_lt_masks { mask < masks }
-    ensures { result ≡ sum_by low.now high.now mask }
-{
-    let place = mask as usize;
-    high[place / 128] + low[place % 128]
+    let columns = columns_of(values, thresholds);
+    least_sums::sum_tables(chosen, columns)
 }
 
 // Is each lane of the key a at most that of the key b? The free bits of b are set before a is taken

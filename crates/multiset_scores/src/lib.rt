@@ -14,51 +14,23 @@ ghost use Rattle.multiset_scores.specs.Inner.{BothKeys, CanCompare, ComparedLowe
 use antichains::MOST_SETS;
 use families::WORDS;
 use multisets::MOST_VALUES;
+use questions::Refusal;
 use setup::Setup;
 use vertex_set::VertexSet;
 
 // The set of the vertices 0 to 13: over it each mask stands for itself.
 const ALL_PLACES: u64 = 0x3FFF;
 
-#[derive(Drop)]
-pub enum MultisetAnswer {
-    Multisets(usize),
-    Refused(u64),
-}
-
-// Fills the tables of both keys: sets are compared at the values of all initial vertices, seven in each
-// key.
-fn fill_tables(
-    initial: VertexSet,
-    points: [u64; 64],
-    low1: &mut [u64],
-    high1: &mut [u64],
-    low2: &mut [u64],
-    high2: &mut [u64],
-)
-    requires initial_bound { ones initial.0 ≤ most_chosen }
-    requires low1_len { (length low1.old ≡ 128) × (length high1.old ≡ 128) }
-    requires low2_len { (length low2.old ≡ 128) × (length high2.old ≡ 128) }
-    ensures { BothKeys initial.0 points low1.new high1.new low2.new high2.new }
-{
-    let thresholds = sums::weights_of(initial, points);
-    multiset_keys::fill_keys(initial, points, &thresholds[0..7], low1, high1);
-    multiset_keys::fill_keys(initial, points, &thresholds[7..14], low2, high2);
-}
-
-// Keeps of the first n masks those of the lowest sets.
+// Keeps of the first n masks those of the lowest sets. Two keys tell them: sets are compared at the
+// values of all initial vertices, seven in each key.
 fn lowest_of(kept: &mut [u64], n: usize, initial: VertexSet, points: [u64; 64]) -> usize
     requires { CanCompare kept.old n initial.0 }
     ensures { ComparedLowest kept.old n initial.0 points kept.new result }
 {
-    let mut low1 = [0u64; 128];
-    let mut high1 = [0u64; 128];
-    let mut low2 = [0u64; 128];
-    let mut high2 = [0u64; 128];
-    fill_tables(
-        initial, points, &mut low1, &mut high1, &mut low2, &mut high2,
-    );
-    multiset_fronts::keep_lowest(kept, n, &low1, &high1, &low2, &high2)
+    let thresholds = sums::weights_of(initial, points);
+    let firsts = multiset_keys::mask_keys(initial, points, &thresholds[0..7]);
+    let seconds = multiset_keys::mask_keys(initial, points, &thresholds[7..14]);
+    multiset_fronts::keep_lowest(kept, n, &firsts, &seconds)
 }
 
 // In the place of each of the first n masks puts the set that it stands for.
@@ -66,10 +38,8 @@ fn name_sets(kept: &mut [u64], n: usize, initial: VertexSet)
     requires { n ≤ length kept.old }
     ensures { SetsInPlace initial.0 kept.old n kept.new }
 {
-    for i in 0..n {
-        let mask = kept[i];
-        let set = family_steps::set_of(initial, mask as usize);
-        kept[i] = set.0;
+    for mask in kept[..n].iter_mut() {
+        *mask = family_steps::set_of(initial, *mask as usize).0;
     }
 }
 
@@ -85,9 +55,8 @@ fn find_score(
     requires { CanFind s target initial.0 points kept.old }
     ensures { ScoreFound s target kept.new result }
 {
-    let graph = s.graph;
     let mut base = [0u64; WORDS];
-    let _ = bases::base_family(s, graph, false, target, initial, &mut base);
+    let _ = bases::base_family(s, s.graph, false, target, initial, &mut base);
     let n = family_lists::write_sets(&base, VertexSet(ALL_PLACES), kept);
     let left = lowest_of(kept, n, initial, points);
     name_sets(kept, left, initial);
@@ -96,7 +65,12 @@ fn find_score(
 
 // The score of a target of a well-formed setup. Its number of multisets is known before a place is
 // written, so that lent lists of which one is too short stay as they were.
-fn write_score(s: Setup, target: usize, places: &mut [u64], lengths: &mut [u64]) -> MultisetAnswer
+fn write_score(
+    s: Setup,
+    target: usize,
+    places: &mut [u64],
+    lengths: &mut [u64],
+) -> Result<usize, Refusal>
     requires { Answerable s target }
     ensures { Answers (bags_call s target places.old lengths.old) (ends (bags_reply result) (places.new ∷ lengths.new ∷ [])) }
 {
@@ -105,14 +79,13 @@ fn write_score(s: Setup, target: usize, places: &mut [u64], lengths: &mut [u64])
     let mut kept = [0u64; MOST_SETS];
     let n = find_score(s, target, initial, points, &mut kept);
     if lengths.len() < n {
-        return MultisetAnswer::Refused(questions::SHORT);
+        return Err(Refusal::Short);
     }
     if places.len() < MOST_VALUES * n {
-        return MultisetAnswer::Refused(questions::SHORT);
+        return Err(Refusal::Short);
     }
     let _ = multiset_rows::write_rows(&kept, n, points, places);
-    let count = multiset_rows::write_lengths(&kept, n, lengths);
-    MultisetAnswer::Multisets(count)
+    Ok(multiset_rows::write_lengths(&kept, n, lengths))
 }
 
 // The target's score, each multiset in 14 places of the one lent list, its length in the other.
@@ -121,13 +94,10 @@ pub fn multiset_score(
     target: usize,
     places: &mut [u64],
     lengths: &mut [u64],
-) -> MultisetAnswer
+) -> Result<usize, Refusal>
     ensures { Fulfils (bags_call s target places.old lengths.old) (ends (bags_reply result) (places.new ∷ lengths.new ∷ [])) }
 {
     let formed = formed::well_formed(s);
-    let asked = questions::ask_target(formed, s.count, target);
-    if asked != 0 {
-        return MultisetAnswer::Refused(asked);
-    }
+    questions::ask_target(formed, s.count, target)?;
     write_score(s, target, places, lengths)
 }

@@ -3,14 +3,15 @@
 use mathlib.Core.Path.{◌≡◌, refl, sym, ap, ◌∙◌}
 use mathlib.Core.List.{List, [], ◌∷◌, ◌++◌}
 use mathlib.Core.Logic.{inl, inr, ⊎_elim}
+use Rattle.std.specs.Prelude.{IsTrue, EachIndex, ◌↔◌}
 use mathlib.Core.Bool.{Bool, true, false}
-use Prim.Native.Nat.{ℕ, ◌+◌, ◌-◌, ◌≤◌, ◌<◌}
+use Prim.Native.Nat.{ℕ, ◌-◌, ◌≤◌}
 use native.Mathlib.Omega.{arith}
 use lib.ListN.{length, get_or, take, replicate, length-append, length-replicate}
 use lib.Seq.{take-append_seam}
 use Rattle.vertex_set.specs.Set.{Decides}
 use Rattle.vertex_set.specs.Order.{Listed}
-use Rattle.vertex_set.proofs.Cases.{same_or}
+use Rattle.vertex_set.proofs.Cases.{false-true}
 use Rattle.vertex_set.proofs.Decisions.{decide_iff, iff-trans}
 use Rattle.vertex_set.proofs.Lists.{place_of}
 use Rattle.multisets.specs.Multisets.{Pairing, BagAtMost, SameMultiset, most_values, highest_first, places_of}
@@ -119,23 +120,13 @@ at-most-decided m n l k r d =
       from = λ a. record { each = pairing-fewer m n a.pairing };
     }) d
 
--- ---- the loop over the values of m
+-- ---- the values of m are thresholds enough
 
--- At each of the first i values of m, no more of m are counted than of n.
-pub record FewerBefore (m n : List ℕ) (i : ℕ) : Type 0 where
-  pub each : (j : ℕ) → j < i → at_least m (get_or m j 0) ≤ at_least n (get_or m j 0)
-
-module _ (m n : List ℕ) where
-  pub before-none : FewerBefore m n 0
-  before-none = record { each = λ j l. absurd (omega arith) }
-
-  pub before_more : (i : ℕ) → FewerBefore m n i → at_least m (get_or m i 0) ≤ at_least n (get_or m i 0) → FewerBefore m n (i + 1)
-  before_more i b h =
-      record { each = λ j l. ⊎_elim (λ e. rw e h) (λ d. b.each j (omega (arith, d))) (same_or j i) }
-
-  pub before-all : (i : ℕ) → length m ≤ i → FewerBefore m n i → FewerThan m n
-  before-all i l b =
-      fewer-at m n (λ x h. let p = place_of m x h in rw (sym p.2) (b.each p.0 (let q = p.1 in omega arith)))
-
-  pub not-fewer : (t : ℕ) → at_least n t < at_least m t → FewerThan m n → ⊥
-  not-fewer t l f = let h = f.each t in omega arith
+pub fewer-by-all : (m n : List ℕ) (r : Bool) → IsTrue r ↔ EachIndex m (λ i. at_least m (get_or m i 0) ≤ at_least n (get_or m i 0)) → Decides (FewerThan m n) r
+fewer-by-all m n true h =
+    record {
+      yes = λ e. fewer-at m n (λ x l. let p = place_of m x l in rw (sym p.2) (h.0 refl p.0 (let q = p.1 in omega arith)));
+      no = λ e. absurd (false-true (sym e));
+    }
+fewer-by-all m n false h =
+    record { yes = λ e. absurd (false-true e); no = λ e f. false-true (h.1 (λ i l. f.each (get_or m i 0))) }

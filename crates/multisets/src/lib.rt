@@ -17,13 +17,7 @@ pub const MOST_VALUES: usize = 14;
 fn count_at_least(list: &[u64], t: u64) -> usize
     ensures { result ≡ at_least list.now t }
 {
-    let mut n: usize = 0;
-    for i in 0..list.len() {
-        if t <= list[i] {
-            n = n + 1;
-        }
-    }
-    n
+    list.iter().filter(|x| t <= **x).count()
 }
 
 // Has a, at every threshold, no more values at or above it than b? The values of a are thresholds
@@ -31,15 +25,8 @@ fn count_at_least(list: &[u64], t: u64) -> usize
 fn is_fewer(a: &[u64], b: &[u64]) -> bool
     ensures { Decides (FewerThan a.now b.now) result }
 {
-    for i in 0..a.len() {
-        let t = a[i];
-        let here = count_at_least(a, t);
-        let there = count_at_least(b, t);
-        if there < here {
-            return false;
-        }
-    }
-    true
+    a.iter()
+        .all(|t| count_at_least(a, *t) <= count_at_least(b, *t))
 }
 
 // Are both lists bags, and is a at most b: can the values of a be paired, one to one, with values
@@ -47,11 +34,5 @@ fn is_fewer(a: &[u64], b: &[u64]) -> bool
 pub fn multiset_at_most(a: &[u64], b: &[u64]) -> bool
     ensures { Decides (BagAtMost a.now b.now) result }
 {
-    if MOST_VALUES < a.len() {
-        return false;
-    }
-    if MOST_VALUES < b.len() {
-        return false;
-    }
-    is_fewer(a, b)
+    a.len() <= MOST_VALUES && b.len() <= MOST_VALUES && is_fewer(a, b)
 }

@@ -1,18 +1,21 @@
 -- What the call for the next set answers, for every setup, target and last set shown.
-use Rattle.std.specs.Prelude.{List, [], ◌∷◌, ℕ}
+use Rattle.std.specs.Prelude.{Option, Some, None, Result, List, [], ◌∷◌, ℕ}
+use Rattle.vertex_set.specs.declared.VertexSet.{VertexSet}
 use Rattle.setup.specs.declared.Setup.{Setup}
 use Rattle.questions.specs.Asks.{Question}
-use Rattle.questions.specs.Contract.{Reply, gives, refuses, Contract, telling}
+use Rattle.questions.specs.declared.Refusal.{Refusal}
+use Rattle.questions.specs.Contract.{Reply, Contract, telling}
+use Rattle.questions.specs.Refusals.{replies}
 use Rattle.questions.specs.Questions.{asks12, asks13}
-use Rattle.next_sets.specs.declared.NextAnswer.{NextAnswer}
-use Rattle.next_sets.specs.declared.NextAnswer.TheVariants.{Set, NoMoreSets, Refused}
 use Rattle.next_sets.specs.Next.{OfInitial, NextSet, NoMore}
 
--- The papers' number and values for each case of an answer: 1 and the set, or 0 for "no more".
-abbrev pub next_reply : NextAnswer → Reply
-next_reply (Set x) = gives (1 ∷ x.0 ∷ [])
-next_reply NoMoreSets = gives (0 ∷ [])
-next_reply (Refused q) = refuses q
+-- The papers' values for each case of an answer: 1 and the set, or 0 for "no more".
+abbrev pub next_told : Option VertexSet → List ℕ
+next_told (Some x) = 1 ∷ x.0 ∷ []
+next_told None = 0 ∷ []
+
+abbrev pub next_reply : Result (Option VertexSet) Refusal → Reply
+next_reply = replies next_told
 
 -- 21: has the last set only starting items? An item beyond the count is none, so that it gets 21 too.
 abbrev pub asks21 : Setup → ℕ → Question

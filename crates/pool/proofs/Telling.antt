@@ -17,7 +17,7 @@ use Rattle.sheet_format.specs.Rows.{line_text}
 use Rattle.sheet_format.proofs.Meaning.{number-most}
 use Rattle.sheet_format.proofs.Numbers.{decimal-length}
 use Rattle.writing.specs.Inner.{ended}
-use Rattle.pool_format.specs.declared.Pooled.{Pooled}
+use Rattle.pool_format.specs.Call.{Pooled}
 use Rattle.pool_format.specs.Call.{PoolOutcome, with_buffer, pool_refusal, PoolCall}
 use Rattle.pool_format.specs.Meaning.{IsPooled}
 use Rattle.sheet_format.specs.Meaning.{longest_sheet}

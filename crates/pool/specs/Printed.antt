@@ -3,7 +3,7 @@ use Rattle.std.specs.Prelude.{◌≡◌, List, [], ◌∷◌, ℕ}
 use Rattle.sheet_format.specs.Text.{bytes_of}
 use Rattle.sheet_format.specs.Fields.{decimal}
 use Rattle.sheet_format.specs.Rows.{line_text}
-use Rattle.pool_format.specs.declared.Pooled.{Pooled}
+use Rattle.pool_format.specs.Call.{Pooled}
 use Rattle.pool_format.specs.Call.{PoolCall}
 use Rattle.pool_format.specs.Meaning.{IsPooled}
 

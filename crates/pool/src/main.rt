@@ -70,14 +70,17 @@ fn tell(first: &[u8], second: &[u8], out: &mut [u8], line: &mut [u8]) -> Told
     ensures out_unchanged { drop result.printed out.new ≡ drop result.printed out.old }
     ensures line_unchanged { drop result.said line.new ≡ drop result.said line.old }
 {
-    let answer = pooling::pool_sheets(first, second, out);
-    let number = answer.number;
-    if number == 0 {
-        let printed = answer.size;
-        return Told { printed, said: 0 };
+    match pooling::pool_sheets(first, second, out) {
+        Ok(size) => Told {
+            printed: size,
+            said: 0,
+        },
+        Err(no) => {
+            let number = no.refusal.number();
+            let said = put_refusal(no.sheet, number, no.line, line);
+            Told { printed: 0, said }
+        }
     }
-    let said = put_refusal(answer.sheet, number, answer.line, line);
-    Told { printed: 0, said }
 }
 
 fn print_pooled<O: Write, E: Write>(first: &[u8], second: &[u8], output: &mut O, errors: &mut E) {
@@ -150,7 +153,7 @@ fn read_argument<R: Env + Files, E: Write>(
     ensures { ReadInto sheet.new result }
 {
     let mut line = [0u8; CANNOT_READ + PATH_MAX];
-    writing::put_text(b"pool: cannot read ", &mut line, 0);
+    written::put(b"pool: cannot read ", &mut line, 0);
     match put_argument(rt, i, &mut line, CANNOT_READ) {
         Ok(end) => read_file(rt, &line[..end], CANNOT_READ, sheet, errors),
         Err(error) => {

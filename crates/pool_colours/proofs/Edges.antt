@@ -29,7 +29,11 @@ use Rattle.sheet_format.proofs.Stated.{stands-in, in-stands, stands-below, numbe
 use Rattle.sheet_fields.specs.Inner.Parts.{until}
 use Rattle.sheet_fields.proofs.Lines.{line_at, lines-over}
 use Rattle.sheet_rows.specs.declared.TakenEdge.{TakenEdge}
-use Rattle.sheet_rows.specs.Inner.Lines.{TakesEdge}
+use Rattle.std.specs.Prelude.{Result, Err}
+use Rattle.questions.specs.declared.Refusal.{Refusal}
+use Rattle.questions.specs.Inner.{asked}
+use Rattle.questions.proofs.Refusals.{number_some}
+use Rattle.sheet_rows.specs.Inner.Lines.{EdgeTaken, TakesEdge}
 use Rattle.sheet_rows.proofs.Tables.{known-test}
 use Rattle.pool_format.specs.Rows.{uses_colour, new_colour, recoloured}
 use Rattle.pool_format.proofs.Colours.{uses-of, used-by}
@@ -80,8 +84,8 @@ rows-of-item d v i x h = record { each = λ c. record { to = to c; from = from c
 
 -- ---- one edge row
 
-module _ (d e : Doc) (low high : List ℕ) (count : ℕ) (places : List ℕ) (na : ℕ) (first second : Graph) (x : EdgeRow) (line : List ℕ) (r : TakenEdge)
-    (b : Both d e low high count places na first second) (m : In x e.edges) (q : line ≡ edge_line x) (t : TakesEdge line low high count r) where
+module _ (d e : Doc) (low high : List ℕ) (count : ℕ) (places : List ℕ) (na : ℕ) (first second : Graph) (x : EdgeRow) (line : List ℕ)
+    (b : Both d e low high count places na first second) (m : In x e.edges) (q : line ≡ edge_line x) where
   valid : ValidEdge e.items x
   valid = of-each (ValidEdge e.items) e.edges b.valid_second.edges x m
 
@@ -92,55 +96,59 @@ module _ (d e : Doc) (low high : List ℕ) (count : ℕ) (places : List ℕ) (na
   states = ap edge_of fields ∙ edge-written x (named-edge e.items x b.valid_second.items valid)
 
   -- no question of it is a no
-  pub edge-number : r.number ≡ 0
+  pub edge-number : (o : Result TakenEdge Refusal) → TakesEdge line low high count o → asked o ≡ 0
   unfolding first_no question8
-  edge-number =
+  edge-number o t =
       let n = named-edge e.items x b.valid_second.items valid in
       let known = and_both (is_known e.items x.from) (is_known e.items x.to)
       (yes_of (is_known e.items x.from) (known-decided e.items x.from) valid.from)
       (yes_of (is_known e.items x.to) (known-decided e.items x.to) valid.to) in
       t.number e b.keys ∙ rw (states, fields, plain-yes4 4 (edge_fields x) refl (edge-plain x n), edge-yes5 x n, known)
 
-  to_is : r.to ≡ number_in e.items x.to
-  to_is = t.to edge-number e.items b.keys ∙ ap (λ (y : EdgeRow). number_in e.items y.to) states
+  pub edge-never : (y : Refusal) → TakesEdge line low high count (Err y) → ⊥
+  edge-never y t = number_some y (edge-number (Err y) t)
 
-  colour-is : r.colour ≡ x.colour
-  colour-is = t.colour edge-number ∙ ap (λ (y : EdgeRow). y.colour) states
+  module _ (r : TakenEdge) (t : EdgeTaken line low high count r) where
+    to_is : r.to ≡ number_in e.items x.to
+    to_is = t.to e.items b.keys ∙ ap (λ (y : EdgeRow). number_in e.items y.to) states
 
-  -- its item in the second sheet
-  own : (y : ItemRow) × StandsAt e.items (number_in e.items x.to) y × (x.to ≡ y.name)
-  own = number-stands e.items x.to valid.to
+    colour-is : r.colour ≡ x.colour
+    colour-is = t.colour ∙ ap (λ (y : EdgeRow). y.colour) states
 
-  place_is : get_or places r.to 0 ≡ number_in d.items x.to
-  place_is = rw to_is (b.placed.each (number_in e.items x.to) own.0 own.1 ∙ ap (number_in d.items) (sym own.2))
+    -- its item in the second sheet
+    own : (y : ItemRow) × StandsAt e.items (number_in e.items x.to) y × (x.to ≡ y.name)
+    own = number-stands e.items x.to valid.to
 
-  pub colour-kept : na ≤ get_or places r.to 0 → r.colour ≡ (recoloured d e x).colour
-  unfolding pooled_colour
-  colour-kept l =
-      let p = place_is in
-      let s = b.size in
-      let k : is_known d.items x.to ≡ false = known-test d.items x.to ∙ le-ltb _ (length d.items) (omega arith) in
-      colour-is ∙ sym (re-colour d e x ∙ rw k)
+    place_is : get_or places r.to 0 ≡ number_in d.items x.to
+    place_is = rw to_is (b.placed.each (number_in e.items x.to) own.0 own.1 ∙ ap (number_in d.items) (sym own.2))
 
-  pub colour-renamed : (new : ℕ) → get_or places r.to 0 < na → NewColour (rows_at first (get_or places r.to 0)) (rows_at second r.to) r.colour new
-      → new ≡ (recoloured d e x).colour
-  unfolding pooled_colour
-  colour-renamed new l w =
-      let p = place_is in
-      let s = b.size in
-      let k : is_known d.items x.to ≡ true = known-test d.items x.to ∙ lt-ltb _ (length d.items) (omega arith) in
-      let there = number-stands d.items x.to ((known-decided d.items x.to).yes k) in
-      let there-rows : rows_at first (get_or places r.to 0) ≡ rows_at (setup_of d).graph (number_in d.items x.to) =
-      ap₂ (λ (g : Graph) (i : ℕ). rows_at g i) b.first_graph place_is in
-      let own-rows : rows_at second r.to ≡ rows_at (setup_of e).graph (number_in e.items x.to) =
-      ap₂ (λ (g : Graph) (i : ℕ). rows_at g i) b.second_graph to_is in
-      let one : RowsOfItem d.edges x.to (rows_at first (get_or places r.to 0)) =
-      subst (λ (n : List ℕ). RowsOfItem d.edges n (rows_at first (get_or places r.to 0))) (sym there.2)
-      (subst (RowsOfItem d.edges there.0.name) (sym there-rows) (rows-of-item d b.valid_first (number_in d.items x.to) there.0 there.1)) in
-      let two : RowsOfItem e.edges x.to (rows_at second r.to) =
-      subst (λ (n : List ℕ). RowsOfItem e.edges n (rows_at second r.to)) (sym own.2)
-      (subst (RowsOfItem e.edges own.0.name) (sym own-rows) (rows-of-item e b.valid_second (number_in e.items x.to) own.0 own.1)) in
-      w.each d.edges e.edges x.to one two ∙ ap (new_colour d.edges e.edges x.to) colour-is ∙ sym (re-colour d e x ∙ rw k)
+    pub colour-kept : na ≤ get_or places r.to 0 → r.colour ≡ (recoloured d e x).colour
+    unfolding pooled_colour
+    colour-kept l =
+        let p = place_is in
+        let s = b.size in
+        let k : is_known d.items x.to ≡ false = known-test d.items x.to ∙ le-ltb _ (length d.items) (omega arith) in
+        colour-is ∙ sym (re-colour d e x ∙ rw k)
+
+    pub colour-renamed : (new : ℕ) → get_or places r.to 0 < na → NewColour (rows_at first (get_or places r.to 0)) (rows_at second r.to) r.colour new
+        → new ≡ (recoloured d e x).colour
+    unfolding pooled_colour
+    colour-renamed new l w =
+        let p = place_is in
+        let s = b.size in
+        let k : is_known d.items x.to ≡ true = known-test d.items x.to ∙ lt-ltb _ (length d.items) (omega arith) in
+        let there = number-stands d.items x.to ((known-decided d.items x.to).yes k) in
+        let there-rows : rows_at first (get_or places r.to 0) ≡ rows_at (setup_of d).graph (number_in d.items x.to) =
+        ap₂ (λ (g : Graph) (i : ℕ). rows_at g i) b.first_graph place_is in
+        let own-rows : rows_at second r.to ≡ rows_at (setup_of e).graph (number_in e.items x.to) =
+        ap₂ (λ (g : Graph) (i : ℕ). rows_at g i) b.second_graph to_is in
+        let one : RowsOfItem d.edges x.to (rows_at first (get_or places r.to 0)) =
+        subst (λ (n : List ℕ). RowsOfItem d.edges n (rows_at first (get_or places r.to 0))) (sym there.2)
+        (subst (RowsOfItem d.edges there.0.name) (sym there-rows) (rows-of-item d b.valid_first (number_in d.items x.to) there.0 there.1)) in
+        let two : RowsOfItem e.edges x.to (rows_at second r.to) =
+        subst (λ (n : List ℕ). RowsOfItem e.edges n (rows_at second r.to)) (sym own.2)
+        (subst (RowsOfItem e.edges own.0.name) (sym own-rows) (rows-of-item e b.valid_second (number_in e.items x.to) own.0 own.1)) in
+        w.each d.edges e.edges x.to one two ∙ ap (new_colour d.edges e.edges x.to) colour-is ∙ sym (re-colour d e x ∙ rw k)
 
 -- ---- all edge rows
 

@@ -2,10 +2,12 @@
 
 #![tactic(auto)]
 
-ghost use Rattle.std.specs.Prelude.{◌≤◌, ◌<◌, length};
+ghost use Rattle.std.specs.Prelude.{◌≤◌, ◌<◌};
 ghost use Rattle.pool_colours.specs.Inner.Colours.{LowestFree, Used, NewColour, EdgeColour, ColoursOf};
 
 use setup::{Graph, MAX_EDGES, Rows};
+use sheet_fields::LF;
+use sheet_rows::ItemKeys;
 use vertex_set::VertexSet;
 
 // One more than can be taken for an item: eight by the first sheet, seven by earlier renamings.
@@ -62,51 +64,43 @@ fn new_colour(first: Rows, second: Rows, colour: usize) -> usize
     lowest_free(taken)
 }
 
-// The colour of one edge row of the second sheet in the pooled one. An accepted sheet's row is
-// refused by no question, so its number is 0.
+// The colour of one edge row of the second sheet in the pooled one. An accepted sheet's row is never
+// refused.
 fn edge_colour(
     line: &[u8],
-    low: &[u64],
-    high: &[u64],
-    count: usize,
+    keys: &ItemKeys,
     places: [usize; 64],
     known: usize,
     first: Graph,
     second: Graph,
 ) -> usize
-    requires { (count ≤ length low.now) × (count ≤ length high.now) × (count ≤ 64) × (known ≤ 64) }
-    ensures { EdgeColour line.now low.now high.now count places known first second result }
+    requires { known ≤ 64 }
+    ensures { EdgeColour line.now keys.now.low keys.now.high keys.now.count places known first second result }
 {
-    let edge = sheet_rows::take_edge(line, low, high, count);
-    let number = edge.number;
-    if number != 0 {
+    let Ok(edge) = sheet_rows::take_edge(line, keys) else {
         return COLOUR_NUMBERS;
-    }
-    let to = edge.to;
-    let colour = edge.colour;
-    let place = places[to];
+    };
+    let place = places[edge.to];
     if known <= place {
-        return colour;
+        return edge.colour;
     }
     let taken = first.rows[place];
-    let own = second.rows[to];
-    new_colour(taken, own, colour)
+    let own = second.rows[edge.to];
+    new_colour(taken, own, edge.colour)
 }
 
 // The new colours of the edge rows from `start` on.
 pub fn colours_of(
     s: &[u8],
     start: usize,
-    low: &[u64],
-    high: &[u64],
-    count: usize,
+    keys: &ItemKeys,
     places: [usize; 64],
     known: usize,
     first: Graph,
     second: Graph,
 ) -> Colours
-    requires { (count ≤ length low.now) × (count ≤ length high.now) × (count ≤ 64) × (known ≤ 64) }
-    ensures { ColoursOf s.now start low.now high.now count places known first second result }
+    requires { known ≤ 64 }
+    ensures { ColoursOf s.now start keys.now.low keys.now.high keys.now.count places known first second result }
 {
     let mut digits = [0u8; MAX_EDGES];
     let mut edges: usize = 0;
@@ -118,8 +112,8 @@ pub fn colours_of(
                 digits,
             };
         }
-        let end = sheet_fields::find(s, at, sheet_fields::LF);
-        let colour = edge_colour(&s[at..end], low, high, count, places, known, first, second);
+        let end = sheet_fields::find(s, at, LF);
+        let colour = edge_colour(&s[at..end], keys, places, known, first, second);
         if setup::MAX_COLOUR < colour {
             return Colours {
                 fits: false,

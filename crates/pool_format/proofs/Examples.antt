@@ -1,23 +1,23 @@
 -- An example, computed.
 use mathlib.Core.Path.{◌≡◌, refl}
-use mathlib.Core.Bool.{true, false}
-use mathlib.Core.List.{List, [], ◌∷◌, map}
+use mathlib.Core.Bool.{false}
+use mathlib.Core.List.{[], ◌∷◌}
 use Prim.Native.Nat.{ℕ}
 use Rattle.setup.specs.declared.Kind.TheVariants.{Credential, Account}
-use Rattle.setup.specs.declared.Value.TheVariants.{Blank, Of}
+use Rattle.std.specs.Prelude.{None, Some}
 use Rattle.sheet_format.specs.Text.{same_text}
 use Rattle.sheet_format.specs.Rows.{ItemRow, EdgeRow, Doc}
 use Rattle.sheet_format.specs.Questions.{is_known}
 use Rattle.pool_format.specs.Rows.{remaining, uses_colour, lowest_free, is_taken, new_colour, recoloured, pooled}
 
 abbrev a : ItemRow
-a = record { name = 97 ∷ []; kind = Credential; start = Of 1; loss = Blank; rank = 0 }
+a = record { name = 97 ∷ []; kind = Credential; start = Some 1; loss = None; rank = 0 }
 
 abbrev g : ItemRow
-g = record { name = 103 ∷ []; kind = Account; start = Blank; loss = Blank; rank = 1 }
+g = record { name = 103 ∷ []; kind = Account; start = None; loss = None; rank = 1 }
 
 abbrev h : ItemRow
-h = record { name = 104 ∷ []; kind = Credential; start = Of 2; loss = Blank; rank = 0 }
+h = record { name = 104 ∷ []; kind = Credential; start = Some 2; loss = None; rank = 0 }
 
 abbrev edge : ItemRow → ItemRow → ℕ → EdgeRow
 edge x y c = record { from = x.name; to = y.name; colour = c; rec = false }

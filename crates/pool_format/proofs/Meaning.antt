@@ -2,8 +2,8 @@
 -- Assumes nothing.
 use mathlib.Core.Path.{◌≡◌, refl, sym, ap, ◌∙◌, subst}
 use mathlib.Core.List.Memᴰ
-use mathlib.Core.List.{List, [], ◌∷◌, ◌++◌, map}
-use mathlib.Core.Logic.{◌⊎◌, inl, inr, ⊎_elim}
+use mathlib.Core.List.{List, [], ◌∷◌, map}
+use mathlib.Core.Logic.{inl, inr, ⊎_elim}
 use Prim.Native.Nat.{ℕ, ◌≤◌}
 use native.Mathlib.Omega.{arith}
 use lib.ListN.{length, take, drop}
@@ -11,18 +11,17 @@ use lib.Seq.{take-append_seam}
 use Rattle.vertex_set.specs.Set.{Member}
 use Rattle.vertex_set.specs.Order.{Listed}
 use Rattle.questions.specs.Asks.{Asks}
-use Rattle.questions.proofs.Asks.{asks-once, asks-either}
+use Rattle.questions.proofs.Asks.{asks-once}
 use Rattle.derivations.proofs.Closures.{opens-more}
 use Rattle.quick_yes.proofs.Agrees.{yes-derives, derives-yes}
-use Rattle.sheet_format.specs.declared.Reading.{Reading}
-use Rattle.sheet_format.specs.Rows.{EdgeRow, Doc, Valid, render, setup_of}
+use Rattle.sheet_format.specs.Read.{Reading}
+use Rattle.sheet_format.specs.Rows.{EdgeRow, Doc, Valid, render}
 use Rattle.sheet_format.specs.Read.{read_sheet, asks_sheet}
 use Rattle.sheet_format.proofs.Meaning.{accepted-of-valid, rows-unique}
-use Rattle.sheet_format.proofs.Question12Lists.{In}
-use Rattle.pool_format.specs.declared.Pooled.{Pooled}
+use Rattle.pool_format.specs.Call.{Pooled}
 use Rattle.pool_format.specs.Rows.{Agree, remaining, recoloured, pooled, Fits}
 use Rattle.pool_format.specs.Call.{asks22, asks23, asks24, PoolOutcome, with_buffer, pool_refusal, pools_text, PoolsRows, PoolCall}
-use Rattle.pool_format.specs.Meaning.{AlwaysEnough, IsPooled, PooledText, ByName, KeepsItems, KeepsOpening, KeepsOpeningSet, KeepsYes, Pooling, PoolDetermined}
+use Rattle.pool_format.specs.Meaning.{AlwaysEnough, IsPooled, PooledText, ByName, KeepsOpening, KeepsOpeningSet, KeepsYes, Pooling, PoolDetermined}
 use Rattle.pool_format.proofs.Colours.{uses-of}
 use Rattle.pool_format.proofs.Recolouring.{known-first, known-second, pooled_colour, re-from, re-to, re-colour, colour-once, colour-new}
 use Rattle.sheet_format.proofs.Lengths.{longest-sheet}

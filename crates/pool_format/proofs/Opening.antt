@@ -14,7 +14,7 @@ use Rattle.derivations.specs.Derivation.{Vertices}
 use Rattle.derivations.specs.Access.{Step, Opens, access, HasAccess}
 use Rattle.derivations.proofs.Rules.{held, closed, least}
 use Rattle.derivations.proofs.Graphs.{access-lawful}
-use Rattle.sheet_format.specs.declared.Reading.{Reading}
+use Rattle.sheet_format.specs.Read.{Reading}
 use Rattle.sheet_format.specs.Rows.{ItemRow, EdgeRow, Doc, Known, ValidEdge, Valid, render, number_in, setup_of}
 use Rattle.sheet_format.specs.Stated.{StandsAt, Joins}
 use Rattle.sheet_format.specs.Read.{read_sheet, accepted}

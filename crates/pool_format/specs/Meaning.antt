@@ -1,5 +1,5 @@
 -- What pooling means. Statements only; proofs/Meaning.antt has the theorems.
-use Rattle.std.specs.Prelude.{◌≡◌, List, [], ◌∷◌, true, ◌⊎◌, ℕ, ◌≤◌, ◌<◌, length, take}
+use Rattle.std.specs.Prelude.{◌≡◌, List, true, ◌⊎◌, ℕ, ◌≤◌, ◌<◌, length, take}
 use Rattle.vertex_set.specs.Set.{Member, Iff}
 use Rattle.setup.specs.Bounds.{highest_colour}
 use Rattle.derivations.specs.Derivation.{Vertices}
@@ -9,7 +9,7 @@ use Rattle.sheet_format.specs.Read.{read_sheet}
 use Rattle.sheet_format.specs.Names.{has_item, name_of}
 use Rattle.sheet_format.specs.Meaning.{longest_sheet}
 use Rattle.quick_yes.specs.Answers.{Quick, quick_call}
-use Rattle.pool_format.specs.declared.Pooled.{Pooled}
+use Rattle.pool_format.specs.Call.{Pooled}
 use Rattle.pool_format.specs.Rows.{Agree, uses_colour, new_colour, pooled, Fits}
 use Rattle.pool_format.specs.Call.{with_buffer, PoolCall}
 

@@ -2,7 +2,7 @@
 -- Assumes nothing.
 use mathlib.Core.Path.{◌≡◌, refl, sym, ap, ◌∙◌}
 use mathlib.Core.List.{List, [], ◌∷◌, ◌++◌, append-nil, append_assoc}
-use mathlib.Core.Bool.{Bool, true, false, not}
+use mathlib.Core.Bool.{Bool, true, false}
 use mathlib.Core.Logic.{⊎_elim}
 use Prim.Native.Nat.{ℕ, suc, ◌+◌, ◌-◌, ◌≤◌, ◌<◌}
 use native.Mathlib.Nat.{not-suc-le-zero}
@@ -10,18 +10,14 @@ use native.Mathlib.Numerals.{add-one}
 use native.Mathlib.Omega.{arith}
 use lib.ListN.{length, get_or, take, length-append}
 use lib.Seq.{take_all}
-use lib.Dec.{eqb}
-use borrow.Author.Tests.{lt-ltb, le-ltb, eqb-true, eqb-false}
+use borrow.Author.Tests.{lt-ltb, le-ltb}
 use Rattle.vertex_set.specs.Set.{Decides}
 use Rattle.vertex_set.proofs.Cases.{by_test, same_or}
 use Rattle.vertex_set.proofs.Decisions.{decide-yes, decide-no}
-use Rattle.setup.specs.declared.Value.{Value}
-use Rattle.setup.specs.declared.Value.TheVariants.{Blank, Of}
+use Rattle.std.specs.Prelude.{Option, None, Some}
 use Rattle.setup.specs.declared.Vertex.{Vertex}
-use Rattle.setup.specs.Setup.{points, unused_vertex, given, total}
-use Rattle.setup.specs.Inner.{kind_number}
+use Rattle.setup.specs.Setup.{unused_vertex, given, total}
 use Rattle.setup.proofs.Counts.{total-append}
-use Rattle.setup.proofs.KindNumbers.{kind-same}
 use Rattle.sheet_format.specs.Rows.{ItemRow, vertex_of, start_count, loss_count, line_text, item_fields, item_lines}
 use Rattle.sheet_format.specs.Questions.{is_known}
 use Rattle.sheet_format.specs.Stated.{StandsAt}
@@ -32,46 +28,6 @@ use Rattle.pool_format.specs.Inner.{PlacesAmong}
 use Rattle.pool_format.proofs.Recolouring.{remaining-known, remaining-new}
 use Rattle.pool_items.specs.declared.Remaining.{Remaining}
 use Rattle.pool_items.specs.Inner.Items.{AllAgree, WithItem, PlacesRise, ItemRowsAt, ItemCounts, CountsRemaining}
-
--- ---- the four fields
-
-pub same-values : (a b : Value) → given a ≡ given b → points a ≡ points b → a ≡ b
-same-values Blank Blank e f = refl
-same-values Blank (Of n) e f = absurd (omega arith)
-same-values (Of n) Blank e f = absurd (omega arith)
-same-values (Of n) (Of m) e f = ap Of f
-
-pub same-fields : (a b : Vertex) → kind_number a.kind ≡ kind_number b.kind → a.start ≡ b.start → a.loss ≡ b.loss → a.rank ≡ b.rank → a ≡ b
-same-fields a b k s l r = λ i. record { kind = kind-same a.kind b.kind k i; start = s i; loss = l i; rank = r i }
-
-module _ (a b : Value) (m n : ℕ) (p : m ≡ given a) (q : n ≡ given b) where
-  pub value-told : (x y : ℕ) → m ≡ n → x ≡ points a → y ≡ points b → Decides (a ≡ b) (eqb x y)
-  value-told x y e f g =
-      record {
-        yes = λ t. same-values a b (sym p ∙ e ∙ q) (sym f ∙ eqb-true x y t ∙ g);
-        no = λ t h. eqb-false x y t (f ∙ ap points h ∙ sym g);
-      }
-
-  pub value-other : (m ≡ n → ⊥) → Decides (a ≡ b) false
-  value-other d = decide-no (λ h. d (p ∙ ap given h ∙ sym q))
-
-module _ (a b : Vertex) where
-  pub kind-other : (m n : ℕ) → m ≡ kind_number a.kind → n ≡ kind_number b.kind → (m ≡ n → ⊥) → Decides (a ≡ b) false
-  kind-other m n p q d = decide-no (λ h. d (p ∙ ap (λ (x : Vertex). kind_number x.kind) h ∙ sym q))
-
-  pub start-other : (t : Bool) → Decides (a.start ≡ b.start) t → t ≡ false → Decides (a ≡ b) false
-  start-other t d e = decide-no (λ h. d.no e (ap (λ (x : Vertex). x.start) h))
-
-  pub loss-other : (t : Bool) → Decides (a.loss ≡ b.loss) t → t ≡ false → Decides (a ≡ b) false
-  loss-other t d e = decide-no (λ h. d.no e (ap (λ (x : Vertex). x.loss) h))
-
-  pub rank-told : (m n : ℕ) → m ≡ kind_number a.kind → n ≡ kind_number b.kind → m ≡ n → (t u : Bool) → Decides (a.start ≡ b.start) t → t ≡ true
-      → Decides (a.loss ≡ b.loss) u → u ≡ true → Decides (a ≡ b) (eqb a.rank b.rank)
-  rank-told m n p q e t u d f g k =
-      record {
-        yes = λ h. same-fields a b (sym p ∙ e ∙ q) (d.yes f) (g.yes k) (eqb-true a.rank b.rank h);
-        no = λ h w. eqb-false a.rank b.rank h (ap (λ (x : Vertex). x.rank) w);
-      }
 
 -- ---- agreement, item by item
 
@@ -154,9 +110,9 @@ counts-none vertices nb places na from =
       each = λ xs ys p a b w. record { items = refl; starts = refl; losses = refl; bytes = refl };
     }
 
-given-most : (x : Value) → given x ≤ 1
-given-most Blank = omega arith
-given-most (Of n) = omega arith
+given-most : (x : Option ℕ) → given x ≤ 1
+given-most None = omega arith
+given-most (Some n) = omega arith
 
 -- one item counted behind others
 counts-one : (zs : List ItemRow) (y : ItemRow) (r q : Remaining) (x : Vertex) (size : ℕ) → ItemCounts zs r → x ≡ vertex_of y → size ≡ length (line_text (item_fields y))

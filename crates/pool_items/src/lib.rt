@@ -3,15 +3,14 @@
 
 #![tactic(auto)]
 
-ghost use Rattle.std.specs.Prelude.{◌≡◌, ◌≤◌};
+ghost use Rattle.std.specs.Prelude.{◌≤◌};
 ghost use Rattle.vertex_set.specs.Set.{Decides};
 ghost use Rattle.pool_items.specs.Inner.Keys.{KeyPlaces};
-ghost use Rattle.setup.specs.Inner.{kind_number};
 ghost use Rattle.pool_items.specs.Inner.Items.{AllAgree, Small, WithItem, PlacesRise, CountsRemaining};
 
-use setup::{Kind, Value, Vertex};
+use setup::Vertex;
 use sheet_fields::Key;
-use sheet_lines::item_keys::Keys;
+use sheet_rows::ItemKeys;
 
 // Of the items that remain: how many there are, how many of them are starting and losable ones, and
 // how many bytes their rows have.
@@ -23,65 +22,20 @@ pub struct Remaining {
     pub bytes: usize,
 }
 
-// For each of the second sheet's `count` items its number in the first sheet, or the first sheet's
-// number of items where it is not there.
-pub fn places_of(first: Keys, known: usize, second: Keys, count: usize) -> [usize; 64]
-    requires { (known ≤ 64) × (count ≤ 64) }
-    ensures { KeyPlaces first known second count result }
+// For each of the second sheet's items its number in the first sheet, or the first sheet's number of
+// items where it is not there.
+pub fn places_of(first: &ItemKeys, second: &ItemKeys) -> [usize; 64]
+    ensures { KeyPlaces first.now second.now result }
 {
-    let low = first.low;
-    let high = first.high;
     let mut places = [0usize; 64];
-    for j in 0..count {
+    for j in 0..second.count {
         let key = Key {
             low: second.low[j],
             high: second.high[j],
         };
-        places[j] = sheet_rows::find_name(&low, &high, known, key);
+        places[j] = first.find(key).unwrap_or(first.count);
     }
     places
-}
-
-fn kind_number(k: Kind) -> u64
-    ensures { result ≡ kind_number k }
-{
-    match k {
-        Kind::Credential => 0,
-        Kind::Account => 1,
-    }
-}
-
-// A blank and 0 are not the same.
-fn same_value(a: Value, b: Value) -> bool
-    ensures { Decides (a ≡ b) result }
-{
-    if setup::count_given(a) == setup::count_given(b) {
-        setup::points_of(a) == setup::points_of(b)
-    } else {
-        false
-    }
-}
-
-// Do two vertices agree in kind, start, loss and rank?
-fn same_vertex(a: Vertex, b: Vertex) -> bool
-    ensures { Decides (a ≡ b) result }
-{
-    let kind = a.kind;
-    let start = a.start;
-    let loss = a.loss;
-    let other_kind = b.kind;
-    let other_start = b.start;
-    let other_loss = b.loss;
-    if kind_number(kind) != kind_number(other_kind) {
-        return false;
-    }
-    if !same_value(start, other_start) {
-        return false;
-    }
-    if !same_value(loss, other_loss) {
-        return false;
-    }
-    a.rank == b.rank
 }
 
 // Does each of the second sheet's `count` items that is in the first sheet agree with the one there?
@@ -98,9 +52,7 @@ pub fn all_agree(
     for j in 0..count {
         let place = places[j];
         if place < known {
-            let a = first[place];
-            let b = second[j];
-            if !same_vertex(a, b) {
+            if first[place] != second[j] {
                 return false;
             }
         }
@@ -113,14 +65,10 @@ fn with_item(r: Remaining, x: Vertex, size: usize) -> Remaining
     requires { Small r size }
     ensures { WithItem r x size result }
 {
-    let start = x.start;
-    let loss = x.loss;
-    let starts = r.starts + setup::count_given(start);
-    let losses = r.losses + setup::count_given(loss);
     Remaining {
         items: r.items + 1,
-        starts,
-        losses,
+        starts: r.starts + setup::count_given(x.start),
+        losses: r.losses + setup::count_given(x.loss),
         bytes: r.bytes + size,
     }
 }

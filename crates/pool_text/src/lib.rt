@@ -19,7 +19,7 @@ fn put_if(asked: bool, text: &[u8], out: &mut [u8], at: usize) -> usize
     ensures { Wrote out.old at (cond asked text.now []) out.new result }
 {
     if asked {
-        return writing::put_text(text, out, at);
+        return written::put(text, out, at);
     }
     at
 }

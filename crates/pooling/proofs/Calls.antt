@@ -1,13 +1,17 @@
 -- From what the parts of pooling promise to what the call does.
 -- Assumes nothing.
-use mathlib.Core.Path.{◌≡◌, refl, sym, ap, ◌∙◌}
+use mathlib.Core.Path.{◌≡◌, sym, ap, ◌∙◌, subst}
 use mathlib.Core.Bool.{false}
 use mathlib.Core.List.{List, [], ◌∷◌, ◌++◌}
-use mathlib.Core.Logic.{inl, inr, ⊎_elim}
+use mathlib.Core.Logic.{inl, inr}
 use Prim.Native.Nat.{ℕ, ◌+◌, ◌-◌, ◌≤◌, ◌<◌}
 use native.Mathlib.Omega.{arith}
 use lib.ListN.{length, get_or, take, drop, length-append}
 use lib.Dec.{leb}
+use Rattle.std.specs.Prelude.{Result, Ok, Err}
+use Rattle.questions.specs.declared.Refusal.{Refusal}
+use Rattle.questions.specs.declared.Refusal.TheVariants.{Disagree, PoolBound}
+use Rattle.questions.specs.Refusals.{number}
 use Rattle.written.specs.Inner.{Wrote}
 use Rattle.written.proofs.Writing.{wrote_then, room-then, wrote-front}
 use Rattle.vertex_set.specs.Set.{Decides}
@@ -16,15 +20,15 @@ use Rattle.vertex_set.proofs.Decisions.{decide-no, decide-leb}
 use Rattle.setup.specs.declared.Setup.{Setup}
 use Rattle.setup.specs.Setup.{given, total}
 use Rattle.questions.specs.Asks.{Asks}
-use Rattle.sheet_format.specs.declared.Reading.{Reading}
+use Rattle.sheet_format.specs.Read.{Reading}
 use Rattle.sheet_format.specs.Text.{lines_of}
-use Rattle.sheet_format.specs.Rows.{ItemRow, Doc, Valid, start_count, loss_count, line_text, first_header, second_header, item_fields, item_lines, edge_lines, render}
+use Rattle.sheet_format.specs.Rows.{ItemRow, Doc, start_count, loss_count, line_text, first_header, second_header, item_fields, item_lines, edge_lines, render}
 use Rattle.sheet_format.specs.Questions.{is_known}
 use Rattle.sheet_format.specs.Read.{read_sheet}
 use Rattle.sheet_fields.specs.Inner.Parts.{until}
 use Rattle.sheet_fields.proofs.Lines.{line_at, lines-over}
 use Rattle.sheet_fields.proofs.Slices.{rest_part}
-use Rattle.pool_format.specs.declared.Pooled.{Pooled}
+use Rattle.pool_format.specs.Call.{Pooled}
 use Rattle.pool_format.specs.Rows.{remaining, pooled}
 use Rattle.pool_format.specs.Call.{asks22, asks23, asks24, with_buffer, pool_refusal, pools_text, PoolsRows, PoolCall}
 use Rattle.sheet_lines.specs.declared.item_keys.Keys.{Keys}
@@ -173,7 +177,7 @@ edges-small s a lines h q =
 -- ---- what is known before the bounds are asked
 
 pub both_read : (first second : List ℕ) (a b : Setup) (own keys : Keys) (places : List ℕ) → Accepts first a × Accepts second b
-    → SheetKeys first a.count own → SheetKeys second b.count keys → KeyPlaces own a.count keys b.count places
+    → SheetKeys first a.count own → SheetKeys second b.count keys → KeyPlaces own.keys keys.keys places
     → BothRead first second a b own.from keys.from places
 both_read first second a b own keys places h f g p =
     let d = rows-of-text first a h.0 in
@@ -263,21 +267,25 @@ module _ (first second : List ℕ) (p : Plan) where
           unfolding pooled_text
           wrote-four o4 n4 w4 = wrote_then entry 0 (one ++ two ++ three) o3 n3 wrote-three four o4 n4 w4
 
-pub can_write : (first second : List ℕ) (a b : Setup) (p : Plan) (out : List ℕ) → Accepts first a × Accepts second b → PlanOf first second p → p.number ≡ 0
+pub can_write : (first second : List ℕ) (a b : Setup) (p : Plan) (out : List ℕ) → Accepts first a × Accepts second b → (o : Result Plan Refusal) → PlanOf first second o → o ≡ Ok p
     → p.size ≤ length out → CanWrite first second p out
-can_write first second a b p out h f z room =
+can_write first second a b p out h o f z room =
     let d = rows-of-text first a h.0 in
     let e = rows-of-text second b h.1 in
     by d.doc e.doc (f.each d.doc e.doc d.valid e.valid d.text e.text)
   where
-    by : (d e : Doc) → PlanFor d e first second p → CanWrite first second p out
-    by d e (disagrees n x) = absurd (omega arith)
-    by d e (beyond n x y) = absurd (omega arith)
-    by d e (ready n x y parts t s) = record { parts = parts; room = rw t (omega arith) }
+    by : (d e : Doc) → PlanFor d e first second o → CanWrite first second p out
+    by d e (disagrees n x) = absurd (let k : Err Disagree ≡ Ok p = sym n ∙ z in cc)
+    by d e (beyond n x y) = absurd (let k : Err PoolBound ≡ Ok p = sym n ∙ z in cc)
+    by d e (ready w n x y parts t s) =
+        let k : Ok w ≡ Ok p = sym n ∙ z in
+        let i : w ≡ p = cc in
+        let l : length (pooled_text first second w) ≤ length out = rw t (omega (arith, ap (λ (v : Plan). v.size) i)) in
+        subst (λ (v : Plan). CanWrite first second v out) i (record { parts = parts; room = l })
 
 -- ---- the answers
 
-module _ (first second : List ℕ) (a b : Setup) (h : Accepts first a × Accepts second b) (p : Plan) (f : PlanOf first second p) (r : Pooled) (entry : List ℕ) where
+module _ (first second : List ℕ) (a b : Setup) (h : Accepts first a × Accepts second b) (o : Result Plan Refusal) (f : PlanOf first second o) (r : Pooled) (entry : List ℕ) where
   abbrev d : Doc
   d = (rows-of-text first a h.0).doc
 
@@ -289,7 +297,7 @@ module _ (first second : List ℕ) (a b : Setup) (h : Accepts first a × Accepts
       Asks (pool_refusal 0 0 entry) (asks22 d e ∷ asks23 d e ∷ asks24 d e entry ∷ []) (λ o. o ≡ pools_text (render (pooled d e)) entry) (with_buffer r exit)
 
   -- the rows of both texts, and what is answered of them
-  of-rows : (exit : List ℕ) → (PlanFor d e first second p → Asked exit) → PoolsRows first second entry (with_buffer r exit)
+  of-rows : (exit : List ℕ) → (PlanFor d e first second o → Asked exit) → PoolsRows first second entry (with_buffer r exit)
   of-rows exit by =
       let x = rows-of-text first a h.0 in
       let y = rows-of-text second b h.1 in
@@ -304,38 +312,49 @@ module _ (first second : List ℕ) (a b : Setup) (h : Accepts first a × Accepts
       }
 
   -- 22 or 23
-  pub read-refused : (p.number ≡ 0 → ⊥) → r ≡ record { number = p.number; sheet = 0; line = 0; size = 0 } → PoolsRows first second entry (with_buffer r entry)
+  pub read-refused : (x : Refusal) → o ≡ Err x → r ≡ record { number = number x; sheet = 0; line = 0; size = 0 } → PoolsRows first second entry (with_buffer r entry)
   unfolding Asks
-  read-refused n q = of-rows entry by
+  read-refused x n q = of-rows entry by
     where
-      refusal : (k : ℕ) → p.number ≡ k → with_buffer r entry ≡ pool_refusal 0 0 entry k
-      refusal k i = ap (λ (x : Pooled). with_buffer x entry) q ∙ ap (pool_refusal 0 0 entry) i
+      refusal : (k : Refusal) → o ≡ Err k → with_buffer r entry ≡ pool_refusal 0 0 entry (number k)
+      refusal k i =
+          let j : Err x ≡ Err k = sym n ∙ i in
+          let w : x ≡ k = cc in
+          ap (λ (y : Pooled). with_buffer y entry) q ∙ ap (λ (y : Refusal). pool_refusal 0 0 entry (number y)) w
 
-      by : PlanFor d e first second p → Asked entry
-      by (disagrees m x) = inl (x, refusal 22 m)
-      by (beyond m x y) = inr (x, inl (y, refusal 23 m))
-      by (ready m x y parts t s) = absurd (n m)
+      by : PlanFor d e first second o → Asked entry
+      by (disagrees m y) = inl (y, refusal Disagree m)
+      by (beyond m y z) = inr (y, inl (z, refusal PoolBound m))
+      by (ready p m y z parts t s) = absurd (let k : Err x ≡ Ok p = sym n ∙ m in cc)
 
   -- 24
-  pub read_short : p.number ≡ 0 → length entry < p.size → r ≡ record { number = 24; sheet = 0; line = 0; size = 0 } → PoolsRows first second entry (with_buffer r entry)
+  pub read_short : (p : Plan) → o ≡ Ok p → length entry < p.size → r ≡ record { number = 24; sheet = 0; line = 0; size = 0 } → PoolsRows first second entry (with_buffer r entry)
   unfolding Asks
-  read_short z l q = of-rows entry by
+  read_short p n l q = of-rows entry by
     where
-      by : PlanFor d e first second p → Asked entry
-      by (disagrees m x) = absurd (omega arith)
-      by (beyond m x y) = absurd (omega arith)
-      by (ready m x y parts t s) = inr (x, inr (y, inl (λ k. omega arith, ap (λ (v : Pooled). with_buffer v entry) q)))
+      by : PlanFor d e first second o → Asked entry
+      by (disagrees m x) = absurd (let k : Err Disagree ≡ Ok p = sym m ∙ n in cc)
+      by (beyond m x y) = absurd (let k : Err PoolBound ≡ Ok p = sym m ∙ n in cc)
+      by (ready w m x y parts t s) =
+          let k : Ok w ≡ Ok p = sym m ∙ n in
+          let i : w ≡ p = cc in
+          let z = ap (λ (v : Plan). v.size) i in
+          inr (x, inr (y, inl (λ k. omega arith, ap (λ (v : Pooled). with_buffer v entry) q)))
 
   -- the pooled sheet
-  pub read-written : p.number ≡ 0 → p.size ≤ length entry → r ≡ record { number = 0; sheet = 0; line = 0; size = p.size } → (exit : List ℕ) (n : ℕ)
+  pub read-written : (p : Plan) → o ≡ Ok p → p.size ≤ length entry → r ≡ record { number = 0; sheet = 0; line = 0; size = p.size } → (exit : List ℕ) (n : ℕ)
       → Wrote entry 0 (pooled_text first second p) exit n → PoolsRows first second entry (with_buffer r exit)
   unfolding Asks
-  read-written z l q exit n w = of-rows exit by
+  read-written p ok l q exit n w = of-rows exit by
     where
-      by : PlanFor d e first second p → Asked exit
-      by (disagrees m x) = absurd (omega arith)
-      by (beyond m x y) = absurd (omega arith)
-      by (ready m x y parts t s) =
+      by : PlanFor d e first second o → Asked exit
+      by (disagrees m x) = absurd (let k : Err Disagree ≡ Ok p = sym m ∙ ok in cc)
+      by (beyond m x y) = absurd (let k : Err PoolBound ≡ Ok p = sym m ∙ ok in cc)
+      by (ready u m x y parts t' s') =
+          let k : Ok u ≡ Ok p = sym m ∙ ok in
+          let i : u ≡ p = cc in
+          let t : pooled_text first second p ≡ render (pooled d e) = ap (λ (v : Plan). pooled_text first second v) (sym i) ∙ t' in
+          let s : p.size ≡ length (render (pooled d e)) = ap (λ (v : Plan). v.size) (sym i) ∙ s' in
           let v = rw t at w in
           let room : length (render (pooled d e)) ≤ length entry = omega arith in
           inr (

@@ -1,33 +1,33 @@
 -- What a plan says: agreement, bounds, colours, and the text that is written by it.
 -- Assumes nothing.
-use mathlib.Core.Path.{◌≡◌, refl, sym, ap, ap₂, ◌∙◌, subst}
+use mathlib.Core.Path.{◌≡◌, refl, sym, ap, ◌∙◌, subst}
 use mathlib.Core.Bool.{Bool, true, false, not}
 use mathlib.Core.List.{List, [], ◌∷◌, ◌++◌, map}
-use mathlib.Core.Logic.{⊎_elim}
-use Prim.Native.Nat.{ℕ, zero, suc, ◌+◌, ◌-◌, ◌≤◌, ◌<◌}
+use Prim.Native.Nat.{ℕ, suc, ◌+◌, ◌-◌, ◌≤◌}
 use native.Mathlib.Omega.{arith}
 use lib.ListN.{length, get_or, take, drop, length-append, length-map, length-take, length-drop}
-use lib.Seq.{take_all, take-length, drop-length}
+use lib.Seq.{take_all, drop-length}
 use borrow.Author.Tests.{not-true, not-false}
+use Rattle.std.specs.Prelude.{Ok, Err}
+use Rattle.questions.specs.declared.Refusal.TheVariants.{Disagree, PoolBound}
 use Rattle.vertex_set.specs.Set.{Decides}
 use Rattle.setup.specs.declared.Setup.{Setup}
-use Rattle.setup.specs.declared.Vertex.{Vertex}
 use Rattle.setup.specs.Setup.{unused_vertex, given, total}
 use Rattle.setup.proofs.Counts.{total-append}
 use Rattle.sheet_format.specs.Text.{lines_of}
-use Rattle.sheet_format.specs.Rows.{ItemRow, EdgeRow, Doc, Each, ValidEdge, Valid, SameName, vertex_of, start_count, loss_count, item_lines, edge_lines, render, number_in, setup_of}
+use Rattle.sheet_format.specs.Rows.{ItemRow, EdgeRow, Doc, Each, ValidEdge, Valid, SameName, vertex_of, start_count, loss_count, item_lines, edge_lines, render, number_in}
 use Rattle.sheet_format.specs.Questions.{is_known}
 use Rattle.sheet_format.specs.Stated.{StandsAt}
 use Rattle.sheet_format.proofs.Lists.{each_append, each_right, each_map}
 use Rattle.sheet_format.proofs.Tests.{known-decided}
 use Rattle.sheet_format.proofs.Rows.{edge_line}
-use Rattle.sheet_format.proofs.Question12Lists.{In, each_of, of-each}
+use Rattle.sheet_format.proofs.Question12Lists.{each_of, of-each}
 use Rattle.sheet_format.proofs.Stated.{stands-below, at_place, stands-in, in-stands, number-stands, stands-number}
 use Rattle.pool_format.specs.Rows.{Agree, remaining, recoloured, pooled, Fits}
 use Rattle.pool_format.specs.Inner.{PlacesAmong}
 use Rattle.sheet_lines.specs.declared.item_keys.Keys.{Keys}
 use Rattle.sheet_lines.specs.Inner.Keys.{Accepts, SheetKeys}
-use Rattle.sheet_lines.proofs.Accepted.{setup-of, count_of, edges-many}
+use Rattle.sheet_lines.proofs.Accepted.{setup-of, count_of}
 use Rattle.pool_items.specs.declared.Remaining.{Remaining}
 use Rattle.pool_items.specs.Inner.Keys.{KeyPlaces}
 use Rattle.pool_items.specs.Inner.Items.{AllAgree, ItemCounts, CountsRemaining}
@@ -36,10 +36,9 @@ use Rattle.pool_colours.specs.declared.Colours.{Colours}
 use Rattle.pool_colours.specs.Inner.Colours.{Both, ColoursOf}
 use Rattle.pool_text.specs.Inner.{fresh_rows, with_digits}
 use Rattle.pooling.specs.declared.Bounds.{Bounds}
-use Rattle.pooling.specs.declared.Plan.{Plan}
-use Rattle.pooling.specs.Inner.{Starts, CountsInBounds, BoundsHold, BoundsFor, BoundsOf, pooled_text, Parts, PlanFor, PlanOf, disagrees, beyond, ready}
+use Rattle.pooling.specs.Inner.{Starts, CountsInBounds, BoundsHold, BoundsFor, BoundsOf, pooled_text, PlanOf, disagrees, beyond, ready}
 use Rattle.pooling.proofs.Sheets.{vertex-of, tail, front, front-is, behind-is, from-inside, rows_of, within, row_is, edge-lines, edge-bytes}
-use Rattle.pooling.proofs.Texts.{fresh-rows, edges-put, edges-can, together, together-is, same-long}
+use Rattle.pooling.proofs.Texts.{fresh-rows, edges-put, edges-can, together-is, same-long}
 
 -- ---- agreement
 
@@ -168,7 +167,7 @@ unfolding item_lines
 no_lines d = refl
 
 module _ (first second : List ℕ) (a b : Setup) (own keys : Keys) (places : List ℕ) (accepts : Accepts first a × Accepts second b)
-    (f : SheetKeys first a.count own) (g : SheetKeys second b.count keys) (p : KeyPlaces own a.count keys b.count places) where
+    (f : SheetKeys first a.count own) (g : SheetKeys second b.count keys) (p : KeyPlaces own.keys keys.keys places) where
   sheets : (d e : Doc) → Valid d → Valid e → first ≡ render d → second ≡ render e → Sheets first second a b d e
   sheets d e v w t u = record { accepts_first = accepts.0; accepts_second = accepts.1; valid_first = v; valid_second = w; is_first = t; is_second = u }
 
@@ -186,7 +185,7 @@ module _ (first second : List ℕ) (a b : Setup) (own keys : Keys) (places : Lis
     place =
         p.places d.items e.items (f.keys d v t (count_of first a d accepts.0 v t)) (g.keys e w u (count_of second b e accepts.1 w u))
 
-    both : Both d e keys.low keys.high b.count places a.count a.graph b.graph
+    both : Both d e keys.keys.low keys.keys.high keys.keys.count places a.count a.graph b.graph
     both =
         record {
           valid_first = v;
@@ -202,39 +201,38 @@ module _ (first second : List ℕ) (a b : Setup) (own keys : Keys) (places : Lis
     agrees r h n = agree_of first second a b d e (sheets d e v w t u) places place (h.yes n)
 
   -- 22
-  pub plan-disagrees : (r : Bool) (q : Plan) → Decides (AllAgree a.vertices a.count b.vertices b.count places) r → r ≡ false → q.number ≡ 22 → PlanOf first second q
-  plan-disagrees r q h n z =
+  pub plan-disagrees : (r : Bool) → Decides (AllAgree a.vertices a.count b.vertices b.count places) r → r ≡ false → PlanOf first second (Err Disagree)
+  plan-disagrees r h n =
       record {
         each = λ d e v w t u.
-            disagrees z (λ y. h.no n (of_agree first second a b d e (sheets d e v w t u) places (place d e v w t u) y));
+            disagrees refl (λ y. h.no n (of_agree first second a b d e (sheets d e v w t u) places (place d e v w t u) y));
       }
 
   module _ (r : Bool) (h : Decides (AllAgree a.vertices a.count b.vertices b.count places) r) (n : r ≡ true) (s : Bounds) (k : BoundsOf first second places s) where
     -- 23, by a bound
-    pub plan-beyond : (q : Plan) → not s.ok ≡ true → q.number ≡ 23 → PlanOf first second q
-    plan-beyond q m z =
+    pub plan-beyond : not s.ok ≡ true → PlanOf first second (Err PoolBound)
+    plan-beyond m =
         record {
           each = λ d e v w t u.
-              beyond z (agrees d e v w t u r h n) (no-bounds d e ((k.each d e v w t u (place d e v w t u)).answer.no (not-true s.ok m)));
+              beyond refl (agrees d e v w t u r h n) (no-bounds d e ((k.each d e v w t u (place d e v w t u)).answer.no (not-true s.ok m)));
         }
 
     module _ (m : not s.ok ≡ false) (start : ℕ) (o : start ≡ get_or keys.from b.count 0 + 20) (c : Colours)
-        (x : ColoursOf second start keys.low keys.high b.count places a.count a.graph b.graph c) where
+        (x : ColoursOf second start keys.keys.low keys.keys.high keys.keys.count places a.count a.graph b.graph c) where
       lines : (e : Doc) → Valid e → second ≡ render e → lines_of (drop start second) ≡ map edge_line e.edges
       lines e w u = rw o (edge-lines second b e accepts.1 w u keys.from starts-second)
 
       -- 23, by a ninth colour
-      pub plan-ninth : (q : Plan) → not c.fits ≡ true → q.number ≡ 23 → PlanOf first second q
-      plan-ninth q l z =
+      pub plan-ninth : not c.fits ≡ true → PlanOf first second (Err PoolBound)
+      plan-ninth l =
           record {
             each = λ d e v w t u.
-                beyond z (agrees d e v w t u r h n) (no-ninth d e (x.no d e (both d e v w t u) (lines e w u) (not-true c.fits l)));
+                beyond refl (agrees d e v w t u r h n) (no-ninth d e (x.no d e (both d e v w t u) (lines e w u) (not-true c.fits l)));
           }
 
       -- and what is written
       pub plan-ready : (split size : ℕ) → not c.fits ≡ false → split ≡ get_or own.from a.count 0 → size ≡ length first + s.bytes + (length second - start)
-          → PlanOf first second (record {
-            number = 0;
+          → PlanOf first second (Ok (record {
             size = size;
             split = split;
             known = a.count;
@@ -243,7 +241,7 @@ module _ (first second : List ℕ) (a b : Setup) (own keys : Keys) (places : Lis
             places = places;
             start = start;
             digits = c.digits;
-          })
+          }))
       unfolding pooled_text
       plan-ready split size l i j =
           record {
@@ -266,7 +264,7 @@ module _ (first second : List ℕ) (a b : Setup) (own keys : Keys) (places : Lis
                 rw place_of (behind-is first a d accepts.0 v t own.from starts_first (length d.items) (omega arith) ∙ ap (λ (ys : List ItemRow). item_lines ys ++ tail d) (drop-length d.items) ∙ no_lines d) in
                 let text : take split first ++ fresh_rows second keys.from places a.count b.count ++ drop split first ++ with_digits (lines_of (drop start second)) c.digits 0
                 ≡ render (pooled d e) = rw (head, rows, rest, edges) (together-is d e) in
-                ready refl (agrees d e v w t u r h n) (fits-of d e v (bound.answer.yes (not-false s.ok m)) low)
+                ready _ refl (agrees d e v w t u r h n) (fits-of d e v (bound.answer.yes (not-false s.ok m)) low)
                 (record {
                   split = rw place_of (from-inside first a d accepts.0 v t own.from starts_first (length d.items) (omega arith));
                   rows = within second b e accepts.1 w u keys.from starts-second;

@@ -1,21 +1,18 @@
 -- The pooled text, put together from parts of the two sheets.
 -- Assumes nothing.
-use mathlib.Core.Path.{◌≡◌, refl, sym, ap, ap₂, ◌∙◌, subst}
+use mathlib.Core.Path.{◌≡◌, refl, sym, ap, ap₂, ◌∙◌}
 use mathlib.Core.Bool.{Bool, true, false, cond}
 use mathlib.Core.List.{List, [], ◌∷◌, ◌++◌, map, append_assoc, append-nil}
 use mathlib.Core.Logic.{⊎_elim}
-use Prim.Native.Nat.{ℕ, zero, suc, ◌+◌, ◌-◌, ◌≤◌, ◌<◌}
-use native.Mathlib.Nat.{not-suc-le-zero}
+use Prim.Native.Nat.{ℕ, zero, suc, ◌+◌, ◌-◌, ◌≤◌}
 use native.Mathlib.Omega.{arith}
-use lib.ListN.{length, get_or, take, drop, length-append, length-map}
-use lib.Seq.{take_at, drop_at, drop-append-add, take-length, drop-length}
+use lib.ListN.{length, get_or, take, length-append, length-map}
+use lib.Seq.{take_at, drop-append-add, take-length}
 use lib.Dec.{leb}
 use borrow.Author.Tests.{lt-ltb, le-leb, lt-leb}
 use Rattle.vertex_set.proofs.Cases.{less-or}
-use Rattle.setup.specs.declared.Setup.{Setup}
-use Rattle.sheet_format.specs.Text.{lines_of}
 use Rattle.sheet_format.specs.Fields.{decimal, digits_in}
-use Rattle.sheet_format.specs.Rows.{ItemRow, EdgeRow, Doc, Each, Valid, ValidEdge, line_text, first_header, second_header, item_fields, edge_fields, item_lines, edge_lines, render}
+use Rattle.sheet_format.specs.Rows.{ItemRow, EdgeRow, Doc, Each, ValidEdge, line_text, first_header, second_header, item_fields, edge_fields, item_lines, edge_lines, render}
 use Rattle.sheet_format.specs.Stated.{StandsAt}
 use Rattle.sheet_format.proofs.Rows.{edge_line}
 use Rattle.sheet_format.proofs.Stated.{at_place}
@@ -26,9 +23,7 @@ use Rattle.pool_format.proofs.Recolouring.{re-from, re-to}
 use Rattle.pool_items.proofs.Items.{remains-not, remains, known-place, unknown-place, lines-append}
 use Rattle.pool_colours.specs.Inner.Colours.{DigitAt}
 use Rattle.pool_text.specs.Inner.{row_at, fresh_rows, with_digit, with_digits, CanPut}
-use Rattle.sheet_lines.specs.Inner.Keys.{Accepts}
-use Rattle.pooling.specs.Inner.{Starts}
-use Rattle.pooling.proofs.Sheets.{tail, front, front-is, behind-is, row_is}
+use Rattle.pooling.proofs.Sheets.{tail, front}
 
 -- a recoloured row keeps its mark
 re-mark : (d e : Doc) (x : EdgeRow) → (recoloured d e x).rec ≡ x.rec

@@ -1,5 +1,5 @@
 -- Inner: what is known of two accepted sheets before the pooled one is written, and what is written.
-use Rattle.std.specs.Prelude.{◌≡◌, List, ◌++◌, ℕ, suc, ◌≤◌, length, get_or, take, drop}
+use Rattle.std.specs.Prelude.{◌≡◌, Result, Ok, Err, List, ◌++◌, ℕ, suc, ◌≤◌, length, get_or, take, drop}
 use Rattle.vertex_set.specs.Set.{Decides}
 use Rattle.setup.specs.Bounds.{most_edges, most_chosen}
 use Rattle.setup.specs.declared.Setup.{Setup}
@@ -10,6 +10,8 @@ use Rattle.sheet_lines.specs.Inner.Keys.{Accepts}
 use Rattle.pool_format.specs.Rows.{Agree, remaining, pooled, Fits}
 use Rattle.pool_format.specs.Inner.{PlacesAmong}
 use Rattle.pool_text.specs.Inner.{RowsWithin, fresh_rows, with_digits, CanPut}
+use Rattle.questions.specs.declared.Refusal.{Refusal}
+use Rattle.questions.specs.declared.Refusal.TheVariants.{Disagree, PoolBound}
 use Rattle.pooling.specs.declared.Bounds.{Bounds}
 use Rattle.pooling.specs.declared.Plan.{Plan}
 
@@ -67,12 +69,12 @@ pub record CanWrite (first second : List ℕ) (p : Plan) (out : List ℕ) : Type
   pub parts : Parts first second p
   pub room : length (pooled_text first second p) ≤ length out
 
--- What a plan says of the rows d and e.
-pub data PlanFor (d e : Doc) (first second : List ℕ) (p : Plan) : Type 0 where
-  disagrees : p.number ≡ 22 → (Agree d.items e.items → ⊥) → PlanFor d e first second p
-  beyond : p.number ≡ 23 → Agree d.items e.items → (Fits (pooled d e) → ⊥) → PlanFor d e first second p
-  ready : p.number ≡ 0 → Agree d.items e.items → Fits (pooled d e) → Parts first second p → pooled_text first second p ≡ render (pooled d e)
-      → p.size ≡ length (render (pooled d e)) → PlanFor d e first second p
+-- What is planned for the rows d and e, or why they are not pooled.
+pub data PlanFor (d e : Doc) (first second : List ℕ) (r : Result Plan Refusal) : Type 0 where
+  disagrees : r ≡ Err Disagree → (Agree d.items e.items → ⊥) → PlanFor d e first second r
+  beyond : r ≡ Err PoolBound → Agree d.items e.items → (Fits (pooled d e) → ⊥) → PlanFor d e first second r
+  ready : (p : Plan) → r ≡ Ok p → Agree d.items e.items → Fits (pooled d e) → Parts first second p → pooled_text first second p ≡ render (pooled d e)
+      → p.size ≡ length (render (pooled d e)) → PlanFor d e first second r
 
-pub record PlanOf (first second : List ℕ) (p : Plan) : Type 0 where
-  pub each : (d e : Doc) → Valid d → Valid e → first ≡ render d → second ≡ render e → PlanFor d e first second p
+pub record PlanOf (first second : List ℕ) (r : Result Plan Refusal) : Type 0 where
+  pub each : (d e : Doc) → Valid d → Valid e → first ≡ render d → second ≡ render e → PlanFor d e first second r

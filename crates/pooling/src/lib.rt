@@ -9,15 +9,13 @@ ghost use Rattle.vertex_set.specs.Set.{Decides};
 ghost use Rattle.written.specs.Inner.{Wrote};
 ghost use Rattle.sheet_format.specs.Text.{lines_of};
 ghost use Rattle.sheet_lines.specs.Inner.Keys.{Accepts};
-ghost use Rattle.pool_format.specs.Call.{with_buffer, PoolsRows, PoolCall};
-ghost use Rattle.pool_colours.specs.Inner.Colours.{ColoursOf};
+ghost use Rattle.pool_format.specs.Call.{with_buffer, pool_answer, PoolsRows, PoolCall};
 ghost use Rattle.pooling.specs.Inner.{CountsInBounds, BothRead, BoundsOf, PlanOf, pooled_text, CanWrite};
 
-use pool_colours::Colours;
-use pool_format::Pooled;
-use setup::{Graph, MAX_EDGES, Setup};
+use pool_format::PoolRefusal;
+use questions::Refusal;
+use setup::{MAX_EDGES, Setup};
 use sheet_lines::item_keys;
-use sheet_lines::item_keys::Keys;
 
 // The lines of a sheet that are no rows: two headers and the empty line.
 const OTHER_LINES: usize = 3;
@@ -32,12 +30,11 @@ struct Bounds {
     bytes: usize,
 }
 
-// What is known of the pooled sheet before a byte of it is written: its number, its bytes, where the
+// What is known of the pooled sheet before a byte of it is written: its bytes, where the
 // first sheet's empty line is, the second sheet's item rows with their places in the first sheet, and
 // its edge rows with the digits of their new colours.
 #[derive(Drop)]
 struct Plan {
-    number: u64,
     size: usize,
     split: usize,
     known: usize,
@@ -46,17 +43,6 @@ struct Plan {
     places: [usize; 64],
     start: usize,
     digits: [u8; MAX_EDGES],
-}
-
-fn refuse(number: u64, sheet: u64, line: u64) -> Pooled
-    ensures { result ≡ record { number = number; sheet = sheet; line = line; size = 0 } }
-{
-    Pooled {
-        number,
-        sheet,
-        line,
-        size: 0,
-    }
 }
 
 fn count_lines(s: &[u8]) -> usize
@@ -123,44 +109,9 @@ fn bounds_of(
     }
 }
 
-fn no_plan(number: u64) -> Plan
-    ensures { result.number ≡ number }
-{
-    Plan {
-        number,
-        size: 0,
-        split: 0,
-        known: 0,
-        count: 0,
-        from: [0; 65],
-        places: [0; 64],
-        start: 0,
-        digits: [0; MAX_EDGES],
-    }
-}
-
-// The new colours of the second sheet's edge rows, by the keys of its items.
-fn colours_in(
-    s: &[u8],
-    start: usize,
-    keys: Keys,
-    count: usize,
-    places: [usize; 64],
-    known: usize,
-    first: Graph,
-    second: Graph,
-) -> Colours
-    requires { (count ≤ 64) × (known ≤ 64) }
-    ensures { ColoursOf s.now start keys.low keys.high count places known first second result }
-{
-    let low = keys.low;
-    let high = keys.high;
-    pool_colours::colours_of(s, start, &low, &high, count, places, known, first, second)
-}
-
 // Asks whether shared items agree, and then whether the pooled rows are within the bounds and need no
 // ninth colour. Both sheets are accepted, and state these setups.
-fn plan_of(first: &[u8], second: &[u8], a: Setup, b: Setup) -> Plan
+fn plan_of(first: &[u8], second: &[u8], a: Setup, b: Setup) -> Result<Plan, Refusal>
     requires { Accepts first.now a × Accepts second.now b }
     ensures { PlanOf first.now second.now result }
 {
@@ -168,41 +119,40 @@ fn plan_of(first: &[u8], second: &[u8], a: Setup, b: Setup) -> Plan
     let count = b.count;
     let own = item_keys::keys_of(first, known);
     let keys = item_keys::keys_of(second, count);
-    let places = pool_items::places_of(own, known, keys, count);
+    let places = pool_items::places_of(&own.keys, &keys.keys);
+    // An array goes from a struct to a call or a literal by a variable: else there is no proof yet.
     let own_vertices = a.vertices;
     let vertices = b.vertices;
     if !pool_items::all_agree(own_vertices, known, vertices, count, places) {
-        return no_plan(questions::DISAGREE);
+        return Err(Refusal::Disagree);
     }
     let begins = own.from;
     let from = keys.from;
     let bounds = bounds_of(first, second, a, b, begins, from, places);
     if !bounds.ok {
-        return no_plan(questions::POOL_BOUND);
+        return Err(Refusal::PoolBound);
     }
-    let graph = a.graph;
-    let other = b.graph;
     let start = from[count] + SECOND_HEADER;
-    let colours = colours_in(second, start, keys, count, places, known, graph, other);
+    let colours = pool_colours::colours_of(
+        second, start, &keys.keys, places, known, a.graph, b.graph,
+    );
     if !colours.fits {
-        return no_plan(questions::POOL_BOUND);
+        return Err(Refusal::PoolBound);
     }
     let digits = colours.digits;
     let parts = first.len() + bounds.bytes;
     let rows = second.len() - start;
     let size = parts + rows;
-    let split = begins[known];
-    Plan {
-        number: 0,
+    Ok(Plan {
         size,
-        split,
+        split: begins[known],
         known,
         count,
         from,
         places,
         start,
         digits,
-    }
+    })
 }
 
 // The first sheet up to its empty line, the second's remaining item rows, the rest of the first sheet,
@@ -218,54 +168,57 @@ fn write_pooled(first: &[u8], second: &[u8], plan: Plan, out: &mut [u8]) -> usiz
     let digits = plan.digits;
     let count = plan.count;
     let known = plan.known;
-    let next = writing::put_text(&first[..split], out, 0);
+    let next = written::put(&first[..split], out, 0);
     let next = pool_text::put_remaining(second, from, count, places, known, out, next);
-    let next = writing::put_text(&first[split..], out, next);
+    let next = written::put(&first[split..], out, next);
     pool_text::put_edges(second, start, digits, out, next)
 }
 
 // Pools two accepted sheets that state these setups. Nothing is written before every question is
 // answered.
-fn pool_read(first: &[u8], second: &[u8], a: Setup, b: Setup, out: &mut [u8]) -> Pooled
+fn pool_read(
+    first: &[u8],
+    second: &[u8],
+    a: Setup,
+    b: Setup,
+    out: &mut [u8],
+) -> Result<usize, PoolRefusal>
     requires { Accepts first.now a × Accepts second.now b }
-    ensures { PoolsRows first.now second.now out.old (with_buffer result out.new) }
+    ensures { PoolsRows first.now second.now out.old (with_buffer (pool_answer result) out.new) }
 {
-    let plan = plan_of(first, second, a, b);
-    let number = plan.number;
-    if number != 0 {
-        return refuse(number, 0, 0);
-    }
-    let size = plan.size;
-    if out.len() < size {
-        return refuse(questions::POOL_SHORT, 0, 0);
-    }
-    write_pooled(first, second, plan, out);
-    Pooled {
-        number: 0,
+    let plan = plan_of(first, second, a, b).map_err(|refusal| PoolRefusal {
+        refusal,
         sheet: 0,
         line: 0,
-        size,
+    })?;
+    let size = plan.size;
+    if out.len() < size {
+        return Err(PoolRefusal {
+            refusal: Refusal::PoolShort,
+            sheet: 0,
+            line: 0,
+        });
     }
+    write_pooled(first, second, plan, out);
+    Ok(size)
 }
 
 // Writes the pooled sheet of two sheets to the start of the lent buffer, and tells how many bytes
-// it has. A refused sheet gives its number and line, the first sheet's before the second's; else 22
-// where shared items disagree, 23 where the pooled rows break a bound or need a ninth colour, 24
-// where the buffer is shorter than the pooled sheet.
-pub fn pool_sheets(first: &[u8], second: &[u8], out: &mut [u8]) -> Pooled
-    ensures { PoolCall first.now second.now result out.old out.new }
+// it has. A refused sheet gives its refusal and line, the first sheet's before the second's; else the
+// refusal tells whether shared items disagree, the pooled rows break a bound or need a ninth colour, or
+// the buffer is shorter than the pooled sheet.
+pub fn pool_sheets(first: &[u8], second: &[u8], out: &mut [u8]) -> Result<usize, PoolRefusal>
+    ensures { PoolCall first.now second.now (pool_answer result) out.old out.new }
 {
-    let reading = sheet::read_sheet(first);
-    let number = reading.number;
-    if number != 0 {
-        return refuse(number, 1, reading.line);
-    }
-    let other = sheet::read_sheet(second);
-    let other_number = other.number;
-    if other_number != 0 {
-        return refuse(other_number, 2, other.line);
-    }
-    let a = reading.setup;
-    let b = other.setup;
+    let a = sheet::read_sheet(first).map_err(|no| PoolRefusal {
+        refusal: no.refusal,
+        sheet: 1,
+        line: no.line,
+    })?;
+    let b = sheet::read_sheet(second).map_err(|no| PoolRefusal {
+        refusal: no.refusal,
+        sheet: 2,
+        line: no.line,
+    })?;
     pool_read(first, second, a, b, out)
 }

@@ -14,17 +14,16 @@ use Rattle.formed.specs.WellFormed.{WellFormed}
 use Rattle.questions.specs.Asks.{Asks}
 use Rattle.questions.specs.Questions.{asks12, asks13}
 use Rattle.questions.specs.Contract.{Reply, Outcome, gives, refuses, ends, turns_away, Answers, Fulfils}
-use Rattle.questions.proofs.Asks.{asks-either, asks-once, asks-retold}
+use Rattle.questions.proofs.Asks.{asks-once, asks-retold}
 use Rattle.questions.proofs.Contract.{answer-told}
-use Rattle.sheet_format.specs.declared.Reading.{Reading}
+use Rattle.sheet_format.specs.Read.{Reading}
 use Rattle.sheet_format.specs.Read.{read_sheet, asks_sheet}
-use Rattle.sheet_format.proofs.Meaning.{number-most}
 use Rattle.sheet_format.proofs.Question12.{accepted-formed}
 use Rattle.scores.specs.Never.{never}
 use Rattle.bases.specs.Score.{Score}
 use Rattle.answers.specs.Answers.{IsScore, score_call}
 use Rattle.reference.proofs.Unique.{score-unique}
-use Rattle.portal.specs.Inner.{Codable, Coded}
+use Rattle.portal.specs.Inner.{Coded}
 use Rattle.portal.specs.Portal.{PortalCall, Decoded}
 
 -- ---- one answer
@@ -49,9 +48,6 @@ module _ (loss : Bool) (text : List ℕ) (item : ℕ) (rd : Reading) (e : rd ≡
   same : rd.number ≡ (read_sheet text).number
   same = ap (λ (r : Reading). r.number) e
 
-  pub small : rd.number ≤ 11
-  small = let s = number-most text in let q = same in omega arith
-
   pub portal-refused : (rd.number ≡ 0 → ⊥) → PortalCall loss text item (never + rd.number)
   unfolding Asks
   portal-refused n = inl (λ z. n (same ∙ z), ap (λ (x : ℕ). never + x) same)
@@ -63,22 +59,8 @@ module _ (loss : Bool) (text : List ℕ) (item : ℕ) (rd : Reading) (e : rd ≡
     abbrev Told : Setup → Type 0
     Told t = Fulfils (score_call loss t item) (ends reply [])
 
-    listed_small : (q : ℕ) → Listed (12 ∷ 13 ∷ []) q → q ≤ 15
-    listed_small q (inl z) = omega (arith, z)
-    listed_small q (inr (inl z)) = omega (arith, z)
-    listed_small q (inr (inr z)) = absurd z
-
     given : (t : Setup) → Answers (score_call loss t item) (ends reply []) → (x : ℕ) × IsScore loss t item x × (ends reply [] ≡ ends (gives (x ∷ [])) [])
     given t = answer-told (asks12 t ∷ asks13 t item ∷ []) (IsScore loss t item) (λ r. r ∷ []) (ends reply [])
-
-    pub codable : Told rd.setup → Codable reply
-    unfolding Fulfils
-    codable h =
-        record {
-          small = ⊎_elim (λ y. let z = ap (λ (o : Outcome). o.reply.number) (given rd.setup y.1).2 in omega (arith, z))
-              (λ n. let z = ap (λ (o : Outcome). o.reply.number) n.2 in let l = listed_small n.0 n.1 in omega (arith, z, l))
-              (asks-either (turns_away []) (Answers (score_call loss rd.setup item)) (asks12 rd.setup ∷ asks13 rd.setup item ∷ []) (ends reply []) h);
-        }
 
     -- the setup is well formed: 13 alone is asked
     module _ (whole : WellFormed s) (r : ℕ) (c : Coded reply r) where

@@ -1,11 +1,7 @@
 -- What the inner functions ask and answer. Nothing of this has to be believed.
-use Rattle.std.specs.Prelude.{◌≡◌, [], ◌∷◌, ℕ, ◌+◌, ◌≤◌}
+use Rattle.std.specs.Prelude.{◌≡◌, [], ◌∷◌, ℕ, ◌+◌}
 use Rattle.scores.specs.Never.{never}
 use Rattle.questions.specs.Contract.{Reply, gives, refuses}
-
--- A refusal's number is small.
-pub record Codable (reply : Reply) : Type 0 where
-  pub small : reply.number ≤ 15
 
 -- A value is coded as itself, and a refusal by its number.
 pub record Coded (reply : Reply) (r : ℕ) : Type 0 where

@@ -17,8 +17,11 @@ use Rattle.questions.specs.Asks.{Question, Asks}
 use Rattle.questions.specs.Contract.{Outcome, ends, turns_away, Room, Answers, Fulfils, OneAnswer}
 use Rattle.questions.proofs.Asks.{AllYes, not-zero, ask-all, asks-either, asks-retold}
 use Rattle.questions.proofs.Contract.{given, answers_of}
-use Rattle.living.specs.declared.Redrawing.{Redrawing}
-use Rattle.living.specs.Calls.{Call, TakeIn, TakeOut, AddEdge, RemoveEdge, drawing_of, after, Redrawn, asks_of, back, Done, CallOf}
+use Rattle.std.specs.Prelude.{Result, Ok, Err, IfOk, OnErr}
+use Rattle.questions.specs.declared.Refusal.{Refusal}
+use Rattle.questions.specs.Inner.{asked}
+use Rattle.questions.proofs.Refusals.{number_some}
+use Rattle.living.specs.Calls.{Redrawing, handed_back, Call, TakeIn, TakeOut, AddEdge, RemoveEdge, drawing_of, after, Redrawn, asks_of, back, Done, CallOf}
 use Rattle.living.proofs.Unique.{redrawn-unique, nothing-changes}
 use Rattle.living.proofs.Kept.{living-numbered, step}
 use Rattle.portal_words.specs.Words.{setup_words, setup_in, words_of}
@@ -30,18 +33,12 @@ use Rattle.portal_living.specs.Inner.{HasRoom, PutBack}
 
 -- ---- what the code puts back
 
-pub put_refused : (r : Redrawing) (entry : List ℕ) → (r.number ≡ 0 → ⊥) → PutBack r entry entry
-put_refused r entry d = record { refused = λ e. refl; accepted = λ z. absurd (d z) }
-
-pub put-room : (r : Redrawing) (entry exit : List ℕ) (next : ℕ) → r.number ≡ 0 → setup_words ≤ length entry
-    → WroteAll setup_words entry 0 (words_of r.setup) exit next → PutBack r entry exit
-put-room r entry exit next z l w =
-    let xs = words_of r.setup in
+pub put-words : (s : Setup) (entry exit : List ℕ) (next : ℕ) → setup_words ≤ length entry → WroteAll setup_words entry 0 (words_of s) exit next
+    → exit ≡ written (words_of s) entry
+put-words s entry exit next l w =
+    let xs = words_of s in
     let long = w.long in
-    record {
-      refused = λ d. absurd (d z);
-      accepted = λ e. w.wrote.exit ∙ sets-eq xs entry 0 (omega arith) ∙ ap (λ (m : ℕ). xs ++ drop m entry) (zero-add (length xs));
-    }
+    w.wrote.exit ∙ sets-eq xs entry 0 (omega arith) ∙ ap (λ (m : ℕ). xs ++ drop m entry) (zero-add (length xs))
 
 formed-first : (c : Call) (s : Setup) → AllYes (asks_of c s) → WellFormed s
 formed-first (TakeIn v) s y = y.0
@@ -69,6 +66,14 @@ module _ (c : Call) (entry : List ℕ) where
             (asks-either (back s) (Done c s) (asks_of c s) r a);
       }
 
+  -- the same, of what the call hands back
+  pub room-for : (s : Setup) → s ≡ setup_in entry → (r : Result Setup Refusal) → CallOf c s (handed_back s r) → IfOk r (λ _. setup_words ≤ length entry)
+  room-for s e r a = by r (has_room s e (handed_back s r) a)
+    where
+      by : (r : Result Setup Refusal) → HasRoom (handed_back s r) entry → IfOk r (λ _. setup_words ≤ length entry)
+      by (Ok t) h = h.accepted refl
+      by (Err e) h = tt
+
   call-fulfilled : (r : Redrawing) (exit : List ℕ) → CallOf c (setup_in entry) r → PutBack r entry exit
       → Fulfils (living_call c entry) (ends (record { number = r.number; values = [] }) (exit ∷ []))
   unfolding Fulfils
@@ -92,6 +97,19 @@ module _ (c : Call) (entry : List ℕ) where
         unused = 0;
         told = refl;
       }
+
+  put-back : (s : Setup) (r : Result Setup Refusal) (exit : List ℕ) → IfOk r (λ t. exit ≡ written (words_of t) entry) → OnErr r (exit ≡ entry)
+      → PutBack (handed_back s r) entry exit
+  put-back s (Ok t) exit a b = record { refused = λ d. absurd (d refl); accepted = λ z. a }
+  put-back s (Err e) exit a b = record { refused = λ d. b; accepted = λ z. absurd (number_some e z) }
+
+  number-back : (s : Setup) (r : Result Setup Refusal) → asked r ≡ (handed_back s r).number
+  number-back s (Ok t) = refl
+  number-back s (Err e) = refl
+
+  pub answer_told : (s : Setup) → s ≡ setup_in entry → (r : Result Setup Refusal) (number : ℕ) (exit : List ℕ) → CallOf c s (handed_back s r) → number ≡ asked r
+      → IfOk r (λ t. exit ≡ written (words_of t) entry) → OnErr r (exit ≡ entry) → Redrew c number entry exit
+  answer_told s e r number exit a n o d = living-told s e (handed_back s r) number exit a (n ∙ number-back s r, put-back s r exit o d)
 
   -- and back: the words say what the call answered
   said : (number : ℕ) (exit : List ℕ) (t : Setup) → AllYes (asks_of c (setup_in entry)) → Redrawn (setup_in entry) (after c (drawing_of (setup_in entry))) t

@@ -15,10 +15,10 @@ use Rattle.formed.specs.WellFormed.{WellFormed}
 use Rattle.questions.specs.Contract.{Outcome, ends, turns_away, Answers, Fulfils}
 use Rattle.questions.proofs.Asks.{AllYes, asks-either}
 use Rattle.derivations.specs.Access.{AccessFrom}
-use Rattle.living.specs.declared.Redrawing.{Redrawing}
+use Rattle.living.specs.Calls.{Redrawing}
 use Rattle.living.specs.Calls.{Call, Drawing, drawing_of, Redrawn, asks_of}
 use Rattle.living.proofs.Kept.{step, refused-malformed}
-use Rattle.sheet_format.specs.declared.Reading.{Reading}
+use Rattle.sheet_format.specs.Read.{Reading}
 use Rattle.sheet_format.specs.Read.{read_sheet}
 use Rattle.sheet_format.proofs.Meaning.{empty-setup, accepted-or-refused}
 use Rattle.histories.specs.Histories.{Ran, left_by}

@@ -1,7 +1,7 @@
 -- What the inner function answers. Nothing of this has to be believed.
 use Rattle.std.specs.Prelude.{◌≡◌, List, ℕ, ◌≤◌, length}
 use Rattle.setup.specs.Calls.{written}
-use Rattle.living.specs.declared.Redrawing.{Redrawing}
+use Rattle.living.specs.Calls.{Redrawing}
 use Rattle.portal_words.specs.Words.{setup_words, words_of}
 
 -- An accepted call was made on a buffer that says a setup, and so has room for one.

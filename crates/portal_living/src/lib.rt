@@ -2,27 +2,32 @@
 
 #![tactic(auto)]
 
-ghost use Rattle.std.specs.Prelude.{◌≡◌, [], ◌∷◌};
+ghost use Rattle.std.specs.Prelude.{◌≡◌, [], ◌∷◌, ◌≤◌, length, IfOk, OnErr};
 ghost use Rattle.questions.specs.Told.{Told};
 ghost use Rattle.living.specs.Calls.{TakeIn, TakeOut, AddEdge, RemoveEdge};
 ghost use Rattle.portal_living.specs.Living.{living_call};
-ghost use Rattle.portal_living.specs.Inner.{HasRoom, PutBack};
+ghost use Rattle.setup.specs.Calls.{written};
+ghost use Rattle.questions.specs.Inner.{asked};
+ghost use Rattle.portal_words.specs.Words.{setup_words, words_of};
 
-use living::Redrawing;
+use questions::Refusal;
+use setup::Setup;
 
-// Puts the setup back into its buffer where the call was accepted. A buffer that is too short says no
-// setup, and so no call on it is accepted.
-fn put_back(redrawing: Redrawing, setup: &mut [u64]) -> u64
-    requires { HasRoom redrawing setup.old }
-    ensures { (result ≡ redrawing.number) × PutBack redrawing setup.old setup.new }
+// Puts the setup back into its buffer where the call was accepted, and gives the call's number. A
+// buffer that is too short says no setup, and so no call on it is accepted.
+fn put_back(redrawing: Result<Setup, Refusal>, setup: &mut [u64]) -> u64
+    requires { IfOk redrawing (λ _. setup_words ≤ length setup.old) }
+    ensures number { result ≡ asked redrawing }
+    ensures accepted { IfOk redrawing (λ s. setup.new ≡ written (words_of s) setup.old) }
+    ensures refused { OnErr redrawing (setup.new ≡ setup.old) }
 {
-    let number = redrawing.number;
-    if number != 0 {
-        return number;
+    match redrawing {
+        Ok(s) => {
+            portal_words::put_setup(s, setup, 0);
+            0
+        }
+        Err(refusal) => refusal.number(),
     }
-    let s = redrawing.setup;
-    portal_words::put_setup(s, setup, 0);
-    0
 }
 
 // Takes an item into the held set.

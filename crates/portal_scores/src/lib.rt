@@ -26,7 +26,7 @@ pub extern "C" fn portal_setup_score(setup: &[u64], target: u64) -> SetupScoreRe
 {
     let s = portal_words::setup_in(setup);
     let answer = answers::security_score(s, target as usize);
-    results::tell_score(answer)
+    SetupScoreResult::from(answer)
 }
 
 // The recoverability score of the target (document 01: its risk), 2^62 for "never".
@@ -36,7 +36,7 @@ pub extern "C" fn portal_setup_risk(setup: &[u64], target: u64) -> SetupRiskResu
 {
     let s = portal_words::setup_in(setup);
     let answer = answers::recoverability_score(s, target as usize);
-    results::tell_risk(answer)
+    SetupRiskResult::from(answer)
 }
 
 // Marks for sets handed in as the target's opening list.
@@ -46,7 +46,7 @@ pub extern "C" fn portal_mark_openings(setup: &[u64], target: u64, sets: &[u64])
 {
     let s = portal_words::setup_in(setup);
     let answer = answers::mark_access(s, target as usize, sets);
-    results::tell_marks(answer)
+    MarksResult::from(answer)
 }
 
 // Marks for sets handed in as the target's lockout list.
@@ -56,7 +56,7 @@ pub extern "C" fn portal_mark_lockouts(setup: &[u64], target: u64, sets: &[u64])
 {
     let s = portal_words::setup_in(setup);
     let answer = answers::mark_lockout(s, target as usize, sets);
-    results::tell_marks(answer)
+    MarksResult::from(answer)
 }
 
 // Is recovery a backdoor to the item?
@@ -66,7 +66,7 @@ pub extern "C" fn portal_backdoor(setup: &[u64], item: u64) -> FindingResult
 {
     let s = portal_words::setup_in(setup);
     let answer = findings::has_backdoor(s, item as usize);
-    results::tell_finding(answer)
+    FindingResult::from(answer)
 }
 
 // Is the item's recovery idle?
@@ -76,7 +76,7 @@ pub extern "C" fn portal_idle(setup: &[u64], item: u64) -> FindingResult
 {
     let s = portal_words::setup_in(setup);
     let answer = findings::ineffective_recovery(s, item as usize);
-    results::tell_finding(answer)
+    FindingResult::from(answer)
 }
 
 // Are the two items, in this order, out of rank?
@@ -86,7 +86,7 @@ pub extern "C" fn portal_out_of_rank(setup: &[u64], above: u64, below: u64) -> F
 {
     let s = portal_words::setup_in(setup);
     let answer = findings::inconsistent(s, above as usize, below as usize);
-    results::tell_finding(answer)
+    FindingResult::from(answer)
 }
 
 // The target's score by kinds of intruder, where `kinds` has one for each item.
@@ -96,7 +96,7 @@ pub extern "C" fn portal_kinds(setup: &[u64], target: u64, kinds: &[u8]) -> Kind
 {
     let s = portal_words::setup_in(setup);
     let answer = attackers::attacker_score(s, target as usize, kinds);
-    results::tell_kinds(answer)
+    KindsResult::from(answer)
 }
 
 // Are both lists bags, and is the first at most the second?
@@ -119,5 +119,5 @@ pub extern "C" fn portal_bag_score(
 {
     let s = portal_words::setup_in(setup);
     let answer = multiset_scores::multiset_score(s, target as usize, values, lengths);
-    results::tell_bags(answer)
+    BagScoreResult::from(answer)
 }

@@ -8,10 +8,9 @@ ghost use Rattle.findings.specs.Answers.{finding_reply};
 ghost use Rattle.attackers.specs.Answers.{attacker_reply};
 ghost use Rattle.multiset_scores.specs.Answers.{bags_reply};
 
-use answers::{MarksAnswer, RiskAnswer, ScoreAnswer};
-use attackers::AttackerAnswer;
-use findings::FindingAnswer;
-use multiset_scores::MultisetAnswer;
+use answers::Marks;
+use questions::Refusal;
+use scores::{RecoverabilityScore, SecurityScore};
 
 // Score and risk have a struct each, as they have a type each: they are never added or compared.
 #[repr(C)]
@@ -21,18 +20,20 @@ pub struct SetupScoreResult {
     pub score: u64,
 }
 
-pub(crate) fn tell_score(answer: ScoreAnswer) -> SetupScoreResult
-    ensures { InStruct (score_reply answer) result.number (result.score ∷ []) }
-{
-    match answer {
-        ScoreAnswer::Score(value) => {
-            let score = value.number();
-            SetupScoreResult { number: 0, score }
+impl From<Result<SecurityScore, Refusal>> for SetupScoreResult {
+    ghost from_gives = { λ answer r. InStruct (score_reply answer) r.number (r.score ∷ []) };
+
+    fn from(answer: Result<SecurityScore, Refusal>) -> SetupScoreResult {
+        match answer {
+            Ok(score) => SetupScoreResult {
+                number: 0,
+                score: score.number(),
+            },
+            Err(refusal) => SetupScoreResult {
+                number: refusal.number(),
+                score: 0,
+            },
         }
-        ScoreAnswer::Refused(q) => SetupScoreResult {
-            number: q,
-            score: 0,
-        },
     }
 }
 
@@ -43,15 +44,20 @@ pub struct SetupRiskResult {
     pub risk: u64,
 }
 
-pub(crate) fn tell_risk(answer: RiskAnswer) -> SetupRiskResult
-    ensures { InStruct (risk_reply answer) result.number (result.risk ∷ []) }
-{
-    match answer {
-        RiskAnswer::Risk(value) => {
-            let risk = value.number();
-            SetupRiskResult { number: 0, risk }
+impl From<Result<RecoverabilityScore, Refusal>> for SetupRiskResult {
+    ghost from_gives = { λ answer r. InStruct (risk_reply answer) r.number (r.risk ∷ []) };
+
+    fn from(answer: Result<RecoverabilityScore, Refusal>) -> SetupRiskResult {
+        match answer {
+            Ok(risk) => SetupRiskResult {
+                number: 0,
+                risk: risk.number(),
+            },
+            Err(refusal) => SetupRiskResult {
+                number: refusal.number(),
+                risk: 0,
+            },
         }
-        RiskAnswer::Refused(q) => SetupRiskResult { number: q, risk: 0 },
     }
 }
 
@@ -66,26 +72,28 @@ pub struct MarksResult {
     pub missing: u64,
 }
 
-pub(crate) fn tell_marks(answer: MarksAnswer) -> MarksResult
-    ensures { InStruct (marks_reply answer) result.number (result.right ∷ result.repeated ∷ result.shut ∷ result.loose ∷ result.missing ∷ []) }
-{
-    match answer {
-        MarksAnswer::Marked(m) => MarksResult {
-            number: 0,
-            right: m.right as u64,
-            repeated: m.repeated as u64,
-            shut: m.shut as u64,
-            loose: m.loose as u64,
-            missing: m.missing as u64,
-        },
-        MarksAnswer::Refused(q) => MarksResult {
-            number: q,
-            right: 0,
-            repeated: 0,
-            shut: 0,
-            loose: 0,
-            missing: 0,
-        },
+impl From<Result<Marks, Refusal>> for MarksResult {
+    ghost from_gives = { λ answer r. InStruct (marks_reply answer) r.number (r.right ∷ r.repeated ∷ r.shut ∷ r.loose ∷ r.missing ∷ []) };
+
+    fn from(answer: Result<Marks, Refusal>) -> MarksResult {
+        match answer {
+            Ok(marks) => MarksResult {
+                number: 0,
+                right: marks.right as u64,
+                repeated: marks.repeated as u64,
+                shut: marks.shut as u64,
+                loose: marks.loose as u64,
+                missing: marks.missing as u64,
+            },
+            Err(refusal) => MarksResult {
+                number: refusal.number(),
+                right: 0,
+                repeated: 0,
+                shut: 0,
+                loose: 0,
+                missing: 0,
+            },
+        }
     }
 }
 
@@ -96,15 +104,20 @@ pub struct FindingResult {
     pub yes: u64,
 }
 
-pub(crate) fn tell_finding(answer: FindingAnswer) -> FindingResult
-    ensures { InStruct (finding_reply answer) result.number (result.yes ∷ []) }
-{
-    match answer {
-        FindingAnswer::Is(yes) => FindingResult {
-            number: 0,
-            yes: yes as u64,
-        },
-        FindingAnswer::Refused(q) => FindingResult { number: q, yes: 0 },
+impl From<Result<bool, Refusal>> for FindingResult {
+    ghost from_gives = { λ answer r. InStruct (finding_reply answer) r.number (r.yes ∷ []) };
+
+    fn from(answer: Result<bool, Refusal>) -> FindingResult {
+        match answer {
+            Ok(yes) => FindingResult {
+                number: 0,
+                yes: u64::from(yes),
+            },
+            Err(refusal) => FindingResult {
+                number: refusal.number(),
+                yes: 0,
+            },
+        }
     }
 }
 
@@ -115,15 +128,20 @@ pub struct KindsResult {
     pub kinds: u64,
 }
 
-pub(crate) fn tell_kinds(answer: AttackerAnswer) -> KindsResult
-    ensures { InStruct (attacker_reply answer) result.number (result.kinds ∷ []) }
-{
-    match answer {
-        AttackerAnswer::Attackers(kinds) => KindsResult { number: 0, kinds },
-        AttackerAnswer::Refused(q) => KindsResult {
-            number: q,
-            kinds: 0,
-        },
+impl From<Result<u64, Refusal>> for KindsResult {
+    ghost from_gives = { λ answer r. InStruct (attacker_reply answer) r.number (r.kinds ∷ []) };
+
+    fn from(answer: Result<u64, Refusal>) -> KindsResult {
+        match answer {
+            Ok(kinds) => KindsResult {
+                number: 0,
+                kinds: kinds,
+            },
+            Err(refusal) => KindsResult {
+                number: refusal.number(),
+                kinds: 0,
+            },
+        }
     }
 }
 
@@ -134,14 +152,19 @@ pub struct BagScoreResult {
     pub bags: u64,
 }
 
-pub(crate) fn tell_bags(answer: MultisetAnswer) -> BagScoreResult
-    ensures { InStruct (bags_reply answer) result.number (result.bags ∷ []) }
-{
-    match answer {
-        MultisetAnswer::Multisets(count) => BagScoreResult {
-            number: 0,
-            bags: count as u64,
-        },
-        MultisetAnswer::Refused(q) => BagScoreResult { number: q, bags: 0 },
+impl From<Result<usize, Refusal>> for BagScoreResult {
+    ghost from_gives = { λ answer r. InStruct (bags_reply answer) r.number (r.bags ∷ []) };
+
+    fn from(answer: Result<usize, Refusal>) -> BagScoreResult {
+        match answer {
+            Ok(bags) => BagScoreResult {
+                number: 0,
+                bags: bags as u64,
+            },
+            Err(refusal) => BagScoreResult {
+                number: refusal.number(),
+                bags: 0,
+            },
+        }
     }
 }

@@ -16,6 +16,7 @@ ghost use Rattle.next_sets.specs.Answers.{next_call};
 ghost use Rattle.cut_sets.specs.Answers.{cuts_call};
 ghost use Rattle.portal_words.specs.Words.{setup_in};
 
+use questions::Refusal;
 use results::{
     ClosureResult, CutSetsResult, ForecastResult, ListsResult, LostResult, NextOpeningResult,
     OpensResult, WayInResult,
@@ -33,7 +34,7 @@ pub extern "C" fn portal_check(setup: &[u64]) -> u64
     if formed::well_formed(s) {
         return 0;
     }
-    questions::NO_SETUP
+    Refusal::NoSetup.number()
 }
 
 // What the set opens (document 01: its closure), and the number of passes (document 02, point 4).
@@ -43,7 +44,7 @@ pub extern "C" fn portal_closure(setup: &[u64], set: u64) -> ClosureResult
 {
     let s = portal_words::setup_in(setup);
     let answer = access::access_from(s, VertexSet(set));
-    results::tell_closure(answer)
+    ClosureResult::from(answer)
 }
 
 // What the loss of the set takes away (document 01: its lost set).
@@ -53,7 +54,7 @@ pub extern "C" fn portal_lost(setup: &[u64], set: u64) -> LostResult
 {
     let s = portal_words::setup_in(setup);
     let answer = access::lockout_from(s, VertexSet(set));
-    results::tell_lost(answer)
+    LostResult::from(answer)
 }
 
 // The way in: its items go to one list and its colours to the other.
@@ -69,7 +70,7 @@ pub extern "C" fn portal_way_in(
 {
     let s = portal_words::setup_in(setup);
     let answer = access::access_derivation(s, target as usize, VertexSet(set), items, colours);
-    results::tell_way(answer)
+    WayInResult::from(answer)
 }
 
 // Whether the set opens the target, and what is held at the stop (document 02, point 2).
@@ -79,7 +80,7 @@ pub extern "C" fn portal_opens(setup: &[u64], target: u64, set: u64) -> OpensRes
 {
     let s = portal_words::setup_in(setup);
     let answer = quick_yes::opens(s, target as usize, VertexSet(set));
-    results::tell_quick(answer)
+    OpensResult::from(answer)
 }
 
 // The opening list and then the lockout list, in one lent list.
@@ -89,7 +90,7 @@ pub extern "C" fn portal_lists(setup: &[u64], target: u64, sets: &mut [u64]) -> 
 {
     let s = portal_words::setup_in(setup);
     let answer = answers::both_bases(s, target as usize, sets);
-    results::tell_lists(answer)
+    ListsResult::from(answer)
 }
 
 // The number of sets that the target's opening list has at most.
@@ -99,7 +100,7 @@ pub extern "C" fn portal_forecast(setup: &[u64], target: u64) -> ForecastResult
 {
     let s = portal_words::setup_in(setup);
     let answer = forecasts::forecast_base(s, target as usize);
-    results::tell_forecast(answer)
+    ForecastResult::from(answer)
 }
 
 // The first set of the target's opening list after the last one shown, in the setup as it now is.
@@ -109,7 +110,7 @@ pub extern "C" fn portal_next_opening(setup: &[u64], target: u64, last: u64) -> 
 {
     let s = portal_words::setup_in(setup);
     let answer = next_sets::next_access_set(s, target as usize, VertexSet(last));
-    results::tell_next(answer)
+    NextOpeningResult::from(answer)
 }
 
 // The smallest cut sets of the target, in a lent list.
@@ -119,5 +120,5 @@ pub extern "C" fn portal_cut_sets(setup: &[u64], target: u64, sets: &mut [u64]) 
 {
     let s = portal_words::setup_in(setup);
     let answer = cut_sets::smallest_cuts(s, target as usize, sets);
-    results::tell_cuts(answer)
+    CutSetsResult::from(answer)
 }

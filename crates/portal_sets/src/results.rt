@@ -10,12 +10,11 @@ ghost use Rattle.forecasts.specs.Answers.{forecast_reply};
 ghost use Rattle.next_sets.specs.Answers.{next_reply};
 ghost use Rattle.cut_sets.specs.Answers.{cuts_reply};
 
-use access::{ClosureAnswer, LostAnswer, WayAnswer};
-use answers::BasesAnswer;
-use cut_sets::CutsAnswer;
-use forecasts::ForecastAnswer;
-use next_sets::NextAnswer;
+use access::Opened;
+use answers::Lengths;
+use questions::Refusal;
 use quick_yes::QuickAnswer;
+use vertex_set::VertexSet;
 
 #[repr(C)]
 #[derive(Drop)]
@@ -25,20 +24,22 @@ pub struct ClosureResult {
     pub passes: u64,
 }
 
-pub(crate) fn tell_closure(answer: ClosureAnswer) -> ClosureResult
-    ensures { InStruct (closure_reply answer) result.number (result.set ∷ result.passes ∷ []) }
-{
-    match answer {
-        ClosureAnswer::Opened(set, passes) => ClosureResult {
-            number: 0,
-            set: set.0,
-            passes: passes as u64,
-        },
-        ClosureAnswer::Refused(q) => ClosureResult {
-            number: q,
-            set: 0,
-            passes: 0,
-        },
+impl From<Result<Opened, Refusal>> for ClosureResult {
+    ghost from_gives = { λ answer r. InStruct (closure_reply answer) r.number (r.set ∷ r.passes ∷ []) };
+
+    fn from(answer: Result<Opened, Refusal>) -> ClosureResult {
+        match answer {
+            Ok(opened) => ClosureResult {
+                number: 0,
+                set: opened.vertices.0,
+                passes: opened.passes as u64,
+            },
+            Err(refusal) => ClosureResult {
+                number: refusal.number(),
+                set: 0,
+                passes: 0,
+            },
+        }
     }
 }
 
@@ -49,15 +50,20 @@ pub struct LostResult {
     pub set: u64,
 }
 
-pub(crate) fn tell_lost(answer: LostAnswer) -> LostResult
-    ensures { InStruct (lost_reply answer) result.number (result.set ∷ []) }
-{
-    match answer {
-        LostAnswer::Lost(set) => LostResult {
-            number: 0,
-            set: set.0,
-        },
-        LostAnswer::Refused(q) => LostResult { number: q, set: 0 },
+impl From<Result<VertexSet, Refusal>> for LostResult {
+    ghost from_gives = { λ answer r. InStruct (lost_reply answer) r.number (r.set ∷ []) };
+
+    fn from(answer: Result<VertexSet, Refusal>) -> LostResult {
+        match answer {
+            Ok(lost) => LostResult {
+                number: 0,
+                set: lost.0,
+            },
+            Err(refusal) => LostResult {
+                number: refusal.number(),
+                set: 0,
+            },
+        }
     }
 }
 
@@ -69,25 +75,27 @@ pub struct WayInResult {
     pub steps: u64,
 }
 
-pub(crate) fn tell_way(answer: WayAnswer) -> WayInResult
-    ensures { InStruct (way_reply answer) result.number (result.opens ∷ result.steps ∷ []) }
-{
-    match answer {
-        WayAnswer::Steps(count) => WayInResult {
-            number: 0,
-            opens: 1,
-            steps: count as u64,
-        },
-        WayAnswer::Shut => WayInResult {
-            number: 0,
-            opens: 0,
-            steps: 0,
-        },
-        WayAnswer::Refused(q) => WayInResult {
-            number: q,
-            opens: 0,
-            steps: 0,
-        },
+impl From<Result<Option<usize>, Refusal>> for WayInResult {
+    ghost from_gives = { λ answer r. InStruct (way_reply answer) r.number (r.opens ∷ r.steps ∷ []) };
+
+    fn from(answer: Result<Option<usize>, Refusal>) -> WayInResult {
+        match answer {
+            Ok(Some(count)) => WayInResult {
+                number: 0,
+                opens: 1,
+                steps: count as u64,
+            },
+            Ok(None) => WayInResult {
+                number: 0,
+                opens: 0,
+                steps: 0,
+            },
+            Err(refusal) => WayInResult {
+                number: refusal.number(),
+                opens: 0,
+                steps: 0,
+            },
+        }
     }
 }
 
@@ -99,25 +107,22 @@ pub struct OpensResult {
     pub set: u64,
 }
 
-pub(crate) fn tell_quick(answer: QuickAnswer) -> OpensResult
-    ensures { InStruct (quick_reply answer) result.number (result.opens ∷ result.set ∷ []) }
-{
-    match answer {
-        QuickAnswer::Yes(held) => OpensResult {
-            number: 0,
-            opens: 1,
-            set: held.0,
-        },
-        QuickAnswer::No(held) => OpensResult {
-            number: 0,
-            opens: 0,
-            set: held.0,
-        },
-        QuickAnswer::Refused(q) => OpensResult {
-            number: q,
-            opens: 0,
-            set: 0,
-        },
+impl From<Result<QuickAnswer, Refusal>> for OpensResult {
+    ghost from_gives = { λ answer r. InStruct (quick_reply answer) r.number (r.opens ∷ r.set ∷ []) };
+
+    fn from(answer: Result<QuickAnswer, Refusal>) -> OpensResult {
+        match answer {
+            Ok(quick) => OpensResult {
+                number: 0,
+                opens: u64::from(quick.yes),
+                set: quick.held.0,
+            },
+            Err(refusal) => OpensResult {
+                number: refusal.number(),
+                opens: 0,
+                set: 0,
+            },
+        }
     }
 }
 
@@ -129,20 +134,22 @@ pub struct ListsResult {
     pub lockouts: u64,
 }
 
-pub(crate) fn tell_lists(answer: BasesAnswer) -> ListsResult
-    ensures { InStruct (bases_reply answer) result.number (result.openings ∷ result.lockouts ∷ []) }
-{
-    match answer {
-        BasesAnswer::Counts(opening, lockout) => ListsResult {
-            number: 0,
-            openings: opening as u64,
-            lockouts: lockout as u64,
-        },
-        BasesAnswer::Refused(q) => ListsResult {
-            number: q,
-            openings: 0,
-            lockouts: 0,
-        },
+impl From<Result<Lengths, Refusal>> for ListsResult {
+    ghost from_gives = { λ answer r. InStruct (bases_reply answer) r.number (r.openings ∷ r.lockouts ∷ []) };
+
+    fn from(answer: Result<Lengths, Refusal>) -> ListsResult {
+        match answer {
+            Ok(lengths) => ListsResult {
+                number: 0,
+                openings: lengths.openings as u64,
+                lockouts: lengths.lockouts as u64,
+            },
+            Err(refusal) => ListsResult {
+                number: refusal.number(),
+                openings: 0,
+                lockouts: 0,
+            },
+        }
     }
 }
 
@@ -153,12 +160,20 @@ pub struct ForecastResult {
     pub sets: u64,
 }
 
-pub(crate) fn tell_forecast(answer: ForecastAnswer) -> ForecastResult
-    ensures { InStruct (forecast_reply answer) result.number (result.sets ∷ []) }
-{
-    match answer {
-        ForecastAnswer::Sets(sets) => ForecastResult { number: 0, sets },
-        ForecastAnswer::Refused(q) => ForecastResult { number: q, sets: 0 },
+impl From<Result<u64, Refusal>> for ForecastResult {
+    ghost from_gives = { λ answer r. InStruct (forecast_reply answer) r.number (r.sets ∷ []) };
+
+    fn from(answer: Result<u64, Refusal>) -> ForecastResult {
+        match answer {
+            Ok(sets) => ForecastResult {
+                number: 0,
+                sets: sets,
+            },
+            Err(refusal) => ForecastResult {
+                number: refusal.number(),
+                sets: 0,
+            },
+        }
     }
 }
 
@@ -170,25 +185,27 @@ pub struct NextOpeningResult {
     pub set: u64,
 }
 
-pub(crate) fn tell_next(answer: NextAnswer) -> NextOpeningResult
-    ensures { InStruct (next_reply answer) result.number (result.more ∷ result.set ∷ []) }
-{
-    match answer {
-        NextAnswer::Set(x) => NextOpeningResult {
-            number: 0,
-            more: 1,
-            set: x.0,
-        },
-        NextAnswer::NoMoreSets => NextOpeningResult {
-            number: 0,
-            more: 0,
-            set: 0,
-        },
-        NextAnswer::Refused(q) => NextOpeningResult {
-            number: q,
-            more: 0,
-            set: 0,
-        },
+impl From<Result<Option<VertexSet>, Refusal>> for NextOpeningResult {
+    ghost from_gives = { λ answer r. InStruct (next_reply answer) r.number (r.more ∷ r.set ∷ []) };
+
+    fn from(answer: Result<Option<VertexSet>, Refusal>) -> NextOpeningResult {
+        match answer {
+            Ok(Some(set)) => NextOpeningResult {
+                number: 0,
+                more: 1,
+                set: set.0,
+            },
+            Ok(None) => NextOpeningResult {
+                number: 0,
+                more: 0,
+                set: 0,
+            },
+            Err(refusal) => NextOpeningResult {
+                number: refusal.number(),
+                more: 0,
+                set: 0,
+            },
+        }
     }
 }
 
@@ -199,17 +216,19 @@ pub struct CutSetsResult {
     pub count: u64,
 }
 
-pub(crate) fn tell_cuts(answer: CutsAnswer) -> CutSetsResult
-    ensures { InStruct (cuts_reply answer) result.number (result.count ∷ []) }
-{
-    match answer {
-        CutsAnswer::Sets(count) => CutSetsResult {
-            number: 0,
-            count: count as u64,
-        },
-        CutsAnswer::Refused(q) => CutSetsResult {
-            number: q,
-            count: 0,
-        },
+impl From<Result<usize, Refusal>> for CutSetsResult {
+    ghost from_gives = { λ answer r. InStruct (cuts_reply answer) r.number (r.count ∷ []) };
+
+    fn from(answer: Result<usize, Refusal>) -> CutSetsResult {
+        match answer {
+            Ok(count) => CutSetsResult {
+                number: 0,
+                count: count as u64,
+            },
+            Err(refusal) => CutSetsResult {
+                number: refusal.number(),
+                count: 0,
+            },
+        }
     }
 }

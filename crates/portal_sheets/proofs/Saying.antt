@@ -8,7 +8,7 @@ use lib.ListN.{length, drop}
 use Rattle.setup.specs.declared.Setup.{Setup}
 use Rattle.setup.specs.Setup.{no_items}
 use Rattle.formed.specs.WellFormed.{WellFormed}
-use Rattle.sheet_format.specs.declared.Reading.{Reading}
+use Rattle.sheet_format.specs.Read.{Reading}
 use Rattle.sheet_format.specs.Read.{read_sheet}
 use Rattle.sheet_format.proofs.Meaning.{empty-setup, accepted-or-refused}
 use Rattle.sheet_format.proofs.Question12.{yielded-formed}

@@ -8,7 +8,7 @@ use native.Mathlib.Nat.{zero-add}
 use native.Mathlib.Omega.{arith}
 use lib.ListN.{length, drop, length-drop}
 use lib.Seq.{sets-eq, length-take-le}
-use Rattle.sheet_format.specs.declared.Reading.{Reading}
+use Rattle.sheet_format.specs.Read.{Reading}
 use Rattle.sheet_format.specs.Read.{read_sheet}
 use Rattle.sheet_lines.specs.declared.names.Span.{Span}
 use Rattle.sheet_lines.specs.Inner.Span.{span_of}

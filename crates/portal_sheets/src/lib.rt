@@ -5,12 +5,15 @@
 
 ghost use Rattle.std.specs.Prelude.{◌≡◌, [], ◌∷◌};
 ghost use Rattle.questions.specs.Told.{Told};
+ghost use Rattle.questions.specs.Refusals.{number};
 ghost use Rattle.pool_format.specs.Call.{PoolCall};
 ghost use Rattle.save_format.specs.Call.{save_call};
 ghost use Rattle.portal_words.specs.Words.{setup_in};
 ghost use Rattle.portal_sheets.specs.Reading.{version, ReadingCall, name_call};
 
 use portal_words::SETUP_WORDS;
+use questions::Refusal;
+use sheet_format::SheetRefusal;
 
 #[repr(C)]
 #[derive(Drop)]
@@ -58,27 +61,57 @@ pub extern "C" fn portal_version() -> u64
     VERSION
 }
 
+impl From<SheetRefusal> for ReadResult {
+    ghost from_gives = { λ refused r. (r.number ≡ number refused.refusal) × (r.line ≡ refused.line) };
+
+    fn from(refused: SheetRefusal) -> ReadResult {
+        ReadResult {
+            number: refused.refusal.number(),
+            line: refused.line,
+        }
+    }
+}
+
 // Reads a sheet: its number and line; the setup's words go to the front of the lent buffer. The
-// sheet's own questions come before question 15, which asks for the buffer's room.
+// sheet's own questions come before question 15, which asks for the buffer's room. The words behind a
+// refused sheet are those of no items.
 #[unsafe(no_mangle)]
 pub extern "C" fn portal_read(sheet: &[u8], setup: &mut [u64]) -> ReadResult
     ensures { ReadingCall sheet.now result.number result.line setup.old setup.new }
 {
     let reading = sheet::read_sheet(sheet);
-    let number = reading.number;
-    let line = reading.line;
     if setup.len() < SETUP_WORDS {
-        if number == 0 {
-            return ReadResult {
-                number: questions::SHORT,
-                line,
-            };
-        }
-        return ReadResult { number, line };
+        return match reading {
+            Ok(_) => ReadResult {
+                number: Refusal::Short.number(),
+                line: 0,
+            },
+            Err(refused) => ReadResult::from(refused),
+        };
     }
-    let s = reading.setup;
-    portal_words::put_setup(s, setup, 0);
-    ReadResult { number, line }
+    match reading {
+        Ok(s) => {
+            portal_words::put_setup(s, setup, 0);
+            ReadResult { number: 0, line: 0 }
+        }
+        Err(refused) => {
+            portal_words::put_setup(portal_words::no_items(), setup, 0);
+            ReadResult::from(refused)
+        }
+    }
+}
+
+impl NameResult {
+    // Why there is no name.
+    fn refused(refusal: Refusal) -> NameResult
+        ensures { result ≡ record { number = number refusal; start = 0; length = 0 } }
+    {
+        NameResult {
+            number: refusal.number(),
+            start: 0,
+            length: 0,
+        }
+    }
 }
 
 // An item's name, as the part of the sheet's own bytes that holds it.
@@ -86,30 +119,19 @@ pub extern "C" fn portal_read(sheet: &[u8], setup: &mut [u64]) -> ReadResult
 pub extern "C" fn portal_name(sheet: &[u8], item: u64) -> NameResult
     ensures { Told (name_call sheet.now item) result.number (result.start ∷ result.length ∷ []) [] }
 {
-    let reading = sheet::read_sheet(sheet);
-    let number = reading.number;
-    if number != 0 {
-        return NameResult {
-            number,
-            start: 0,
-            length: 0,
-        };
-    }
-    let s = reading.setup;
-    if s.count <= item as usize {
-        return NameResult {
-            number: questions::NO_ITEM,
-            start: 0,
-            length: 0,
-        };
-    }
-    let span = sheet_lines::names::name_span(sheet, item as usize);
-    let start = span.from as u64;
-    let end = span.to as u64;
-    NameResult {
-        number: 0,
-        start,
-        length: end - start,
+    match sheet::read_sheet(sheet) {
+        Ok(s) => {
+            if s.count <= item as usize {
+                return NameResult::refused(Refusal::NoItem);
+            }
+            let span = sheet_lines::names::name_span(sheet, item as usize);
+            NameResult {
+                number: 0,
+                start: span.from as u64,
+                length: (span.to - span.from) as u64,
+            }
+        }
+        Err(refused) => NameResult::refused(refused.refusal),
     }
 }
 
@@ -119,11 +141,19 @@ pub extern "C" fn portal_pool(first: &[u8], second: &[u8], out: &mut [u8]) -> Po
     ensures { PoolCall first.now second.now (record { number = result.number; sheet = result.sheet; line = result.line; size = result.length }) out.old out.new }
 {
     let pooled = pooling::pool_sheets(first, second, out);
-    PoolResult {
-        number: pooled.number,
-        sheet: pooled.sheet,
-        line: pooled.line,
-        length: pooled.size as u64,
+    match pooled {
+        Ok(size) => PoolResult {
+            number: 0,
+            sheet: 0,
+            line: 0,
+            length: size as u64,
+        },
+        Err(no) => PoolResult {
+            number: no.refusal.number(),
+            sheet: no.sheet,
+            line: no.line,
+            length: 0,
+        },
     }
 }
 
@@ -138,8 +168,14 @@ pub extern "C" fn portal_write_sheet(
 {
     let s = portal_words::setup_in(setup);
     let saved = saving::write_sheet(sheet, s, out);
-    WriteSheetResult {
-        number: saved.number,
-        length: saved.length as u64,
+    match saved {
+        Ok(length) => WriteSheetResult {
+            number: 0,
+            length: length as u64,
+        },
+        Err(refusal) => WriteSheetResult {
+            number: refusal.number(),
+            length: 0,
+        },
     }
 }

@@ -9,7 +9,7 @@ use lib.ListN.{length, take, set, length-set}
 use lib.Seq.{take_all, take-suc-set}
 use borrow.Author.Tests.{eq-eqb, ne_eqb}
 use Rattle.setup.specs.declared.Kind.TheVariants.{Credential, Account}
-use Rattle.setup.specs.declared.Value.TheVariants.{Blank, Of}
+use Rattle.std.specs.Prelude.{None, Some}
 use Rattle.portal_words.specs.Words.{tabulate, blank, kind_in, value_in}
 
 -- The first i places of n have f of their number.
@@ -43,10 +43,10 @@ pub kind-account : (n : ℕ) → (n ≡ 0 → ⊥) → Account ≡ kind_in n
 unfolding kind_in
 kind-account n e = rw (ne_eqb n 0 e)
 
-pub value-blank : (n : ℕ) → n ≡ blank → Blank ≡ value_in n
+pub value-blank : (n : ℕ) → n ≡ blank → None ≡ value_in n
 unfolding value_in
 value-blank n e = rw (eq-eqb n blank e)
 
-pub value-given : (n : ℕ) → (n ≡ blank → ⊥) → Of n ≡ value_in n
+pub value-given : (n : ℕ) → (n ≡ blank → ⊥) → Some n ≡ value_in n
 unfolding value_in
 value-given n e = rw (ne_eqb n blank e)

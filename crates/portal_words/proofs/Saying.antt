@@ -9,8 +9,7 @@ use lib.ListN.{length, get_or, take, length-append, get_or-append}
 use lib.Seq.{take_all, take-suc, get_or-append-add}
 use Rattle.setup.specs.declared.Kind.{Kind}
 use Rattle.setup.specs.declared.Kind.TheVariants.{Credential, Account}
-use Rattle.setup.specs.declared.Value.{Value}
-use Rattle.setup.specs.declared.Value.TheVariants.{Blank, Of}
+use Rattle.std.specs.Prelude.{Option, None, Some}
 use Rattle.setup.specs.declared.Vertex.{Vertex}
 use Rattle.setup.specs.declared.Rows.{Rows}
 use Rattle.setup.specs.declared.Graph.{Graph}
@@ -68,14 +67,14 @@ kind-back Credential = refl
 kind-back Account = refl
 
 -- A value that words can say: not the number that stands for a blank.
-abbrev pub Said : Value → Type 0
-Said Blank = Unit {0}
-Said (Of n) = n < blank
+abbrev pub Said : Option ℕ → Type 0
+Said None = Unit {0}
+Said (Some n) = n < blank
 
-value-back : (x : Value) → Said x → value_in (value_word x) ≡ x
+value-back : (x : Option ℕ) → Said x → value_in (value_word x) ≡ x
 unfolding value_in
-value-back Blank h = refl
-value-back (Of n) h = sym (value-given n (λ e. let d = e in omega arith))
+value-back None h = refl
+value-back (Some n) h = sym (value-given n (λ e. let d = e in omega arith))
 
 -- ---- a setup
 

@@ -11,8 +11,8 @@ use lib.Seq.{take-add, drop-drop, get_or-drop}
 use Rattle.vertex_set.specs.Set.{Decides}
 use Rattle.vertex_set.proofs.Cases.{by_test, less-or, same_or}
 use Rattle.vertex_set.proofs.Decisions.{decide_iff, decide-and, decide-leb, decide-yes, yes_of, no_of}
-use Rattle.setup.specs.declared.Value.TheVariants.{Blank, Of}
-use Rattle.setup.specs.declared.Value.{Value}
+use Rattle.std.specs.Prelude.{None, Some}
+use Rattle.std.specs.Prelude.{Option}
 use Rattle.setup.specs.declared.Vertex.{Vertex}
 use Rattle.setup.specs.declared.Setup.{Setup}
 use Rattle.setup.specs.Setup.{unused_vertex, vertex_at, no_items}
@@ -135,9 +135,9 @@ module _ (words : List ℕ) (s : SaysSetup words) where
 
 -- ---- a setup is what its words say
 
-said : (x : Value) → InRange x → Said x
-said Blank h = tt
-said (Of n) h = omega arith
+said : (x : Option ℕ) → InRange x → Said x
+said None h = tt
+said (Some n) h = omega arith
 
 well-formed-said : (s : Setup) → WellFormed s → Sayable s
 well-formed-said s w = record { shaped = w.shaped; start = λ v b. (both v b).0; loss = λ v b. (both v b).1 }

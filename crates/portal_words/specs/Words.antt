@@ -3,8 +3,7 @@
 use Rattle.std.specs.Prelude.{◌≡◌, List, [], ◌∷◌, ◌++◌, Bool, true, cond, ◌&&◌, ℕ, zero, suc, ◌+◌, ◌*◌, ◌≤◌, ◌<◌, eqb, leb, length, get_or, take}
 use Rattle.setup.specs.declared.Kind.{Kind}
 use Rattle.setup.specs.declared.Kind.TheVariants.{Credential, Account}
-use Rattle.setup.specs.declared.Value.{Value}
-use Rattle.setup.specs.declared.Value.TheVariants.{Blank, Of}
+use Rattle.std.specs.Prelude.{Option, None, Some}
 use Rattle.setup.specs.declared.Vertex.{Vertex}
 use Rattle.setup.specs.declared.Rows.{Rows}
 use Rattle.setup.specs.declared.Graph.{Graph}
@@ -59,8 +58,8 @@ unfoldable pub kind_in : ℕ → Kind
 kind_in n = cond (eqb n 0) Credential Account
 
 -- The value that a word says: a blank for 2^64 - 1, else the number itself.
-unfoldable pub value_in : ℕ → Value
-value_in n = cond (eqb n blank) Blank (Of n)
+unfoldable pub value_in : ℕ → Option ℕ
+value_in n = cond (eqb n blank) None (Some n)
 
 -- The vertex v that the words say, by four of them.
 abbrev pub vertex_in : List ℕ → ℕ → Vertex
@@ -104,9 +103,9 @@ kind_word Credential = 0
 kind_word Account = 1
 
 -- The word that says a value: 2^64 - 1 for a blank, else the number itself.
-abbrev pub value_word : Value → ℕ
-value_word Blank = blank
-value_word (Of n) = n
+abbrev pub value_word : Option ℕ → ℕ
+value_word None = blank
+value_word (Some n) = n
 
 -- The four words that say a vertex: kind, start, loss and rank.
 abbrev pub vertex_words : Vertex → List ℕ

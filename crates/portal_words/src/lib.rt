@@ -10,7 +10,7 @@ ghost use Rattle.written.specs.Inner.{Wrote};
 ghost use Rattle.portal_words.specs.Inner.{WroteAll};
 ghost use Rattle.portal_words.specs.Words.{SaysSetup, tabulate, setup_words, kind_in, value_in, vertex_in, rows_in, graph_in, spelt, setup_in, kind_word, value_word, vertex_words, vertices_words, graph_words, words_of};
 
-use setup::{Graph, Kind, Rows, Setup, Value, Vertex};
+use setup::{Graph, Kind, Rows, Setup, Vertex};
 use vertex_set::VertexSet;
 
 // The number that stands for a blank.
@@ -60,13 +60,13 @@ fn kind_in(n: u64) -> Kind
     Kind::Account
 }
 
-fn value_in(n: u64) -> Value
+fn value_in(n: u64) -> Option<u64>
     ensures { result ≡ value_in n }
 {
     if n == BLANK {
-        return Value::Blank;
+        return None;
     }
-    Value::Of(n)
+    Some(n)
 }
 
 fn vertex_in(words: &[u64], v: usize) -> Vertex
@@ -74,15 +74,11 @@ fn vertex_in(words: &[u64], v: usize) -> Vertex
     ensures { result ≡ vertex_in words.now v }
 {
     let at = 1 + 4 * v;
-    let kind = kind_in(words[at]);
-    let start = value_in(words[at + 1]);
-    let loss = value_in(words[at + 2]);
-    let rank = words[at + 3];
     Vertex {
-        kind,
-        start,
-        loss,
-        rank,
+        kind: kind_in(words[at]),
+        start: value_in(words[at + 1]),
+        loss: value_in(words[at + 2]),
+        rank: words[at + 3],
     }
 }
 
@@ -90,21 +86,19 @@ fn rows_in(words: &[u64], at: usize) -> Rows
     requires { at + 8 ≤ length words.now }
     ensures { result ≡ rows_in words.now at }
 {
-    let mut r = Rows { needs: [0; 8] };
-    for c in 0..8usize {
-        r.needs[c] = words[at + c];
-    }
-    r
+    let mut needs = [0; 8];
+    needs.copy_from_slice(&words[at..at + 8]);
+    Rows { needs }
 }
 
 fn graph_in(words: &[u64], at: usize) -> Graph
     requires { at + 512 ≤ length words.now }
     ensures { result ≡ graph_in words.now at }
 {
+    // By number, for the same reason as the vertices.
     let mut r = setup::EMPTY;
     for v in 0..64usize {
-        let rows = rows_in(words, at + 8 * v);
-        r.rows[v] = rows;
+        r.rows[v] = rows_in(words, at + 8 * v);
     }
     r
 }
@@ -113,10 +107,10 @@ fn vertices_in(words: &[u64]) -> [Vertex; 64]
     requires { setup_words ≤ length words.now }
     ensures { result ≡ tabulate 64 (vertex_in words.now) }
 {
+    // By number and not by `array::from_fn`: of what a closure gets from a call its clause says nothing.
     let mut r = [setup::UNUSED; 64];
     for v in 0..64usize {
-        let vertex = vertex_in(words, v);
-        r[v] = vertex;
+        r[v] = vertex_in(words, v);
     }
     r
 }
@@ -127,23 +121,18 @@ fn spell_out(words: &[u64]) -> Setup
     requires { setup_words ≤ length words.now }
     ensures { result ≡ spelt words.now }
 {
-    let count = words[0] as usize;
-    let vertices = vertices_in(words);
-    let graph = graph_in(words, GRAPH);
-    let recovery = graph_in(words, RECOVERY);
-    let held = VertexSet(words[HELD]);
-    let opened = VertexSet(words[OPENED]);
     Setup {
-        count,
-        vertices,
-        graph,
-        recovery,
-        held,
-        opened,
+        count: words[0] as usize,
+        vertices: vertices_in(words),
+        graph: graph_in(words, GRAPH),
+        recovery: graph_in(words, RECOVERY),
+        held: VertexSet(words[HELD]),
+        opened: VertexSet(words[OPENED]),
     }
 }
 
-fn no_items() -> Setup
+// The setup of no items, which a refused sheet and words that say no setup stand for.
+pub fn no_items() -> Setup
     ensures { result ≡ no_items }
 {
     Setup {
@@ -175,24 +164,23 @@ fn kind_word(kind: Kind) -> u64
     }
 }
 
-fn value_word(value: Value) -> u64
+fn value_word(value: Option<u64>) -> u64
     ensures { result ≡ value_word value }
 {
-    match value {
-        Value::Blank => BLANK,
-        Value::Of(n) => n,
-    }
+    value.unwrap_or(BLANK)
 }
 
 fn put_vertex(x: Vertex, out: &mut [u64], at: usize) -> usize
     requires { at + 4 ≤ length out.old }
     ensures { Wrote out.old at (vertex_words x) out.new result }
 {
-    let kind = x.kind;
-    let start = x.start;
-    let loss = x.loss;
-    let words = [kind_word(kind), value_word(start), value_word(loss), x.rank];
-    written::put_words(&words, out, at)
+    let words = [
+        kind_word(x.kind),
+        value_word(x.start),
+        value_word(x.loss),
+        x.rank,
+    ];
+    written::put(&words, out, at)
 }
 
 fn put_vertices(vertices: [Vertex; 64], out: &mut [u64], at: usize) -> usize
@@ -200,8 +188,7 @@ fn put_vertices(vertices: [Vertex; 64], out: &mut [u64], at: usize) -> usize
     ensures { WroteAll 256 out.old at (vertices_words vertices) out.new result }
 {
     let mut next = at;
-    for v in 0..64usize {
-        let vertex = vertices[v];
+    for vertex in vertices {
         next = put_vertex(vertex, out, next);
     }
     next
@@ -211,8 +198,7 @@ fn put_rows(rows: Rows, out: &mut [u64], at: usize) -> usize
     requires { at + 8 ≤ length out.old }
     ensures { WroteAll 8 out.old at rows.needs out.new result }
 {
-    let needs = rows.needs;
-    written::put_words(&needs, out, at)
+    written::put(&rows.needs, out, at)
 }
 
 fn put_graph(g: Graph, out: &mut [u64], at: usize) -> usize
@@ -220,8 +206,7 @@ fn put_graph(g: Graph, out: &mut [u64], at: usize) -> usize
     ensures { WroteAll 512 out.old at (graph_words g.rows) out.new result }
 {
     let mut next = at;
-    for v in 0..64usize {
-        let rows = g.rows[v];
+    for rows in g.rows {
         next = put_rows(rows, out, next);
     }
     next
@@ -232,7 +217,7 @@ fn put_sets(held: VertexSet, opened: VertexSet, out: &mut [u64], at: usize) -> u
     ensures { WroteAll 2 out.old at (held.0 ∷ opened.0 ∷ []) out.new result }
 {
     let words = [held.0, opened.0];
-    written::put_words(&words, out, at)
+    written::put(&words, out, at)
 }
 
 // Writes the words that say the setup, from `at` on, and gives the next place.
@@ -241,13 +226,8 @@ pub fn put_setup(s: Setup, out: &mut [u64], at: usize) -> usize
     ensures { WroteAll setup_words out.old at (words_of s) out.new result }
 {
     out[at] = s.count as u64;
-    let vertices = s.vertices;
-    let graph = s.graph;
-    let recovery = s.recovery;
-    let held = s.held;
-    let opened = s.opened;
-    let behind_vertices = put_vertices(vertices, out, at + 1);
-    let behind_graph = put_graph(graph, out, behind_vertices);
-    let behind_recovery = put_graph(recovery, out, behind_graph);
-    put_sets(held, opened, out, behind_recovery)
+    let behind_vertices = put_vertices(s.vertices, out, at + 1);
+    let behind_graph = put_graph(s.graph, out, behind_vertices);
+    let behind_recovery = put_graph(s.recovery, out, behind_graph);
+    put_sets(s.held, s.opened, out, behind_recovery)
 }

@@ -1,3 +1,4 @@
+pub mod Refusals
 pub mod Asks
 pub mod Contract
 pub mod Questions

@@ -1,32 +1,38 @@
 -- What the marking answers, as the task of a hand-in.
 -- Assumes nothing.
-use mathlib.Core.Path.{◌≡◌, refl, sym, ap, subst, ◌∙◌}
-use mathlib.Core.Bool.{Bool, false}
+use mathlib.Core.Path.{◌≡◌, refl, sym, ap, subst}
+use mathlib.Core.Bool.{Bool, true, false}
 use mathlib.Core.List.{List, [], ◌∷◌}
 use Prim.Native.Nat.{ℕ}
 use native.Mathlib.Omega.{arith}
 use lib.ListN.{length, get_or}
+use mir.Val.{bool_byte}
+use Rattle.std.specs.Prelude.{Result, Ok, Err}
 use Rattle.setup.specs.declared.Setup.{Setup}
+use Rattle.questions.specs.declared.Refusal.{Refusal}
 use Rattle.questions.specs.Questions.{asks12, asks13}
 use Rattle.questions.specs.Contract.{Outcome, gives, ends, turns_away, Answers, Fulfils}
 use Rattle.questions.proofs.Asks.{asks-retold}
 use Rattle.questions.proofs.Contract.{answer-told}
 use Rattle.answers.specs.declared.Marks.{Marks}
-use Rattle.answers.specs.declared.MarksAnswer.{MarksAnswer}
-use Rattle.answers.specs.declared.MarksAnswer.TheVariants as marks
 use Rattle.answers.specs.Answers.{marks_reply, AreMarks, marks_call}
-use Rattle.records.specs.declared.Record.{Record}
 use Rattle.records.specs.declared.Task.{Task}
-use Rattle.records.specs.Records.{way_code, RecordOf}
-use Rattle.records.specs.Inner.{student_alone, task_of, Attempts}
+use Rattle.records.specs.declared.Task.TheVariants as task
+use Rattle.records.specs.Records.{way_code}
+use Rattle.records.specs.Inner.{refused_by, Laid, Attempts}
 
-pub by_way : (s : Setup) (target : ℕ) (loss b : Bool) (handed : List ℕ) (o : Outcome) → loss ≡ b → Fulfils (marks_call b s target handed) o
-    → Fulfils (marks_call loss s target handed) o
-by_way s target loss b handed o e c = subst (λ (x : Bool). Fulfils (marks_call x s target handed) o) (sym e) c
+pub coded : (loss : Bool) → bool_byte loss ≡ way_code loss
+coded true = refl
+coded false = refl
 
-module _ (s : Setup) (student target : ℕ) (loss : Bool) (handed : List ℕ) where
+module _ (s : Setup) (student target way : ℕ) (loss : Bool) (handed : List ℕ) (is_way : way ≡ way_code loss) where
   abbrev values : Marks → List ℕ
   values m = m.right ∷ m.repeated ∷ m.shut ∷ m.loose ∷ m.missing ∷ []
+
+  -- the task of a hand-in whose sets got this answer
+  abbrev task_of : Result Marks Refusal → Task
+  task_of (Ok m) = task.HandIn (record { student = student; target = target; way = way; right = m.right; repeated = m.repeated; shut = m.shut; loose = m.loose; missing = m.missing })
+  task_of (Err q) = task.Refuse q
 
   -- what was promised of the values stands in the five fields
   marked : (m n : Marks) → values m ≡ values n → AreMarks loss s target handed n → AreMarks loss s target handed m
@@ -34,54 +40,28 @@ module _ (s : Setup) (student target : ℕ) (loss : Bool) (handed : List ℕ) wh
       subst (AreMarks loss s target handed)
       (sym (ap (λ (v : List ℕ). record { right = get_or v 0 0; repeated = get_or v 1 0; shut = get_or v 2 0; loose = get_or v 3 0; missing = get_or v 4 0 }) e)) h
 
-  laid : (answer : MarksAnswer) → (m : Marks) → AreMarks loss s target handed m → ends (marks_reply answer) [] ≡ ends (gives (values m)) []
-      → ((task_of student target loss answer).refused ≡ 0) × RecordOf s student target loss handed (task_of student target loss answer).row
-  laid (marks.Marked k) m h e =
+  laid : (answer : Result Marks Refusal) → (m : Marks) → AreMarks loss s target handed m → ends (marks_reply answer) [] ≡ ends (gives (values m)) []
+      → (refused_by (task_of answer) ≡ 0) × Laid s student target loss handed (task_of answer)
+  laid (Ok k) m h e =
       let g = marked k m (ap (λ (o : Outcome). o.reply.values) e) h in
-      (refl, record { is_student = refl; is_target = refl; is_way = refl; counts = g.counts; full = g.full })
-  laid (marks.Refused q) m h e = absurd (let k = ap (λ (o : Outcome). length o.reply.values) e in omega (arith, k))
+      (refl, record { row = record { student = student; target = target; way = way; right = k.right; repeated = k.repeated; shut = k.shut; loose = k.loose; missing = k.missing }; is = refl; is_record = record { is_student = refl; is_target = refl; is_way = is_way; counts = g.counts; full = g.full } })
+  laid (Err q) m h e = absurd (let k = ap (λ (o : Outcome). length o.reply.values) e in omega (arith, k))
 
-  lays : (answer : MarksAnswer) → (task_of student target loss answer).remove ≡ false
-  lays (marks.Marked m) = refl
-  lays (marks.Refused q) = refl
+  refused : (answer : Result Marks Refusal) (q : ℕ) → ends (marks_reply answer) [] ≡ turns_away [] q → refused_by (task_of answer) ≡ q
+  refused (Ok m) q e = ap (λ (o : Outcome). o.reply.number) e
+  refused (Err p) q e = ap (λ (o : Outcome). o.reply.number) e
 
-  refused : (answer : MarksAnswer) (q : ℕ) → ends (marks_reply answer) [] ≡ turns_away [] q → (task_of student target loss answer).refused ≡ q
-  refused (marks.Marked m) q e = ap (λ (o : Outcome). o.reply.number) e
-  refused (marks.Refused p) q e = ap (λ (o : Outcome). o.reply.number) e
-
-  tasks : (answer : MarksAnswer) → Fulfils (marks_call loss s target handed) (ends (marks_reply answer) []) → Attempts s student target loss handed (task_of student target loss answer)
+  tasks : (answer : Result Marks Refusal) → Fulfils (marks_call loss s target handed) (ends (marks_reply answer) []) → Attempts s student target loss handed (task_of answer)
   unfolding Fulfils
   tasks answer c =
       record {
-        lays = lays answer;
         asked = asks-retold (turns_away []) (λ q. q) (Answers (marks_call loss s target handed))
-            (λ r. (r ≡ 0) × RecordOf s student target loss handed (task_of student target loss answer).row) (asks12 s ∷ asks13 s target ∷ [])
-            (ends (marks_reply answer) []) (task_of student target loss answer).refused (λ q l. refused answer q)
+            (λ r. (r ≡ 0) × Laid s student target loss handed (task_of answer)) (asks12 s ∷ asks13 s target ∷ [])
+            (ends (marks_reply answer) []) (refused_by (task_of answer)) (λ q l. refused answer q)
             (λ y a. let t = answer-told (asks12 s ∷ asks13 s target ∷ []) (AreMarks loss s target handed) values (ends (marks_reply answer) []) a in
             laid answer t.0 t.1 t.2) c;
       }
 
-  pub attempts : (answer : MarksAnswer) (t : Task) → Fulfils (marks_call loss s target handed) (ends (marks_reply answer) []) → t ≡ task_of student target loss answer
-      → Attempts s student target loss handed t
-  attempts answer t c e = subst (λ (u : Task). Attempts s student target loss handed u) (sym e) (tasks answer c)
-
--- ---- the task by the answer's case
-
-module _ (student target : ℕ) (loss : Bool) (answer : MarksAnswer) where
-  pub entered : (way : ℕ) (m : Marks) → way ≡ way_code loss → answer ≡ marks.Marked m
-      → record {
-        remove = false;
-        refused = 0;
-        row = record { student = student; target = target; way = way; right = m.right; repeated = m.repeated; shut = m.shut; loose = m.loose; missing = m.missing };
-      } ≡ task_of student target loss answer
-  entered way m e a =
-      ap (λ (w : ℕ). record {
-        remove = false;
-        refused = 0;
-        row = record { student = student; target = target; way = w; right = m.right; repeated = m.repeated; shut = m.shut; loose = m.loose; missing = m.missing };
-      }) e
-      ∙ sym (ap (task_of student target loss) a)
-
-  pub turned-away : (row : Record) (q : ℕ) → row ≡ student_alone student → answer ≡ marks.Refused q
-      → record { remove = false; refused = q; row = row } ≡ task_of student target loss answer
-  turned-away row q e a = ap (λ (r : Record). record { remove = false; refused = q; row = r }) e ∙ sym (ap (task_of student target loss) a)
+  pub attempts : (answer given : Result Marks Refusal) → Fulfils (marks_call loss s target handed) (ends (marks_reply given) []) → given ≡ answer
+      → Attempts s student target loss handed (task_of answer)
+  attempts answer given c e = subst (λ (r : Result Marks Refusal). Attempts s student target loss handed (task_of r)) e (tasks given c)

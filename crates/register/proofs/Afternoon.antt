@@ -9,7 +9,7 @@ use lib.Seq.{take-append_seam}
 use Rattle.setup.specs.declared.Setup.{Setup}
 use Rattle.records.specs.declared.Record.{Record}
 use Rattle.records.specs.declared.Registered.{Registered}
-use Rattle.records.specs.Records.{with_record, without, RegisterOutcome, with_slice, hands_back, keeps_used}
+use Rattle.records.specs.Records.{with_record, without, RegisterOutcome, with_slice, keeps_used}
 use Rattle.register.specs.Afternoon.{RegisterCall, HandIn, Withdraw, Made, MeetsCall, slice_after, used_after, Stands, RegisterHolds, RegisterAfter, RegisterLaw}
 use Rattle.register.proofs.Outcomes.{Turned, Taken, answer-number, hand-in-outcome, withdraw-outcome, hand-in-no, withdraw-no}
 use Rattle.register.proofs.Times.{stands-before, stands-refused, stands-withdrawn, stands-handed}

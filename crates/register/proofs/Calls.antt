@@ -1,6 +1,6 @@
 -- From the outcome of a pass to the contracts of the two calls.
 -- Assumes nothing.
-use mathlib.Core.Path.{◌≡◌, refl, sym, ◌∙◌, ap, subst}
+use mathlib.Core.Path.{◌≡◌, refl, sym, ◌∙◌, ap}
 use mathlib.Core.Bool.{Bool, true, false}
 use mathlib.Core.List.{List, [], ◌∷◌}
 use mathlib.Core.Logic.{◌⊎◌, inl, inr, ⊎_elim}
@@ -18,37 +18,40 @@ use Rattle.questions.proofs.Asks.{ask-no, ask-yes, asks-retold, not-zero}
 use Rattle.records.specs.declared.Record.{Record}
 use Rattle.records.specs.declared.Registered.{Registered}
 use Rattle.records.specs.declared.Task.{Task}
-use Rattle.records.specs.Records.{RecordOf, has_three, has_student, with_record, without, RegisterOutcome, with_slice, hands_back, keeps_used}
-use Rattle.records.specs.Inner.{hand_in, withdraw, outcome_of, Leaves, leaving, Attempts}
+use Rattle.records.specs.declared.Task.TheVariants as task
+use Rattle.records.specs.Records.{has_three, has_student, with_record, without, RegisterOutcome, with_slice, hands_back, keeps_used}
+use Rattle.records.specs.Inner.{hand_in, withdraw, outcome_of, Leaves, refused_by, Laid, Attempts}
 use Rattle.records.proofs.Laws.{if-true, if-false, with_record-length, any-less, none-same}
-use Rattle.register.specs.Calls.{asks25, asks26, asks27, Enters, HandInCall, WithdrawCall}
+use Rattle.register.specs.Calls.{asks25, asks26, Enters, HandInCall, WithdrawCall}
 
 -- ---- the outcome, question by question
 
-module _ (ys : List Record) (used : ℕ) (t : Task) where
-  pub over : length ys < used → outcome_of ys used t ≡ hands_back used ys 25
+module _ (ys : List Record) (used : ℕ) where
+  pub over : (t : Task) → length ys < used → outcome_of ys used t ≡ hands_back used ys 25
   unfolding outcome_of
-  over l = if-true _ _ _ (lt-ltb _ _ l)
+  over t l = if-true _ _ _ (lt-ltb _ _ l)
 
-  pub turned : used ≤ length ys → (t.refused ≡ 0 → ⊥) → outcome_of ys used t ≡ hands_back used ys t.refused
+  pub turned : (t : Task) → used ≤ length ys → (refused_by t ≡ 0 → ⊥) → outcome_of ys used t ≡ hands_back used ys (refused_by t)
   unfolding outcome_of
-  turned l n = if-false _ _ _ (le-ltb _ _ l) ∙ if-false _ _ _ (ne_eqb t.refused 0 n)
+  turned (task.Refuse q) l n = if-false _ _ _ (le-ltb _ _ l)
+  turned (task.Withdraw k) l n = absurd (n refl)
+  turned (task.HandIn r) l n = absurd (n refl)
 
-  hands : used ≤ length ys → t.refused ≡ 0 → t.remove ≡ false → outcome_of ys used t ≡ hand_in ys used t.row
+  hands : (n : Record) → used ≤ length ys → outcome_of ys used (task.HandIn n) ≡ hand_in ys used n
   unfolding outcome_of
-  hands l e f = if-false _ _ _ (le-ltb _ _ l) ∙ if-true _ _ _ (eq-eqb _ _ e) ∙ if-false _ _ _ f
+  hands n l = if-false _ _ _ (le-ltb _ _ l)
 
-leaves : (ys : List Record) (used k : ℕ) → used ≤ length ys → outcome_of ys used (leaving k) ≡ withdraw ys used k
-unfolding outcome_of
-leaves ys used k l = if-false _ _ _ (le-ltb _ _ l)
+  leaves : (k : ℕ) → used ≤ length ys → outcome_of ys used (task.Withdraw k) ≡ withdraw ys used k
+  unfolding outcome_of
+  leaves k l = if-false _ _ _ (le-ltb _ _ l)
 
 -- ---- a withdrawal
 
-module _ (used k : ℕ) (a : Registered) (ys zs : List Record) (h : Leaves a zs (outcome_of ys used (leaving k))) where
-  withdraws-by : WithdrawCall used k a ys zs
+module _ (used k : ℕ) (a : Registered) (ys zs : List Record) (h : Leaves a zs (outcome_of ys used (task.Withdraw k))) where
+  pub withdraws : WithdrawCall used k a ys zs
   unfolding Asks
-  withdraws-by =
-      ⊎_elim (λ l. inl (λ n. omega (arith, l, n), h ∙ over ys used (leaving k) l))
+  withdraws =
+      ⊎_elim (λ l. inl (λ n. omega (arith, l, n), h ∙ over ys used (task.Withdraw k) l))
       (λ l. inr (l, by_test (has_student k (take used ys)) (λ e. inr (e, left l e)) (λ e. inl (λ y. false-true (sym e ∙ y), none l e))))
       (less-or (length ys) used)
     where
@@ -62,9 +65,6 @@ module _ (used k : ℕ) (a : Registered) (ys zs : List Record) (h : Leaves a zs 
       none l e =
           let n = length-take-le used ys l in
           h ∙ leaves ys used k l ∙ if-true _ _ _ (eq-eqb _ _ (ap length (none-same k (take used ys) e) ∙ n))
-
-pub withdraws : (used k : ℕ) (t : Task) (a : Registered) (ys zs : List Record) → t ≡ leaving k → Leaves a zs (outcome_of ys used t) → WithdrawCall used k a ys zs
-withdraws used k t a ys zs e h = withdraws-by used k a ys zs (subst (λ (u : Task). Leaves a zs (outcome_of ys used u)) e h)
 
 -- ---- a hand-in
 
@@ -110,12 +110,13 @@ hands_in s used student target loss handed t a ys zs m h = ⊎_elim early asked 
     asked : used ≤ length ys → HandInCall s used student target loss handed a ys zs
     asked l =
         ask-yes (hands_back used ys) (Enters s used student target loss handed ys) (asks25 ys used) (asks12 s ∷ asks13 s target ∷ []) o l
-        (asks-retold (λ q. q) (hands_back used ys) (λ r. (r ≡ 0) × RecordOf s student target loss handed t.row) (Enters s used student target loss handed ys)
-        (asks12 s ∷ asks13 s target ∷ []) t.refused o refused (λ y. laid) m.asked)
+        (asks-retold (λ q. q) (hands_back used ys) (λ r. (r ≡ 0) × Laid s student target loss handed t) (Enters s used student target loss handed ys)
+        (asks12 s ∷ asks13 s target ∷ []) (refused_by t) o refused (λ y x. laid x.1) m.asked)
       where
-        refused : (q : ℕ) → Listed (12 ∷ 13 ∷ []) q → t.refused ≡ q → o ≡ hands_back used ys q
+        refused : (q : ℕ) → Listed (12 ∷ 13 ∷ []) q → refused_by t ≡ q → o ≡ hands_back used ys q
         refused q i e =
             h ∙ turned ys used t l (λ z. not-zero (asks12 s ∷ asks13 s target ∷ []) q refl i (sym e ∙ z)) ∙ ap (hands_back used ys) e
 
-        laid : (t.refused ≡ 0) × RecordOf s student target loss handed t.row → Enters s used student target loss handed ys o
-        laid x = record { row = t.row; is_record = x.1; told = takes t.row used o ys l (h ∙ hands ys used t l x.0 m.lays) }
+        laid : Laid s student target loss handed t → Enters s used student target loss handed ys o
+        laid x =
+            record { row = x.row; is_record = x.is_record; told = takes x.row used o ys l (h ∙ ap (outcome_of ys used) x.is ∙ hands ys used x.row l) }

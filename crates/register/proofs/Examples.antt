@@ -10,7 +10,6 @@ use lib.ListN.{length, take, drop}
 use lib.Seq.{drop-append_seam}
 use Rattle.setup.specs.declared.Setup.{Setup}
 use Rattle.questions.specs.Questions.{asks12, asks13}
-use Rattle.questions.specs.Asks.{Asks}
 use Rattle.questions.proofs.Asks.{first-no, after-all}
 use Rattle.records.specs.declared.Record.{Record}
 use Rattle.records.specs.declared.Registered.{Registered}

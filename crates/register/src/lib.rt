@@ -1,11 +1,11 @@
-// The class register: attempts in a lent slice of records. The functions over the slice decide nothing;
-// what goes where is decided by value, record by record, in the crate `records`.
+// The class register: attempts in a lent slice of records. What goes where is decided in the crate
+// `records`.
 
 #![tactic(auto)]
 
 ghost use Rattle.register.specs.Calls.{HandInCall, WithdrawCall};
 
-use records::{Record, Registered};
+use records::{Record, Registered, Task};
 use setup::Setup;
 
 // Hands in sets as a student's attempt at one way of the target: `loss` is false for its opening
@@ -21,14 +21,13 @@ pub fn hand_in(
 ) -> Registered
     ensures { HandInCall s used student target loss handed.now result records.old records.new }
 {
-    let t = records::attempt(s, student, target, loss, handed);
-    records::apply(records, used, t)
+    let task = records::attempt(s, student, target, loss, handed);
+    records::apply(records, used, task)
 }
 
 // Withdraws a student.
 pub fn withdraw(records: &mut [Record], used: usize, student: u64) -> Registered
     ensures { WithdrawCall used student result records.old records.new }
 {
-    let t = records::leave(student);
-    records::apply(records, used, t)
+    records::apply(records, used, Task::Withdraw(student))
 }

@@ -3,6 +3,7 @@
 
 #![tactic(auto)]
 
+use report_facts::Source;
 use report_scores::LIST_ROOM;
 use report_writer::{start, steps};
 use sheet::READ_ROOM;
@@ -20,12 +21,15 @@ fn print_report<O: Write, E: Write>(sheet: &[u8], output: &mut O, errors: &mut E
     let mut list = [0u64; LIST_ROOM];
     let mut out = [0u8; PART];
     let report = start::begin(sheet, &mut opening, &mut lockout);
-    let facts = report.facts;
+    let source = Source {
+        sheet,
+        facts: &report.facts,
+        opening: &opening,
+        lockout: &lockout,
+    };
     let mut cursor = report.cursor;
     while steps::unfinished(cursor) {
-        let next = steps::fill(
-            facts, cursor, sheet, &opening, &lockout, &mut list, &mut out,
-        );
+        let next = steps::fill(source, cursor, &mut list, &mut out);
         let told = streams::write_whole(output, &out[..next.at]);
         if let Some(error) = told.failure {
             streams::fail(errors, b"report: the report is cut off", &error);

@@ -7,7 +7,6 @@ use mathlib.Core.Logic.{⊎_elim}
 use Prim.Native.Nat.{ℕ, ◌≤◌, ◌<◌}
 use native.Mathlib.Omega.{arith}
 use lib.Dec.{ltb, leb}
-use lib.ListN.{get_or}
 use Rattle.vertex_set.specs.Set.{Iff, Decides}
 use Rattle.vertex_set.specs.declared.VertexSet.{VertexSet}
 use Rattle.vertex_set.proofs.Cases.{less-or, false-true}
@@ -16,7 +15,7 @@ use Rattle.scores.specs.Inner.Lists.{security_at, recoverability_at}
 use Rattle.setup.specs.declared.Vertex.{Vertex}
 use Rattle.setup.specs.declared.Graph.{Graph}
 use Rattle.setup.specs.declared.Setup.{Setup}
-use Rattle.setup.specs.Setup.{vertex_at, ChosenSet, WithoutRecovery}
+use Rattle.setup.specs.Setup.{ChosenSet, WithoutRecovery}
 use Rattle.formed.specs.WellFormed.{WellFormed}
 use Rattle.bases.specs.Inner.Readers.{Values}
 use Rattle.reference.specs.Bases.{score_of}
@@ -24,7 +23,7 @@ use Rattle.reference.proofs.Graphs.{own-graph, graph-without}
 use Rattle.reference.proofs.Meaning.{score-is}
 use Rattle.report_text.specs.Report.{less_recovery, is_account_kind, is_account, is_backdoor, is_idle, is_out_of_rank}
 use Rattle.report_text.proofs.Meaning.{less-unique}
-use Rattle.report_facts.specs.Inner.Sets.{AccountSet, WeakerSet, IdleSet, Ranks, BelowAll}
+use Rattle.report_facts.specs.Inner.Sets.{AccountSet, WeakerSet, IdleSet, BelowAll}
 use Rattle.report_scores.specs.Inner.Scores.{Scored}
 use Rattle.report_facts.specs.declared.names.Names.{Names}
 use Rattle.report_facts.specs.Inner.Places.{NamesPlaced}
@@ -80,8 +79,8 @@ module _ (s : Setup) (w : WellFormed s) where
 
   -- the facts, from all their parts
   pub facts-are : (sheet opening lockout : List ℕ) (names : Names) (findings : Findings) (accounts initial losable : VertexSet)
-      (ranks below starts losses : List ℕ) → HasNames sheet s → NamesPlaced sheet s.count names → FindingsOf s opening lockout findings
-      → AccountSet s accounts.0 → Ranks s ranks → BelowAll accounts.0 ranks findings.scores below
+      (below starts losses : List ℕ) → HasNames sheet s → NamesPlaced sheet s.count names → FindingsOf s opening lockout findings
+      → AccountSet s accounts.0 → BelowAll accounts.0 s findings.scores below
       → ChosenSet false s initial.0 → ChosenSet true s losable.0 → Values false s starts → Values true s losses
       → let f : Facts = record {
         count = s.count;
@@ -100,7 +99,7 @@ module _ (s : Setup) (w : WellFormed s) where
       } in
       FactsOf sheet s f × TablesOf s f opening lockout
   unfolding is_out_of_rank
-  facts-are sheet opening lockout names findings accounts initial losable ranks below starts losses n p f a r b ci cl vs vl = (
+  facts-are sheet opening lockout names findings accounts initial losable below starts losses n p f a b ci cl vs vl = (
     record {
       formed = w;
       is_count = refl;
@@ -116,14 +115,15 @@ module _ (s : Setup) (w : WellFormed s) where
       pairs = λ v u l k. record {
         to = λ m.
             let h = ((b.each v (in64 v l)).each u).to m in
-            (((a.each u).to h.1.account).1, and_both _ _ ((rank v u l k).to h.1.above.ranks) ((score v u l k).to h.1.above.scores));
+            (((a.each u).to h.1.account).1, and_both _ _ (yes_of _ (decide-ltb _ _) h.1.rank) ((score v u l k).to h.1.score));
         from = λ e.
             let h = and_parts _ _ e.1 in
             ((b.each v (in64 v l)).each u).from (
               in64 u k,
               record {
                 account = (a.each u).from (in64 u k, e.0);
-                above = record { ranks = (rank v u l k).from h.0; scores = (score v u l k).from h.1 };
+                rank = (decide-ltb _ _).yes h.0;
+                score = (score v u l k).from h.1;
               },
             );
       };
@@ -138,10 +138,6 @@ module _ (s : Setup) (w : WellFormed s) where
     where
       in64 : (v : ℕ) → v < s.count → v < 64
       in64 v l = let m = w.most in omega arith
-
-      rank : (v u : ℕ) → v < s.count → u < s.count → Iff (get_or ranks u 0 < get_or ranks v 0) (ltb (vertex_at s u).rank (vertex_at s v).rank ≡ true)
-      rank v u l k =
-          told (λ m n. m < n) ltb decide-ltb (get_or ranks u 0) (get_or ranks v 0) (vertex_at s u).rank (vertex_at s v).rank (r.each u (in64 u k)) (r.each v (in64 v l))
 
       score : (v u : ℕ) → v < s.count → u < s.count
           → Iff (security_at findings.scores v ≤ security_at findings.scores u) (leb (score_of false s s.graph v) (score_of false s s.graph u) ≡ true)

@@ -1,43 +1,49 @@
 -- Sets of the vertices that have a property, gathered from the lowest vertex on.
 -- Assumes nothing.
-use mathlib.Core.Path.{◌≡◌, ◌∙◌}
-use mathlib.Core.Bool.{Bool, false}
+use mathlib.Core.Path.{◌≡◌, refl, sym, ◌∙◌}
+use mathlib.Core.Bool.{Bool, true, false, ◌&&◌}
 use mathlib.Core.List.{List}
 use Prim.Native.Nat.{ℕ, ◌+◌, ◌≤◌, ◌<◌}
 use native.Mathlib.Omega.{arith}
-use lib.Bits.{bit_and}
 use lib.ListN.{length, get_or, set, length-set}
-use Rattle.vertex_set.specs.Set.{Decides}
+use Rattle.vertex_set.specs.Set.{Member, Decides}
 use Rattle.vertex_set.specs.Inner.{TakenBelow}
-use Rattle.vertex_set.proofs.Sets.{in_and}
-use Rattle.vertex_set.proofs.Decisions.{decide-no, decide_iff}
-use Rattle.scores.specs.declared.SecurityScore.{SecurityScore}
+use Rattle.vertex_set.proofs.Decisions.{yes_of, no_of, decide_iff, decide-and}
+use Rattle.scores.specs.Kinds.{SecurityScore}
 use Rattle.scores.specs.Inner.Lists.{security_at}
 use Rattle.vertex_set.proofs.Filling.{fill_more}
-use Rattle.report_facts.specs.Inner.Sets.{Above, BelowOne}
+use Rattle.report_facts.specs.Inner.Sets.{PlacesBy, OutOfRank}
+use Rattle.setup.specs.declared.Setup.{Setup}
+use Rattle.setup.specs.Setup.{vertex_at}
 
--- ---- out of rank
+-- two tests that tell the same answer the same
+same-test : {P : Type 0} (b t : Bool) → Decides P b → Decides P t → b ≡ t
+same-test true t d e = sym (yes_of t e (d.yes refl))
+same-test false t d e = sym (no_of t e (d.no refl))
 
-pub not-above : (rank other score than : ℕ) → rank ≤ other → Decides (Above rank other score than) false
-not-above rank other score than h = decide-no (λ a. let l = a.ranks in omega arith)
-
--- where the ranks are so, the scores decide
-pub above-by : (rank other score than : ℕ) (b : Bool) → other < rank → Decides (score ≤ than) b → Decides (Above rank other score than) b
-above-by rank other score than b l = decide_iff (record { to = λ h. record { ranks = l; scores = h }; from = λ a. a.scores })
-
--- the accounts among the vertices of a lower rank and no lower score
-pub below_one : (accounts : ℕ) (ranks : List ℕ) (scores : List SecurityScore) (v r : ℕ)
-    → TakenBelow (λ w. Above (get_or ranks v 0) (get_or ranks w 0) (security_at scores v) (security_at scores w)) 64 r → BelowOne accounts ranks scores v (bit_and accounts r)
-below_one accounts ranks scores v r a =
+-- the set of the vertices that pass a test of the property
+pub places-are : (R : ℕ → Bool → Type 0) (r : ℕ) (P : ℕ → Type 0) (test : ℕ → Bool) → PlacesBy R 64 r → ((v : ℕ) → Decides (P v) (test v))
+    → ((v : ℕ) (b : Bool) → v < 64 → R v b → Decides (P v) b) → TakenBelow P 64 r
+places-are R r P test w d e =
+    let t = w.each test (λ v b l q. same-test b (test v) (e v b l q) (d v)) in
     record {
-      each = λ w. record {
-        to = λ m.
-            let h = (in_and accounts r w).to m in
-            let p = (a.each w).to h.1 in
-            (p.0, record { account = h.0; above = p.1 });
-        from = λ h. (in_and accounts r w).from (h.1.account, (a.each w).from (h.0, h.1.above));
+      each = λ i. record {
+        to = λ m. let h = (t.each i).to m in (h.0, (d i).yes h.1);
+        from = λ h. (t.each i).from (h.0, yes_of (test i) (d i) h.1);
       };
     }
+
+-- the parts of being out of rank, each told by a test
+pub out-of-rank : (accounts : ℕ) (s : Setup) (scores : List SecurityScore) (v w : ℕ) (a b c : Bool) → Decides (Member accounts w) a
+    → Decides ((vertex_at s w).rank < (vertex_at s v).rank) b → Decides (security_at scores v ≤ security_at scores w) c
+    → Decides (OutOfRank accounts s scores v w) (a && (b && c))
+out-of-rank accounts s scores v w a b c d e f =
+    decide_iff
+    (record {
+      to = λ h. record { account = h.0; rank = h.1.0; score = h.1.1 };
+      from = λ o. (o.account, (o.rank, o.score));
+    })
+    (decide-and a (b && c) d (decide-and b c e f))
 
 -- ---- a list filled from the front
 

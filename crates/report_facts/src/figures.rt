@@ -48,15 +48,11 @@ fn findings_of(s: Setup, opening: &mut [u64], lockout: &mut [u64]) -> Findings
     let less = setup::without_recovery(s);
     let without = scores_with(s, less, opening, lockout);
     let own = scores_with(s, graph, opening, lockout);
-    let scores = own.scores;
-    let risks = own.risks;
-    let scores_without = without.scores;
-    let risks_without = without.risks;
-    let back = sets::weaker_places(scores, scores_without);
-    let idle = sets::idle_places(risks, risks_without);
+    let back = sets::weaker_places(&own.scores, &without.scores);
+    let idle = sets::idle_places(&own.risks, &without.risks);
     Findings {
-        scores,
-        risks,
+        scores: own.scores,
+        risks: own.risks,
         back,
         idle,
     }
@@ -69,33 +65,27 @@ pub fn facts_of(sheet: &[u8], s: Setup, opening: &mut [u64], lockout: &mut [u64]
     requires opening_len { (length opening.old ≡ table_words) × (length lockout.old ≡ table_words) }
     ensures { FactsOf sheet.now s result × TablesOf s result opening.new lockout.new }
 {
-    let count = s.count;
-    let names = names::name_places(sheet, count);
-    let from = names.from;
-    let to = names.to;
+    let names = names::name_places(sheet, s.count);
     let findings = findings_of(s, opening, lockout);
-    let scores = findings.scores;
-    let risks = findings.risks;
-    let back = findings.back;
-    let idle = findings.idle;
-    let accounts = sets::accounts_of(s);
-    let ranks = sets::ranks_of(s);
-    let below = sets::below_all(accounts, ranks, scores);
-    let initial = setup::chosen(s, false);
-    let losable = setup::chosen(s, true);
+    let accounts = sets::accounts_of(&s);
+    let below = sets::below_all(&s, accounts, &findings.scores);
     let starts = bases::values_of(s, false);
     let losses = bases::values_of(s, true);
+    let scores = findings.scores;
+    let risks = findings.risks;
+    let from = names.from;
+    let to = names.to;
     Facts {
-        count,
+        count: s.count,
         accounts,
-        initial,
-        losable,
+        initial: setup::chosen(s, false),
+        losable: setup::chosen(s, true),
         starts,
         losses,
         scores,
         risks,
-        back,
-        idle,
+        back: findings.back,
+        idle: findings.idle,
         below,
         from,
         to,

@@ -30,3 +30,13 @@ pub struct Facts {
     pub from: [usize; 64],
     pub to: [usize; 64],
 }
+
+// All that a report's rows are written from: the sheet, its facts, and the tables of bases that
+// `figures::facts_of` left.
+#[derive(Clone, Copy)]
+pub struct Source<'a> {
+    pub sheet: &'a [u8],
+    pub facts: &'a Facts,
+    pub opening: &'a [u64],
+    pub lockout: &'a [u64],
+}

@@ -16,6 +16,7 @@ pub fn name_places(sheet: &[u8], count: usize) -> Names
     let mut from = [0usize; 64];
     let mut to = [0usize; 64];
     let mut at = sheet_fields::find(sheet, 0, sheet_fields::LF) + 1;
+    // By index: the two lists are filled side by side, from one place in the sheet to the next.
     for v in 0..count {
         let stop = sheet_fields::find(sheet, at, sheet_fields::LF);
         from[v] = at;

@@ -8,7 +8,7 @@ use lib.ListN.{length, get_or, drop}
 use lib.Seq.{drop-cons, drop-length}
 use Rattle.written.specs.Inner.{Wrote}
 use Rattle.written.specs.Rows.{RowWritten}
-use Rattle.written.proofs.Writing.{Writing, writing-none, writing-part, writing-room, writing-end}
+use Rattle.written.proofs.Writing.{Writing, writing-none, writing-part, writing-end}
 use Rattle.written.proofs.Rows.{row_written}
 use Rattle.sheet_format.specs.Rows.{line_text}
 use Rattle.writing.specs.Inner.{ended}
@@ -26,10 +26,6 @@ module _ (fields : List (List ℕ)) (entry : List ℕ) (at i : ℕ) (out : List 
   field_apart h =
       rw (drop-cons fields i [] (omega arith), drop-cons fields (suc i) [] h) (line_first (get_or fields i []) (get_or fields (suc i) []) (drop (suc (suc i)) fields))
 
-  pub field_room : suc i < length fields → at + length (line_text fields) ≤ length entry → next + length (ended (get_or fields i []) 32) ≤ length out
-  field_room h room =
-      writing-room entry at (line_text fields) (ended (get_or fields i []) 32) (line_text (drop (suc i) fields)) out next (rw (field_apart h) at w) room
-
   pub field-more : suc i < length fields → (after : List ℕ) (r : ℕ) → Wrote out next (ended (get_or fields i []) 32) after r
       → LineWriting fields entry at (suc i) after r
   field-more h after r v =
@@ -44,17 +40,14 @@ module _ (fields : List (List ℕ)) (entry : List ℕ) (at i : ℕ) (out : List 
       drop-none : drop (suc i) fields ≡ []
       drop-none = rw e (drop-length fields)
 
-  pub last-room : suc i ≡ length fields → at + length (line_text fields) ≤ length entry → next + length (ended (get_or fields i []) 10) ≤ length out
-  last-room e room =
-      writing-room entry at (line_text fields) (ended (get_or fields i []) 10) [] out next (rw (last-field e) at w) room
+  pub last-wrote : suc i ≡ length fields → (after : List ℕ) (r : ℕ) → Wrote out next (ended (get_or fields i []) 10) after r → Wrote entry at (line_text fields) after r
+  last-wrote e after r v =
+      writing-end entry at (line_text fields) [] after r refl
+      (writing-part entry at (line_text fields) (ended (get_or fields i []) 10) [] out next after r (rw (last-field e) at w) v)
 
   pub last_end : suc i ≡ length fields → at + length (line_text fields) ≤ length entry → (after : List ℕ) (r : ℕ) → Wrote out next (ended (get_or fields i []) 10) after r
       → RowWritten entry at (line_text fields) after r
-  last_end e room after r v =
-      row_written entry at (line_text fields) after r
-      (writing-end entry at (line_text fields) [] after r refl
-      (writing-part entry at (line_text fields) (ended (get_or fields i []) 10) [] out next after r (rw (last-field e) at w) v))
-      room
+  last_end e room after r v = row_written entry at (line_text fields) after r (last-wrote e after r v) room
 
 pub line-none : (fields : List (List ℕ)) (entry : List ℕ) (at : ℕ) → LineWriting fields entry at 0 entry at
 line-none fields entry at = writing-none entry at (line_text fields)

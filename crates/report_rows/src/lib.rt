@@ -11,6 +11,7 @@ ghost use Rattle.report_text.specs.Rows.{set_row, score_row, pair_row, refused_r
 ghost use Rattle.sheet_format.specs.Names.{name_of};
 ghost use Rattle.report_rows.specs.Inner.Writing.{NamePlace, SetNamePlaces};
 
+use fields::ItemNames;
 use sheet_fields::{LF, SPACE};
 
 // A set of a target's opening list or, with loss, of its lockout list, and the sum of its values.
@@ -22,26 +23,22 @@ pub struct SetRow {
     pub sum: u64,
 }
 
-// `order open 2 4 ordpw+token`
-pub fn put_set_row(
-    row: SetRow,
-    sheet: &[u8],
-    from: &[usize],
-    to: &[usize],
-    out: &mut [u8],
-    at: usize,
-) -> usize
-    requires name_place { NamePlace sheet.now from.now to.now row.target }
-    requires set_name_places { SetNamePlaces sheet.now from.now to.now row.set }
-    requires sum_in_bounds { at + length (set_row (name_of sheet.now) row.loss row.target row.set row.sum) ≤ length out.old }
-    ensures row_written { RowWritten out.old at (set_row (name_of sheet.now) row.loss row.target row.set row.sum) out.new result }
-{
-    let size = u64::count_ones(row.set) as u64;
-    let mut next = fields::put_name_field(row.target, SPACE, sheet, from, to, out, at);
-    next = fields::put_way(row.loss, SPACE, out, next);
-    next = writing::put_number(size, SPACE, out, next);
-    next = writing::put_number(row.sum, SPACE, out, next);
-    fields::put_set_field(row.set, LF, sheet, from, to, out, next)
+impl SetRow {
+    // `order open 2 4 ordpw+token`
+    #[tactic(auto, unfolding(report_text::specs::Rows::set_row))]
+    pub fn put(self, names: ItemNames, out: &mut [u8], at: usize) -> usize
+        requires name_place { NamePlace names.sheet.now names.from.now names.to.now self.target }
+        requires set_name_places { SetNamePlaces names.sheet.now names.from.now names.to.now self.set }
+        requires sum_in_bounds { at + length (set_row (name_of names.sheet.now) self.loss self.target self.set self.sum) ≤ length out.old }
+        ensures row_written { RowWritten out.old at (set_row (name_of names.entry.sheet.now) self.loss self.target self.set self.sum) out.new result }
+    {
+        let size = self.set.count_ones() as u64;
+        let mut next = names.put_name_field(self.target, SPACE, out, at);
+        next = fields::put_way(self.loss, SPACE, out, next);
+        next = writing::put_number(size, SPACE, out, next);
+        next = writing::put_number(self.sum, SPACE, out, next);
+        names.put_set_field(self.set, LF, out, next)
+    }
 }
 
 // A target's score, risk and findings.
@@ -54,46 +51,36 @@ pub struct ScoreRow {
     pub idle: bool,
 }
 
-// `order 1 3 yes no`
-pub fn put_score_row(
-    row: ScoreRow,
-    sheet: &[u8],
-    from: &[usize],
-    to: &[usize],
-    out: &mut [u8],
-    at: usize,
-) -> usize
-    requires name_place { NamePlace sheet.now from.now to.now row.target }
-    requires idle_in_bounds { at + length (score_row (name_of sheet.now) row.target row.score row.risk row.back row.idle) ≤ length out.old }
-    ensures row_written { RowWritten out.old at (score_row (name_of sheet.now) row.target row.score row.risk row.back row.idle) out.new result }
-{
-    let mut next = fields::put_name_field(row.target, SPACE, sheet, from, to, out, at);
-    next = fields::put_score(row.score, SPACE, out, next);
-    next = fields::put_score(row.risk, SPACE, out, next);
-    next = fields::put_answer(row.back, SPACE, out, next);
-    fields::put_answer(row.idle, LF, out, next)
+impl ScoreRow {
+    // `order 1 3 yes no`
+    #[tactic(auto, unfolding(report_text::specs::Rows::score_row))]
+    pub fn put(self, names: ItemNames, out: &mut [u8], at: usize) -> usize
+        requires name_place { NamePlace names.sheet.now names.from.now names.to.now self.target }
+        requires idle_in_bounds { at + length (score_row (name_of names.sheet.now) self.target self.score self.risk self.back self.idle) ≤ length out.old }
+        ensures row_written { RowWritten out.old at (score_row (name_of names.entry.sheet.now) self.target self.score self.risk self.back self.idle) out.new result }
+    {
+        let mut next = names.put_name_field(self.target, SPACE, out, at);
+        next = fields::put_score(self.score, SPACE, out, next);
+        next = fields::put_score(self.risk, SPACE, out, next);
+        next = fields::put_answer(self.back, SPACE, out, next);
+        fields::put_answer(self.idle, LF, out, next)
+    }
 }
 
 // `order mail`
-pub fn put_pair_row(
-    v: usize,
-    w: usize,
-    sheet: &[u8],
-    from: &[usize],
-    to: &[usize],
-    out: &mut [u8],
-    at: usize,
-) -> usize
-    requires name_place { NamePlace sheet.now from.now to.now v }
-    requires name_place_2 { NamePlace sheet.now from.now to.now w }
-    requires w_in_bounds { at + length (pair_row (name_of sheet.now) v w) ≤ length out.old }
-    ensures row_written { RowWritten out.old at (pair_row (name_of sheet.now) v w) out.new result }
+#[tactic(auto, unfolding(report_text::specs::Rows::pair_row))]
+pub fn put_pair_row(v: usize, w: usize, names: ItemNames, out: &mut [u8], at: usize) -> usize
+    requires name_place { NamePlace names.sheet.now names.from.now names.to.now v }
+    requires name_place_2 { NamePlace names.sheet.now names.from.now names.to.now w }
+    requires w_in_bounds { at + length (pair_row (name_of names.sheet.now) v w) ≤ length out.old }
+    ensures row_written { RowWritten out.old at (pair_row (name_of names.entry.sheet.now) v w) out.new result }
 {
-    let next = fields::put_name_field(v, SPACE, sheet, from, to, out, at);
-    fields::put_name_field(w, LF, sheet, from, to, out, next)
+    let next = names.put_name_field(v, SPACE, out, at);
+    names.put_name_field(w, LF, out, next)
 }
 
 // `refused 5 2`
+#[tactic(auto, unfolding(report_text::specs::Rows::refused_row))]
 pub fn put_refused_row(number: u64, line: u64, out: &mut [u8], at: usize) -> usize
     requires { at + length (refused_row number line) ≤ length out.old }
     ensures row_written { RowWritten out.old at (refused_row number line) out.new result }

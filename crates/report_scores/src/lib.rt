@@ -6,14 +6,14 @@
 ghost use Rattle.std.specs.Prelude.{true, false, ◌≡◌, ℕ, ◌<◌, length, get_or};
 ghost use Rattle.vertex_set.specs.Order.{sum_over};
 ghost use Rattle.scores.specs.Inner.Lists.{security_at, recoverability_at};
-ghost use Rattle.family_lists.specs.Inner.Tables.{TablesFit};
 ghost use Rattle.tables.specs.Inner.Table.{table_words};
 ghost use Rattle.report_scores.specs.Inner.Scores.{CanScore, Scored, Numbers, CanRead, Listing, Summands, KeptAt, KeptAll};
 
 use families::WORDS;
 use scores::{RecoverabilityScore, SecurityScore};
 use setup::{Graph, Setup};
-use vertex_set::VertexSet;
+use sums::MaskSums;
+use vertex_set::{VERTICES, VertexSet};
 
 // Room for any list: a family has no more members than there are masks.
 pub const LIST_ROOM: usize = families::MASKS;
@@ -33,81 +33,47 @@ pub fn set_sum(x: u64, values: &[u64]) -> u64
     requires { Summands values.now }
     ensures { result ≡ sum_over (λ (v : ℕ). get_or values.now v 0) x }
 {
-    let one: u64 = 1;
-    let mut rest = x;
     let mut sum: u64 = 0;
-    while rest != 0 {
-        let v = u64::trailing_zeros(rest);
-        sum = sum + values[v as usize];
-        rest = rest - (one << v);
+    for v in successors::vertices_of(x) {
+        sum += values[v];
     }
     sum
 }
 
 // Keeps the minimal members of the target's family in the table, and gives the least sum over them.
-fn keep_base(w: &mut [u64], target: usize, low: &[u64], high: &[u64]) -> u64
+fn keep_base(w: &mut [u64], target: usize, sums: &MaskSums) -> u64
     requires w_len { length w.old ≡ table_words }
     requires target_bound { target < 64 }
-    requires tables_fit { TablesFit low.now high.now }
-    ensures { KeptAt w.old low.now high.now target result w.new }
+    ensures { KeptAt w.old sums.now.low sums.now.high target result w.new }
 {
     let from = target * WORDS;
     families::keep_minimal(&mut w[from..from + WORDS]);
-    least_sums::least_by(&w[from..from + WORDS], low, high)
+    least_sums::least_by(&w[from..from + WORDS], sums)
 }
 
 // Keeps the minimal members of every vertex's family in the table, and writes the least sums, which
 // are the scores, to `out`.
-fn keep_bases(w: &mut [u64], low: &[u64], high: &[u64], out: &mut [u64])
-    requires w_len { length w.old ≡ table_words }
-    requires tables_fit { TablesFit low.now high.now }
-    requires out_len { length out.old ≡ 64 }
-    ensures { KeptAll w.old low.now high.now w.new out.new }
+fn keep_bases(w: &mut [u64], sums: &MaskSums, out: &mut [u64; 64])
+    requires { length w.old ≡ table_words }
+    ensures { KeptAll w.old sums.now.low sums.now.high w.new out.new }
 {
-    for v in 0..64usize {
-        out[v] = keep_base(w, v, low, high);
+    for v in 0..VERTICES {
+        out[v] = keep_base(w, v, sums);
     }
 }
 
 // Fills the table of the graph and the initial vertices or, with loss, the losable ones, and makes
 // it the table of their bases; out gets the scores of all vertices. The graph is the setup's, or
 // that without recovery.
-fn scores_in(s: Setup, graph: Graph, loss: bool, w: &mut [u64], out: &mut [u64])
-    requires can_score { CanScore s w.old }
-    requires out_len { length out.old ≡ 64 }
+fn scores_in(s: Setup, graph: Graph, loss: bool, w: &mut [u64], out: &mut [u64; 64])
+    requires { CanScore s w.old }
     ensures { Scored loss s graph w.new (λ (v : ℕ). get_or out.new v 0) }
 {
     let chosen = setup::chosen(s, loss);
     let values = bases::values_of(s, loss);
-    let mut low = [0u64; 128];
-    let mut high = [0u64; 128];
-    least_sums::sum_tables(chosen, values, &mut low, &mut high);
+    let sums = least_sums::sum_tables(chosen, values);
     tables::fill(graph, chosen, loss, w);
-    keep_bases(w, &low, &high, out);
-}
-
-// The numbers as security scores.
-fn security_of(numbers: [u64; 64]) -> [SecurityScore; 64]
-    ensures { Numbers numbers (λ (v : ℕ). security_at result v) }
-{
-    let none = SecurityScore::of(0);
-    let mut r = [none; 64];
-    for v in 0..64usize {
-        r[v] = SecurityScore::of(numbers[v]);
-    }
-    r
-}
-
-// The numbers as recoverability scores.
-fn recoverability_of(numbers: [u64; 64]) -> [RecoverabilityScore; 64]
-    ensures { Numbers numbers (λ (v : ℕ). recoverability_at result v) }
-{
-    let none = RecoverabilityScore::of(0);
-    let mut r = [none; 64];
-    for v in 0..64usize {
-        r[v] = RecoverabilityScore::of(numbers[v]);
-    }
-    r
+    keep_bases(w, &sums, out);
 }
 
 // The security scores of all vertices in the graph; w becomes the table of their opening sets.
@@ -117,7 +83,7 @@ pub fn security_in(s: Setup, graph: Graph, w: &mut [u64]) -> [SecurityScore; 64]
 {
     let mut numbers = [0u64; 64];
     scores_in(s, graph, false, w, &mut numbers);
-    security_of(numbers)
+    numbers.map(SecurityScore::of)
 }
 
 // The recoverability scores of all vertices in the graph; w becomes the table of their lockout
@@ -128,5 +94,5 @@ pub fn recoverability_in(s: Setup, graph: Graph, w: &mut [u64]) -> [Recoverabili
 {
     let mut numbers = [0u64; 64];
     scores_in(s, graph, true, w, &mut numbers);
-    recoverability_of(numbers)
+    numbers.map(RecoverabilityScore::of)
 }

@@ -3,8 +3,9 @@ ghost use Rattle.std.specs.Prelude.{◌≤◌, length};
 ghost use Rattle.sheet_format.specs.Names.{name_of};
 ghost use Rattle.report_sections.specs.Inner.Lists.{RowsReady, RowsPut, CanLoad, Loaded};
 
+use report_facts::Source;
 use report_rows::SetRow;
-use vertex_set::VertexSet;
+use report_rows::fields::ItemNames;
 
 // No row of a list has more bytes.
 const LONGEST: usize = 275;
@@ -24,56 +25,45 @@ pub fn put_rows(
     i: usize,
     n: usize,
     values: &[u64],
-    sheet: &[u8],
-    from: &[usize],
-    to: &[usize],
+    names: ItemNames,
     out: &mut [u8],
     at: usize,
 ) -> RowsStep
-    requires rows_ready { RowsReady sheet.now from.now to.now values.now list.now target i n }
+    requires rows_ready { RowsReady names.sheet.now names.from.now names.to.now values.now list.now target i n }
     requires at_in_bounds { at ≤ length out.old }
-    ensures { RowsPut (name_of sheet.now) loss target values.now list.now i n out.old at out.new result.row result.at }
+    ensures { RowsPut (name_of names.entry.sheet.now) loss target values.now list.now i n out.old at out.new result.row result.at }
 {
-    let mut row = i;
     let mut next = at;
-    while row < n {
+    // By index, since the number of the row that has no room is handed back.
+    for row in i..n {
         if out.len() - next < LONGEST {
             return RowsStep { row, at: next };
         }
         let set = list[row];
-        let sum = report_scores::set_sum(set, values);
         let line = SetRow {
             loss,
             target,
             set,
-            sum,
+            sum: report_scores::set_sum(set, values),
         };
-        next = report_rows::put_set_row(line, sheet, from, to, out, next);
-        row = row + 1;
+        next = line.put(names, out, next);
     }
-    RowsStep { row, at: next }
+    RowsStep { row: n, at: next }
 }
 
 // Writes the list with number k to the front of `list`, and gives its length. A vertex that is no
 // account has no sets.
-pub fn load(
-    k: usize,
-    accounts: VertexSet,
-    initial: VertexSet,
-    losable: VertexSet,
-    opening: &[u64],
-    lockout: &[u64],
-    list: &mut [u64],
-) -> usize
-    requires { CanLoad k initial.0 losable.0 opening.now lockout.now list.old }
-    ensures { Loaded k accounts.0 initial.0 losable.0 opening.now lockout.now list.old result list.new }
+pub fn load(source: Source, k: usize, list: &mut [u64]) -> usize
+    requires { CanLoad k source.facts.now.initial.0 source.facts.now.losable.0 source.opening.now source.lockout.now list.old }
+    ensures { Loaded k source.entry.facts.now.accounts.0 source.entry.facts.now.initial.0 source.entry.facts.now.losable.0 source.entry.opening.now source.entry.lockout.now list.old result list.new }
 {
+    let facts = source.facts;
     let v = k / 2;
-    if accounts.has(v) {
-        if k % 2 == 1 {
-            return report_scores::list_from(lockout, losable, v, list);
-        }
-        return report_scores::list_from(opening, initial, v, list);
+    if !facts.accounts.has(v) {
+        return 0;
     }
-    0
+    if k % 2 == 1 {
+        return report_scores::list_from(source.lockout, facts.losable, v, list);
+    }
+    report_scores::list_from(source.opening, facts.initial, v, list)
 }

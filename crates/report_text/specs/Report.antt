@@ -6,7 +6,7 @@ use Rattle.setup.specs.declared.Rows.{Rows}
 use Rattle.setup.specs.declared.Graph.{Graph}
 use Rattle.setup.specs.declared.Setup.{Setup}
 use Rattle.setup.specs.Setup.{vertex_at, rows_at, row_of, row_less}
-use Rattle.sheet_format.specs.declared.Reading.{Reading}
+use Rattle.sheet_format.specs.Read.{Reading}
 use Rattle.sheet_format.specs.Read.{read_sheet}
 use Rattle.sheet_format.specs.Names.{name_of}
 use Rattle.bases.specs.Score.{sum_of}

@@ -7,7 +7,7 @@ use native.Mathlib.Omega.{arith}
 use lib.ListN.{length, take, drop}
 use borrow.Author.Tests.{ne_eqb, eq-eqb}
 use Rattle.setup.specs.declared.Setup.{Setup}
-use Rattle.sheet_format.specs.declared.Reading.{Reading}
+use Rattle.sheet_format.specs.Read.{Reading}
 use Rattle.sheet_format.specs.Read.{read_sheet}
 use Rattle.sheet_format.specs.Names.{name_of}
 use Rattle.report_text.specs.Report.{report_after, report_of}

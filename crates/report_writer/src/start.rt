@@ -15,7 +15,8 @@ pub struct Report {
     pub facts: Facts,
 }
 
-// A refused sheet has no facts; its report does not ask for any.
+// A refused sheet has no facts; its report does not ask for any. They are no `Option`, since the theorem
+// `WholeReport` speaks of the facts of every report.
 fn no_facts() -> Facts {
     let none = VertexSet(0);
     let score = SecurityScore::of(0);
@@ -43,15 +44,14 @@ pub fn begin(sheet: &[u8], opening: &mut [u64], lockout: &mut [u64]) -> Report
     requires { (length opening.old ≡ table_words) × (length lockout.old ≡ table_words) }
     ensures { Begun sheet.now result opening.old lockout.old opening.new lockout.new }
 {
-    let reading = sheet::read_sheet(sheet);
-    let number = reading.number;
-    if number != 0 {
-        let facts = no_facts();
-        let cursor = Cursor::Refused(number, reading.line);
-        return Report { cursor, facts };
+    match sheet::read_sheet(sheet) {
+        Ok(setup) => Report {
+            cursor: Cursor::Start,
+            facts: figures::facts_of(sheet, setup, opening, lockout),
+        },
+        Err(refused) => Report {
+            cursor: Cursor::Refused(refused.refusal.number(), refused.line),
+            facts: no_facts(),
+        },
     }
-    let s = reading.setup;
-    let facts = figures::facts_of(sheet, s, opening, lockout);
-    let cursor = Cursor::Start;
-    Report { cursor, facts }
 }

@@ -14,7 +14,7 @@ use Rattle.setup.specs.Calls.{written}
 use Rattle.formed.specs.WellFormed.{WellFormed}
 use Rattle.questions.specs.Asks.{Asks}
 use Rattle.questions.specs.Contract.{Outcome, gives, ends, turns_away, Fulfils, OneAnswer}
-use Rattle.sheet_format.specs.declared.Reading.{Reading}
+use Rattle.sheet_format.specs.Read.{Reading}
 use Rattle.sheet_format.specs.Fields.{is_name}
 use Rattle.sheet_format.specs.Rows.{ItemRow, Doc, ValidItem, Valid, number_in, render, setup_of}
 use Rattle.sheet_format.specs.Stated.{StandsAt}

@@ -1,6 +1,8 @@
 -- What saving answers, for every text, every setup and every lent buffer.
-use Rattle.std.specs.Prelude.{List, [], ◌∷◌, ℕ, ◌≤◌, length}
+use Rattle.std.specs.Prelude.{Result, Ok, Err, List, [], ◌∷◌, ℕ, ◌≤◌, length}
 use Rattle.setup.specs.declared.Setup.{Setup}
+use Rattle.questions.specs.declared.Refusal.{Refusal}
+use Rattle.questions.specs.Refusals.{number}
 use Rattle.questions.specs.Asks.{Question}
 use Rattle.questions.specs.Contract.{Contract}
 use Rattle.questions.specs.Questions.{asks12}
@@ -23,3 +25,14 @@ save_call sheet s out =
       values = λ d. length (render d) ∷ [];
       writes = λ d. render d ∷ [];
     }
+
+-- What saving gives. Number 0: the sheet of the setup is written, and `length` is the number of its bytes. Else the number of the first question whose
+-- answer is no, and length 0.
+pub record Saved : Type 0 where
+  pub number : ℕ
+  pub length : ℕ
+
+-- What the call hands back, as such: the number of the bytes, or why nothing is saved.
+abbrev pub saved : Result ℕ Refusal → Saved
+saved (Ok n) = record { number = 0; length = n }
+saved (Err q) = record { number = number q; length = 0 }

@@ -1,7 +1,7 @@
 -- What the call knows of the sheet and the setup, and what it answers.
 -- Assumes nothing.
 use mathlib.Core.Path.{◌≡◌, refl, sym, ap, subst, ◌∙◌}
-use mathlib.Core.List.{List, [], ◌∷◌, ◌++◌, map}
+use mathlib.Core.List.{List, [], ◌∷◌, map}
 use mathlib.Core.Logic.{◌⊎◌, inl, inr, ⊎_elim}
 use Prim.Native.Nat.{ℕ, ◌≤◌, ◌<◌}
 use native.Mathlib.Omega.{arith}
@@ -15,9 +15,9 @@ use Rattle.formed.specs.WellFormed.{WellFormed}
 use Rattle.questions.specs.Asks.{Asks}
 use Rattle.questions.specs.Contract.{Outcome, gives, ends, turns_away, Room, asks15, Fulfils}
 use Rattle.questions.specs.Told.{Told}
-use Rattle.sheet_format.specs.declared.Reading.{Reading}
+use Rattle.sheet_format.specs.Read.{Reading}
 use Rattle.sheet_format.specs.Text.{lines_of}
-use Rattle.sheet_format.specs.Rows.{second_header, render, setup_of}
+use Rattle.sheet_format.specs.Rows.{second_header, setup_of}
 use Rattle.sheet_format.specs.Read.{read_sheet}
 use Rattle.sheet_format.specs.Names.{name_of}
 use Rattle.sheet_format.proofs.Rows.{item_line, edge_line}
@@ -27,7 +27,7 @@ use Rattle.sheet.proofs.Names.{item-there}
 use Rattle.report_facts.specs.declared.names.Names.{Names}
 use Rattle.report_facts.specs.Inner.Places.{NamesPlaced}
 use Rattle.sheet_format.specs.Meaning.{longest_sheet}
-use Rattle.save_format.specs.declared.Saved.{Saved}
+use Rattle.save_format.specs.Call.{Saved}
 use Rattle.save_format.specs.Call.{save_call}
 use Rattle.save_format.specs.Inner.{saved_text}
 use Rattle.sheet_format.proofs.SetupRows.{doc_of}

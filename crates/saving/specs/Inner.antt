@@ -5,7 +5,7 @@ use Rattle.setup.specs.Setup.{Edge}
 use Rattle.setup.specs.Calls.{written}
 use Rattle.sheet_format.specs.Names.{name_of}
 use Rattle.report_facts.specs.Inner.Places.{HasItems}
-use Rattle.save_format.specs.declared.Saved.{Saved}
+use Rattle.save_format.specs.Call.{Saved}
 use Rattle.sheet_format.specs.Meaning.{longest_sheet}
 use Rattle.save_format.specs.Inner.{saved_text}
 

@@ -2,74 +2,69 @@
 
 #![tactic(auto)]
 
-ghost use Rattle.std.specs.Prelude.{◌≡◌, [], ◌∷◌, ◌≤◌, length, take};
+ghost use Rattle.std.specs.Prelude.{[], ◌∷◌, ◌≤◌, length, take};
 ghost use Rattle.questions.specs.Told.{Told};
 ghost use Rattle.sheet_format.specs.Names.{name_of};
 ghost use Rattle.save_format.specs.Call.{save_call};
 ghost use Rattle.save_format.specs.Inner.{saved_text};
+ghost use Rattle.save_format.specs.Call.{saved};
 ghost use Rattle.saving.specs.Inner.{CanSave, HandsOut};
 
+use questions::Refusal;
 use report_facts::names;
-use save_format::Saved;
+use report_rows::fields::ItemNames;
 use setup::Setup;
 
 // No sheet is longer.
 pub const SAVE_BYTES: usize = 11626;
 
-fn refuse(number: u64) -> Saved
-    ensures { result ≡ record { number = number; length = 0 } }
-{
-    Saved { number, length: 0 }
-}
-
 // The first `size` bytes of the text, to the start of the buffer where they have room.
-fn hand_out(text: &[u8], size: usize, out: &mut [u8]) -> Saved
+fn hand_out(text: &[u8], size: usize, out: &mut [u8]) -> Result<usize, Refusal>
     requires { size ≤ length text.now }
-    ensures { HandsOut (take size text.now) result out.old out.new }
+    ensures { HandsOut (take size text.now) (saved result) out.old out.new }
 {
     if out.len() < size {
-        return refuse(questions::SHORT);
+        return Err(Refusal::Short);
     }
-    writing::put_text(&text[..size], out, 0);
-    Saved {
-        number: 0,
-        length: size,
-    }
+    written::put(&text[..size], out, 0);
+    Ok(size)
 }
 
 // Saves a setup all of whose items have names. How long the text is, is known when it stands; so it
 // is written elsewhere first, and the lent buffer is not touched where it is too short.
-fn save_named(sheet: &[u8], s: Setup, out: &mut [u8]) -> Saved
+// It is not inlined: reading a sheet and writing one do not need their places on the stack at once.
+#[inline(never)]
+fn save_named(sheet: &[u8], s: Setup, out: &mut [u8]) -> Result<usize, Refusal>
     requires { CanSave sheet.now s }
-    ensures { HandsOut (saved_text (name_of sheet.now) s) result out.old out.new }
+    ensures { HandsOut (saved_text (name_of sheet.now) s) (saved result) out.old out.new }
 {
     let places = names::name_places(sheet, s.count);
-    let starts = places.from;
-    let ends = places.to;
+    let names = ItemNames {
+        sheet,
+        from: &places.from,
+        to: &places.to,
+    };
     let mut text = [0u8; SAVE_BYTES];
-    let size = save_text::put_sheet(sheet, &starts, &ends, s, &mut text);
+    let size = save_text::put_sheet(names, &s, &mut text);
     hand_out(&text, size, out)
 }
 
 // Writes the sheet of the setup to the start of the lent buffer, and tells how many bytes it has. Held
 // items are no part of a sheet. A refused sheet gives its number; else 12; 13 where the setup has more
 // items than the sheet; 15 where the buffer is shorter than the text.
-pub fn write_sheet(sheet: &[u8], s: Setup, out: &mut [u8]) -> Saved
-    ensures { Told (save_call sheet.now s out.old) result.number (result.length ∷ []) (out.new ∷ []) }
+pub fn write_sheet(sheet: &[u8], s: Setup, out: &mut [u8]) -> Result<usize, Refusal>
+    ensures { Told (save_call sheet.now s out.old) (saved result).number ((saved result).length ∷ []) (out.new ∷ []) }
 {
-    let reading = sheet::read_sheet(sheet);
-    let number = reading.number;
-    if number != 0 {
-        return refuse(number);
+    let names = match sheet::read_sheet(sheet) {
+        Ok(setup) => setup.count,
+        Err(refused) => return Err(refused.refusal),
+    };
+    if !formed::well_formed(s) {
+        return Err(Refusal::NoSetup);
     }
-    if formed::well_formed(s) {
-        let setup = reading.setup;
-        let names = setup.count;
-        let count = s.count;
-        if names < count {
-            return refuse(questions::NO_ITEM);
-        }
-        return save_named(sheet, s, out);
+    let count = s.count;
+    if names < count {
+        return Err(Refusal::NoItem);
     }
-    refuse(questions::NO_SETUP)
+    save_named(sheet, s, out)
 }

@@ -4,8 +4,7 @@ use Rattle.std.specs.Int.Count.{ones}
 use Rattle.vertex_set.specs.declared.VertexSet.{VertexSet}
 use Rattle.vertex_set.specs.Set.{Member, Iff}
 use Rattle.setup.specs.declared.Kind.TheVariants.{Credential}
-use Rattle.setup.specs.declared.Value.{Value}
-use Rattle.setup.specs.declared.Value.TheVariants.{Blank, Of}
+use Rattle.std.specs.Prelude.{Option, None, Some}
 use Rattle.setup.specs.declared.Vertex.{Vertex}
 use Rattle.setup.specs.declared.Rows.{Rows}
 use Rattle.setup.specs.declared.Graph.{Graph}
@@ -13,7 +12,7 @@ use Rattle.setup.specs.declared.Setup.{Setup}
 
 -- A place not in use: a credential, neither initial nor losable, of rank 0.
 abbrev pub unused_vertex : Vertex
-unused_vertex = record { kind = Credential; start = Blank; loss = Blank; rank = 0 }
+unused_vertex = record { kind = Credential; start = None; loss = None; rank = 0 }
 
 -- The vertex with number v.
 abbrev pub vertex_at : Setup → ℕ → Vertex
@@ -57,17 +56,17 @@ unfoldable pub edge_count : Graph → ℕ
 edge_count g = total (λ r. total ones r.needs) g.rows
 
 -- 1 for a value, 0 for a blank.
-abbrev pub given : Value → ℕ
-given Blank = 0
-given (Of n) = 1
+abbrev pub given : Option ℕ → ℕ
+given None = 0
+given (Some n) = 1
 
 -- The number of a value; a blank has none, and counts as 0 where it is asked.
-abbrev pub points : Value → ℕ
-points Blank = 0
-points (Of n) = n
+abbrev pub points : Option ℕ → ℕ
+points None = 0
+points (Some n) = n
 
 -- The value by which a vertex counts: its start value for access, its loss value for lockout.
-abbrev pub value_of : Bool → Vertex → Value
+abbrev pub value_of : Bool → Vertex → Option ℕ
 value_of false x = x.start
 value_of true x = x.loss
 

@@ -27,33 +27,27 @@ pub const MAX_CHOSEN: usize = 14;
 
 pub const MAX_BYTES: usize = 16384;
 
-#[derive(Clone, Copy)]
+#[derive(Clone, Copy, PartialEq, Eq)]
 pub enum Kind {
     Credential,
     Account,
 }
 
-// A start or loss value; Blank is the sheet's `-`. Zero is a value and not a blank.
-#[derive(Clone, Copy)]
-pub enum Value {
-    Blank,
-    Of(u64),
-}
-
-// A vertex (document 01: item). It has no name: names stay in the sheet.
-#[derive(Clone, Copy)]
+// A vertex (document 01: item). It has no name: names stay in the sheet. A start or loss value that
+// is `None` is the sheet's `-`: zero is a value and not a blank.
+#[derive(Clone, Copy, PartialEq, Eq)]
 pub struct Vertex {
     pub kind: Kind,
-    pub start: Value,
-    pub loss: Value,
+    pub start: Option<u64>,
+    pub loss: Option<u64>,
     pub rank: u64,
 }
 
 // A place not in use.
 pub const UNUSED: Vertex = Vertex {
     kind: Kind::Credential,
-    start: Value::Blank,
-    loss: Value::Blank,
+    start: None,
+    loss: None,
     rank: 0,
 };
 
@@ -87,44 +81,24 @@ pub struct Setup {
 }
 
 // The value by which a vertex counts: its start value, or for a loss its loss value.
-pub fn value_of(loss: bool, x: Vertex) -> Value
+pub fn value_of(loss: bool, x: Vertex) -> Option<u64>
     ensures { result ≡ value_of loss x }
 {
-    if loss {
-        let value = x.loss;
-        return value;
-    }
-    let value = x.start;
-    value
+    if loss { x.loss } else { x.start }
 }
 
 // The number of a value, and 0 for a blank.
-pub fn points_of(x: Value) -> u64
+pub fn points_of(x: Option<u64>) -> u64
     ensures { result ≡ points x }
 {
-    match x {
-        Value::Blank => 0,
-        Value::Of(n) => n,
-    }
+    x.unwrap_or(0)
 }
 
 // 1 for a value, 0 for a blank.
-pub fn count_given(x: Value) -> usize
+pub fn count_given(x: Option<u64>) -> usize
     ensures { (result ≡ given x) × (result ≤ 1) }
 {
-    match x {
-        Value::Blank => 0,
-        Value::Of(_) => 1,
-    }
-}
-
-fn is_given(x: Value) -> bool
-    ensures { Decides (given x ≡ 1) result }
-{
-    match x {
-        Value::Blank => false,
-        Value::Of(_) => true,
-    }
+    usize::from(x.is_some())
 }
 
 // The initial vertices, or for a loss the losable ones.
@@ -132,10 +106,8 @@ pub fn chosen(s: Setup, loss: bool) -> VertexSet
     ensures { ChosenSet loss s result.0 }
 {
     let mut r = VertexSet(0);
-    for v in 0..64usize {
-        let vertex = s.vertices[v];
-        let value = value_of(loss, vertex);
-        if is_given(value) {
+    for (v, vertex) in s.vertices.iter().enumerate() {
+        if value_of(loss, *vertex).is_some() {
             r = r.insert(v);
         }
     }
@@ -144,24 +116,22 @@ pub fn chosen(s: Setup, loss: bool) -> VertexSet
 
 // The row of one colour of one vertex without recovery: a colour with a recovery edge is taken out
 // whole, since what is left of it would open the vertex by less than before.
+#[tactic(auto, unfolding(crate::specs::Setup::row_less))]
 fn row_less(row: u64, recovery: u64) -> u64
     ensures { result ≡ row_less row recovery }
 {
-    if recovery != 0 {
-        return 0;
-    }
-    row
+    if recovery != 0 { 0 } else { row }
 }
 
-// The rows of one vertex without recovery. A row that is taken out is no colour any more.
+// The rows of one vertex without recovery. A row that is taken out is no colour any more. A place of
+// one list is written by its number, here and below: of what an `iter_mut` under a `zip` writes no
+// proof knows anything.
 fn rows_less(rows: Rows, recovery: Rows) -> Rows
     ensures { RowsLess rows recovery result }
 {
-    let mut r = Rows { needs: [0; 8] };
-    for c in 0..8usize {
-        let row = rows.needs[c];
-        let marked = recovery.needs[c];
-        r.needs[c] = row_less(row, marked);
+    let mut r = rows;
+    for (c, marked) in recovery.needs.iter().enumerate() {
+        r.needs[c] = row_less(rows.needs[c], *marked);
     }
     r
 }
@@ -170,14 +140,9 @@ fn rows_less(rows: Rows, recovery: Rows) -> Rows
 pub fn without_recovery(s: Setup) -> Graph
     ensures { WithoutRecovery s result }
 {
-    let graph = s.graph;
-    let recovery = s.recovery;
-    let mut r = graph;
-    for v in 0..64usize {
-        let rows = graph.rows[v];
-        let marked = recovery.rows[v];
-        let less = rows_less(rows, marked);
-        r.rows[v] = less;
+    let mut r = s.graph;
+    for (v, marked) in s.recovery.rows.iter().enumerate() {
+        r.rows[v] = rows_less(s.graph.rows[v], *marked);
     }
     r
 }

@@ -11,7 +11,7 @@ use lib.ListN.{length, get_or, take, drop, length-append, length-map}
 use lib.Seq.{take-take, length-take-le}
 use lib.Dec.{eqb}
 use borrow.Author.Tests.{eq-eqb, ne_eqb, lt-ltb, le-ltb}
-use Rattle.sheet_format.specs.declared.Reading.{Reading}
+use Rattle.sheet_format.specs.Read.{Reading}
 use Rattle.sheet_format.specs.Text.{lines_of, fields_of}
 use Rattle.sheet_format.specs.Fields.{decimal, kind_text, value_text}
 use Rattle.sheet_format.specs.Rows.{ItemRow, Doc, Each, ValidItem, Valid, first_header, second_header, line_text, item_fields, item_lines, edge_lines, render, setup_of}

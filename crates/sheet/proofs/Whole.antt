@@ -12,7 +12,10 @@ use borrow.Author.Tests.{le-leb, lt-leb}
 use Rattle.setup.specs.Bounds.{most_bytes}
 use Rattle.setup.specs.Setup.{no_vertices}
 use Rattle.vertex_set.proofs.Cases.{false-true}
-use Rattle.sheet_format.specs.declared.Reading.{Reading}
+use Rattle.std.specs.Prelude.{Ok, Err}
+use Rattle.questions.specs.Refusals.{number}
+use Rattle.sheet_format.specs.declared.SheetRefusal.{SheetRefusal}
+use Rattle.sheet_format.specs.Read.{Reading, accepted}
 use Rattle.sheet_format.specs.Text.{lines_of, all}
 use Rattle.sheet_format.specs.Rows.{first_header, second_header}
 use Rattle.sheet_format.specs.Questions.{question1, question2, question3, ends_in_lf}
@@ -51,8 +54,7 @@ module _ (s : List ℕ) (items : Items) where
           each = λ start t. q ∙ sym (here start t ∙ header2-no (record { items = t.items; edges = [] }) (items.line + 1) header (lines_of (drop (e + 1) s)) h);
         }
 
-    module _ (yes3 : question3 second_header header ≡ true) (edges : Edges)
-        (reads : ReadsEdges s (e + 1) (items.line + 1 + 1) items.low items.high items.count edges) where
+    module _ (yes3 : question3 second_header header ≡ true) where
       behind : (start : ℕ) (t : ItemsTaken s start items)
           → read_lines AmongItems no_rows 2 (lines_of (drop start s))
           ≡ read_lines AmongEdges (record { items = t.items; edges = [] }) (items.line + 1 + 1) (lines_of (drop (e + 1) s))
@@ -60,19 +62,12 @@ module _ (s : List ℕ) (items : Items) where
           here start t ∙ header2-yes (record { items = t.items; edges = [] }) (items.line + 1) header (lines_of (drop (e + 1) s)) yes3
           ∙ ap (λ (k : ℕ). read_lines AmongEdges (record { items = t.items; edges = [] }) k (lines_of (drop (e + 1) s))) (sym (add-one (items.line + 1)))
 
-      pub rest-no : (r : Reading) → (edges.number ≡ 0 → ⊥) → r ≡ refused edges.number edges.line → ReadsRest s items r
-      rest-no r n q = record { each = λ start t. q ∙ sym (behind start t ∙ reads.no n t.items t.table) }
+      pub rest-no : (x : SheetRefusal) → ReadsEdges s (e + 1) (items.line + 1 + 1) items.keys.low items.keys.high items.keys.count (Err x) → ReadsRest s items (refused (number x.refusal) x.line)
+      rest-no x reads = record { each = λ start t. sym (behind start t ∙ reads t.items t.table) }
 
-      pub rest-yes : edges.number ≡ 0
-          → ReadsRest s items (record {
-            number = 0;
-            line = 0;
-            setup = record { count = items.count; vertices = items.vertices; graph = edges.graph; recovery = edges.recovery; held = no_vertices; opened = no_vertices };
-          })
-      rest-yes z =
-          record {
-            each = λ start t. rw (t.vertices, t.table.size) (sym (behind start t ∙ reads.taken z t.items t.table));
-          }
+      pub rest-yes : (edges : Edges) → ReadsEdges s (e + 1) (items.line + 1 + 1) items.keys.low items.keys.high items.keys.count (Ok edges)
+          → ReadsRest s items (accepted (record { count = items.keys.count; vertices = items.vertices; graph = edges.graph; recovery = edges.recovery; held = no_vertices; opened = no_vertices }))
+      rest-yes edges reads = record { each = λ start t. rw (t.vertices, t.table.size) (sym (behind start t ∙ reads t.items t.table)) }
 
 -- ---- the whole
 
@@ -97,12 +92,12 @@ module _ (s : List ℕ) (short : length s ≤ most_bytes) (text : question2 s �
   pub no_header : (r : Reading) → question3 first_header (take e s) ≡ false → r ≡ refused 3 1 → r ≡ read_sheet s
   no_header r h q = q ∙ sym (lines ∙ header1-no no_rows 1 (take e s) (lines_of (drop (e + 1) s)) h)
 
-  module _ (yes3 : question3 first_header (take e s) ≡ true) (items : Items) (reads : ReadsItems s (e + 1) items) where
+  module _ (yes3 : question3 first_header (take e s) ≡ true) where
     rows : read_sheet s ≡ read_lines AmongItems no_rows 2 (lines_of (drop (e + 1) s))
     rows = lines ∙ header1-yes no_rows 1 (take e s) (lines_of (drop (e + 1) s)) yes3
 
-    pub no_item : (r : Reading) → (items.number ≡ 0 → ⊥) → r ≡ refused items.number items.line → r ≡ read_sheet s
-    no_item r n q = q ∙ sym (rows ∙ reads.no n)
+    pub no_item : (x : SheetRefusal) → ReadsItems s (e + 1) (Err x) → refused (number x.refusal) x.line ≡ read_sheet s
+    no_item x reads = sym (rows ∙ reads)
 
-    pub all_read : (r : Reading) → items.number ≡ 0 → ReadsRest s items r → r ≡ read_sheet s
-    all_read r z h = h.each (e + 1) (reads.taken z) ∙ sym rows
+    pub all_read : (items : Items) → ReadsItems s (e + 1) (Ok items) → (r : Reading) → ReadsRest s items r → r ≡ read_sheet s
+    all_read items taken r h = h.each (e + 1) taken ∙ sym rows

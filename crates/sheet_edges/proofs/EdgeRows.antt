@@ -4,7 +4,7 @@ use mathlib.Core.Path.{◌≡◌, refl, sym, ap, ◌∙◌, subst}
 use mathlib.Core.List.{List, [], ◌∷◌, ◌++◌}
 use mathlib.Core.Bool.{Bool, true, false, cond, not}
 use mathlib.Core.Logic.{inr, ⊎_elim}
-use Prim.Native.Nat.{ℕ, zero, suc, ◌+◌, ◌-◌, ◌/◌, ◌%◌, ◌^◌, ◌≤◌, ◌<◌}
+use Prim.Native.Nat.{ℕ, suc, ◌+◌, ◌-◌, ◌/◌, ◌%◌, ◌^◌, ◌≤◌, ◌<◌}
 use native.Mathlib.Omega.{arith}
 use lib.ListN.{length, take, drop, set, length-append}
 use lib.Seq.{set-get_or}
@@ -29,10 +29,15 @@ use Rattle.sheet_format.proofs.Question12Yielded.{recovery-yes, recovery-no}
 use Rattle.sheet_fields.specs.Inner.Parts.{until}
 use Rattle.sheet_rows.specs.declared.TakenEdge.{TakenEdge}
 use Rattle.sheet_rows.specs.Inner.NameKeys.{NameKeys}
-use Rattle.sheet_rows.specs.Inner.Lines.{TakesEdge}
+use Rattle.sheet_rows.specs.Inner.Lines.{EdgeTaken, TakesEdge}
 use Rattle.sheet_rows.proofs.Asks.{answer-yes, answer-no, all_yes, one-yes, no-first, yes-first}
-use Rattle.sheet_edges.specs.declared.Edges.{Edges}
-use Rattle.sheet_edges.specs.Inner.Edges.{with_need, ReadsEdges}
+use Rattle.std.specs.Prelude.{Result, Ok, Err}
+use Rattle.std.proofs.lemmas.Result.{IfOk-at_ok}
+use Rattle.questions.specs.declared.Refusal.{Refusal}
+use Rattle.questions.specs.Refusals.{number}
+use Rattle.questions.specs.Inner.{asked}
+use Rattle.questions.proofs.Refusals.{number_some}
+use Rattle.sheet_edges.specs.Inner.Edges.{with_need}
 use Rattle.sheet_fields.proofs.Lines.{line_at, lines-over}
 use Rattle.sheet_lines.proofs.Reading.{edge-no, edge-yes, over_yes}
 
@@ -120,13 +125,6 @@ pub record Loop (s : List ℕ) (start first : ℕ) (low high : List ℕ) (count 
   pub most : n ≤ 256
   pub rows : (items : List ItemRow) → NameKeys items low high count → SoFar s start first items graph recovery n at
 
--- what the loop's refusals return
-pub no_edges : (s : List ℕ) (start first : ℕ) (low high : List ℕ) (count q k : ℕ) (r : Edges) → (q ≡ 0 → ⊥) → (r.number ≡ q) × (r.line ≡ k)
-    → ((items : List ItemRow) → NameKeys items low high count → read_lines AmongEdges (doc_with items []) first (lines_of (drop start s)) ≡ refused q k)
-    → ReadsEdges s start first low high count r
-no_edges s start first low high count q k r n e h =
-    record { taken = λ z. absurd (n (sym e.0 ∙ z)); no = λ m items t. rw (e.0, e.1) (h items t) }
-
 pub so-far-none : (s : List ℕ) (start first : ℕ) (items : List ItemRow) → SoFar s start first items empty_graph empty_graph 0 start
 unfolding with_edges
 so-far-none s start first items =
@@ -165,40 +163,50 @@ module _ (s : List ℕ) (start first : ℕ) (items : List ItemRow) (low high : L
   unfolding above
   here = f.reading ∙ ap (read_lines AmongEdges (doc_with items f.edges) (first + n)) (line_at s at e inside found)
 
-  module _ (r : TakenEdge) (takes : TakesEdge line low high count r) where
-    asked : r.number ≡ first_no (ask 4 (question4 4 fs) ∷ ask 5 (question5_edge fs) ∷ ask 8 (question8 above (edge_of fs)) ∷ [])
+  module _ (t : Result TakenEdge Refusal) (takes : TakesEdge line low high count t) where
+    asked-is : asked t ≡ first_no (ask 4 (question4 4 fs) ∷ ask 5 (question5_edge fs) ∷ ask 8 (question8 above (edge_of fs)) ∷ [])
     unfolding fs above
-    asked = takes.number (doc_with items f.edges) table
+    asked-is = takes.number (doc_with items f.edges) table
 
-    pub refused-row : (r.number ≡ 0 → ⊥) → read_lines AmongEdges (doc_with items []) first (lines_of (drop start s)) ≡ refused r.number (first + n)
+    pub refused-row : (x : Refusal) → t ≡ Err x → read_lines AmongEdges (doc_with items []) first (lines_of (drop start s)) ≡ refused (number x) (first + n)
     unfolding fs edge_questions
-    refused-row m =
-        here ∙ edge-no above (first + n) line (lines_of (drop (e + 1) s)) r.number
-        (asked ∙ no-first (ask 4 (question4 4 fs) ∷ ask 5 (question5_edge fs) ∷ ask 8 (question8 above (edge_of fs)) ∷ [])
-        (ask 9 (question9 above (edge_of fs)) ∷ ask 7 (question7_edge above) ∷ []) (λ z. m (asked ∙ z))) m
+    refused-row x i =
+        let q : number x ≡ first_no (ask 4 (question4 4 fs) ∷ ask 5 (question5_edge fs) ∷ ask 8 (question8 above (edge_of fs)) ∷ []) = rw i at asked-is in
+        here ∙ edge-no above (first + n) line (lines_of (drop (e + 1) s)) (number x)
+        (q ∙ no-first (ask 4 (question4 4 fs) ∷ ask 5 (question5_edge fs) ∷ ask 8 (question8 above (edge_of fs)) ∷ [])
+        (ask 9 (question9 above (edge_of fs)) ∷ ask 7 (question7_edge above) ∷ []) (λ z. number_some x (q ∙ z))) (number_some x)
 
-    module _ (zero : r.number ≡ 0) where
+    module _ (r : TakenEdge) (ok : t ≡ Ok r) where
+      zero-is : 0 ≡ first_no (ask 4 (question4 4 fs) ∷ ask 5 (question5_edge fs) ∷ ask 8 (question8 above (edge_of fs)) ∷ [])
+      zero-is = rw ok at asked-is
+
+      took : EdgeTaken line low high count r
+      took = IfOk-at_ok (EdgeTaken line low high count) ok takes.taken
+
+      pub in-places : count ≤ 64 → (r.from < 64) × (r.to < 64) × (r.colour < 8)
+      in-places m = let h = took.ends in (omega (arith, h.0), omega (arith, h.1), took.most)
+
       edge : EdgeRow
       edge = edge_of fs
 
       from_is : r.from ≡ number_in items edge.from
       unfolding edge fs
-      from_is = takes.from zero items table
+      from_is = took.from items table
 
       to_is : r.to ≡ number_in items edge.to
       unfolding edge fs
-      to_is = takes.to zero items table
+      to_is = took.to items table
 
       colour-is : r.colour ≡ edge.colour
       unfolding edge fs
-      colour-is = takes.colour zero
+      colour-is = took.colour
 
       ends : KnownEnds items edge
       unfolding edge fs above question8
       ends =
           let q = one-yes 8 (question8 above edge) (omega arith)
           (all_yes 5 (question5_edge fs) (ask 8 (question8 above edge) ∷ []) (omega arith)
-          (all_yes 4 (question4 4 fs) (ask 5 (question5_edge fs) ∷ ask 8 (question8 above edge) ∷ []) (omega arith) (sym asked ∙ zero)).1).1 in
+          (all_yes 4 (question4 4 fs) (ask 5 (question5_edge fs) ∷ ask 8 (question8 above edge) ∷ []) (omega arith) (sym zero-is)).1).1 in
           let p = and_parts (is_known items edge.from) (is_known items edge.to) q in
           ((known-decided items edge.from).yes p.0, (known-decided items edge.to).yes p.1)
 
@@ -207,7 +215,7 @@ module _ (s : List ℕ) (start first : ℕ) (items : List ItemRow) (low high : L
       unfolding edge edge_questions
       rest =
           yes-first (ask 4 (question4 4 fs) ∷ ask 5 (question5_edge fs) ∷ ask 8 (question8 above (edge_of fs)) ∷ [])
-          (ask 9 (question9 above (edge_of fs)) ∷ ask 7 (question7_edge above) ∷ []) (omega arith, (omega arith, (omega arith, tt))) (sym asked ∙ zero)
+          (ask 9 (question9 above (edge_of fs)) ∷ ask 7 (question7_edge above) ∷ []) (omega arith, (omega arith, (omega arith, tt))) (sym zero-is)
 
       -- the bit of the row says whether the edge came before
       graph-edges : (a v c : ℕ) → Edge graph a v c → StatedEdge items f.edges a v c
@@ -267,8 +275,8 @@ module _ (s : List ℕ) (start first : ℕ) (items : List ItemRow) (low high : L
         module _ (count_most : count ≤ 64) where
           placed_row : Placed items edge
           placed_row =
-              let t = (takes.ends zero).1 in
-              let c = takes.most zero in
+              let t = took.ends.1 in
+              let c = took.most in
               record { to = rw to_is at (let l : r.to < 64 = omega arith in l); colour = rw colour-is at c }
 
           pub taken-row : n < 256
@@ -283,7 +291,7 @@ module _ (s : List ℕ) (start first : ℕ) (items : List ItemRow) (low high : L
                 known = each_append (KnownEnds items) f.edges (edge ∷ []) f.known (ends, tt);
                 placed = each_append (Placed items) f.edges (edge ∷ []) f.placed (placed_row, tt);
                 graphs = graph-more items graph f.edges edge r.from r.to r.colour f.graphs from_is to_is colour-is;
-                recoveries = recovery-more items recovery f.edges edge r.from r.to r.colour r.rec f.recoveries from_is to_is colour-is (takes.rec zero);
+                recoveries = recovery-more items recovery f.edges edge r.from r.to r.colour r.rec f.recoveries from_is to_is colour-is took.rec;
                 reading =
                     here ∙ edge-yes above (first + n) line (lines_of (drop (e + 1) s))
                     (sym (answer-yes 9 (question9 above edge) (ask 7 (question7_edge above) ∷ []) nine

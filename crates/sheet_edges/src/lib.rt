@@ -2,16 +2,18 @@
 
 #![tactic(auto)]
 
-ghost use Rattle.std.specs.Prelude.{◌≡◌, cond, ◌/◌, ◌%◌, ◌^◌, ◌≤◌, ◌<◌, length, eqb};
+ghost use Rattle.std.specs.Prelude.{◌≡◌, cond, ◌/◌, ◌%◌, ◌^◌, ◌≤◌, ◌<◌, eqb};
 ghost use Rattle.setup.specs.Setup.{row_of};
 ghost use Rattle.sheet_edges.specs.Inner.Edges.{with_need, ReadsEdges};
 
+use questions::Refusal;
 use setup::{Graph, Rows};
+use sheet_fields::LF;
+use sheet_format::SheetRefusal;
+use sheet_rows::ItemKeys;
 
-#[derive(Drop)]
+#[derive(Clone, Copy)]
 pub struct Edges {
-    pub number: u64,
-    pub line: u64,
     pub graph: Graph,
     pub recovery: Graph,
 }
@@ -28,9 +30,8 @@ fn with_need(row: Rows, colour: usize, from: usize) -> Rows
     requires { (colour < 8) × (from < 64) }
     ensures { result ≡ with_need row colour from }
 {
-    let one: u64 = 1;
     let mut next = row;
-    next.needs[colour] = row.needs[colour] | (one << from);
+    next.needs[colour] |= 1 << from;
     next
 }
 
@@ -46,64 +47,47 @@ fn with_mark(row: Rows, colour: usize, from: usize, rec: bool) -> Rows
     }
 }
 
-fn refuse(number: u64, line: u64) -> Edges
-    ensures { (result.number ≡ number) × (result.line ≡ line) }
-{
-    Edges {
-        number,
-        line,
-        graph: setup::EMPTY,
-        recovery: setup::EMPTY,
-    }
-}
-
-// Reads the edge rows below `count` item rows, from `start`, where the line `first` begins, to the
-// end of the sheet.
+// Reads the edge rows below the item rows with these keys, from `start`, where the line `first`
+// begins, to the end of the sheet. Each turn takes one line, and where the next one begins is known
+// only then: so this is no `for`. Both graphs are filled where they go out, since a move copies eight
+// kilobytes; and the frame is not one with that of the caller.
+#[inline(never)]
 pub fn read_edges(
     s: &[u8],
     start: usize,
     first: u64,
-    low: &[u64],
-    high: &[u64],
-    count: usize,
-) -> Edges
-    requires { (count ≤ length low.now) × (count ≤ length high.now) × (count ≤ 64) × (first ≤ 100) }
-    ensures { ReadsEdges s.now start first low.now high.now count result }
+    keys: &ItemKeys,
+) -> Result<Edges, SheetRefusal>
+    requires { first ≤ 100 }
+    ensures { ReadsEdges s.now start first keys.now.low keys.now.high keys.now.count result }
 {
-    let mut graph = setup::EMPTY;
-    let mut recovery = setup::EMPTY;
-    let mut edges: usize = 0;
+    let mut edges = Edges {
+        graph: setup::EMPTY,
+        recovery: setup::EMPTY,
+    };
+    let mut count: usize = 0;
     let mut at = start;
     while at < s.len() {
-        let line = first + edges as u64;
-        let end = sheet_fields::find(s, at, sheet_fields::LF);
-        let edge = sheet_rows::take_edge(&s[at..end], low, high, count);
-        let number = edge.number;
-        if number != 0 {
-            return refuse(number, line);
+        let line = first + count as u64;
+        let end = sheet_fields::find(s, at, LF);
+        let edge = sheet_rows::take_edge(&s[at..end], keys).map_err(|refusal| SheetRefusal {
+            refusal,
+            line,
+        })?;
+        let row = edges.graph.rows[edge.to];
+        if has_need(row, edge.colour, edge.from) {
+            let refusal = Refusal::EdgeTwice;
+            return Err(SheetRefusal { refusal, line });
         }
-        let from = edge.from;
-        let to = edge.to;
-        let colour = edge.colour;
-        let row = graph.rows[to];
-        if has_need(row, colour, from) {
-            return refuse(questions::EDGE_TWICE, line);
+        if setup::MAX_EDGES <= count {
+            let refusal = Refusal::Bound;
+            return Err(SheetRefusal { refusal, line });
         }
-        if setup::MAX_EDGES <= edges {
-            return refuse(questions::BOUND, line);
-        }
-        let row = with_need(row, colour, from);
-        graph.rows[to] = row;
-        let marked = recovery.rows[to];
-        let marked = with_mark(marked, colour, from, edge.rec);
-        recovery.rows[to] = marked;
-        edges += 1;
+        edges.graph.rows[edge.to] = with_need(row, edge.colour, edge.from);
+        let marked = edges.recovery.rows[edge.to];
+        edges.recovery.rows[edge.to] = with_mark(marked, edge.colour, edge.from, edge.rec);
+        count += 1;
         at = end + 1;
     }
-    Edges {
-        number: 0,
-        line: 0,
-        graph,
-        recovery,
-    }
+    Ok(edges)
 }

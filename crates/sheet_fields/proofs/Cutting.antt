@@ -2,7 +2,7 @@
 -- Assumes nothing.
 use mathlib.Core.Path.{◌≡◌, refl, sym, ap, ◌∙◌}
 use mathlib.Core.List.{List, [], ◌∷◌}
-use mathlib.Core.Bool.{true, false, and-false}
+use mathlib.Core.Bool.{true, false, ◌&&◌, and-false}
 use mathlib.Core.Logic.{⊎_elim}
 use Prim.Native.Nat.{ℕ, zero, suc, ◌+◌, ◌-◌, ◌≤◌, ◌<◌}
 use native.Mathlib.Nat.{not-suc-le-zero, le_of_suc-le-suc, sub-zero}
@@ -10,11 +10,13 @@ use native.Mathlib.Omega.{arith}
 use lib.ListN.{length, take, drop, length-drop, drop_of_length-le}
 use lib.Seq.{drop-drop, take_all}
 use lib.Dec.{eqb, ltb, eqb-suc-suc}
-use borrow.Author.Tests.{ne_eqb, ltb-true, ltb-false, lt-ltb, le-ltb}
-use Rattle.vertex_set.proofs.Cases.{by_test, false-true, less-or}
+use borrow.Author.Tests.{ne_eqb, ltb-true, ltb-false, lt-ltb}
+use Rattle.vertex_set.proofs.Cases.{by_test, less-or}
 use Rattle.sheet_format.specs.Text.{grow, fields_of, is_empty}
 use Rattle.sheet_format.specs.Questions.{none_empty, question4, field}
-use Rattle.sheet_fields.specs.Inner.Parts.{until, more_follow, end_at, CutsFour}
+use Rattle.std.specs.Prelude.{Some, None}
+use Rattle.vertex_set.proofs.Decisions.{and_parts}
+use Rattle.sheet_fields.specs.Inner.Parts.{until, more_follow, end_at, CutWell}
 
 -- ---- the first field, and the others
 
@@ -85,16 +87,18 @@ pub record Stepped (l : List ℕ) (at e : ℕ) : Type 0 where
   pub fields : fields_of (drop at l) ≡ take (e - at) (drop at l) ∷ fields_of (drop (e + 1) l)
   pub question : (k : ℕ) → question4 (suc (suc k)) (fields_of (drop at l)) ≡ question4 (suc k) (fields_of (drop (e + 1) l))
 
-pub stepped : (l : List ℕ) (at e : ℕ) → e ≡ end_at l at → (e ≡ 0 → ⊥) → Stepped l at e
+pub stepped : (l : List ℕ) (at e : ℕ) → Some e ≡ end_at l at → Stepped l at e
 unfolding end_at more_follow
-stepped l at e q n = by_test (ltb 0 (until 32 (drop at l))) (λ p. by_test (ltb (until 32 (drop at l)) (length (drop at l))) (λ h. step p h) (λ h. absurd (n (q ∙ rw (p, h))))) (λ p. absurd (n (q ∙ rw p)))
+stepped l at e q =
+    by_test (ltb 0 (until 32 (drop at l)) && ltb (until 32 (drop at l)) (length (drop at l)))
+    (λ t. step (and_parts (ltb 0 (until 32 (drop at l))) (ltb (until 32 (drop at l)) (length (drop at l))) t) (let k : Some e ≡ Some (at + until 32 (drop at l)) = rw t at q in cc))
+    (λ t. absurd (let k : Some e ≡ None = rw t at q in cc))
   where
-    step : ltb 0 (until 32 (drop at l)) ≡ true → ltb (until 32 (drop at l)) (length (drop at l)) ≡ true → Stepped l at e
-    step p h =
-        let p' = ltb-true 0 (until 32 (drop at l)) p in
-        let h' = ltb-true (until 32 (drop at l)) (length (drop at l)) h in
+    step : (ltb 0 (until 32 (drop at l)) ≡ true) × (ltb (until 32 (drop at l)) (length (drop at l)) ≡ true) → e ≡ at + until 32 (drop at l) → Stepped l at e
+    step t e' =
+        let p' = ltb-true 0 (until 32 (drop at l)) t.0 in
+        let h' = ltb-true (until 32 (drop at l)) (length (drop at l)) t.1 in
         let d = length-drop at l in
-        let e' : e ≡ at + until 32 (drop at l) = q ∙ rw (p, h) in
         let u : until 32 (drop at l) ≡ e - at = omega arith in
         let v : at + suc (until 32 (drop at l)) ≡ e + 1 = omega arith in
         let r : drop (suc (until 32 (drop at l))) (drop at l) ≡ drop (e + 1) l =
@@ -106,35 +110,33 @@ stepped l at e q n = by_test (ltb 0 (until 32 (drop at l))) (λ p. by_test (ltb 
           question = λ k. question-more k (drop at l) p' h' ∙ rw r;
         }
 
-pub not-stepped : (l : List ℕ) (at e : ℕ) → e ≡ end_at l at → e ≡ 0 → (k : ℕ) → question4 (suc (suc k)) (fields_of (drop at l)) ≡ false
+pub not-stepped : (l : List ℕ) (at : ℕ) → None ≡ end_at l at → (k : ℕ) → question4 (suc (suc k)) (fields_of (drop at l)) ≡ false
 unfolding end_at more_follow
-not-stepped l at e q z k =
+not-stepped l at q k =
     by_test (ltb 0 (until 32 (drop at l)))
     (λ p. by_test (ltb (until 32 (drop at l)) (length (drop at l)))
-    (λ h. absurd (let u = ltb-true 0 (until 32 (drop at l)) p in let y : at + until 32 (drop at l) ≡ 0 = sym (q ∙ rw (p, h)) ∙ z in omega arith))
+    (λ h. absurd (let y : None ≡ Some (at + until 32 (drop at l)) = rw (p, h) at q in cc))
     (λ h. question-one k (drop at l) (ltb-false (until 32 (drop at l)) (length (drop at l)) h)))
     (λ p. question-none k (drop at l) (let u = ltb-false 0 (until 32 (drop at l)) p in omega arith))
 
 -- what `end_of_field` returns
-pub end_same : (l : List ℕ) (at e : ℕ) → e ≡ at + until 32 (drop at l) → e ≡ at → 0 ≡ end_at l at
+pub end_is : (l : List ℕ) (at e : ℕ) → e ≡ at + until 32 (drop at l) → at < e → e < length l → Some e ≡ end_at l at
 unfolding end_at more_follow
-end_same l at e q s = let u : until 32 (drop at l) ≡ 0 = omega arith in rw u
-
-pub end-inside : (l : List ℕ) (at e : ℕ) → e ≡ at + until 32 (drop at l) → (e ≡ at → ⊥) → e < length l → e ≡ end_at l at
-unfolding end_at more_follow
-end-inside l at e q s h =
+end_is l at e q s h =
     let d = length-drop at l in
-    let p : ltb 0 (until 32 (drop at l)) ≡ true = lt-ltb 0 (until 32 (drop at l)) (omega (arith, s)) in
+    let p : ltb 0 (until 32 (drop at l)) ≡ true = lt-ltb 0 (until 32 (drop at l)) (omega arith) in
     let i : ltb (until 32 (drop at l)) (length (drop at l)) ≡ true = lt-ltb (until 32 (drop at l)) (length (drop at l)) (omega arith) in
-    rw (p, i) q
+    rw (p, i, q)
 
-pub end-outside : (l : List ℕ) (at e : ℕ) → e ≡ at + until 32 (drop at l) → (e ≡ at → ⊥) → length l ≤ e → 0 ≡ end_at l at
+pub end_not : (l : List ℕ) (at e : ℕ) → e ≡ at + until 32 (drop at l) → (at < e → e < length l → ⊥) → None ≡ end_at l at
 unfolding end_at more_follow
-end-outside l at e q s h =
+end_not l at e q n =
     let d = length-drop at l in
-    let p : ltb 0 (until 32 (drop at l)) ≡ true = lt-ltb 0 (until 32 (drop at l)) (omega (arith, s)) in
-    let i : ltb (until 32 (drop at l)) (length (drop at l)) ≡ false = le-ltb (until 32 (drop at l)) (length (drop at l)) (omega arith) in
-    rw (p, i)
+    by_test (ltb 0 (until 32 (drop at l)))
+    (λ p. by_test (ltb (until 32 (drop at l)) (length (drop at l)))
+    (λ h. absurd (let p' = ltb-true 0 (until 32 (drop at l)) p in let h' = ltb-true (until 32 (drop at l)) (length (drop at l)) h in n (omega arith) (omega arith)))
+    (λ h. rw (p, h)))
+    (λ p. rw p)
 
 -- ---- the last field
 
@@ -161,20 +163,11 @@ last-is l at n i h = rw (last-fields l at h, drop-some l at (omega (arith, n)))
 
 -- ---- four fields
 
-pub no_cut : (l : List ℕ) → question4 4 (fields_of l) ≡ false → CutsFour l (record { ok = false; first = 0; second = 0; third = 0 })
-no_cut l q =
-    record {
-      answer = sym q;
-      places = λ e. absurd (false-true e);
-      fields = λ e. absurd (false-true e);
-    }
-
-pub cuts : (l : List ℕ) (a b d : ℕ) → Stepped l 0 a → Stepped l (a + 1) b → Stepped l (b + 1) d →
-    (d + 1 ≡ length l → ⊥) → length l ≤ d + 1 + until 32 (drop (d + 1) l) →
-    CutsFour l (record { ok = true; first = a; second = b; third = d })
+pub cuts : (l : List ℕ) (a b d : ℕ) → Stepped l 0 a → Stepped l (a + 1) b → Stepped l (b + 1) d
+    → (d + 1 ≡ length l → ⊥) → length l ≤ d + 1 + until 32 (drop (d + 1) l) → CutWell l (record { first = a; second = b; third = d })
 cuts l a b d x y z n h =
     record {
-      answer = sym (x.question 2 ∙ y.question 1 ∙ z.question 0 ∙ last-is l (d + 1) n (omega (arith, z.inside)) h);
-      places = λ e. record { first = omega (arith, y.less); second = omega (arith, z.less); third = z.inside };
-      fields = λ e. x.fields ∙ rw (y.fields, z.fields, last-fields l (d + 1) h, sub-zero a);
+      yes = x.question 2 ∙ y.question 1 ∙ z.question 0 ∙ last-is l (d + 1) n (omega (arith, z.inside)) h;
+      places = record { first = omega (arith, y.less); second = omega (arith, z.less); third = z.inside };
+      fields = x.fields ∙ rw (y.fields, z.fields, last-fields l (d + 1) h, sub-zero a);
     }

@@ -2,22 +2,18 @@
 
 #![tactic(auto)]
 
-ghost use Rattle.std.specs.Prelude.{◌≡◌, ◌+◌, ◌≤◌, length, drop};
-ghost use Rattle.sheet_format.specs.Fields.{is_name_byte, is_name};
+ghost use Rattle.std.specs.Prelude.{◌≡◌, [], ◌∷◌, ◌+◌, ◌≤◌, length, drop};
+ghost use Rattle.setup.specs.Bounds.{largest};
+ghost use Rattle.sheet_format.specs.Fields.{is_name_byte, is_name, is_number_to, number_of, is_kind, kind_of, is_value, field_value};
 ghost use Rattle.sheet_fields.specs.Inner.Parts.{until, end_at, CutsFour};
-ghost use Rattle.sheet_fields.specs.Inner.Forms.{capped_number, capped_step, ReadsKind, ReadsValue, too_large};
-ghost use Rattle.sheet_fields.specs.Inner.Keys.{packed_bytes, key_of, ReadsName};
+ghost use Rattle.sheet_fields.specs.Inner.Forms.{read_if, more_digits};
+ghost use Rattle.sheet_fields.specs.Inner.Keys.{packed_bytes, key_of};
 
-use setup::{Kind, Value};
+use setup::{Kind, MAX_VALUE};
 
-pub const SPACE: u8 = 32;
+pub const SPACE: u8 = b' ';
 
-pub const LF: u8 = 10;
-
-const DASH: u8 = 45;
-
-// One above the largest number that a sheet may have.
-const TOO_LARGE: u64 = setup::MAX_VALUE + 1;
+pub const LF: u8 = b'\n';
 
 // The longest name, and how many of its bytes one number of its key holds.
 const NAME_BYTES: usize = 16;
@@ -25,36 +21,15 @@ const NAME_BYTES: usize = 16;
 const WORD_BYTES: usize = 8;
 
 // A name as two numbers, so that two names are compared without a loop.
-#[derive(Clone, Copy)]
+#[derive(Clone, Copy, PartialEq, Eq)]
 pub struct Key {
     pub low: u64,
     pub high: u64,
 }
 
-pub const NO_KEY: Key = Key { low: 0, high: 0 };
-
-#[derive(Drop)]
-pub struct NameField {
-    pub ok: bool,
-    pub key: Key,
-}
-
-#[derive(Drop)]
-pub struct KindField {
-    pub ok: bool,
-    pub kind: Kind,
-}
-
-#[derive(Drop)]
-pub struct ValueField {
-    pub ok: bool,
-    pub value: Value,
-}
-
 // Where the first three of four fields end.
-#[derive(Drop)]
+#[derive(Clone, Copy)]
 pub struct Cut {
-    pub ok: bool,
     pub first: usize,
     pub second: usize,
     pub third: usize,
@@ -64,181 +39,105 @@ pub struct Cut {
 pub fn find(s: &[u8], at: usize, b: u8) -> usize
     ensures { result ≡ at + until b (drop at s.now) }
 {
-    let mut i = at;
-    while i < s.len() {
-        if s[i] == b {
-            return i;
-        }
-        i += 1;
-    }
-    i
+    let rest = &s[at.min(s.len())..];
+    at + rest.iter().position(|x| *x == b).unwrap_or(rest.len())
 }
 
-// The end of the field that begins at `at`, where it is not empty and another one follows; else 0.
-pub fn end_of_field(l: &[u8], at: usize) -> usize
+// The end of the field that begins at `at`, where it is not empty and another one follows.
+pub fn end_of_field(l: &[u8], at: usize) -> Option<usize>
     ensures { result ≡ end_at l.now at }
 {
     let end = find(l, at, SPACE);
-    if end == at {
-        return 0;
+    if at < end && end < l.len() {
+        Some(end)
+    } else {
+        None
     }
-    if end < l.len() { end } else { 0 }
 }
 
-const NO_CUT: Cut = Cut {
-    ok: false,
-    first: 0,
-    second: 0,
-    third: 0,
-};
-
 // Cuts a line into four fields, none empty.
-pub fn cut_four(l: &[u8]) -> Cut
+pub fn cut_four(l: &[u8]) -> Option<Cut>
     ensures { CutsFour l.now result }
 {
-    let first = end_of_field(l, 0);
-    if first == 0 {
-        return NO_CUT;
-    }
-    let second = end_of_field(l, first + 1);
-    if second == 0 {
-        return NO_CUT;
-    }
-    let third = end_of_field(l, second + 1);
-    if third == 0 {
-        return NO_CUT;
-    }
+    let first = end_of_field(l, 0)?;
+    let second = end_of_field(l, first + 1)?;
+    let third = end_of_field(l, second + 1)?;
     let last = third + 1;
-    if last == l.len() {
-        return NO_CUT;
-    }
     let end = find(l, last, SPACE);
-    if end < l.len() {
-        return NO_CUT;
+    if last == l.len() || end < l.len() {
+        return None;
     }
-    Cut {
-        ok: true,
+    Some(Cut {
         first,
         second,
         third,
-    }
+    })
 }
 
+#[tactic(auto, using(std::proofs::lemmas::Bool::Decides::nat_tests), unfolding(sheet_format::specs::Fields::is_name_byte, sheet_format::specs::Fields::is_digit))]
 fn is_name_byte(b: u8) -> bool
     ensures { result ≡ is_name_byte b }
 {
-    if b'a' <= b {
-        return b <= b'z';
-    }
-    if b == b'_' {
-        return true;
-    }
-    if b < b'0' {
-        return false;
-    }
-    b <= b'9'
+    matches!(b, b'a'..=b'z' | b'0'..=b'9' | b'_')
 }
 
 fn is_name(f: &[u8]) -> bool
     ensures { result ≡ is_name f.now }
 {
-    if f.len() == 0 {
-        return false;
-    }
-    if NAME_BYTES < f.len() {
-        return false;
-    }
-    let mut i = 0;
-    while i < f.len() {
-        let b = f[i];
-        if is_name_byte(b) {
-            i += 1;
-        } else {
-            return false;
-        }
-    }
-    true
+    !f.is_empty() && f.len() <= NAME_BYTES && f.iter().all(|b| is_name_byte(*b))
 }
 
-// The number n with one more digit behind it, kept from growing further once it is too large; too
-// large as well where b is no digit.
-fn with_digit(n: u64, b: u8) -> u64
-    requires { n ≤ too_large }
-    ensures { result ≡ capped_step n b }
+// The number n with one more digit behind it, where b is a digit and the number not too large.
+#[tactic(auto, using(std::proofs::lemmas::Bool::Decides::nat_tests), unfolding(crate::specs::Inner::Forms::more_digits, sheet_format::specs::Fields::is_digit))]
+fn with_digit(n: u64, b: u8) -> Option<u64>
+    requires { n ≤ largest }
+    ensures { result ≡ more_digits n (b ∷ []) }
 {
-    if b < b'0' {
-        return TOO_LARGE;
+    if !b.is_ascii_digit() {
+        return None;
     }
-    if b'9' < b {
-        return TOO_LARGE;
-    }
-    let next = n * 10 + (b - b'0') as u64;
-    if next < TOO_LARGE { next } else { TOO_LARGE }
+    let next = n * 10 + u64::from(b - b'0');
+    if next <= MAX_VALUE { Some(next) } else { None }
 }
 
-// The number that a field states; TOO_LARGE where it is larger or the field is no number. The field
-// may have any length: the value is kept from growing further, and never overflows.
-pub fn read_number(f: &[u8]) -> u64
-    ensures { result ≡ capped_number f.now }
+// The number that a field states, where it is one and not too large. The field may have any length:
+// the first digit too many ends the reading, and nothing overflows.
+pub fn read_number(f: &[u8]) -> Option<u64>
+    ensures { result ≡ read_if (is_number_to largest f.now) (number_of f.now) }
 {
-    if f.len() == 0 {
-        return TOO_LARGE;
+    if f.is_empty() {
+        return None;
     }
-    if f[0] == b'0' {
-        return if f.len() == 1 { 0 } else { TOO_LARGE };
+    if f[0] == b'0' && f.len() != 1 {
+        return None;
     }
-    let mut n: u64 = 0;
-    let mut i = 0;
-    while i < f.len() {
-        n = with_digit(n, f[i]);
-        i += 1;
+    let mut n = 0;
+    for b in f {
+        n = with_digit(n, *b)?;
     }
-    n
+    Some(n)
 }
 
 // A kind: `c` for a credential, `a` for an account.
-pub fn read_kind(f: &[u8]) -> KindField
-    ensures { ReadsKind f.now result }
+pub fn read_kind(f: &[u8]) -> Option<Kind>
+    ensures { result ≡ read_if (is_kind f.now) (kind_of f.now) }
 {
-    if f.len() != 1 {
-        return KindField {
-            ok: false,
-            kind: Kind::Credential,
-        };
-    }
-    if f[0] == b'a' {
-        return KindField {
-            ok: true,
-            kind: Kind::Account,
-        };
-    }
-    KindField {
-        ok: f[0] == b'c',
-        kind: Kind::Credential,
+    match f {
+        b"c" => Some(Kind::Credential),
+        b"a" => Some(Kind::Account),
+        _ => None,
     }
 }
 
 // A start or loss value: `-`, or a number up to the largest.
-pub fn read_value(f: &[u8]) -> ValueField
-    ensures { ReadsValue f.now result }
+pub fn read_value(f: &[u8]) -> Option<Option<u64>>
+    ensures { result ≡ read_if (is_value f.now) (field_value f.now) }
 {
-    let n = read_number(f);
-    if n < TOO_LARGE {
-        return ValueField {
-            ok: true,
-            value: Value::Of(n),
-        };
+    if f == b"-".as_slice() {
+        return Some(None);
     }
-    if f.len() != 1 {
-        return ValueField {
-            ok: false,
-            value: Value::Blank,
-        };
-    }
-    ValueField {
-        ok: f[0] == DASH,
-        value: Value::Blank,
-    }
+    let n = read_number(f)?;
+    Some(Some(n))
 }
 
 // At most eight bytes as one number, the first byte lowest.
@@ -246,41 +145,25 @@ fn pack(f: &[u8]) -> u64
     requires { length f.now ≤ 8 }
     ensures { result ≡ packed_bytes f.now }
 {
-    let mut n: u64 = 0;
-    let mut i = f.len();
-    while 0 < i {
-        i -= 1;
-        let b = f[i] as u64;
-        n = n * 256 + b;
-    }
-    n
+    let mut bytes = [0; WORD_BYTES];
+    bytes[..f.len()].copy_from_slice(f);
+    u64::from_le_bytes(bytes)
 }
 
 fn key_of(name: &[u8]) -> Key
     requires { length name.now ≤ 16 }
     ensures { result ≡ key_of name.now }
 {
-    if name.len() <= WORD_BYTES {
-        let low = pack(name);
-        Key { low, high: 0 }
-    } else {
-        let low = pack(&name[..WORD_BYTES]);
-        let high = pack(&name[WORD_BYTES..]);
-        Key { low, high }
+    let (low, high) = name.split_at(name.len().min(WORD_BYTES));
+    Key {
+        low: pack(low),
+        high: pack(high),
     }
 }
 
 // A name: 1 to 16 bytes of a-z, 0-9 and `_`.
-pub fn read_name(f: &[u8]) -> NameField
-    ensures { ReadsName f.now result }
+pub fn read_name(f: &[u8]) -> Option<Key>
+    ensures { result ≡ read_if (is_name f.now) (key_of f.now) }
 {
-    if is_name(f) {
-        let key = key_of(f);
-        NameField { ok: true, key }
-    } else {
-        NameField {
-            ok: false,
-            key: NO_KEY,
-        }
-    }
+    if is_name(f) { Some(key_of(f)) } else { None }
 }

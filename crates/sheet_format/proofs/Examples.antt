@@ -6,7 +6,7 @@ use mathlib.Core.Bool.{true}
 use Prim.Native.Nat.{ℕ}
 use lib.ListN.{replicate}
 use Rattle.setup.specs.declared.Kind.TheVariants.{Credential, Account}
-use Rattle.setup.specs.declared.Value.TheVariants.{Blank, Of}
+use Rattle.std.specs.Prelude.{None, Some}
 use Rattle.setup.specs.Setup.{unused_vertex, empty_graph, no_vertices}
 use Rattle.sheet_format.specs.Text.{grow, lines_of, fields_of, is_empty, same_text, all}
 use Rattle.sheet_format.specs.Fields.{is_digit, is_name_byte, is_name, is_number, value_behind, number_of, is_number_to, digits_in, decimal, is_kind, kind_of, is_value, field_value}
@@ -21,11 +21,11 @@ sheet = 110 ∷ 97 ∷ 109 ∷ 101 ∷ 32 ∷ 107 ∷ 105 ∷ 110 ∷ 100 ∷ 32
 whole : read_sheet sheet ≡ accepted (record {
   count = 5;
   vertices =
-      record { kind = Credential; start = Of 1; loss = Of 2; rank = 0 }
-      ∷ record { kind = Credential; start = Of 1; loss = Of 1; rank = 0 }
-      ∷ record { kind = Credential; start = Of 3; loss = Of 2; rank = 0 }
-      ∷ record { kind = Account; start = Blank; loss = Blank; rank = 1 }
-      ∷ record { kind = Account; start = Blank; loss = Blank; rank = 3 }
+      record { kind = Credential; start = Some 1; loss = Some 2; rank = 0 }
+      ∷ record { kind = Credential; start = Some 1; loss = Some 1; rank = 0 }
+      ∷ record { kind = Credential; start = Some 3; loss = Some 2; rank = 0 }
+      ∷ record { kind = Account; start = None; loss = None; rank = 1 }
+      ∷ record { kind = Account; start = None; loss = None; rank = 3 }
       ∷ replicate 59 unused_vertex;
   graph = record { rows = replicate 3 (record { needs = replicate 8 0 }) ++ (record { needs = 2 ∷ replicate 7 0 } ∷ record { needs = 5 ∷ 8 ∷ replicate 6 0 } ∷ replicate 59 (record { needs = replicate 8 0 })) };
   recovery = record { rows = replicate 4 (record { needs = replicate 8 0 }) ++ (record { needs = 0 ∷ 8 ∷ replicate 6 0 } ∷ replicate 59 (record { needs = replicate 8 0 })) };
@@ -65,7 +65,7 @@ empty-edge = refl
 
 written : render (record {
   items =
-      record { name = 111 ∷ 114 ∷ 100 ∷ 112 ∷ 119 ∷ []; kind = Credential; start = Of 1; loss = Of 4000000000; rank = 0 } ∷ [];
+      record { name = 111 ∷ 114 ∷ 100 ∷ 112 ∷ 119 ∷ []; kind = Credential; start = Some 1; loss = Some 4000000000; rank = 0 } ∷ [];
   edges = record { from = 111 ∷ 114 ∷ 100 ∷ 112 ∷ 119 ∷ []; to = 111 ∷ 114 ∷ 100 ∷ 112 ∷ 119 ∷ []; colour = 7; rec = true } ∷ [];
 }) ≡ 110 ∷ 97 ∷ 109 ∷ 101 ∷ 32 ∷ 107 ∷ 105 ∷ 110 ∷ 100 ∷ 32 ∷ 115 ∷ 116 ∷ 97 ∷ 114 ∷ 116 ∷ 32 ∷ 108 ∷ 111 ∷ 115 ∷ 115 ∷ 32 ∷ 114 ∷ 97 ∷ 110 ∷ 107 ∷ 10 ∷ 111 ∷ 114 ∷ 100 ∷ 112 ∷ 119 ∷ 32 ∷ 99 ∷ 32 ∷ 49 ∷ 32 ∷ 52 ∷ 48 ∷ 48 ∷ 48 ∷ 48 ∷ 48 ∷ 48 ∷ 48 ∷ 48 ∷ 48 ∷ 32 ∷ 48 ∷ 10 ∷ 10 ∷ 102 ∷ 114 ∷ 111 ∷ 109 ∷ 32 ∷ 116 ∷ 111 ∷ 32 ∷ 99 ∷ 111 ∷ 108 ∷ 111 ∷ 117 ∷ 114 ∷ 32 ∷ 114 ∷ 101 ∷ 99 ∷ 10 ∷ 111 ∷ 114 ∷ 100 ∷ 112 ∷ 119 ∷ 32 ∷ 111 ∷ 114 ∷ 100 ∷ 112 ∷ 119 ∷ 32 ∷ 55 ∷ 32 ∷ 49 ∷ 10 ∷ []
 unfolding digits_in decimal first_header second_header item_lines edge_lines render

@@ -13,8 +13,7 @@ use Rattle.vertex_set.proofs.Cases.{by_test, false-true}
 use Rattle.setup.specs.Bounds.{largest}
 use Rattle.setup.specs.declared.Kind.{Kind}
 use Rattle.setup.specs.declared.Kind.TheVariants.{Credential, Account}
-use Rattle.setup.specs.declared.Value.{Value}
-use Rattle.setup.specs.declared.Value.TheVariants.{Blank, Of}
+use Rattle.std.specs.Prelude.{Option, None, Some}
 use Rattle.formed.specs.WellFormed.{InRange}
 use Rattle.sheet_format.specs.Text.{same_text, is_empty, all}
 use Rattle.sheet_format.specs.Fields.{is_digit, is_name_byte, is_name, is_number, number_of, is_number_to, decimal, kind_text, is_kind, kind_of, dash, is_value, field_value, value_text}
@@ -132,32 +131,32 @@ decimal-no-dash : (n : ℕ) → n < 10 ^ 20 → same_text (decimal n) dash ≡ f
 decimal-no-dash n h =
     no_of (same_text (decimal n) dash) (text-decided (decimal n) dash) (λ e. false-true (sym dash-no-number ∙ ap is_number (sym e) ∙ number-decimal n h))
 
-pub value-yes : (x : Value) → InRange x → is_value (value_text x) ≡ true
+pub value-yes : (x : Option ℕ) → InRange x → is_value (value_text x) ≡ true
 unfolding is_value
-value-yes Blank h = or_left (same_text dash dash) (is_number_to largest dash) (same_refl dash)
-value-yes (Of n) h = or_right (same_text (decimal n) dash) (is_number_to largest (decimal n)) (number-to largest n (omega arith) h)
+value-yes None h = or_left (same_text dash dash) (is_number_to largest dash) (same_refl dash)
+value-yes (Some n) h = or_right (same_text (decimal n) dash) (is_number_to largest (decimal n)) (number-to largest n (omega arith) h)
 
-pub value_written : (x : Value) → InRange x → field_value (value_text x) ≡ x
+pub value_written : (x : Option ℕ) → InRange x → field_value (value_text x) ≡ x
 unfolding field_value
-value_written Blank h = rw (same_refl dash)
-value_written (Of n) h = rw (decimal-no-dash n (omega arith), value-decimal n (omega arith))
+value_written None h = rw (same_refl dash)
+value_written (Some n) h = rw (decimal-no-dash n (omega arith), value-decimal n (omega arith))
 
 pub record ValueRead (f : List ℕ) : Type 0 where
   pub range : InRange (field_value f)
   pub text : value_text (field_value f) ≡ f
 
-value_as : (f : List ℕ) (x : Value) → field_value f ≡ x → InRange x → value_text x ≡ f → ValueRead f
+value_as : (f : List ℕ) (x : Option ℕ) → field_value f ≡ x → InRange x → value_text x ≡ f → ValueRead f
 value_as f x e r t = record { range = subst InRange (sym e) r; text = ap value_text e ∙ t }
 
 pub value_read : (f : List ℕ) → is_value f ≡ true → ValueRead f
 unfolding is_value field_value
 value_read f e =
     by_test (same_text f dash)
-    (λ d. value_as f Blank (rw d) tt (sym ((text-decided f dash).yes d)))
+    (λ d. value_as f None (rw d) tt (sym ((text-decided f dash).yes d)))
     (λ d. let n = to_number largest f (omega arith) (subst (λ (t : Bool). t || is_number_to largest f ≡ true) d e) in
-    value_as f (Of (number_of f)) (rw d) n.bound n.text)
+    value_as f (Some (number_of f)) (rw d) n.bound n.text)
 
-pub value-plain : (x : Value) → InRange x → Plain (value_text x)
+pub value-plain : (x : Option ℕ) → InRange x → Plain (value_text x)
 unfolding is_empty
-value-plain Blank h = record { some = refl; bytes = (omega arith, tt) }
-value-plain (Of n) h = decimal-plain n (omega arith)
+value-plain None h = record { some = refl; bytes = (omega arith, tt) }
+value-plain (Some n) h = decimal-plain n (omega arith)

@@ -10,7 +10,7 @@ use lib.ListN.{length}
 use borrow.Author.Tests.{le-leb, leb-true}
 use Rattle.setup.specs.Bounds.{most_bytes}
 use Rattle.setup.specs.declared.Setup.{Setup}
-use Rattle.sheet_format.specs.declared.Reading.{Reading}
+use Rattle.sheet_format.specs.Read.{Reading}
 use Rattle.sheet_format.specs.Text.{lines_of, all}
 use Rattle.sheet_format.specs.Rows.{Doc, Valid, render, vertices_of, with_edges, recovery_rows, setup_of}
 use Rattle.sheet_format.specs.Questions.{question1, is_text_byte, ends_in_lf, question2}

@@ -1,13 +1,13 @@
 -- What is held after reading; and question 12 of sheets alone: a setup is well formed and holds nothing exactly when some accepted sheet yields it.
 -- Assumes nothing.
-use mathlib.Core.Path.{◌≡◌, refl, sym, ap, subst, ◌∙◌}
+use mathlib.Core.Path.{◌≡◌, sym, ap, subst, ◌∙◌}
 use mathlib.Core.List.{List}
 use mathlib.Core.Logic.{⊎_elim}
 use Prim.Native.Nat.{ℕ}
 use native.Mathlib.Omega.{arith}
 use Rattle.setup.specs.declared.Setup.{Setup}
 use Rattle.formed.specs.WellFormed.{WellFormed}
-use Rattle.sheet_format.specs.declared.Reading.{Reading}
+use Rattle.sheet_format.specs.Read.{Reading}
 use Rattle.sheet_format.specs.Rows.{setup_of, render}
 use Rattle.sheet_format.specs.Read.{read_sheet, accepted}
 use Rattle.sheet_format.specs.Meaning.{Accepted, Refused, FreshHoldsNothing, Question12Sheets}

@@ -17,7 +17,7 @@ use Rattle.setup.specs.declared.Graph.{Graph}
 use Rattle.setup.specs.Setup.{unused_vertex, vertex_at, row, Edge}
 use Rattle.sheet_format.specs.Text.{same_text}
 use Rattle.sheet_format.specs.Rows.{ItemRow, EdgeRow, Doc, Apart, Known, SameName, ValidEdge, Valid, number_in, vertex_of, vertices_of, recovery_rows, setup_of}
-use Rattle.sheet_format.specs.Stated.{StandsAt, HasFields, Joins, Stated, StatedByRows, StatedUnique}
+use Rattle.sheet_format.specs.Stated.{StandsAt, HasFields, Joins, StatedByRows, StatedUnique}
 use Rattle.vertex_set.proofs.Decisions.{yes_of, no_of}
 use Rattle.sheet_format.proofs.Tests.{text-decided}
 use Rattle.sheet_format.proofs.Question12Lists.{In, of-each}

@@ -3,8 +3,7 @@ use Rattle.std.specs.Prelude.{List, [], ◌∷◌, ◌++◌, Bool, false, cond, 
 use Rattle.setup.specs.Bounds.{most_name, largest}
 use Rattle.setup.specs.declared.Kind.{Kind}
 use Rattle.setup.specs.declared.Kind.TheVariants.{Credential, Account}
-use Rattle.setup.specs.declared.Value.{Value}
-use Rattle.setup.specs.declared.Value.TheVariants.{Blank, Of}
+use Rattle.std.specs.Prelude.{Option, None, Some}
 use Rattle.sheet_format.specs.Text.{bytes_of, is_empty, same_text, all}
 
 -- ---- names: 1 to 16 of a-z, 0-9, `_`
@@ -76,10 +75,10 @@ unfoldable pub is_value : List ℕ → Bool
 is_value f = same_text f dash || is_number_to largest f
 
 -- The value that a field says: a blank for `-`, else its number.
-unfoldable pub field_value : List ℕ → Value
-field_value f = cond (same_text f dash) Blank (Of (number_of f))
+unfoldable pub field_value : List ℕ → Option ℕ
+field_value f = cond (same_text f dash) None (Some (number_of f))
 
 -- How a value is written: `-` for a blank, else its number.
-abbrev pub value_text : Value → List ℕ
-value_text Blank = dash
-value_text (Of n) = decimal n
+abbrev pub value_text : Option ℕ → List ℕ
+value_text None = dash
+value_text (Some n) = decimal n

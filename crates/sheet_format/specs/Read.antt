@@ -1,8 +1,9 @@
 -- Reading a sheet: questions 1 and 2 of the whole text, then the lines from the top. The first no ends it.
-use Rattle.std.specs.Prelude.{◌≡◌, List, [], ◌∷◌, ◌++◌, Bool, true, false, cond, ℕ, zero, suc}
+use Rattle.std.specs.Prelude.{◌≡◌, Result, Ok, Err, List, [], ◌∷◌, ◌++◌, Bool, true, false, cond, ℕ, zero, suc}
 use Rattle.setup.specs.declared.Setup.{Setup}
 use Rattle.questions.specs.Asks.{Question}
-use Rattle.sheet_format.specs.declared.Reading.{Reading}
+use Rattle.questions.specs.Refusals.{number}
+use Rattle.sheet_format.specs.declared.SheetRefusal.{SheetRefusal}
 use Rattle.sheet_format.specs.Text.{lines_of, fields_of, is_empty}
 use Rattle.sheet_format.specs.Rows.{ItemRow, EdgeRow, Doc, setup_of, first_header, second_header}
 use Rattle.sheet_format.specs.Questions.{question1, question2, question3, question4, question5_item, question5_edge, question6, question7_item, question7_edge, question8, question9, question10, item_of, edge_of}
@@ -73,6 +74,13 @@ first_no (a ∷ later) = cond a.answer (first_no later) a.number
 
 -- ---- the whole sheet
 
+-- What reading a sheet gives. Number 0 and line 0: it is accepted. Else the number of the first question whose answer is no, its line (0 for the whole
+-- text), and a setup of 0 items with no place in use.
+pub record Reading : Type 0 where
+  pub number : ℕ
+  pub line : ℕ
+  pub setup : Setup
+
 -- An accepted sheet gives its setup, with number 0 and line 0.
 abbrev pub accepted : Setup → Reading
 accepted s = record { number = 0; line = 0; setup = s }
@@ -80,6 +88,11 @@ accepted s = record { number = 0; line = 0; setup = s }
 -- A refused sheet gives a setup of 0 items with no place in use.
 abbrev pub refused : ℕ → ℕ → Reading
 refused n k = record { number = n; line = k; setup = setup_of no_rows }
+
+-- What a call that reads a sheet hands back, as the reading: the setup of an accepted sheet, or why it is refused.
+abbrev pub reading : Result Setup SheetRefusal → Reading
+reading (Ok setup) = accepted setup
+reading (Err refusal) = refused (number refusal.refusal) refusal.line
 
 -- 11 (text over): did the second header come?
 unfoldable pub question11 : Phase → Bool

@@ -3,7 +3,7 @@ use Rattle.std.specs.Prelude.{◌≡◌, List, [], ◌∷◌, ◌++◌, map, Boo
 use Rattle.std.specs.Int.Bits.{bit_or}
 use Rattle.setup.specs.Bounds.{most_items, highest, highest_colour, most_edges, most_chosen, most_bytes}
 use Rattle.setup.specs.declared.Kind.{Kind}
-use Rattle.setup.specs.declared.Value.{Value}
+use Rattle.std.specs.Prelude.{Option}
 use Rattle.setup.specs.declared.Vertex.{Vertex}
 use Rattle.setup.specs.declared.Graph.{Graph}
 use Rattle.setup.specs.declared.Setup.{Setup}
@@ -16,8 +16,8 @@ use Rattle.sheet_format.specs.Fields.{is_name, decimal, kind_text, value_text}
 pub record ItemRow : Type 0 where
   pub name : List ℕ
   pub kind : Kind
-  pub start : Value
-  pub loss : Value
+  pub start : Option ℕ
+  pub loss : Option ℕ
   pub rank : ℕ
 
 -- An edge row: the names that it leads from and to, its colour, and `rec`, which is true for a recovery edge.

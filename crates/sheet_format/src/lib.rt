@@ -3,12 +3,12 @@
 
 #![tactic(auto)]
 
-// What reading a sheet gives. Number 0 and line 0: it is accepted. Else the number of the first
-// question whose answer is no, its line (0 for the whole text), and a setup of 0 items with no
-// place in use.
-#[derive(Drop)]
-pub struct Reading {
-    pub number: u64,
+use questions::Refusal;
+
+// Why a sheet is refused: the first question whose answer is no, and its line, counted from 1 (0 for
+// the whole text).
+#[derive(Clone, Copy, Debug, PartialEq, Eq)]
+pub struct SheetRefusal {
+    pub refusal: Refusal,
     pub line: u64,
-    pub setup: setup::Setup,
 }

@@ -22,11 +22,17 @@ use Rattle.sheet_fields.specs.declared.Key.{Key}
 use Rattle.sheet_fields.specs.Inner.Parts.{until}
 use Rattle.sheet_rows.specs.declared.TakenItem.{TakenItem}
 use Rattle.sheet_rows.specs.Inner.NameKeys.{low_of, high_of, WellNamed, NameKeys}
-use Rattle.sheet_rows.specs.Inner.Lines.{TakesItem}
+use Rattle.sheet_rows.specs.Inner.Lines.{ItemTaken, TakesItem}
+use Rattle.sheet_rows.specs.declared.ItemKeys.{ItemKeys}
 use Rattle.sheet_rows.proofs.Asks.{all_yes}
 use Rattle.sheet_rows.proofs.Taking.{item-name}
-use Rattle.sheet_items.specs.declared.Items.{Items}
-use Rattle.sheet_items.specs.Inner.Items.{ReadsItems}
+use Rattle.std.specs.Prelude.{Result, Ok, Err}
+use Rattle.std.proofs.lemmas.Result.{IfOk-at_ok}
+use Rattle.questions.specs.declared.Refusal.{Refusal}
+use Rattle.questions.specs.Refusals.{number}
+use Rattle.questions.specs.Inner.{asked}
+use Rattle.questions.proofs.Refusals.{number_some}
+use Rattle.sheet_items.specs.Inner.Items.{ItemsTaken}
 use Rattle.sheet_fields.proofs.Lines.{line_at, lines-over}
 use Rattle.sheet_lines.proofs.Reading.{empty-no, empty-yes, item-no, item-yes, over_no}
 
@@ -90,15 +96,11 @@ some-line zero l p h = absurd (not-suc-le-zero p)
 some-line (suc n) [] p h = absurd (not-suc-le-zero h)
 some-line (suc n) (b ∷ l) p h = refl
 
--- what the loop's refusals return
-pub no_items : (s : List ℕ) (start : ℕ) (r : Items) → (r.number ≡ 0 → ⊥) → read_lines AmongItems no_rows 2 (lines_of (drop start s)) ≡ refused r.number r.line → ReadsItems s start r
-no_items s start r n e = record { taken = λ z. absurd (n z); no = λ m. e }
-
 module _ (s : List ℕ) (start : ℕ) (vertices : List Vertex) (low high : List ℕ) (count starts losses at : ℕ)
     (f : SoFar s start vertices low high count starts losses at) where
-  pub over : length s ≤ at → ReadsItems s start (record { number = 11; line = count + 2; at = at; count = count; vertices = vertices; low = low; high = high })
+  pub over : length s ≤ at → read_lines AmongItems no_rows 2 (lines_of (drop start s)) ≡ refused 11 (count + 2)
   unfolding question11
-  over h = no_items s start _ (λ z. omega arith) (f.reading ∙ rw (lines-over s at h) (over_no AmongItems (doc_of f.items) (count + 2) refl))
+  over h = f.reading ∙ rw (lines-over s at h) (over_no AmongItems (doc_of f.items) (count + 2) refl)
 
   module _ (inside : at < length s) (e : ℕ) (found : e ≡ at + until 10 (drop at s)) where
     abbrev pub line : List ℕ
@@ -111,43 +113,45 @@ module _ (s : List ℕ) (start : ℕ) (vertices : List Vertex) (low high : List 
     unfolding is_empty
     empty-line q = let z : e - at ≡ 0 = omega arith in rw z
 
-    pub none : e ≡ at → count ≡ 0
-        → ReadsItems s start (record { number = 10; line = count + 2; at = at; count = count; vertices = vertices; low = low; high = high })
-    none q z =
-        no_items s start _ (λ y. omega arith)
-        (here ∙ empty-no (doc_of f.items) (count + 2) line (lines_of (drop (e + 1) s)) (empty-line q) (sym f.table.size ∙ z))
+    pub none : e ≡ at → count ≡ 0 → read_lines AmongItems no_rows 2 (lines_of (drop start s)) ≡ refused 10 (count + 2)
+    none q z = here ∙ empty-no (doc_of f.items) (count + 2) line (lines_of (drop (e + 1) s)) (empty-line q) (sym f.table.size ∙ z)
 
-    pub some : e ≡ at → (count ≡ 0 → ⊥)
-        → ReadsItems s start (record { number = 0; line = count + 2; at = e + 1; count = count; vertices = vertices; low = low; high = high })
-    some q n =
+    pub some : (keys : ItemKeys) → keys.low ≡ low → keys.high ≡ high → keys.count ≡ count → e ≡ at → (count ≡ 0 → ⊥)
+        → ItemsTaken s start (record { line = count + 2; at = e + 1; vertices = vertices; keys = keys })
+    some keys l h c q n =
         record {
-          taken = λ z. record {
-            items = f.items;
-            table = f.table;
-            bounds = record { most = f.most; above = omega (arith, f.most); lows = rw f.lows f.most; highs = rw f.highs f.most };
-            vertices = f.places;
-            reading =
-                here ∙ empty-yes (doc_of f.items) (count + 2) line (lines_of (drop (e + 1) s)) (empty-line q) (λ y. n (f.table.size ∙ y))
-                ∙ ap (λ (k : ℕ). read_lines AtSecondHeader (doc_of f.items) k (lines_of (drop (e + 1) s))) (sym (add-one (count + 2)));
-          };
-          no = λ m. absurd (m refl);
+          items = f.items;
+          table = rw (l, h, c) f.table;
+          above = omega (arith, f.most);
+          vertices = f.places;
+          reading =
+              here ∙ empty-yes (doc_of f.items) (count + 2) line (lines_of (drop (e + 1) s)) (empty-line q) (λ y. n (f.table.size ∙ y))
+              ∙ ap (λ (k : ℕ). read_lines AtSecondHeader (doc_of f.items) k (lines_of (drop (e + 1) s))) (sym (add-one (count + 2)));
         }
 
-    module _ (full : e ≡ at → ⊥) (r : TakenItem) (takes : TakesItem line low high count starts losses r) where
+    module _ (full : e ≡ at → ⊥) (r : Result TakenItem Refusal) (takes : TakesItem line low high count starts losses r) where
       full-line : is_empty line ≡ false
       full-line =
           let d = length-drop at s in
           some-line (e - at) (drop at s) (omega (arith, full)) (omega arith)
 
-      asked : r.number ≡ first_no (item_questions (doc_of f.items) (fields_of line))
-      asked = takes.number (doc_of f.items) f.table f.starting f.losable
+      asked-is : asked r ≡ first_no (item_questions (doc_of f.items) (fields_of line))
+      asked-is = takes.number (doc_of f.items) f.table f.starting f.losable
 
-      pub refused-row : (r.number ≡ 0 → ⊥)
-          → ReadsItems s start (record { number = r.number; line = count + 2; at = at; count = count; vertices = vertices; low = low; high = high })
-      refused-row n =
-          no_items s start _ n (here ∙ item-no (doc_of f.items) (count + 2) line (lines_of (drop (e + 1) s)) r.number full-line asked n)
+      pub refused-row : (x : Refusal) → r ≡ Err x → read_lines AmongItems no_rows 2 (lines_of (drop start s)) ≡ refused (number x) (count + 2)
+      refused-row x i =
+          here ∙ item-no (doc_of f.items) (count + 2) line (lines_of (drop (e + 1) s)) (number x) full-line (rw i at asked-is) (number_some x)
 
-      module _ (zero : r.number ≡ 0) where
+      module _ (x : TakenItem) (ok : r ≡ Ok x) where
+        zero-is : 0 ≡ first_no (item_questions (doc_of f.items) (fields_of line))
+        zero-is = rw ok at asked-is
+
+        took : ItemTaken line count starts losses x
+        took = IfOk-at_ok (ItemTaken line count starts losses) ok takes.taken
+
+        pub has-room : count < 64
+        has-room = took.room
+
         row : ItemRow
         row = item_of (fields_of line)
 
@@ -155,30 +159,30 @@ module _ (s : List ℕ) (start : ℕ) (vertices : List Vertex) (low high : List 
         unfolding row item_questions
         named =
             item-name (fields_of line) (all_yes 5 (question5_item (fields_of line)) _ (omega arith)
-            (all_yes 4 (question4 5 (fields_of line)) _ (omega arith) (sym asked ∙ zero)).1).0
+            (all_yes 4 (question4 5 (fields_of line)) _ (omega arith) (sym zero-is)).1).0
 
-        pub taken-row : SoFar s start (set vertices count r.vertex) (set low count r.key.low) (set high count r.key.high) (count + 1) r.starts r.losses (e + 1)
+        pub taken-row : SoFar s start (set vertices count x.vertex) (set low count x.key.low) (set high count x.key.high) (count + 1) x.starts x.losses (e + 1)
         unfolding row start_count loss_count
         taken-row =
-            let room = takes.room zero in
+            let room = took.room in
             let size = f.table.size in
-            let k = takes.key zero in
+            let k = took.key in
             record {
               items = f.items ++ (row ∷ []);
               table = record {
                 size = let l = length-append f.items (row ∷ []) in omega arith;
-                lows = keys-more low_of f.items row low count r.key.low (omega (arith, f.lows)) f.table.lows (ap (λ (q : Key). q.low) k);
-                highs = keys-more high_of f.items row high count r.key.high (omega (arith, f.highs)) f.table.highs (ap (λ (q : Key). q.high) k);
+                lows = keys-more low_of f.items row low count x.key.low (omega (arith, f.lows)) f.table.lows (ap (λ (q : Key). q.low) k);
+                highs = keys-more high_of f.items row high count x.key.high (omega (arith, f.highs)) f.table.highs (ap (λ (q : Key). q.high) k);
                 named = each_append WellNamed f.items (row ∷ []) f.table.named (named, tt);
               };
               most = omega arith;
-              lows = length-set low count r.key.low ∙ f.lows;
-              highs = length-set high count r.key.high ∙ f.highs;
-              places = rw (f.places, takes.vertex zero, size) (places-more f.items row (rw size at room));
-              starting = takes.more_starts zero ∙ rw f.starting (sym (total-more (λ x. given x.start) f.items row));
-              losable = takes.more_losses zero ∙ rw f.losable (sym (total-more (λ x. given x.loss) f.items row));
-              within = takes.within zero;
+              lows = length-set low count x.key.low ∙ f.lows;
+              highs = length-set high count x.key.high ∙ f.highs;
+              places = rw (f.places, took.vertex, size) (places-more f.items row (rw size at room));
+              starting = took.more_starts ∙ rw f.starting (sym (total-more (λ x. given x.start) f.items row));
+              losable = took.more_losses ∙ rw f.losable (sym (total-more (λ x. given x.loss) f.items row));
+              within = took.within;
               reading =
-                  here ∙ item-yes (doc_of f.items) (count + 2) line (lines_of (drop (e + 1) s)) full-line (sym zero ∙ asked)
+                  here ∙ item-yes (doc_of f.items) (count + 2) line (lines_of (drop (e + 1) s)) full-line zero-is
                   ∙ ap (λ (i : ℕ). read_lines AmongItems (doc_of (f.items ++ (row ∷ []))) i (lines_of (drop (e + 1) s))) (let i : suc (count + 2) ≡ count + 1 + 2 = omega arith in i);
             }

@@ -1,13 +1,13 @@
 -- An accepted sheet: the rows that it is the written form of, the setup that they state, and its lines.
 -- Assumes nothing.
-use mathlib.Core.Path.{◌≡◌, refl, sym, ap, ◌∙◌}
+use mathlib.Core.Path.{◌≡◌, sym, ap, ◌∙◌}
 use mathlib.Core.List.{List, [], ◌∷◌, map}
 use mathlib.Core.Logic.{⊎_elim}
 use Prim.Native.Nat.{ℕ, ◌+◌}
 use native.Mathlib.Omega.{arith}
 use lib.ListN.{length, length-append, length-map}
 use Rattle.setup.specs.declared.Setup.{Setup}
-use Rattle.sheet_format.specs.declared.Reading.{Reading}
+use Rattle.sheet_format.specs.Read.{Reading}
 use Rattle.sheet_format.specs.Text.{lines_of}
 use Rattle.sheet_format.specs.Rows.{Doc, Valid, second_header, render, setup_of}
 use Rattle.sheet_format.specs.Read.{read_sheet}

@@ -11,8 +11,7 @@ use lib.ListN.{length, get_or, set, take, drop, length-set, length-map}
 use lib.Seq.{ext_get_or, get_or-take, get_or-set_same, get_or-set_other, length-take-le}
 use Rattle.vertex_set.proofs.Cases.{same_or}
 use Rattle.sheet_format.specs.Text.{lines_of, fields_of}
-use Rattle.sheet_format.specs.Rows.{ItemRow, Doc, ValidItem, Valid, render, item_fields}
-use Rattle.sheet_format.specs.Read.{first_no}
+use Rattle.sheet_format.specs.Rows.{ItemRow, ValidItem, item_fields}
 use Rattle.sheet_format.specs.Names.{line_start}
 use Rattle.sheet_format.specs.Stated.{StandsAt}
 use Rattle.sheet_format.proofs.Lists.{each_map}
@@ -23,20 +22,29 @@ use Rattle.sheet_format.proofs.Stated.{stands-below, at_place, stands-in}
 use Rattle.sheet_fields.specs.declared.Key.{Key}
 use Rattle.sheet_fields.specs.Inner.Parts.{until}
 use Rattle.sheet_fields.specs.Inner.Keys.{key_of}
-use Rattle.sheet_rows.specs.declared.ItemLine.{ItemLine}
+use Rattle.std.specs.Prelude.{IfOk}
+use Rattle.sheet_format.specs.Questions.{question4, question5_item, item_of}
+use Rattle.sheet_rows.specs.declared.ItemKeys.{ItemKeys}
 use Rattle.sheet_rows.specs.Inner.NameKeys.{low_of, high_of, WellNamed}
-use Rattle.sheet_rows.specs.Inner.Lines.{ReadsItem}
+use Rattle.sheet_rows.specs.Inner.Lines.{read_line}
+use Rattle.sheet_rows.specs.Inner.Lines.{item_line as line_of}
 use Rattle.sheet_lines.specs.Inner.Keys.{SheetKeys}
 use Rattle.sheet_lines.proofs.Lines.{LineAt, line-found, item-line-at}
 
 -- ---- the key of one row
 
-item-key : (x : ItemRow) (l : List ℕ) (r : ItemLine) → ValidItem x → l ≡ item_line x → ReadsItem l r → r.key ≡ key_of x.name
-unfolding first_no
-item-key x l r v e h =
-    let back : fields_of l ≡ item_fields x = ap fields_of e ∙ item_back x v in
-    let z : r.number ≡ 0 = h.number ∙ rw (back, plain-yes4 5 (item_fields x) refl (item-plain x v), item-yes5 x v) in
-    h.key z ∙ rw (back, item-written x v)
+-- k is the key of whatever item row the line is.
+pub record RowKey (l : List ℕ) (k : Key) : Type 0 where
+  pub key : (x : ItemRow) → ValidItem x → l ≡ item_line x → k ≡ key_of x.name
+
+pub row-key : (l : List ℕ) (k : Key) → IfOk (read_line (question4 5 (fields_of l)) (question5_item (fields_of l)) (line_of (fields_of l))) (λ item. k ≡ item.key) → RowKey l k
+row-key l k h =
+    record {
+      key = λ x v e.
+          let back : fields_of l ≡ item_fields x = ap fields_of e ∙ item_back x v in
+          let z : k ≡ key_of (item_of (item_fields x)).name = rw (back, plain-yes4 5 (item_fields x) refl (item-plain x v), item-yes5 x v) at h in
+          z ∙ rw (item-written x v);
+    }
 
 -- ---- the keys so far
 
@@ -74,17 +82,16 @@ module _ (s low high from : List ℕ) (v at e : ℕ) (n : KeysSoFar s low high f
   pub row_at : LineAt s (suc v) at e
   row_at = line-found s (suc v) at e h n.here q
 
-  pub keys-more : (item : ItemLine) → v < 64 → ReadsItem (take (e - at) (drop at s)) item
-      → KeysSoFar s (set low v item.key.low) (set high v item.key.high) (set from v at) (v + 1) (e + 1)
-  keys-more item small r =
+  pub keys-more : (k : Key) → v < 64 → RowKey (take (e - at) (drop at s)) k → KeysSoFar s (set low v k.low) (set high v k.high) (set from v at) (v + 1) (e + 1)
+  keys-more k small r =
       rw (add-one v)
       (record {
-        long_low = length-set low v item.key.low ∙ n.long_low;
-        long_high = length-set high v item.key.high ∙ n.long_high;
+        long_low = length-set low v k.low ∙ n.long_low;
+        long_high = length-set high v k.high ∙ n.long_high;
         long_from = length-set from v at ∙ n.long_from;
         here = row_at.next;
         keys = λ u l. ⊎_elim
-            (λ w. subst (KeyAt s (set low v item.key.low) (set high v item.key.high)) (sym w) new)
+            (λ w. subst (KeyAt s (set low v k.low) (set high v k.high)) (sym w) new)
             (λ w. old u (omega (arith, w)))
             (same_or u v);
         starts = λ u l. ⊎_elim
@@ -93,22 +100,22 @@ module _ (s low high from : List ℕ) (v at e : ℕ) (n : KeysSoFar s low high f
             (same_or u v);
       })
     where
-      new : KeyAt s (set low v item.key.low) (set high v item.key.high) v
+      new : KeyAt s (set low v k.low) (set high v k.high) v
       new =
           record {
             key = λ x y z.
-                let k = item-key x (take (e - at) (drop at s)) item y (row_at.is ∙ z) r in (
-                  get_or-set_same low v item.key.low 0 (let a = n.long_low in omega arith) ∙ ap (λ (i : Key). i.low) k,
-                  get_or-set_same high v item.key.high 0 (let a = n.long_high in omega arith) ∙ ap (λ (i : Key). i.high) k,
+                let i = r.key x y (row_at.is ∙ z) in (
+                  get_or-set_same low v k.low 0 (let a = n.long_low in omega arith) ∙ ap (λ (j : Key). j.low) i,
+                  get_or-set_same high v k.high 0 (let a = n.long_high in omega arith) ∙ ap (λ (j : Key). j.high) i,
                 );
           }
 
-      old : (u : ℕ) → u < v → KeyAt s (set low v item.key.low) (set high v item.key.high) u
+      old : (u : ℕ) → u < v → KeyAt s (set low v k.low) (set high v k.high) u
       old u l =
           record {
             key = λ x y z.
-                let k = (n.keys u l).key x y z in
-                (set_other low v item.key.low u l ∙ k.0, set_other high v item.key.high u l ∙ k.1);
+                let o = (n.keys u l).key x y z in
+                (set_other low v k.low u l ∙ o.0, set_other high v k.high u l ∙ o.1);
           }
 
 -- ---- all keys
@@ -129,23 +136,23 @@ first-places f xs l n q h each =
     let p = at_place xs i (omega arith) in
     get_or-take n l i 0 (omega arith) ∙ each i p.0 p.1 ∙ sym (image-at f xs i p.0 p.1))
 
-pub keys-all : (s low high from : List ℕ) (count v at : ℕ) → count ≤ 64 → v ≡ count → KeysSoFar s low high from v at
-    → SheetKeys s count (record { low = low; high = high; from = set from count at })
-keys-all s low high from count v at few same m =
-    let n : KeysSoFar s low high from count at = rw same at m in
+pub keys-all : (s from : List ℕ) (count at : ℕ) (k : ItemKeys) → count ≤ 64 → k.count ≡ count → KeysSoFar s k.low k.high from count at
+    → SheetKeys s count (record { keys = k; from = set from count at })
+keys-all s from count at k few same n =
     record {
+      size = same;
       keys = λ d w t c.
-          let one : (i : ℕ) (x : ItemRow) → StandsAt d.items i x → (get_or low i 0 ≡ low_of x) × (get_or high i 0 ≡ high_of x) = λ i x h.
+          let one : (i : ℕ) (x : ItemRow) → StandsAt d.items i x → (get_or k.low i 0 ≡ low_of x) × (get_or k.high i 0 ≡ high_of x) = λ i x h.
           (n.keys i (let b = stands-below d.items i x h in omega arith)).key x (of-each ValidItem d.items w.items x (stands-in d.items i x h))
           (rw t (item-line-at d w i x h)) in
           record {
-            size = c;
-            lows = first-places low_of d.items low count c (let a = n.long_low in omega arith) (λ i x h. (one i x h).0);
-            highs = first-places high_of d.items high count c (let a = n.long_high in omega arith) (λ i x h. (one i x h).1);
+            size = same ∙ c;
+            lows = rw same (first-places low_of d.items k.low count c (let a = n.long_low in omega arith) (λ i x h. (one i x h).0));
+            highs = rw same (first-places high_of d.items k.high count c (let a = n.long_high in omega arith) (λ i x h. (one i x h).1));
             named = each_map ValidItem WellNamed (λ x y. y.name) d.items w.items;
           };
-      starts = λ k l. ⊎_elim
+      starts = λ j l. ⊎_elim
           (λ w. rw w (get_or-set_same from count at 0 (let a = n.long_from in omega arith) ∙ n.here))
-          (λ w. set_other from count at k (omega (arith, w)) ∙ n.starts k (omega (arith, w)))
-          (same_or k count);
+          (λ w. set_other from count at j (omega (arith, w)) ∙ n.starts j (omega (arith, w)))
+          (same_or j count);
     }

@@ -1,3 +1,4 @@
+pub mod Refusing
 pub mod Texts
 pub mod Reading
 pub mod Starts

@@ -11,56 +11,35 @@ ghost use Rattle.sheet_format.specs.Text.{same_text};
 ghost use Rattle.sheet_format.specs.Rows.{first_header, second_header};
 ghost use Rattle.sheet_format.specs.Questions.{is_text_byte, question2, question3};
 
+use sheet_fields::LF;
+
 // Beside LF a text has the bytes from the first to the last of these.
 const FIRST_BYTE: u8 = 32;
 
 const LAST_BYTE: u8 = 126;
 
+#[tactic(auto, using(std::proofs::lemmas::Bool::Decides::nat_tests), unfolding(sheet_format::specs::Questions::is_text_byte))]
 fn is_text_byte(b: u8) -> bool
     ensures { result ≡ is_text_byte b }
 {
-    if b == sheet_fields::LF {
-        return true;
-    }
-    if b < FIRST_BYTE {
-        return false;
-    }
-    b <= LAST_BYTE
+    b == LF || (FIRST_BYTE..=LAST_BYTE).contains(&b)
 }
 
 // Question 2: has the text a byte, only LF and bytes 32 to 126, and LF last?
 pub fn is_text(s: &[u8]) -> bool
     ensures { result ≡ question2 s.now }
 {
-    let n = s.len();
-    if n == 0 {
+    let Some(last) = s.last() else {
         return false;
-    }
-    let mut i = 0;
-    while i < n {
-        if !is_text_byte(s[i]) {
-            return false;
-        }
-        i += 1;
-    }
-    s[n - 1] == sheet_fields::LF
+    };
+    *last == LF && s.iter().all(|b| is_text_byte(*b))
 }
 
-// Are the two texts the same?
+// Are the two texts the same? This is `==` of slices, in the words that the definitions use.
 pub fn same_text(s: &[u8], t: &[u8]) -> bool
     ensures { result ≡ same_text s.now t.now }
 {
-    if s.len() != t.len() {
-        return false;
-    }
-    let mut i = 0;
-    while i < s.len() {
-        if s[i] != t[i] {
-            return false;
-        }
-        i += 1;
-    }
-    true
+    s == t
 }
 
 pub fn is_first_header(l: &[u8]) -> bool

@@ -5,6 +5,8 @@ ghost use Rattle.sheet_format.specs.Text.{lines_of};
 ghost use Rattle.sheet_format.specs.Names.{line_start};
 ghost use Rattle.sheet_lines.specs.Inner.Span.{span_of};
 
+use sheet_fields::{LF, SPACE};
+
 // The part of a sheet from `from` up to, not including, `to`.
 #[derive(Drop)]
 pub struct Span {
@@ -18,14 +20,11 @@ fn line_start(s: &[u8], k: usize) -> usize
     ensures { result ≡ line_start (lines_of s.now) k }
 {
     let mut at = 0;
-    let mut i = 0;
-    while i < k {
+    for _line in 0..k {
         if s.len() <= at {
             return at;
         }
-        let end = sheet_fields::find(s, at, sheet_fields::LF);
-        at = end + 1;
-        i += 1;
+        at = sheet_fields::find(s, at, LF) + 1;
     }
     at
 }
@@ -39,8 +38,8 @@ pub fn name_span(s: &[u8], item: usize) -> Span
     if s.len() <= from {
         return Span { from, to: from };
     }
-    let end = sheet_fields::find(s, from, sheet_fields::LF);
-    let size = sheet_fields::find(&s[from..end], 0, sheet_fields::SPACE);
+    let end = sheet_fields::find(s, from, LF);
+    let size = sheet_fields::find(&s[from..end], 0, SPACE);
     Span {
         from,
         to: from + size,

@@ -1,5 +1,4 @@
 pub mod Asks
 pub mod Items
-pub mod Edges
 pub mod Tables
 pub mod Taking

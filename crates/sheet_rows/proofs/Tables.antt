@@ -2,15 +2,18 @@
 -- Assumes nothing.
 use mathlib.Core.Path.{◌≡◌, refl, sym, ◌∙◌}
 use mathlib.Core.List.{List, [], ◌∷◌, map}
-use mathlib.Core.Bool.{true, false, ◌&&◌}
-use Prim.Native.Nat.{ℕ, suc, ◌+◌, ◌≤◌, ◌<◌}
-use native.Mathlib.Numerals.{add-one}
+use mathlib.Core.Bool.{true, cond, ◌&&◌}
+use Prim.Native.Nat.{ℕ, suc, ◌≤◌, ◌<◌}
 use native.Mathlib.Omega.{arith}
-use lib.ListN.{length, get_or, take, drop, drop_of_length-le}
-use lib.Seq.{drop-cons, get_or-take, length-take-le}
+use lib.ListN.{length, take}
+use lib.Seq.{length-take-le}
 use lib.Dec.{eqb, ltb, leb-suc-suc}
-use borrow.Author.Tests.{eq-eqb, lt-ltb}
+use borrow.Author.Tests.{eq-eqb, lt-ltb, ltb-true, ltb-false}
+use Rattle.std.specs.Prelude.{Option, Some, None}
+use Rattle.std.specs.List.{position_or_len, zip}
+use Rattle.std.proofs.lemmas.Slice.Zip.{length-zip}
 use Rattle.vertex_set.proofs.Cases.{by_test}
+use Rattle.sheet_fields.specs.declared.Key.{Key}
 use Rattle.vertex_set.proofs.Decisions.{decide-eqb, and_both, decide-and, no_of}
 use Rattle.sheet_format.specs.Text.{same_text}
 use Rattle.sheet_format.specs.Fields.{is_name}
@@ -20,36 +23,46 @@ use Rattle.sheet_format.proofs.Tests.{text-decided}
 use Rattle.sheet_fields.specs.Inner.Keys.{key_of}
 use Rattle.sheet_fields.proofs.Packing.{key-same}
 use Rattle.sheet_fields.proofs.Names.{name-small}
-use Rattle.sheet_rows.specs.Inner.NameKeys.{low_of, high_of, WellNamed, NameKeys, place_of}
+use Rattle.sheet_rows.specs.Inner.NameKeys.{low_of, high_of, WellNamed, NameKeys, place_of, place_in}
 
--- ---- the loop
+-- ---- looking a key up
 
-here : (xs ys : List ℕ) (a b i : ℕ) → i < length xs → i < length ys → (eqb (get_or xs i 0) a && eqb (get_or ys i 0) b) ≡ true → place_of (drop i xs) (drop i ys) a b ≡ 0
+-- by what std says of `position` over the two lists together
+pub place-zip : (xs ys : List ℕ) (a b : ℕ) → length xs ≡ length ys → position_or_len (λ (p : ℕ × ℕ). eqb p.0 a && eqb p.1 b) (zip xs ys) ≡ place_of xs ys a b
 unfolding place_of
-here xs ys a b i h k e = rw (drop-cons xs i 0 h, drop-cons ys i 0 k, e)
+place-zip [] ys a b h = refl
+place-zip (x ∷ xs) [] a b h = refl
+place-zip (x ∷ xs) (y ∷ ys) a b h =
+    let i = place-zip xs ys a b (omega arith) in
+    by_test (eqb x a && eqb y b) (λ e. rw e) (λ e. rw e (omega arith))
 
-next : (xs ys : List ℕ) (a b i : ℕ) → i < length xs → i < length ys → (eqb (get_or xs i 0) a && eqb (get_or ys i 0) b) ≡ false
-    → place_of (drop i xs) (drop i ys) a b ≡ suc (place_of (drop (i + 1) xs) (drop (i + 1) ys) a b)
-unfolding place_of
-next xs ys a b i h k e = rw (drop-cons xs i 0 h, drop-cons ys i 0 k, e, add-one i)
+pub found_in : (low high : List ℕ) (n : ℕ) (key : Key) (r : Option ℕ) → n ≤ length low → n ≤ length high
+    → r ≡ cond (ltb (position_or_len (λ (p : ℕ × ℕ). eqb p.0 key.low && eqb p.1 key.high) (zip (take n low) (take n high))) (length (zip (take n low) (take n high))))
+    (Some (position_or_len (λ (p : ℕ × ℕ). eqb p.0 key.low && eqb p.1 key.high) (zip (take n low) (take n high)))) None
+    → r ≡ place_in low high n key
+found_in low high n key r h k e =
+    let p = length-take-le n low h in
+    let q = length-take-le n high k in
+    let z : length (zip (take n low) (take n high)) ≡ n = length-zip (take n low) (take n high) ∙ omega arith in
+    let x = place-zip (take n low) (take n high) key.low key.high (p ∙ sym q) in
+    by_test (ltb (place_of (take n low) (take n high) key.low key.high) n) (λ t. rw (e, x, z, t)) (λ t. rw (e, x, z, t))
 
-module _ (low high : List ℕ) (n a b i : ℕ) (l : n ≤ length low) (h : n ≤ length high) where
-  pub place_here : i < n → (eqb (get_or low i 0) a && eqb (get_or high i 0) b) ≡ true → place_of (drop i (take n low)) (drop i (take n high)) a b ≡ 0
-  place_here k e =
-      let p = length-take-le n low l in
-      let q = length-take-le n high h in
-      here (take n low) (take n high) a b i (omega arith) (omega arith) (rw (get_or-take n low i 0 k, get_or-take n high i 0 k) e)
+-- where a key is found, and where it is not
+pub found-some : (low high : List ℕ) (n : ℕ) (key : Key) (i : ℕ) → Some i ≡ place_in low high n key → (i ≡ place_of (take n low) (take n high) key.low key.high) × (i < n)
+found-some low high n key i e =
+    by_test (ltb (place_of (take n low) (take n high) key.low key.high) n)
+    (λ t.
+    let k : Some i ≡ Some (place_of (take n low) (take n high) key.low key.high) = rw t at e in
+    let l = ltb-true (place_of (take n low) (take n high) key.low key.high) n t in
+    let q : i ≡ place_of (take n low) (take n high) key.low key.high = cc in
+    (q, omega arith))
+    (λ t. absurd (let k : Some i ≡ None = rw t at e in cc))
 
-  pub place-next : i < n → (eqb (get_or low i 0) a && eqb (get_or high i 0) b) ≡ false
-      → place_of (drop i (take n low)) (drop i (take n high)) a b ≡ suc (place_of (drop (i + 1) (take n low)) (drop (i + 1) (take n high)) a b)
-  place-next k e =
-      let p = length-take-le n low l in
-      let q = length-take-le n high h in
-      next (take n low) (take n high) a b i (omega arith) (omega arith) (rw (get_or-take n low i 0 k, get_or-take n high i 0 k) e)
-
-  pub place_end : n ≤ i → place_of (drop i (take n low)) (drop i (take n high)) a b ≡ 0
-  unfolding place_of
-  place_end k = let p = length-take-le n low l in rw (drop_of_length-le (take n low) {i = i} (omega arith))
+pub found-none : (low high : List ℕ) (n : ℕ) (key : Key) → None ≡ place_in low high n key → n ≤ place_of (take n low) (take n high) key.low key.high
+found-none low high n key e =
+    by_test (ltb (place_of (take n low) (take n high) key.low key.high) n)
+    (λ t. absurd (let k : None ≡ Some (place_of (take n low) (take n high) key.low key.high) = rw t at e in cc))
+    (λ t. ltb-false (place_of (take n low) (take n high) key.low key.high) n t)
 
 -- ---- what the place says
 

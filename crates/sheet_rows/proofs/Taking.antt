@@ -2,47 +2,30 @@
 -- Assumes nothing.
 use mathlib.Core.Path.{◌≡◌, sym, ap, ◌∙◌}
 use mathlib.Core.List.{List, [], ◌∷◌}
-use mathlib.Core.Bool.{Bool, true, false, not, ◌&&◌}
-use Prim.Native.Nat.{ℕ, suc, ◌+◌, ◌≤◌, ◌<◌}
+use mathlib.Core.Bool.{true, false, not, ◌&&◌}
+use Prim.Native.Nat.{ℕ, suc, ◌+◌, ◌<◌}
 use native.Mathlib.Omega.{arith}
 use lib.ListN.{take}
 use lib.Dec.{leb, ltb}
-use borrow.Author.Tests.{le-leb, lt-leb, leb-true, lt-ltb, le-ltb}
+use borrow.Author.Tests.{leb-true, lt-ltb, le-ltb}
+use Rattle.std.specs.Prelude.{Some, None, Ok, Err}
+use Rattle.questions.specs.declared.Refusal.{Refusal}
+use Rattle.questions.specs.declared.Refusal.TheVariants.{NameUsed, Bound, NameUnknown}
 use Rattle.setup.specs.Bounds.{highest}
 use Rattle.setup.specs.Setup.{given}
 use Rattle.sheet_format.specs.Text.{fields_of}
 use Rattle.sheet_format.specs.Fields.{is_name, is_kind, is_value, is_number_to, number_of, is_number}
 use Rattle.sheet_format.specs.Rows.{ItemRow, Doc, number_in, start_count, loss_count}
 use Rattle.sheet_format.specs.Questions.{field, question4, question5_item, question5_edge, question6, question7_item, question8, is_known, item_of, edge_of}
-use Rattle.sheet_format.specs.Read.{Asked, ask, first_no, item_questions}
+use Rattle.sheet_format.specs.Read.{ask, first_no, item_questions}
 use Rattle.vertex_set.proofs.Decisions.{and_parts}
 use Rattle.sheet_rows.specs.declared.ItemLine.{ItemLine}
-use Rattle.sheet_rows.specs.declared.TakenItem.{TakenItem}
 use Rattle.sheet_rows.specs.declared.EdgeLine.{EdgeLine}
-use Rattle.sheet_rows.specs.declared.TakenEdge.{TakenEdge}
-use Rattle.sheet_rows.specs.Inner.NameKeys.{NameKeys, place_of}
-use Rattle.sheet_rows.specs.Inner.Lines.{ReadsItem, TakesItem, ReadsEdge, TakesEdge}
-use Rattle.sheet_rows.proofs.Asks.{answer-yes, answer-no, all_yes, one-yes, no-first, yes-first}
-use Rattle.sheet_rows.proofs.Tables.{table-place, known-test}
-
--- ---- room for an item
-
-pub room-items : (n s l : ℕ) → 64 ≤ n → false ≡ (leb (suc n) 64 && leb s 14 && leb l 14)
-room-items n s l h = rw (lt-leb (suc n) 64 (omega arith))
-
-pub room-starts : (n s l : ℕ) → n < 64 → 14 < s → false ≡ (leb (suc n) 64 && leb s 14 && leb l 14)
-room-starts n s l h k = rw (le-leb (suc n) 64 h, lt-leb s 14 k)
-
-pub room-losses : (n s l : ℕ) → n < 64 → s ≤ 14 → leb l 14 ≡ (leb (suc n) 64 && leb s 14 && leb l 14)
-room-losses n s l h k = rw (le-leb (suc n) 64 h, le-leb s 14 k)
-
--- ---- questions 4 and 5, and those behind them
-
-leads : (a b : Bool) (later : List Asked) → first_no (ask 4 a ∷ ask 5 b ∷ []) ≡ 0 → first_no later ≡ first_no (ask 4 a ∷ ask 5 b ∷ later)
-leads a b later z = yes-first (ask 4 a ∷ ask 5 b ∷ []) later (omega arith, (omega arith, tt)) z
-
-second-yes : (a b : Bool) → first_no (ask 4 a ∷ ask 5 b ∷ []) ≡ 0 → b ≡ true
-second-yes a b z = one-yes 5 b (omega arith) (all_yes 4 a (ask 5 b ∷ []) (omega arith) z).1
+use Rattle.sheet_rows.specs.Inner.NameKeys.{NameKeys, place_of, place_in}
+use Rattle.sheet_rows.specs.Inner.Lines.{read_line, item_line, edge_line, TakesItem, TakesEdge}
+use Rattle.sheet_rows.proofs.Asks.{answer-yes, answer-no, no-first}
+use Rattle.sheet_rows.proofs.Items.{line-no, LineRead}
+use Rattle.sheet_rows.proofs.Tables.{found-some, found-none, table-place, known-test}
 
 pub item-name : (fs : List (List ℕ)) → question5_item fs ≡ true → is_name (item_of fs).name ≡ true
 unfolding question5_item item_of
@@ -54,105 +37,98 @@ item-name fs h =
 
 -- ---- an item row
 
-module _ (l low high : List ℕ) (count starts losses : ℕ) (item : ItemLine) (reads : ReadsItem l item) where
+module _ (l low high : List ℕ) (count starts losses : ℕ) where
   fs : List (List ℕ)
   fs = fields_of l
 
-  pub item-unread : (r : TakenItem) → (item.number ≡ 0 → ⊥) → r.number ≡ item.number → TakesItem l low high count starts losses r
-  unfolding item_questions fs
-  item-unread r n e =
+  pub item-unread : (e : Refusal) → Err e ≡ read_line (question4 5 (fields_of l)) (question5_item (fields_of l)) (item_line (fields_of l)) → TakesItem l low high count starts losses (Err e)
+  unfolding item_questions
+  item-unread e h =
+      let n = line-no (question4 5 (fields_of l)) (question5_item (fields_of l)) (item_line (fields_of l)) e h in
       record {
-        number = λ d t p q. e ∙ reads.number ∙ no-first (ask 4 (question4 5 fs) ∷ ask 5 (question5_item fs) ∷ []) (ask 6 (question6 d (item_of fs)) ∷ ask 7 (question7_item d (item_of fs)) ∷ []) (λ z. n (reads.number ∙ z));
-        room = λ z. absurd (n (sym e ∙ z));
-        key = λ z. absurd (n (sym e ∙ z));
-        vertex = λ z. absurd (n (sym e ∙ z));
-        more_starts = λ z. absurd (n (sym e ∙ z));
-        more_losses = λ z. absurd (n (sym e ∙ z));
-        within = λ z. absurd (n (sym e ∙ z));
+        number = λ d t p q. n.0 ∙ no-first (ask 4 (question4 5 (fields_of l)) ∷ ask 5 (question5_item (fields_of l)) ∷ []) (ask 6 (question6 d (item_of (fields_of l))) ∷ ask 7 (question7_item d (item_of (fields_of l))) ∷ []) (λ z. n.1 (n.0 ∙ z));
+        taken = tt;
       }
 
-  module _ (zero : item.number ≡ 0) (found : ℕ) (place : found ≡ place_of (take count low) (take count high) item.key.low item.key.high) where
-    -- the place that was found is the number of the name
-    number-found : (d : Doc) → NameKeys d.items low high count → found ≡ number_in d.items (item_of fs).name
-    unfolding fs
-    number-found d t =
-        place ∙ rw (reads.key zero)
-        (table-place d.items low high count (item_of fs).name t (item-name fs (second-yes (question4 5 fs) (question5_item fs) (sym reads.number ∙ zero))))
+  module _ (item : ItemLine) (reads : LineRead (question4 5 (fields_of l)) (question5_item (fields_of l)) (item_line (fields_of l)) item) where
+    place : ℕ
+    place = place_of (take count low) (take count high) item.key.low item.key.high
+
+    -- the place of the key is the number of the name
+    number-found : (d : Doc) → NameKeys d.items low high count → place ≡ number_in d.items (item_of fs).name
+    unfolding fs place
+    number-found d t = rw reads.is (table-place d.items low high count (item_of fs).name t (item-name fs reads.five))
 
     -- what is asked behind 4 and 5
     rest : (d : Doc) → first_no (ask 6 (question6 d (item_of fs)) ∷ ask 7 (question7_item d (item_of fs)) ∷ []) ≡ first_no (item_questions d fs)
     unfolding item_questions fs
-    rest d = leads (question4 5 fs) (question5_item fs) (ask 6 (question6 d (item_of fs)) ∷ ask 7 (question7_item d (item_of fs)) ∷ []) (sym reads.number ∙ zero)
+    rest d =
+        sym (answer-yes 4 (question4 5 fs) (ask 5 (question5_item fs) ∷ ask 6 (question6 d (item_of fs)) ∷ ask 7 (question7_item d (item_of fs)) ∷ []) reads.four
+        ∙ answer-yes 5 (question5_item fs) (ask 6 (question6 d (item_of fs)) ∷ ask 7 (question7_item d (item_of fs)) ∷ []) reads.five)
 
-    six : (d : Doc) → NameKeys d.items low high count → question6 d (item_of fs) ≡ not (ltb found count)
+    six : (d : Doc) → NameKeys d.items low high count → question6 d (item_of fs) ≡ not (ltb place count)
     unfolding question6
     six d t =
-        let e : is_known d.items (item_of fs).name ≡ ltb found count = known-test d.items (item_of fs).name ∙ rw (number-found d t, t.size) in
+        let e : is_known d.items (item_of fs).name ≡ ltb place count = known-test d.items (item_of fs).name ∙ rw (number-found d t, t.size) in
         ap not e
 
-    pub item-used : (r : TakenItem) → found < count → r.number ≡ 6 → TakesItem l low high count starts losses r
-    unfolding fs
-    item-used r h e =
+    pub item-used : (i : ℕ) → Some i ≡ place_in low high count item.key → TakesItem l low high count starts losses (Err NameUsed)
+    unfolding fs place
+    item-used i h =
+        let f = found-some low high count item.key i h in
+        let b : place < count = omega (arith, f.0, f.1) in
         record {
-          number = λ d t p q.
-              e ∙ sym (answer-no 6 (question6 d (item_of fs)) (ask 7 (question7_item d (item_of fs)) ∷ []) (six d t ∙ rw (lt-ltb found count h))) ∙ rest d;
-          room = λ z. absurd (omega arith);
-          key = λ z. absurd (omega arith);
-          vertex = λ z. absurd (omega arith);
-          more_starts = λ z. absurd (omega arith);
-          more_losses = λ z. absurd (omega arith);
-          within = λ z. absurd (omega arith);
+          number = λ d t p q. sym (answer-no 6 (question6 d (item_of fs)) (ask 7 (question7_item d (item_of fs)) ∷ []) (six d t ∙ rw (lt-ltb place count b))) ∙ rest d;
+          taken = tt;
         }
 
-    module _ (s k : ℕ) (more : s ≡ starts + given item.vertex.start) (less : k ≡ losses + given item.vertex.loss) (free : count ≤ found) where
+    module _ (s k : ℕ) (more : s ≡ starts + given item.vertex.start) (less : k ≡ losses + given item.vertex.loss) (free : None ≡ place_in low high count item.key) where
       start_is : s ≡ starts + given (item_of fs).start
       unfolding fs
-      start_is = more ∙ rw (reads.vertex zero)
+      start_is = more ∙ rw reads.is
 
       loss-is : k ≡ losses + given (item_of fs).loss
       unfolding fs
-      loss-is = less ∙ rw (reads.vertex zero)
+      loss-is = less ∙ rw reads.is
 
       six-yes : (d : Doc) → NameKeys d.items low high count → question6 d (item_of fs) ≡ true
-      six-yes d t = six d t ∙ rw (le-ltb found count free)
+      unfolding place
+      six-yes d t = six d t ∙ rw (le-ltb place count (found-none low high count item.key free))
 
       seven : (d : Doc) → NameKeys d.items low high count → starts ≡ start_count d.items → losses ≡ loss_count d.items
           → question7_item d (item_of fs) ≡ (leb (suc count) 64 && leb s 14 && leb k 14)
       unfolding question7_item
       seven d t p q = rw (start_is, loss-is, p, q, t.size)
 
-      pub item-full : (r : TakenItem) → (leb (suc count) 64 && leb s 14 && leb k 14) ≡ false → r.number ≡ 7 → TakesItem l low high count starts losses r
+      pub item-full : (leb (suc count) 64 && leb s 14 && leb k 14) ≡ false → TakesItem l low high count starts losses (Err Bound)
       unfolding fs
-      item-full r h e =
+      item-full h =
           record {
             number = λ d t p q.
-                e ∙ sym (answer-yes 6 (question6 d (item_of fs)) (ask 7 (question7_item d (item_of fs)) ∷ []) (six-yes d t)
+                sym (answer-yes 6 (question6 d (item_of fs)) (ask 7 (question7_item d (item_of fs)) ∷ []) (six-yes d t)
                 ∙ answer-no 7 (question7_item d (item_of fs)) [] (seven d t p q ∙ h)) ∙ rest d;
-            room = λ z. absurd (omega arith);
-            key = λ z. absurd (omega arith);
-            vertex = λ z. absurd (omega arith);
-            more_starts = λ z. absurd (omega arith);
-            more_losses = λ z. absurd (omega arith);
-            within = λ z. absurd (omega arith);
+            taken = tt;
           }
 
       pub item-taken : (leb (suc count) 64 && leb s 14 && leb k 14) ≡ true
-          → TakesItem l low high count starts losses (record { number = 0; key = item.key; vertex = item.vertex; starts = s; losses = k })
+          → TakesItem l low high count starts losses (Ok (record { key = item.key; vertex = item.vertex; starts = s; losses = k }))
       unfolding fs first_no
       item-taken h =
           record {
             number = λ d t p q.
                 sym (answer-yes 6 (question6 d (item_of fs)) (ask 7 (question7_item d (item_of fs)) ∷ []) (six-yes d t)
                 ∙ answer-yes 7 (question7_item d (item_of fs)) [] (seven d t p q ∙ h)) ∙ rest d;
-            room = λ z. leb-true (suc count) 64 (and_parts (leb (suc count) 64) (leb s 14) (and_parts (leb (suc count) 64 && leb s 14) (leb k 14) h).0).0;
-            key = λ z. reads.key zero;
-            vertex = λ z. reads.vertex zero;
-            more_starts = λ z. start_is;
-            more_losses = λ z. loss-is;
-            within = λ z. (
-              leb-true s 14 (and_parts (leb (suc count) 64) (leb s 14) (and_parts (leb (suc count) 64 && leb s 14) (leb k 14) h).0).1,
-              leb-true k 14 (and_parts (leb (suc count) 64 && leb s 14) (leb k 14) h).1,
-            );
+            taken = record {
+              room = leb-true (suc count) 64 (and_parts (leb (suc count) 64) (leb s 14) (and_parts (leb (suc count) 64 && leb s 14) (leb k 14) h).0).0;
+              key = rw reads.is;
+              vertex = rw reads.is;
+              more_starts = start_is;
+              more_losses = loss-is;
+              within = (
+                leb-true s 14 (and_parts (leb (suc count) 64) (leb s 14) (and_parts (leb (suc count) 64 && leb s 14) (leb k 14) h).0).1,
+                leb-true k 14 (and_parts (leb (suc count) 64 && leb s 14) (leb k 14) h).1,
+              );
+            };
           }
 
 -- ---- an edge row
@@ -172,82 +148,74 @@ edge-colour fs h =
     let l = leb-true (number_of (field fs 2)) 7 (and_parts (is_number (field fs 2)) (leb (number_of (field fs 2)) 7) q).1 in
     omega arith
 
-module _ (l low high : List ℕ) (count : ℕ) (edge : EdgeLine) (reads : ReadsEdge l edge) where
+module _ (l low high : List ℕ) (count : ℕ) where
   gs : List (List ℕ)
   gs = fields_of l
 
-  -- a row that is refused leaves nothing to say of the other fields
-  refused-edge : (r : TakenEdge) → (r.number ≡ 0 → ⊥)
-      → ((d : Doc) → NameKeys d.items low high count
-      → r.number ≡ first_no (ask 4 (question4 4 gs) ∷ ask 5 (question5_edge gs) ∷ ask 8 (question8 d (edge_of gs)) ∷ []))
-      → TakesEdge l low high count r
-  unfolding gs
-  refused-edge r n q =
+  pub edge-unread : (e : Refusal) → Err e ≡ read_line (question4 4 (fields_of l)) (question5_edge (fields_of l)) (edge_line (fields_of l)) → TakesEdge l low high count (Err e)
+  edge-unread e h =
+      let n = line-no (question4 4 (fields_of l)) (question5_edge (fields_of l)) (edge_line (fields_of l)) e h in
       record {
-        number = q;
-        from = λ z. absurd (n z);
-        to = λ z. absurd (n z);
-        ends = λ z. absurd (n z);
-        colour = λ z. absurd (n z);
-        most = λ z. absurd (n z);
-        rec = λ z. absurd (n z);
+        number = λ d t. n.0 ∙ no-first (ask 4 (question4 4 (fields_of l)) ∷ ask 5 (question5_edge (fields_of l)) ∷ []) (ask 8 (question8 d (edge_of (fields_of l))) ∷ []) (λ z. n.1 (n.0 ∙ z));
+        taken = tt;
       }
 
-  pub edge-unread : (r : TakenEdge) → (edge.number ≡ 0 → ⊥) → r.number ≡ edge.number → TakesEdge l low high count r
-  unfolding gs
-  edge-unread r n e =
-      refused-edge r (λ z. n (sym e ∙ z))
-      (λ d t. e ∙ reads.number ∙ no-first (ask 4 (question4 4 gs) ∷ ask 5 (question5_edge gs) ∷ []) (ask 8 (question8 d (edge_of gs)) ∷ []) (λ z. n (reads.number ∙ z)))
-
-  module _ (zero : edge.number ≡ 0) where
-    five : question5_edge gs ≡ true
-    unfolding gs
-    five = second-yes (question4 4 gs) (question5_edge gs) (sym reads.number ∙ zero)
-
+  module _ (edge : EdgeLine) (reads : LineRead (question4 4 (fields_of l)) (question5_edge (fields_of l)) (edge_line (fields_of l)) edge) where
     eight : (d : Doc) → first_no (ask 8 (question8 d (edge_of gs)) ∷ []) ≡ first_no (ask 4 (question4 4 gs) ∷ ask 5 (question5_edge gs) ∷ ask 8 (question8 d (edge_of gs)) ∷ [])
     unfolding gs
-    eight d = leads (question4 4 gs) (question5_edge gs) (ask 8 (question8 d (edge_of gs)) ∷ []) (sym reads.number ∙ zero)
+    eight d =
+        sym (answer-yes 4 (question4 4 gs) (ask 5 (question5_edge gs) ∷ ask 8 (question8 d (edge_of gs)) ∷ []) reads.four
+        ∙ answer-yes 5 (question5_edge gs) (ask 8 (question8 d (edge_of gs)) ∷ []) reads.five)
 
-    module _ (from : ℕ) (place : from ≡ place_of (take count low) (take count high) edge.from.low edge.from.high) where
-      from_is : (xs : List ItemRow) → NameKeys xs low high count → from ≡ number_in xs (edge_of gs).from
-      unfolding gs
-      from_is xs t = place ∙ rw (reads.states zero).from (table-place xs low high count (edge_of gs).from t (edge-names gs five).0)
+    from-number : (xs : List ItemRow) → NameKeys xs low high count → place_of (take count low) (take count high) edge.from.low edge.from.high ≡ number_in xs (edge_of gs).from
+    unfolding gs
+    from-number xs t = rw reads.is (table-place xs low high count (edge_of gs).from t (edge-names gs reads.five).0)
 
-      from-known : (xs : List ItemRow) → NameKeys xs low high count → is_known xs (edge_of gs).from ≡ ltb from count
-      from-known xs t = known-test xs (edge_of gs).from ∙ rw (from_is xs t, t.size)
+    to-number : (xs : List ItemRow) → NameKeys xs low high count → place_of (take count low) (take count high) edge.to.low edge.to.high ≡ number_in xs (edge_of gs).to
+    unfolding gs
+    to-number xs t = rw reads.is (table-place xs low high count (edge_of gs).to t (edge-names gs reads.five).1)
 
-      pub edge-no-from : (r : TakenEdge) → count ≤ from → r.number ≡ 8 → TakesEdge l low high count r
-      unfolding question8
-      edge-no-from r h e =
-          refused-edge r (λ z. omega arith)
-          (λ d t. e ∙ sym (answer-no 8 (question8 d (edge_of gs)) [] (rw (from-known d.items t, le-ltb from count h))) ∙ eight d)
+    from-known : (xs : List ItemRow) → NameKeys xs low high count → is_known xs (edge_of gs).from ≡ ltb (place_of (take count low) (take count high) edge.from.low edge.from.high) count
+    from-known xs t = known-test xs (edge_of gs).from ∙ rw (from-number xs t, t.size)
 
-      module _ (to : ℕ) (place2 : to ≡ place_of (take count low) (take count high) edge.to.low edge.to.high) where
-        to_is : (xs : List ItemRow) → NameKeys xs low high count → to ≡ number_in xs (edge_of gs).to
-        unfolding gs
-        to_is xs t = place2 ∙ rw (reads.states zero).to (table-place xs low high count (edge_of gs).to t (edge-names gs five).1)
+    to-known : (xs : List ItemRow) → NameKeys xs low high count → is_known xs (edge_of gs).to ≡ ltb (place_of (take count low) (take count high) edge.to.low edge.to.high) count
+    to-known xs t = known-test xs (edge_of gs).to ∙ rw (to-number xs t, t.size)
 
-        to-known : (xs : List ItemRow) → NameKeys xs low high count → is_known xs (edge_of gs).to ≡ ltb to count
-        to-known xs t = known-test xs (edge_of gs).to ∙ rw (to_is xs t, t.size)
+    pub edge-no-from : None ≡ place_in low high count edge.from → TakesEdge l low high count (Err NameUnknown)
+    unfolding question8 gs
+    edge-no-from h =
+        record {
+          number = λ d t. sym (answer-no 8 (question8 d (edge_of gs)) [] (rw (from-known d.items t, le-ltb _ count (found-none low high count edge.from h)))) ∙ eight d;
+          taken = tt;
+        }
 
-        pub edge-no-to : (r : TakenEdge) → from < count → count ≤ to → r.number ≡ 8 → TakesEdge l low high count r
-        unfolding question8
-        edge-no-to r h k e =
-            refused-edge r (λ z. omega arith)
-            (λ d t. e ∙ sym (answer-no 8 (question8 d (edge_of gs)) []
-            (rw (from-known d.items t, to-known d.items t, lt-ltb from count h, le-ltb to count k))) ∙ eight d)
+    module _ (i : ℕ) (from : Some i ≡ place_in low high count edge.from) where
+      from_in : ltb (place_of (take count low) (take count high) edge.from.low edge.from.high) count ≡ true
+      from_in = let f = found-some low high count edge.from i from in lt-ltb _ count (omega (arith, f.0, f.1))
 
-        pub edge-taken : from < count → to < count
-            → TakesEdge l low high count (record { number = 0; from = from; to = to; colour = edge.colour; rec = edge.rec })
-        unfolding question8 gs first_no
-        edge-taken h k =
-            record {
-              number = λ d t. sym (answer-yes 8 (question8 d (edge_of gs)) []
-                  (rw (from-known d.items t, to-known d.items t, lt-ltb from count h, lt-ltb to count k))) ∙ eight d;
-              from = λ z xs t. from_is xs t;
-              to = λ z xs t. to_is xs t;
-              ends = λ z. (h, k);
-              colour = λ z. (reads.states zero).colour;
-              most = λ z. rw (reads.states zero).colour (edge-colour gs five);
-              rec = λ z. (reads.states zero).rec;
-            }
+      pub edge-no-to : None ≡ place_in low high count edge.to → TakesEdge l low high count (Err NameUnknown)
+      unfolding question8 gs
+      edge-no-to h =
+          record {
+            number = λ d t. sym (answer-no 8 (question8 d (edge_of gs)) []
+                (rw (from-known d.items t, to-known d.items t, from_in, le-ltb _ count (found-none low high count edge.to h)))) ∙ eight d;
+            taken = tt;
+          }
+
+      pub edge-taken : (j : ℕ) → Some j ≡ place_in low high count edge.to → TakesEdge l low high count (Ok (record { from = i; to = j; colour = edge.colour; rec = edge.rec }))
+      unfolding question8 gs first_no
+      edge-taken j h =
+          let f = found-some low high count edge.from i from in
+          let g = found-some low high count edge.to j h in
+          let to_in : ltb (place_of (take count low) (take count high) edge.to.low edge.to.high) count ≡ true = lt-ltb _ count (omega (arith, g.0, g.1)) in
+          record {
+            number = λ d t. sym (answer-yes 8 (question8 d (edge_of gs)) [] (rw (from-known d.items t, to-known d.items t, from_in, to_in))) ∙ eight d;
+            taken = record {
+              from = λ xs t. f.0 ∙ from-number xs t;
+              to = λ xs t. g.0 ∙ to-number xs t;
+              ends = (f.1, g.1);
+              colour = rw reads.is;
+              most = rw reads.is (edge-colour (fields_of l) reads.five);
+              rec = rw reads.is;
+            };
+          }

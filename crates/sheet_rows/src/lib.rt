@@ -2,46 +2,80 @@
 
 #![tactic(auto)]
 
-ghost use Rattle.std.specs.Prelude.{◌≡◌, suc, ◌≤◌, ◌&&◌, length, take, eqb, leb};
+ghost use Rattle.std.specs.Prelude.{◌≡◌, ◌+◌, suc, ◌≤◌, ◌<◌, ◌&&◌, leb, set};
 ghost use Rattle.setup.specs.Bounds.{most_items, most_chosen};
+ghost use Rattle.sheet_format.specs.Text.{fields_of};
+ghost use Rattle.sheet_format.specs.Questions.{question4, question5_item, question5_edge};
 ghost use Rattle.sheet_fields.specs.Inner.Parts.{CutPlaces, four_fields};
-ghost use Rattle.sheet_rows.specs.Inner.NameKeys.{place_of};
-ghost use Rattle.sheet_rows.specs.Inner.Lines.{JoinsFields, ReadsFields, ReadsVertex, JoinsItem, ReadsItem, TakesItem, JoinsEnds, ReadsEnds, ReadsEdge, TakesEdge};
+ghost use Rattle.sheet_fields.specs.Inner.Forms.{read_if};
+ghost use Rattle.sheet_rows.specs.Inner.NameKeys.{place_in};
+ghost use Rattle.sheet_rows.specs.Inner.Lines.{read_line, vertex_form, vertex_from, item_line, edge_line, TakesItem, TakesEdge};
 
-use setup::{Kind, Vertex};
-use sheet_fields::{Key, KindField, NameField, ValueField};
+use questions::Refusal;
+use setup::{MAX_CHOSEN, MAX_ITEMS, MAX_RANK, Vertex};
+use sheet_fields::{Cut, Key};
 
 // A colour is read as a number of 64 bits.
 const MAX_COLOUR: u64 = setup::MAX_COLOUR as u64;
 
-// In each answer of this crate `number` is that of the first question whose answer is no, or 0.
-// Where it is not 0, the other fields say nothing.
-#[derive(Drop)]
-pub struct VertexFields {
-    pub number: u64,
-    pub vertex: Vertex,
+// The keys of the names of a sheet's items, in row order.
+#[derive(Clone, Copy)]
+pub struct ItemKeys {
+    pub low: [u64; 64],
+    pub high: [u64; 64],
+    pub count: usize,
+    ghost few: { count ≤ 64 },
 }
 
-#[derive(Drop)]
+// The keys of no items.
+pub const NO_KEYS: ItemKeys = ItemKeys {
+    low: [0; 64],
+    high: [0; 64],
+    count: 0,
+};
+
+impl ItemKeys {
+    // The item that has a name with this key.
+    pub fn find(&self, key: Key) -> Option<usize>
+        ensures { result ≡ place_in self.now.low self.now.high self.now.count key }
+    {
+        let low = &self.low[..self.count];
+        let high = &self.high[..self.count];
+        low.iter()
+            .zip(high)
+            .position(|(a, b)| *a == key.low && *b == key.high)
+    }
+
+    // One item more.
+    pub fn push(&mut self, key: Key)
+        requires { self.old.count < 64 }
+        ensures low { self.new.low ≡ set self.old.low self.old.count key.low }
+        ensures high { self.new.high ≡ set self.old.high self.old.count key.high }
+        ensures count { self.new.count ≡ self.old.count + 1 }
+    {
+        self.low[self.count] = key.low;
+        self.high[self.count] = key.high;
+        self.count += 1;
+    }
+}
+
+#[derive(Clone, Copy)]
 pub struct ItemLine {
-    pub number: u64,
     pub key: Key,
     pub vertex: Vertex,
 }
 
 // `starts` and `losses` count the starting and losable items with this one.
-#[derive(Drop)]
+#[derive(Clone, Copy)]
 pub struct TakenItem {
-    pub number: u64,
     pub key: Key,
     pub vertex: Vertex,
     pub starts: usize,
     pub losses: usize,
 }
 
-#[derive(Drop)]
+#[derive(Clone, Copy)]
 pub struct EdgeLine {
-    pub number: u64,
     pub from: Key,
     pub to: Key,
     pub colour: usize,
@@ -49,312 +83,129 @@ pub struct EdgeLine {
 }
 
 // `from` and `to` are item numbers.
-#[derive(Drop)]
+#[derive(Clone, Copy)]
 pub struct TakenEdge {
-    pub number: u64,
     pub from: usize,
     pub to: usize,
     pub colour: usize,
     pub rec: bool,
 }
 
-fn no_vertex(number: u64) -> VertexFields
-    ensures { result.number ≡ number }
+// The four fields behind an item's name, where each has its form.
+fn read_fields(l: &[u8], cut: Cut) -> Option<Vertex>
+    requires { CutPlaces l.now cut.first cut.second cut.third }
+    ensures { result ≡ read_if (vertex_form (four_fields l.now cut.first cut.second cut.third)) (vertex_from (four_fields l.now cut.first cut.second cut.third)) }
 {
-    VertexFields {
-        number,
-        vertex: setup::UNUSED,
+    let kind = sheet_fields::read_kind(&l[..cut.first])?;
+    let start = sheet_fields::read_value(&l[cut.first + 1..cut.second])?;
+    let loss = sheet_fields::read_value(&l[cut.second + 1..cut.third])?;
+    let rank = sheet_fields::read_number(&l[cut.third + 1..])?;
+    if MAX_RANK < rank {
+        return None;
     }
+    Some(Vertex {
+        kind,
+        start,
+        loss,
+        rank,
+    })
 }
 
-// Question 5 of the four fields behind an item's name.
-fn join_fields(kind: KindField, start: ValueField, loss: ValueField, rank: u64) -> VertexFields
-    ensures { JoinsFields kind start loss rank result }
+fn read_vertex(l: &[u8]) -> Result<Vertex, Refusal>
+    ensures { result ≡ read_line (question4 4 (fields_of l.now)) (vertex_form (fields_of l.now)) (vertex_from (fields_of l.now)) }
 {
-    if !kind.ok {
-        return no_vertex(questions::FORM);
-    }
-    if !start.ok {
-        return no_vertex(questions::FORM);
-    }
-    if !loss.ok {
-        return no_vertex(questions::FORM);
-    }
-    if rank <= setup::MAX_RANK {
-        let kind = kind.kind;
-        let start = start.value;
-        let loss = loss.value;
-        VertexFields {
-            number: 0,
-            vertex: Vertex {
-                kind,
-                start,
-                loss,
-                rank,
-            },
-        }
-    } else {
-        no_vertex(questions::FORM)
-    }
+    let cut = sheet_fields::cut_four(l).ok_or(Refusal::Fields)?;
+    let vertex = read_fields(l, cut).ok_or(Refusal::Form)?;
+    Ok(vertex)
 }
 
-fn read_fields(l: &[u8], first: usize, second: usize, third: usize) -> VertexFields
-    requires { CutPlaces l.now first second third }
-    ensures { ReadsFields (four_fields l.now first second third) result }
+// Question 4 of the fields behind the name is asked before question 5 of the name.
+pub fn read_item(l: &[u8]) -> Result<ItemLine, Refusal>
+    ensures { result ≡ read_line (question4 5 (fields_of l.now)) (question5_item (fields_of l.now)) (item_line (fields_of l.now)) }
 {
-    let kind = sheet_fields::read_kind(&l[..first]);
-    let start = sheet_fields::read_value(&l[first + 1..second]);
-    let loss = sheet_fields::read_value(&l[second + 1..third]);
-    let rank = sheet_fields::read_number(&l[third + 1..]);
-    join_fields(kind, start, loss, rank)
-}
-
-fn read_vertex(l: &[u8]) -> VertexFields
-    ensures { ReadsVertex l.now result }
-{
-    let cut = sheet_fields::cut_four(l);
-    if cut.ok {
-        read_fields(l, cut.first, cut.second, cut.third)
-    } else {
-        no_vertex(questions::FIELDS)
-    }
-}
-
-fn no_item(number: u64) -> ItemLine
-    ensures { result.number ≡ number }
-{
-    ItemLine {
-        number,
-        key: sheet_fields::NO_KEY,
-        vertex: setup::UNUSED,
-    }
-}
-
-// Joins an item's name and the fields behind the name. Question 4 of these fields is asked before
-// question 5 of the name.
-fn join_item(name: NameField, fields: VertexFields) -> ItemLine
-    ensures { JoinsItem name fields result }
-{
-    let number = fields.number;
-    if number == questions::FIELDS {
-        return no_item(questions::FIELDS);
-    }
-    if !name.ok {
-        return no_item(questions::FORM);
-    }
-    let key = name.key;
-    let vertex = fields.vertex;
-    ItemLine {
-        number,
-        key,
-        vertex,
-    }
-}
-
-pub fn read_item(l: &[u8]) -> ItemLine
-    ensures { ReadsItem l.now result }
-{
-    let end = sheet_fields::end_of_field(l, 0);
-    if end == 0 {
-        return no_item(questions::FIELDS);
-    }
-    let name = sheet_fields::read_name(&l[..end]);
-    let fields = read_vertex(&l[end + 1..]);
-    join_item(name, fields)
-}
-
-fn same_key(a: Key, b: Key) -> bool
-    ensures { result ≡ (eqb a.low b.low && eqb a.high b.high) }
-{
-    if a.low == b.low {
-        a.high == b.high
-    } else {
-        false
-    }
-}
-
-// The place of a key among the first `count`; `count` where it is not there.
-pub fn find_name(low: &[u64], high: &[u64], count: usize, key: Key) -> usize
-    requires { (count ≤ length low.now) × (count ≤ length high.now) }
-    ensures { result ≡ place_of (take count low.now) (take count high.now) key.low key.high }
-{
-    let mut i = 0;
-    while i < count {
-        let other = Key {
-            low: low[i],
-            high: high[i],
-        };
-        if same_key(other, key) {
-            return i;
-        }
-        i += 1;
-    }
-    i
-}
-
-fn no_taken(number: u64) -> TakenItem
-    ensures { result.number ≡ number }
-{
-    TakenItem {
-        number,
-        key: sheet_fields::NO_KEY,
-        vertex: setup::UNUSED,
-        starts: 0,
-        losses: 0,
-    }
+    let end = sheet_fields::end_of_field(l, 0).ok_or(Refusal::Fields)?;
+    let vertex = read_vertex(&l[end + 1..])?;
+    let key = sheet_fields::read_name(&l[..end]).ok_or(Refusal::Form)?;
+    Ok(ItemLine { key, vertex })
 }
 
 // Question 7 of an item row below `count` others; `starts` and `losses` count this row too.
+#[tactic(auto, using(std::proofs::lemmas::Bool::Decides::nat_tests))]
 fn has_room(count: usize, starts: usize, losses: usize) -> bool
     ensures { result ≡ (leb (suc count) most_items && leb starts most_chosen && leb losses most_chosen) }
 {
-    if setup::MAX_ITEMS <= count {
-        return false;
-    }
-    if setup::MAX_CHOSEN < starts {
-        return false;
-    }
-    losses <= setup::MAX_CHOSEN
+    count < MAX_ITEMS && starts <= MAX_CHOSEN && losses <= MAX_CHOSEN
 }
 
-// An item row below `count` others, of which `starts` are starting and `losses` losable items.
+// An item row below those with these keys, of which `starts` are starting and `losses` losable items.
 pub fn take_item(
     l: &[u8],
-    low: &[u64],
-    high: &[u64],
-    count: usize,
+    keys: &ItemKeys,
     starts: usize,
     losses: usize,
-) -> TakenItem
-    requires { (count ≤ length low.now) × (count ≤ length high.now) × (starts ≤ most_chosen) × (losses ≤ most_chosen) }
-    ensures { TakesItem l.now low.now high.now count starts losses result }
+) -> Result<TakenItem, Refusal>
+    requires { (starts ≤ most_chosen) × (losses ≤ most_chosen) }
+    ensures { TakesItem l.now keys.now.low keys.now.high keys.now.count starts losses result }
 {
-    let item = read_item(l);
-    let number = item.number;
-    if number != 0 {
-        return no_taken(number);
+    let item = read_item(l)?;
+    if keys.find(item.key).is_some() {
+        return Err(Refusal::NameUsed);
     }
-    let key = item.key;
-    let found = find_name(low, high, count, key);
-    if found < count {
-        return no_taken(questions::NAME_USED);
+    let starts = starts + setup::count_given(item.vertex.start);
+    let losses = losses + setup::count_given(item.vertex.loss);
+    if !has_room(keys.count, starts, losses) {
+        return Err(Refusal::Bound);
     }
-    let vertex = item.vertex;
-    let start = vertex.start;
-    let loss = vertex.loss;
-    let starts = starts + setup::count_given(start);
-    let losses = losses + setup::count_given(loss);
-    if has_room(count, starts, losses) {
-        TakenItem {
-            number: 0,
-            key,
-            vertex,
-            starts,
-            losses,
-        }
-    } else {
-        no_taken(questions::BOUND)
-    }
+    Ok(TakenItem {
+        key: item.key,
+        vertex: item.vertex,
+        starts,
+        losses,
+    })
 }
 
-fn no_edge(number: u64) -> EdgeLine
-    ensures { result.number ≡ number }
+// The four fields of an edge row, where each has its form.
+fn read_ends(l: &[u8], cut: Cut) -> Option<EdgeLine>
+    requires { CutPlaces l.now cut.first cut.second cut.third }
+    ensures { result ≡ read_if (question5_edge (four_fields l.now cut.first cut.second cut.third)) (edge_line (four_fields l.now cut.first cut.second cut.third)) }
 {
-    EdgeLine {
-        number,
-        from: sheet_fields::NO_KEY,
-        to: sheet_fields::NO_KEY,
-        colour: 0,
-        rec: false,
-    }
-}
-
-// Question 5 of the four fields of an edge row.
-fn join_ends(from: NameField, to: NameField, colour: u64, rec: u64) -> EdgeLine
-    ensures { JoinsEnds from to colour rec result }
-{
-    if !from.ok {
-        return no_edge(questions::FORM);
-    }
-    if !to.ok {
-        return no_edge(questions::FORM);
-    }
+    let from = sheet_fields::read_name(&l[..cut.first])?;
+    let to = sheet_fields::read_name(&l[cut.first + 1..cut.second])?;
+    let colour = sheet_fields::read_number(&l[cut.second + 1..cut.third])?;
+    let rec = sheet_fields::read_number(&l[cut.third + 1..])?;
     if MAX_COLOUR < colour {
-        return no_edge(questions::FORM);
+        return None;
     }
     if 1 < rec {
-        return no_edge(questions::FORM);
+        return None;
     }
-    let from = from.key;
-    let to = to.key;
-    EdgeLine {
-        number: 0,
+    Some(EdgeLine {
         from,
         to,
         colour: colour as usize,
         rec: rec == 1,
-    }
+    })
 }
 
-fn read_ends(l: &[u8], first: usize, second: usize, third: usize) -> EdgeLine
-    requires { CutPlaces l.now first second third }
-    ensures { ReadsEnds (four_fields l.now first second third) result }
+pub fn read_edge(l: &[u8]) -> Result<EdgeLine, Refusal>
+    ensures { result ≡ read_line (question4 4 (fields_of l.now)) (question5_edge (fields_of l.now)) (edge_line (fields_of l.now)) }
 {
-    let from = sheet_fields::read_name(&l[..first]);
-    let to = sheet_fields::read_name(&l[first + 1..second]);
-    let colour = sheet_fields::read_number(&l[second + 1..third]);
-    let rec = sheet_fields::read_number(&l[third + 1..]);
-    join_ends(from, to, colour, rec)
+    let cut = sheet_fields::cut_four(l).ok_or(Refusal::Fields)?;
+    let edge = read_ends(l, cut).ok_or(Refusal::Form)?;
+    Ok(edge)
 }
 
-pub fn read_edge(l: &[u8]) -> EdgeLine
-    ensures { ReadsEdge l.now result }
+// Reads an edge row and finds its two items among those with these keys.
+pub fn take_edge(l: &[u8], keys: &ItemKeys) -> Result<TakenEdge, Refusal>
+    ensures { TakesEdge l.now keys.now.low keys.now.high keys.now.count result }
 {
-    let cut = sheet_fields::cut_four(l);
-    if cut.ok {
-        read_ends(l, cut.first, cut.second, cut.third)
-    } else {
-        no_edge(questions::FIELDS)
-    }
-}
-
-fn no_ends(number: u64) -> TakenEdge
-    ensures { result.number ≡ number }
-{
-    TakenEdge {
-        number,
-        from: 0,
-        to: 0,
-        colour: 0,
-        rec: false,
-    }
-}
-
-// Reads an edge row and finds its two items among the `count` item rows above.
-pub fn take_edge(l: &[u8], low: &[u64], high: &[u64], count: usize) -> TakenEdge
-    requires { (count ≤ length low.now) × (count ≤ length high.now) }
-    ensures { TakesEdge l.now low.now high.now count result }
-{
-    let edge = read_edge(l);
-    let number = edge.number;
-    if number != 0 {
-        return no_ends(number);
-    }
-    let key = edge.from;
-    let from = find_name(low, high, count, key);
-    if count <= from {
-        return no_ends(questions::NAME_UNKNOWN);
-    }
-    let key = edge.to;
-    let to = find_name(low, high, count, key);
-    if count <= to {
-        return no_ends(questions::NAME_UNKNOWN);
-    }
-    TakenEdge {
-        number: 0,
+    let edge = read_edge(l)?;
+    let from = keys.find(edge.from).ok_or(Refusal::NameUnknown)?;
+    let to = keys.find(edge.to).ok_or(Refusal::NameUnknown)?;
+    Ok(TakenEdge {
         from,
         to,
         colour: edge.colour,
         rec: edge.rec,
-    }
+    })
 }

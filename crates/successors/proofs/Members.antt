@@ -6,7 +6,7 @@ use mathlib.Core.Logic.{◌⊎◌, inl, inr, ⊎_elim}
 use Prim.Native.Nat.{ℕ, suc, ◌+◌, ◌-◌, ◌*◌, ◌/◌, ◌%◌, ◌^◌, ◌≤◌, ◌<◌}
 use native.Mathlib.Nat.{pow-suc}
 use native.Mathlib.Omega.{arith}
-use lib.Count.{count_trailing_zeros, count_leading_zeros, leading_top}
+use lib.Count.{count_trailing_zeros, count_leading_zeros, leading_top, trailing_le, leading_le}
 use lib.Pow.{pow_pos, high}
 use Rattle.vertex_set.specs.Set.{Member, Within, Iff}
 use Rattle.vertex_set.specs.Order.{Listed}
@@ -80,3 +80,6 @@ passed-all s left e v = record { to = λ p. p.0; from = λ m. (m, λ r. none-in-
 -- what is left stays within the set
 pub left-within : (s left v rest : ℕ) → Within left s → Without left v rest → Within rest s
 left-within s left v rest w o = record { each = λ i r. w.each i ((o.each i).to r).0 }
+
+-- what the operations on a set answer
+pub ruleset set_answers = (lowest-trailing, highest-leading, without-fits, without-removed, trailing_le, leading_le)

@@ -1,11 +1,12 @@
 -- Which vertices need which: what a vertex needs, its successors, and the successors of a set.
 -- Assumes nothing.
 use mathlib.Core.Path.{◌≡◌, sym, ap, subst, ◌∙◌}
-use mathlib.Core.List.{List}
+use mathlib.Core.List.{List, [], ◌∷◌}
 use mathlib.Core.Logic.{◌⊎◌, inl, inr, ⊎_elim}
-use Prim.Native.Nat.{ℕ, ◌+◌, ◌*◌, ◌%◌, ◌^◌, ◌≤◌, ◌<◌}
+use Prim.Native.Nat.{ℕ, zero, suc, ◌+◌, ◌*◌, ◌%◌, ◌^◌, ◌≤◌, ◌<◌}
 use native.Mathlib.Omega.{arith}
 use lib.Bits.{bit_or}
+use Rattle.std.specs.Prelude.{fold}
 use lib.ListN.{length, get_or, set, replicate, length-set, length-replicate, get_or-replicate}
 use lib.Seq.{get_or-set_same, get_or-set_other}
 use Rattle.vertex_set.specs.Set.{Member, Within, Iff}
@@ -20,6 +21,35 @@ use Rattle.successors.specs.Inner.{Without, Coloured, Needed, Noted, Successors,
 use Rattle.successors.proofs.Members.{Passed, passed_none, passed-more, passed-all, left-within}
 
 -- ---- all vertices that are needed
+
+place : (x : ℕ) (xs : List ℕ) (s f r : ℕ) → Iff (Member r f) (Member (bit_or s x) f ⊎ ((c : ℕ) × Member (get_or xs c 0) f))
+    → (c : ℕ) → Member (get_or (x ∷ xs) c 0) f → Member r f
+place x xs s f r i zero m = i.from (inl ((in-or s x f).from (inr m)))
+place x xs s f r i (suc c) m = i.from (inr (c, m))
+
+-- The union of a set and of all sets of a list has what the set has and what one of them has.
+in_fold : (xs : List ℕ) (s f : ℕ) → Iff (Member (fold bit_or s xs) f) (Member s f ⊎ ((c : ℕ) × Member (get_or xs c 0) f))
+in_fold [] s f = record { to = λ m. inl m; from = ⊎_elim (λ m. m) (λ p. absurd (none-in-zero f p.1)) }
+in_fold (x ∷ xs) s f =
+    let ih = in_fold xs (bit_or s x) f in
+    let o = in-or s x f in
+    record {
+      to = λ m. ⊎_elim (λ p. ⊎_elim (λ q. inl q) (λ q. inr (0, q)) (o.to p)) (λ p. inr (suc p.0, p.1)) (ih.to m);
+      from = ⊎_elim (λ p. ih.from (inl (o.from (inl p)))) (λ p. place x xs s f (fold bit_or (bit_or s x) xs) ih p.0 p.1);
+    }
+
+pub needed-fold : (rows : Rows) → Needed rows (fold bit_or 0 rows.needs)
+needed-fold rows =
+    record {
+      each = λ f.
+          let i = in_fold rows.needs 0 f in
+          record {
+            to = λ m. ⊎_elim (λ z. absurd (none-in-zero f z)) (λ p. record { colour = p.0; member = p.1 }) (i.to m);
+            from = λ k. i.from (inr (k.colour, k.member));
+          };
+    }
+
+-- the same colour by colour, for those who compute a union step by step
 
 -- A colour below n needs the vertex f.
 abbrev ColouredBelow : Rows → ℕ → ℕ → Type 0

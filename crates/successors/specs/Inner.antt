@@ -1,5 +1,5 @@
 -- What the inner functions answer. Nothing of this has to be believed: the contracts of the calls do not cite it.
-use Rattle.std.specs.Prelude.{◌≡◌, List, ◌⊎◌, ℕ, ◌≤◌, ◌<◌, length, get_or}
+use Rattle.std.specs.Prelude.{◌≡◌, List, ◌⊎◌, ℕ, ◌≤◌, ◌<◌, length, get_or, Option, MatchOption}
 use Rattle.vertex_set.specs.Set.{Member, Iff}
 use Rattle.setup.specs.declared.Rows.{Rows}
 use Rattle.setup.specs.declared.Graph.{Graph}
@@ -26,6 +26,10 @@ pub record HighestOf (s v : ℕ) : Type 0 where
 pub record Without (s v r : ℕ) : Type 0 where
   pub each : (i : ℕ) → Iff (Member r i) (Member s i × (i ≡ v → ⊥))
   pub less : r < s
+
+-- From the set s the lowest vertex was taken and r is left; or none was taken, since s is empty.
+abbrev pub Taken : ℕ → Option ℕ → ℕ → Type 0
+Taken s o r = MatchOption o (s ≡ 0) (λ v. LowestOf s v × Without s v r)
 
 -- ---- the vertices that a vertex needs, and those that need it
 

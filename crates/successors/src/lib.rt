@@ -1,10 +1,11 @@
 // The edges of a graph read forwards: the successors of a vertex are the vertices that need it by
 // some colour. Beside them the operations by which a loop takes a set of vertices apart.
 
-#![tactic(auto)]
+#![tactic(auto, using(crate::proofs::Members::set_answers))]
 
 ghost use Rattle.std.specs.Prelude.{◌≡◌, ◌<◌, length, replicate};
-ghost use Rattle.successors.specs.Inner.{VertexOf, LowestOf, HighestOf, Without, Needed, Noted, Successors, AllSuccessors};
+ghost use Rattle.std.specs.Iterator.{at_most};
+ghost use Rattle.successors.specs.Inner.{VertexOf, LowestOf, HighestOf, Without, Taken, Needed, Noted, Successors, AllSuccessors};
 
 use setup::{Graph, Rows};
 use vertex_set::VERTICES;
@@ -32,44 +33,63 @@ pub fn without(s: u64, v: usize) -> u64
     requires { VertexOf s v }
     ensures { Without s v result }
 {
-    let one: u64 = 1;
-    s - (one << v)
+    s - (1 << v)
+}
+
+// The vertices of a set one by one, the lowest first; `left` has those that are still to come.
+#[derive(Drop)]
+pub struct Vertices {
+    pub left: u64,
+}
+
+impl Iterator for Vertices {
+    type Item = usize;
+
+    ghost next_gives = { λ s r t. Taken s.left r t.left };
+
+    ghost remaining = { λ s. at_most s.left };
+
+    fn next(&mut self) -> Option<usize> {
+        if self.left == 0 {
+            return None;
+        }
+        let v = lowest(self.left);
+        self.left = without(self.left, v);
+        Some(v)
+    }
+}
+
+// The vertices of a set, for a loop.
+pub fn vertices_of(set: u64) -> Vertices
+    ensures { result.left ≡ set }
+{
+    Vertices { left: set }
 }
 
 // All vertices that some colour of these rows needs.
 pub fn needed(rows: Rows) -> u64
     ensures { Needed rows result }
 {
-    let mut s: u64 = 0;
-    for c in 0..COLOURS {
-        s = s | rows.needs[c];
-    }
-    s
+    rows.needs.iter().fold(0, |all, row| all | *row)
 }
 
 // Makes v a successor of each of the vertices that it needs.
-fn note(needed: u64, v: usize, out: &mut [u64])
-    requires out_len { length out.old ≡ 64 }
-    requires v_bound { v < 64 }
+fn note(needed: u64, v: usize, out: &mut [u64; 64])
+    requires { v < 64 }
     ensures { Noted needed v out.old out.new }
 {
-    let one: u64 = 1;
-    let mut left = needed;
-    while left != 0 {
-        let f = lowest(left);
-        left = without(left, f);
-        out[f] = out[f] | (one << v);
+    for f in vertices_of(needed) {
+        out[f] |= 1 << v;
     }
 }
 
 // Writes the successors of each vertex to a list that has none yet.
-pub fn fill(graph: Graph, out: &mut [u64])
+pub fn fill(graph: Graph, out: &mut [u64; 64])
     requires { out.old ≡ replicate 64 0 }
     ensures { Successors graph out.new }
 {
-    for v in 0..VERTICES {
-        let s = needed(graph.rows[v]);
-        note(s, v, out);
+    for (v, rows) in graph.rows.iter().enumerate() {
+        note(needed(*rows), v, out);
     }
 }
 
@@ -78,12 +98,9 @@ pub fn of_set(list: &[u64], set: u64) -> u64
     requires { length list.now ≡ 64 }
     ensures { AllSuccessors list.now set result }
 {
-    let mut r: u64 = 0;
-    let mut left = set;
-    while left != 0 {
-        let f = lowest(left);
-        left = without(left, f);
-        r = r | list[f];
+    let mut r = 0;
+    for f in vertices_of(set) {
+        r |= list[f];
     }
     r
 }

@@ -3,10 +3,11 @@
 
 #![tactic(auto)]
 
-ghost use Rattle.std.specs.Prelude.{◌≡◌, ℕ, ◌≤◌, length, get_or};
+ghost use Rattle.std.specs.Prelude.{◌≡◌, ℕ, ◌≤◌, ◌<◌, get_or};
 ghost use Rattle.std.specs.Int.Count.{ones};
-ghost use Rattle.families.specs.Inner.Family.{mask_bits};
+ghost use Rattle.families.specs.Inner.Family.{mask_bits, masks};
 ghost use Rattle.sums.specs.Inner.Sums.{Singles, WeightsOf, SumsFit, SumTable};
+ghost use Rattle.sums.specs.Inner.Tables.{TablesFit, sum_by};
 
 use vertex_set::VertexSet;
 
@@ -14,12 +15,7 @@ use vertex_set::VertexSet;
 pub fn singles() -> [u64; 64]
     ensures { Singles result }
 {
-    let one: u64 = 1;
-    let mut values = [0u64; 64];
-    for v in 0..64usize {
-        values[v] = one << v;
-    }
-    values
+    std::array::from_fn(|v| 1 << v)
 }
 
 // The values of the chosen vertices, lowest vertex first; the places behind them have 0.
@@ -27,31 +23,57 @@ pub fn weights_of(chosen: VertexSet, values: [u64; 64]) -> [u64; 14]
     requires { ones chosen.0 ≤ mask_bits }
     ensures { WeightsOf chosen.0 (λ (v : ℕ). get_or values v 0) result }
 {
-    let one: u64 = 1;
     let mut weights = [0u64; 14];
-    let mut rest = chosen.0;
     let mut n: usize = 0;
-    while rest != 0 {
-        let v = u64::trailing_zeros(rest);
-        weights[n] = values[v as usize];
-        n = n + 1;
-        rest = rest - (one << v);
+    for v in successors::vertices_of(chosen.0) {
+        weights[n] = values[v];
+        n += 1;
     }
     weights
 }
 
 // Fills the table with the sums of the seven weights from `from` on: at place k stands the sum of
 // the weights at the bits of k.
-pub fn fill_sums(weights: [u64; 14], from: usize, table: &mut [u64])
+fn fill_sums(weights: [u64; 14], from: usize, table: &mut [u64; 128])
     requires from_bound { from ≤ 7 }
     requires sums_fit { SumsFit weights }
-    requires table_len { length table.old ≡ 128 }
     ensures { SumTable weights from table.new }
 {
-    let one: usize = 1;
     table[0] = 0;
+    // By number: a sum is made of one that stands before it.
     for k in 1..128usize {
-        let v = usize::trailing_zeros(k) as usize;
-        table[k] = table[k - (one << v)] + weights[from + v];
+        let v = k.trailing_zeros() as usize;
+        table[k] = table[k - (1 << v)] + weights[from + v];
+    }
+}
+
+// The sums of all masks: `low` has those over a mask's low seven bits, `high` those over the others.
+#[derive(Drop)]
+pub struct MaskSums {
+    pub low: [u64; 128],
+    pub high: [u64; 128],
+    pub ghost fit: { TablesFit low high },
+}
+
+impl MaskSums {
+    // The sums of these weights.
+    pub fn of(weights: [u64; 14]) -> MaskSums
+        requires { SumsFit weights }
+        ensures low_sums { SumTable weights 0 result.low }
+        ensures high_sums { SumTable weights 7 result.high }
+    {
+        let mut low = [0u64; 128];
+        let mut high = [0u64; 128];
+        fill_sums(weights, 0, &mut low);
+        fill_sums(weights, 7, &mut high);
+        MaskSums { low, high }
+    }
+
+    // The sum of a mask.
+    pub fn at(&self, mask: usize) -> u64
+        requires { mask < masks }
+        ensures { result ≡ sum_by self.now.low self.now.high mask }
+    {
+        self.high[mask / 128] + self.low[mask % 128]
     }
 }

@@ -1,6 +1,7 @@
 -- Blocks of a table: how they are taken from it and put into it, and that each block follows from one with a bit fewer.
 -- Assumes nothing.
 use mathlib.Core.Path.{◌≡◌, refl, sym, ap, subst, ◌∙◌}
+use Rattle.std.specs.Prelude.{None, Some}
 use mathlib.Core.Bool.{Bool}
 use mathlib.Core.List.{List}
 use mathlib.Core.Logic.{◌⊎◌, inl, inr, ⊎_elim}
@@ -175,18 +176,22 @@ module _ (chosen k : ℕ) where
             ((passed-more chosen left v rest s.within m o u).from p);
       }
 
-  pub found : (left v : ℕ) → v < 64 → Member left v → place_among chosen v ≡ k → Seeking chosen k left → VertexAt chosen k v
+  pub found : (left v : ℕ) → v < 64 → Member left v → place_among chosen v ≡ k → Seeking chosen k left → VertexAt chosen k (Some v)
   found left v h m e s =
       let at : AtPlace chosen k v = (s.within.each v m, e) in
-      record { each = λ u. record { to = λ p. (h, place-one chosen k u v p at); from = λ p. subst (AtPlace chosen k) (sym p.1) at } }
-
-  pub not_found : (left r : ℕ) → left ≡ 0 → 64 ≤ r → Seeking chosen k left → VertexAt chosen k r
-  not_found left r z h s =
       record {
+        place = λ u q. let same : u ≡ v = cc in rw same h;
         each = λ u. record {
-          to = λ p. absurd (s.none u ((passed-all chosen left z u).from p.0) p.1);
-          from = λ p. let l = p.0 in absurd (omega arith);
+          to = λ p. ap Some (sym (place-one chosen k u v p at));
+          from = λ q. let same : u ≡ v = cc in subst (AtPlace chosen k) (sym same) at;
         };
+      }
+
+  pub not_found : (left : ℕ) → left ≡ 0 → Seeking chosen k left → VertexAt chosen k None
+  not_found left z s =
+      record {
+        place = λ u q. cc;
+        each = λ u. record { to = λ p. absurd (s.none u ((passed-all chosen left z u).from p.0) p.1); from = λ q. cc };
       }
 
 -- ---- a block from one with a bit fewer

@@ -1,11 +1,11 @@
 -- A settled block of lanes gets one vertex more in every lane. Only the vertices that need it can have something new.
 -- Assumes nothing.
-use mathlib.Core.Path.{◌≡◌, refl, sym, subst}
+use mathlib.Core.Path.{◌≡◌, refl, sym, subst, ap}
+use Rattle.std.specs.Prelude.{None, Some}
 use mathlib.Core.Bool.{Bool}
 use mathlib.Core.List.{List}
 use mathlib.Core.Logic.{◌⊎◌, inl, inr, ⊎_elim}
-use Prim.Native.Nat.{ℕ, ◌-◌, ◌*◌, ◌^◌, ◌≤◌, ◌<◌}
-use native.Mathlib.Omega.{arith}
+use Prim.Native.Nat.{ℕ, ◌-◌, ◌*◌, ◌^◌, ◌<◌}
 use lib.ListN.{length, get_or}
 use borrow.Rule.Slice.PartMut.{put_mid}
 use Rattle.vertex_set.specs.Set.{Member, Iff}
@@ -78,29 +78,29 @@ module _ (loss : Bool) (g : Graph) (v : ℕ) (w e : List ℕ) (a : WithAll v w e
       }
 
 -- the chosen vertex at bit k is the one that was added
-pub widened : (loss : Bool) (g : Graph) (chosen k v : ℕ) (w e : List ℕ) → v < 64 → VertexAt chosen k v → Extended loss g (λ x. x ≡ v) w e
+pub widened : (loss : Bool) (g : Graph) (chosen k v : ℕ) (w e : List ℕ) → VertexAt chosen k (Some v) → Extended loss g (λ x. x ≡ v) w e
     → Extended loss g (AtPlace chosen k) w e
-widened loss g chosen k v w e h at x =
+widened loss g chosen k v w e at x =
     record {
       words = x.words;
       each = λ b i u hb hi. iff-trans (x.each b i u hb hi)
           (same-derivable loss g (λ y. Lane w b i y ⊎ (y ≡ v)) (λ y. Lane w b i y ⊎ AtPlace chosen k y)
           (λ y. record {
-            to = ⊎_elim (λ p. inl p) (λ q. inr ((at.each y).from (h, q)));
-            from = ⊎_elim (λ p. inl p) (λ q. inr ((at.each y).to q).1);
+            to = ⊎_elim (λ p. inl p) (λ q. inr ((at.each y).from (ap Some (sym q))));
+            from = ⊎_elim (λ p. inl p) (λ q. inr (let s = (at.each y).to q in cc));
           }) u);
     }
 
 -- or there is none: what is settled has all that is derivable from it
-pub kept : (loss : Bool) (g : Graph) (chosen k v : ℕ) (w : List ℕ) → length w ≡ 1024 → length g.rows ≡ 64 → 64 ≤ v → VertexAt chosen k v → Quiet loss g 0 w
+pub kept : (loss : Bool) (g : Graph) (chosen k : ℕ) (w : List ℕ) → length w ≡ 1024 → length g.rows ≡ 64 → VertexAt chosen k None → Quiet loss g 0 w
     → Extended loss g (AtPlace chosen k) w w
-kept loss g chosen k v w words rows h at q =
+kept loss g chosen k w words rows at q =
     record {
       words = words;
       each = λ b i u hb hi. record {
         to = λ m. held (rule_of loss g) (λ x. Lane w b i x ⊎ AtPlace chosen k x) u (inl m);
         from = least (rule_of loss g) (lawful loss g) (λ x. Lane w b i x ⊎ AtPlace chosen k x) (Lane w b i)
-            (λ x. ⊎_elim (λ p. p) (λ p. let l = ((at.each x).to p).0 in absurd (omega arith)))
+            (λ x. ⊎_elim (λ p. p) (λ p. let s = (at.each x).to p in cc))
             (λ s a.
             let m = step-admits loss g (Lane w b i) s a in
             let y = (rule_of loss g).adds s in

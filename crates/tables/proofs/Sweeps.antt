@@ -9,7 +9,6 @@ use borrow.Author.Tests.{ne_eqb}
 use lib.Pow.{pow_pos, pow_mono}
 use Rattle.vertex_set.proofs.Cases.{less-or}
 use Rattle.vertex_set.proofs.Sets.{in-not, below-shifted, shifted_one}
-use Rattle.vertex_set.specs.Set.{Iff}
 use Rattle.tables.specs.Inner.Steps.{way_on, Later, Beyond}
 
 pub way_back : (later : ℕ) (up : Bool) → later ≡ 0 → not up ≡ way_on later up

@@ -32,7 +32,7 @@ const BLOCKS: usize = WORDS / PART;
 pub const BLOCK_BITS: usize = 10;
 
 // All vertices, and the word that has all 64 lanes.
-const ALL: u64 = 0xFFFF_FFFF_FFFF_FFFF;
+const ALL: u64 = u64::MAX;
 
 // Adds the vertex v, which has these rows, to each lane that admits it, and says whether a lane has
 // grown.
@@ -84,8 +84,7 @@ fn beyond(v: usize, up: bool) -> u64
     requires { v < 64 }
     ensures { Beyond v up result }
 {
-    let one: u64 = 1;
-    let below = (one << v) - 1;
+    let below = (1 << v) - 1;
     if up { !below } else { below }
 }
 
@@ -103,8 +102,7 @@ fn place_among(chosen: u64, v: usize) -> usize
     requires { v < 64 }
     ensures { result ≡ place_among chosen v }
 {
-    let one: u64 = 1;
-    u64::count_ones(chosen % (one << v)) as usize
+    (chosen % (1 << v)).count_ones() as usize
 }
 
 // The part of the first block that has the masks whose sets have the vertex v.
@@ -135,7 +133,9 @@ fn start(chosen: VertexSet, w: &mut [u64])
 // Each lane grows to what is derivable from it. At the beginning only the vertices of `first` can
 // be new in a lane. A vertex is looked at again only when a vertex that it needs has been added to
 // some lane. The vertices take turns in sweeps up and down: an edge of either direction is then soon
-// followed.
+// followed. The graph, the way and the list stand as parameters, and not in a struct: that the list has the
+// graph's successors names a colour for each, so that it has more than one proof, and a ghost field takes
+// only facts with one.
 fn settle(graph: Graph, loss: bool, list: &[u64], first: u64, w: &mut [u64])
     requires successors { Successors graph list.now }
     requires w_len { length w.old ≡ block_words }
@@ -151,7 +151,7 @@ fn settle(graph: Graph, loss: bool, list: &[u64], first: u64, w: &mut [u64])
         todo = successors::without(todo, v);
         after = beyond(v, up);
         if step(w, v, graph.rows[v], loss) {
-            todo = todo | users(list, v);
+            todo |= users(list, v);
         }
     }
 }
@@ -171,19 +171,16 @@ fn extend(graph: Graph, loss: bool, list: &[u64], v: usize, w: &mut [u64])
     settle(graph, loss, list, first, w);
 }
 
-// The chosen vertex at bit k of every mask; 64, if there is none.
-fn vertex_at(chosen: u64, k: usize) -> usize
+// The chosen vertex at bit k of every mask.
+fn vertex_at(chosen: u64, k: usize) -> Option<usize>
     ensures { VertexAt chosen k result }
 {
-    let mut left = chosen;
-    while left != 0 {
-        let v = successors::lowest(left);
+    for v in successors::vertices_of(chosen) {
         if place_among(chosen, v) == k {
-            return v;
+            return Some(v);
         }
-        left = successors::without(left, v);
     }
-    VERTICES
+    None
 }
 
 // Adds the chosen vertex at bit k of every mask to every lane of a settled block. If there is none,
@@ -194,11 +191,9 @@ fn widen(graph: Graph, chosen: VertexSet, loss: bool, list: &[u64], k: usize, w:
     requires quiet { Quiet loss graph 0 w.old }
     ensures { Extended loss graph (AtPlace chosen.0 k) w.old w.new }
 {
-    let v = vertex_at(chosen.0, k);
-    if v >= VERTICES {
-        return;
+    if let Some(v) = vertex_at(chosen.0, k) {
+        extend(graph, loss, list, v, w);
     }
-    extend(graph, loss, list, v, w);
 }
 
 // The block of the masks below 1,024. At the beginning a lane has chosen vertices alone, so only a
@@ -233,7 +228,7 @@ fn take_block(w: &[u64], b: usize, x: &mut [u64])
     for v in 0..VERTICES {
         let from = v * WORDS + b * PART;
         let at = v * PART;
-        family_words::copy_in(&mut x[at..at + PART], &w[from..from + PART]);
+        x[at..at + PART].copy_from_slice(&w[from..from + PART]);
     }
 }
 
@@ -247,7 +242,7 @@ fn put_block(x: &[u64], b: usize, w: &mut [u64])
     for v in 0..VERTICES {
         let from = v * PART;
         let at = v * WORDS + b * PART;
-        family_words::copy_in(&mut w[at..at + PART], &x[from..from + PART]);
+        w[at..at + PART].copy_from_slice(&x[from..from + PART]);
     }
 }
 

@@ -7,7 +7,7 @@ use Prim.Native.Nat.{ℕ, zero, suc, ◌≤◌, ◌<◌}
 use native.Mathlib.Omega.{arith}
 use lib.ListN.{length, get_or, replicate}
 use Rattle.vertex_set.specs.Set.{Iff}
-use Rattle.vertex_set.specs.Order.{Listed, Once, Before, Ordered, ListsExactly}
+use Rattle.vertex_set.specs.Order.{Listed, Once, Ordered, ListsExactly}
 use Rattle.vertex_set.proofs.Cases.{same_or}
 use Rattle.vertex_set.proofs.Sorted.{listed-append, listed-of-map, Sorted, not-before-self, ordered_same}
 

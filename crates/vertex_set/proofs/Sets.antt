@@ -1,7 +1,7 @@
 -- Laws of sets of vertices, and of the word operations on them.
 -- Assumes nothing.
 use mathlib.Core.Path.{◌≡◌, refl, sym, ◌∙◌, subst}
-use mathlib.Core.Bool.{false, not}
+use mathlib.Core.Bool.{not}
 use mathlib.Core.Logic.{◌⊎◌, inl, inr, ⊎_elim}
 use Prim.Native.Nat.{ℕ, zero, suc, ◌+◌, ◌-◌, ◌*◌, ◌/◌, ◌%◌, ◌^◌, max, ◌≤◌, ◌<◌}
 use native.Mathlib.Nat.{lt_of_lt_of_le, mod-eq_of_lt, mod-lt, pow-suc}
@@ -10,10 +10,10 @@ use lib.Bits.{bit_and, bit_or, or_step, or_zero_r}
 use lib.Count.{ones, ones_step, ones_cat}
 use lib.Arith.{bin_ind}
 use lib.Pow.{pow_mono, pow-lt, pow_pos, ones_lt, mod-pow-add}
-use lib.Dec.{eqb}
-use borrow.Author.Tests.{eqb-true, eqb-false, not-true, not-false}
+use lib.Dec.{eqb, ltb}
+use borrow.Author.Tests.{ltb-true, eqb-true, eqb-false, not-true, not-false}
 use Rattle.vertex_set.specs.Set.{Member, Within, Meets, Decides, Iff, Inserted, Below}
-use Rattle.vertex_set.proofs.Cases.{less-or, same_or, false-true}
+use Rattle.vertex_set.proofs.Cases.{less-or, same_or}
 use Rattle.vertex_set.proofs.Digits.{digit, digit_lt, digit_and, digit_or, digit-zero, digit-high, digit-suc, digit-first, digits_same, digit-pow-same, digit-pow-other, digit_not, digit_ones}
 
 -- ---- membership
@@ -181,9 +181,10 @@ pub member-decided : (s v : ℕ) → Decides (Member s v) (eqb (s / 2 ^ v % 2) 1
 unfolding Member
 member-decided s v = record { yes = eqb-true _ _; no = eqb-false _ _ }
 
-pub member-above : (s v : ℕ) → s < 2 ^ 64 → 64 ≤ v → Decides (Member s v) false
+-- a vertex above 63 is none of a word's, and the test for the vertices of a set says so
+pub member-above : (s v : ℕ) → s < 2 ^ 64 → 64 ≤ v → Decides (Member s v) (ltb v 64)
 member-above s v hs h =
-    record { yes = λ e. absurd (false-true e); no = λ e m. let l = member_below 64 s v hs m in omega arith }
+    record { yes = λ e. absurd (let l = ltb-true v 64 e in omega arith); no = λ e m. let l = member_below 64 s v hs m in omega arith }
 
 pub within-decided : (a b : ℕ) → a < 2 ^ 64 → b < 2 ^ 64 → Decides (Within a b) (eqb (bit_and a ((2 ^ 64 - 1) - b)) 0)
 within-decided a b ha hb =
@@ -263,3 +264,6 @@ ones-below-more s n =
     let e : 1 + n ≡ suc n = omega arith in
     let m : s % 2 ^ suc n ≡ digit s n * 2 ^ n + s % 2 ^ n = rw e at (mod-pow-add s 1 n) in
     rw (m, ones_cat n (digit s n) (s % 2 ^ n) (mod-lt s (pow_pos n))) (let d = ones-of-digit (digit s n) (digit_lt s n) in omega arith)
+
+-- what the methods of a set answer
+pub ruleset method_answers = (member-decided, member-above, within-decided, meets-decided, inserted_new, inserted_above, below-shifted, below-many)

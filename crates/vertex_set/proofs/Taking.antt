@@ -4,7 +4,7 @@ use mathlib.Core.Path.{sym, subst}
 use mathlib.Core.Logic.{inl, inr, ⊎_elim}
 use Prim.Native.Nat.{ℕ, ◌+◌, ◌<◌}
 use native.Mathlib.Omega.{arith}
-use Rattle.vertex_set.specs.Set.{Member, Iff, Inserted}
+use Rattle.vertex_set.specs.Set.{Inserted}
 use Rattle.vertex_set.specs.Inner.{TakenBelow}
 use Rattle.vertex_set.proofs.Cases.{same_or}
 use Rattle.vertex_set.proofs.Sets.{none-in-zero}

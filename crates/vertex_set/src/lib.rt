@@ -1,13 +1,13 @@
 // Sets of vertices as 64-bit numbers: a set is the sum of 2^v over its vertices v.
 
-#![tactic(auto)]
+#![tactic(auto, using(crate::proofs::Sets::method_answers))]
 
 ghost use Rattle.vertex_set.specs.Set.{Member, Within, Decides, Inserted, Meets, Below};
 
 pub const VERTICES: usize = 64;
 
 // Document 01's growing set: a value that takes in a vertex and hands itself back.
-#[derive(Clone, Copy)]
+#[derive(Clone, Copy, PartialEq, Eq)]
 pub struct VertexSet(pub u64);
 
 impl VertexSet {
@@ -16,8 +16,7 @@ impl VertexSet {
         ensures { Inserted self.0 v result.0 }
     {
         if v < VERTICES {
-            let one: u64 = 1;
-            VertexSet(self.0 | (one << v))
+            VertexSet(self.0 | (1 << v))
         } else {
             self
         }
@@ -27,11 +26,7 @@ impl VertexSet {
     pub fn has(self, v: usize) -> bool
         ensures { Decides (Member self.0 v) result }
     {
-        if v < VERTICES {
-            (self.0 >> v) % 2 == 1
-        } else {
-            false
-        }
+        v < VERTICES && (self.0 >> v) % 2 == 1
     }
 
     // Is every vertex of the set in the other?
@@ -53,10 +48,9 @@ impl VertexSet {
         ensures { Below n result.0 }
     {
         if n < VERTICES {
-            let one: u64 = 1;
-            VertexSet((one << n) - 1)
+            VertexSet((1 << n) - 1)
         } else {
-            VertexSet(0xFFFF_FFFF_FFFF_FFFF)
+            VertexSet(u64::MAX)
         }
     }
 }

@@ -1,26 +1,23 @@
 -- The search for the next step: which vertices are ready, kept up from step to step.
 -- Assumes nothing.
-use mathlib.Core.Path.{◌≡◌, refl, sym, subst}
+use mathlib.Core.Path.{◌≡◌, refl, subst}
 use mathlib.Core.Bool.{false}
 use mathlib.Core.List.{List}
 use mathlib.Core.Logic.{inl, inr, ⊎_elim}
-use Prim.Native.Nat.{ℕ, ◌-◌, ◌^◌, ◌≤◌, ◌<◌}
-use native.Mathlib.Omega.{arith}
+use Prim.Native.Nat.{ℕ, ◌-◌, ◌^◌, ◌<◌}
 use lib.Bits.{bit_and, bit_or, or_lt}
 use lib.ListN.{get_or}
 use Rattle.vertex_set.specs.Set.{Member, Inserted, Iff}
-use Rattle.vertex_set.proofs.Cases.{same_or}
 use Rattle.vertex_set.proofs.Sets.{in-less, in-or, member-or, none-in-zero}
-use Rattle.setup.specs.declared.Rows.{Rows}
 use Rattle.setup.specs.declared.Graph.{Graph}
 use Rattle.setup.specs.Setup.{row_of, rows_at}
 use Rattle.derivations.specs.Access.{Step, Opens}
 use Rattle.derivations.specs.Inner.Admits.{SomeComplete}
 use Rattle.derivations.proofs.Admits.{admits-local, admits-mono, admits-some, step-admits}
 use Rattle.successors.specs.Inner.{VertexOf, Without, Successors}
-use Rattle.closures.specs.Inner.{LowestColour, ToLookAt}
+use Rattle.closures.specs.Inner.{ToLookAt, Admitted}
 use Rattle.closures.proofs.Passes.{look-all}
-use Rattle.ways.specs.Inner.{Ready, Searching, SearchBegun, Looked, Added}
+use Rattle.ways.specs.Inner.{Ready, Searching, SearchBegun}
 
 -- ---- the beginning
 
@@ -36,46 +33,26 @@ search-begun list set left h t =
       };
     }
 
--- ---- a vertex looked at
+-- ---- all ready vertices
 
-module _ (rows : Rows) (v held ready left rest r : ℕ) (p : VertexOf left v) (o : Without left v rest) (low : LowestColour rows (Member held) r) where
-  -- it has a complete colour
-  pub looked-ready : (more : ℕ) → r < 8 → Inserted ready v more → Looked rows v held ready left held more rest
-  looked-ready more l t =
-      record {
-        same = refl;
-        less = o.less;
-        search = λ g e s. record {
-          sound = λ u m. ⊎_elim (s.sound u) (λ q. subst (Ready g held) (sym q) (s.outside v p.member, here g e)) ((t.taken p.place u).to m);
-          outside = λ u m. s.outside u ((o.each u).to m).0;
-          whole = λ u d. ⊎_elim (λ m. inl ((t.taken p.place u).from (inl m)))
-              (λ m. ⊎_elim (λ q. inl ((t.taken p.place u).from (inr q))) (λ q. inr ((o.each u).from (m, q))) (same_or u v)) (s.whole u d);
-        };
-      }
-    where
-      here : (g : Graph) → rows ≡ rows_at g v → SomeComplete (rows_at g v) (Member held)
-      here g e = subst (λ (x : Rows). SomeComplete x (Member held)) e (record { colour = r; complete = low.complete l })
+-- r has the vertices that can be added.
+pub record AllReady (g : Graph) (held r : ℕ) : Type 0 where
+  pub each : (v : ℕ) → Iff (Member r v) (Ready g held v)
 
-  -- it has none
-  pub looked-shut : 8 ≤ r → Looked rows v held ready left held ready rest
-  looked-shut l =
-      record {
-        same = refl;
-        less = o.less;
-        search = λ g e s. record {
-          sound = s.sound;
-          outside = λ u m. s.outside u ((o.each u).to m).0;
-          whole = λ u d. ⊎_elim (λ m. inl m) (λ m. inr ((o.each u).from (m, λ q. none g e (subst (λ (x : ℕ). SomeComplete (rows_at g x) (Member held)) q d.1)))) (s.whole u d);
-        };
-      }
-    where
-      none : (g : Graph) → rows ≡ rows_at g v → SomeComplete (rows_at g v) (Member held) → ⊥
-      none g e h =
-          let k = subst (λ (x : Rows). SomeComplete x (Member held)) (sym e) h in
-          let q = low.lower k.colour k.complete in
-          let a = q.0 in
-          let b = q.1 in
-          omega arith
+-- those known before, and those of the vertices to look at that what is held admits
+pub all-ready : (g : Graph) (held ready left more : ℕ) → Searching g held ready left → Admitted false g held left more → AllReady g held (bit_or ready more)
+all-ready g held ready left more s a =
+    record {
+      each = λ v.
+          let o = in-or ready more v in
+          record {
+            to = λ m. ⊎_elim (s.sound v) (λ p. let q = (a.each v).to p in (s.outside v q.0, q.1)) (o.to m);
+            from = λ d. o.from (⊎_elim (λ m. inl m) (λ m. inr ((a.each v).from (m, d.1))) (s.whole v d));
+          };
+    }
+
+pub none-is-ready : (g : Graph) (held r : ℕ) → AllReady g held r → r ≡ 0 → (v : ℕ) → Ready g held v → ⊥
+none-is-ready g held r a z v d = none-in-zero v (subst (λ (x : ℕ). Member x v) z ((a.each v).from d))
 
 -- ---- a ready vertex added
 
@@ -95,33 +72,28 @@ module _ (list : List ℕ) (v held ready held' rest : ℕ) (p : VertexOf ready v
       (λ q. absurd (n ((s.each v u p.place).from (record { colour = c; member = subst (Member (row_of (rows_at g u) c)) q m }))))
       ((t.taken p.place i).to h))
 
-  pub vertex-added : Added list v held ready held' rest left
-  vertex-added =
+  pub vertex-added : (g : Graph) → Successors g list → AllReady g held ready → Searching g held' rest left
+  vertex-added g s h =
       record {
-        taken = t;
-        search = λ g s h. record {
-          sound = λ u m.
-              let q = (o.each u).to m in
-              let r = h.sound u q.0 in (
-                λ k. ⊎_elim r.0 q.1 ((t.taken p.place u).to k),
-                admits-mono false (rows_at g u) (Member held) (Member held') (λ i k. (t.taken p.place i).from (inl k)) r.1,
-              );
-          outside = λ u m k. ((in_left u).to m).1 ((in-or held' rest u).from (inl k));
-          whole = λ u d. ⊎_elim (λ m. inl m)
-              (λ n. ⊎_elim (λ e. inr ((in_left u).from (e, λ k. ⊎_elim d.0 n ((in-or held' rest u).to k))))
-              (λ e. ⊎_elim (λ m. inl ((o.each u).from (m, λ q. d.0 ((t.taken p.place u).from (inr q))))) (λ m. absurd (none-in-zero u m))
-              (h.whole u (λ k. d.0 ((t.taken p.place u).from (inl k)), before g s u e d.1)))
-              (member-or (get_or list v 0) u))
-              (member-or rest u);
-        };
+        sound = λ u m.
+            let q = (o.each u).to m in
+            let r = (h.each u).to q.0 in (
+              λ k. ⊎_elim r.0 q.1 ((t.taken p.place u).to k),
+              admits-mono false (rows_at g u) (Member held) (Member held') (λ i k. (t.taken p.place i).from (inl k)) r.1,
+            );
+        outside = λ u m k. ((in_left u).to m).1 ((in-or held' rest u).from (inl k));
+        whole = λ u d. ⊎_elim (λ m. inl m)
+            (λ n. ⊎_elim (λ e. inr ((in_left u).from (e, λ k. ⊎_elim d.0 n ((in-or held' rest u).to k))))
+            (λ e. inl ((o.each u).from ((h.each u).from (λ k. d.0 ((t.taken p.place u).from (inl k)), before g s u e d.1), λ q. d.0 ((t.taken p.place u).from (inr q)))))
+            (member-or (get_or list v 0) u))
+            (member-or rest u);
       }
 
--- ---- nothing is left to look at
+-- ---- nothing is ready
 
--- where nothing is ready, all that can be opened is held
-pub none-ready : (g : Graph) (held ready left : ℕ) → ready ≡ 0 → left ≡ 0 → Searching g held ready left → (f : Step) → Opens g (Member held) f → Member held f.vertex
-none-ready g held ready left z y s f o =
-    ⊎_elim (λ m. m)
-    (λ n. absurd (⊎_elim (λ k. none-in-zero f.vertex (subst (λ (x : ℕ). Member x f.vertex) z k)) (λ k. none-in-zero f.vertex (subst (λ (x : ℕ). Member x f.vertex) y k))
-    (s.whole f.vertex (n, step-admits false g (Member held) f o))))
-    (member-or held f.vertex)
+-- then all that can be opened is held
+pub none-ready : (g : Graph) (held : ℕ) → ((v : ℕ) → Ready g held v → ⊥) → (f : Step) → Opens g (Member held) f → Member held f.vertex
+none-ready g held n f o = ⊎_elim (λ m. m) (λ k. absurd (n f.vertex (k, step-admits false g (Member held) f o))) (member-or held f.vertex)
+
+-- how a search begins
+pub ruleset search_answers = (search-begun)

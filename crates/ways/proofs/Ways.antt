@@ -1,20 +1,21 @@
 -- The way in: its lowest step, the steps one after the other, and their writing.
 -- Assumes nothing.
 use mathlib.Core.Path.{◌≡◌, refl, sym, ap, subst, ◌∙◌}
-use mathlib.Core.Bool.{Bool, true, false}
+use Rattle.std.specs.Prelude.{Option, None, Some, false}
+use Rattle.std.specs.Option.{unwrap_or}
 use mathlib.Core.List.{List, [], ◌∷◌, ◌++◌, map, append_assoc, append-nil, map-append}
 use mathlib.Core.Logic.{◌⊎◌, inl, inr, ⊎_elim}
-use Prim.Native.Nat.{ℕ, suc, ◌+◌, ◌*◌, ◌^◌, ◌≤◌, ◌<◌}
+use Prim.Native.Nat.{ℕ, suc, ◌+◌, ◌≤◌, ◌<◌}
 use native.Mathlib.Numerals.{add-one}
 use native.Mathlib.Omega.{arith}
 use lib.ListN.{length, get_or, drop, set, length-append, length-drop, length-map}
 use lib.Seq.{drop-cons, set-append_seam, append_snoc}
 use Rattle.vertex_set.specs.Set.{Member, Inserted, Iff, count_outside}
-use Rattle.vertex_set.proofs.Cases.{same_or, less-or, false-true, search-below, lowest}
+use Rattle.vertex_set.proofs.Cases.{same_or, less-or, search-below, lowest}
 use Rattle.vertex_set.proofs.Digits.{below-own-power}
 use Rattle.vertex_set.proofs.Outside.{outside-most, outside-less}
 use Rattle.vertex_set.proofs.Places.{member-le}
-use Rattle.vertex_set.proofs.Sets.{member-or, none-in-zero}
+use Rattle.vertex_set.proofs.Sets.{member-or}
 use Rattle.setup.specs.declared.Graph.{Graph}
 use Rattle.setup.specs.Setup.{row, rows_at}
 use Rattle.setup.specs.Calls.{written}
@@ -26,10 +27,8 @@ use Rattle.derivations.proofs.Admits.{step-admits}
 use Rattle.derivations.proofs.Rules.{adds-left, adds-right, held, closed, least}
 use Rattle.derivations.proofs.Graphs.{access-lawful}
 use Rattle.derivations.proofs.Way.{way_same, way-unique, lowest-unique}
-use Rattle.successors.specs.Inner.{LowestOf, Successors}
-use Rattle.closures.specs.Inner.{LowestColour}
-use Rattle.closures.proofs.Passes.{falls-next, falls-left}
-use Rattle.ways.specs.Inner.{Searching, SearchBegun, Looked, Added, WayFollowed, WayRoom, Written}
+use Rattle.closures.specs.Inner.{ColourFound}
+use Rattle.ways.specs.Inner.{Ready, NextTaken, WayFollowed, WayRoom, Written}
 use Rattle.ways.proofs.Searches.{none-ready}
 
 -- ---- the lowest step
@@ -75,33 +74,22 @@ module _ (g : Graph) (s n : ℕ) (p : PassedOver g s n) (new : Member s n → �
       let l = lowest (λ c. Complete (Member s) (row g n c)) (λ c. complete-or s (row g n c)) h.colour h.complete in
       (l.0, lowest_step l.0 l.1 (λ c k. ⊎_elim (λ j. absurd (l.2 c j k)) (λ j. j) (less-or c l.0)))
 
--- a vertex below the lowest ready one that can be opened is held
-ready-over : (g : Graph) (held ready v : ℕ) → Searching g held ready 0 → LowestOf ready v → PassedOver g held v
-ready-over g held ready v h low f l o =
-    ⊎_elim (λ m. m)
-    (λ n. absurd (⊎_elim (λ k. let a = low.lower f.vertex k in omega arith) (none-in-zero f.vertex) (h.whole f.vertex (n, step-admits false g (Member held) f o))))
-    (member-or held f.vertex)
+module _ (g : Graph) (held v : ℕ) (ready : Ready g held v) (low : (u : ℕ) → Ready g held u → v ≤ u) where
+  -- a vertex below the lowest ready one that can be opened is held
+  ready-over : PassedOver g held v
+  ready-over f l o =
+      ⊎_elim (λ m. m)
+      (λ n. absurd (let a = low f.vertex (n, step-admits false g (Member held) f o) in omega arith))
+      (member-or held f.vertex)
 
-module _ (g : Graph) (held ready left v : ℕ) (h : Searching g held ready left) (z : left ≡ 0) (low : LowestOf ready v) where
-  nothing_left : Searching g held ready 0
-  nothing_left = subst (Searching g held ready) z h
-
-  pub next-new : Member held v → ⊥
-  next-new = (h.sound v low.vertex.member).0
-
-  -- once nothing is left to look at, the lowest ready vertex is next, by some colour
-  next-some : (c : ℕ) × LowestStep g (Member held) (record { vertex = v; colour = c })
-  next-some = some-step g held v (ready-over g held ready v nothing_left low) next-new (h.sound v low.vertex.member).1
+  -- the lowest ready vertex is next, by some colour
+  pub next-some : (c : ℕ) × LowestStep g (Member held) (record { vertex = v; colour = c })
+  next-some = some-step g held v ready-over ready.0 ready.1
 
   -- and by the lowest complete one
-  pub next-colour : (r : ℕ) → LowestColour (rows_at g v) (Member held) r → LowestStep g (Member held) (record { vertex = v; colour = r }) × (r < 8)
-  next-colour r k =
-      let c = (h.sound v low.vertex.member).1 in
-      let q = k.lower c.colour c.complete in
-      let a = q.0 in
-      let b = q.1 in
-      let l : r < 8 = omega arith in
-      (lowest_step g held v (ready-over g held ready v nothing_left low) next-new r (k.complete l) (λ d j. (k.lower d j).0), l)
+  pub next-colour : (o : Option ℕ) → ColourFound (rows_at g v) (Member held) o → LowestStep g (Member held) (record { vertex = v; colour = unwrap_or o 0 }) × (unwrap_or o 0 < 8)
+  next-colour None n = absurd (n ready.1)
+  next-colour (Some r) k = (lowest_step g held v ready-over ready.0 r (k.1.complete k.0) (λ d j. (k.1.lower d j).0), k.0)
 
 -- ---- the steps one after the other
 
@@ -170,72 +158,31 @@ module _ (g : Graph) (target s now count : ℕ) (h : Taken g target s now count)
             ((t.taken l v).to m);
       }
 
-  pub taken-all : Member now target → WayFollowed g target s true count now
-  taken-all m =
-      record {
-        yes = λ q. (h.steps, subst (Way g target (Member s)) (append-nil h.steps) (h.rest [] m), h.counted, h.each);
-        no = λ q. absurd (false-true (sym q));
-      }
+  pub taken-all : Member now target → WayFollowed g target s (Some count) now
+  taken-all m = (h.steps, subst (Way g target (Member s)) (append-nil h.steps) (h.rest [] m), h.counted, h.each)
 
-  pub taken-stuck : (n : ℕ) → (Member now target → ⊥) → ((f : Step) → Opens g (Member now) f → Member now f.vertex) → WayFollowed g target s false n now
-  taken-stuck n out cl =
-      record {
-        yes = λ q. absurd (false-true q);
-        no = λ q. (λ a. out (within target a), record { each = λ v. record { to = h.derives v; from = within v } });
-      }
+  pub taken-stuck : (Member now target → ⊥) → ((f : Step) → Opens g (Member now) f → Member now f.vertex) → WayFollowed g target s None now
+  taken-stuck out cl = (λ a. out (within target a), record { each = λ v. record { to = h.derives v; from = within v } })
     where
       within : (v : ℕ) → HasAccess g (Member s) v → Member now v
       within = least (access g) (access-lawful g) (Member s) (Member now) (λ v m. (h.each v).from (inl m)) cl
 
--- the set may be written in another way
-pub followed-from : (g : Graph) (target s t : ℕ) (found : Bool) (count now : ℕ) → s ≡ t → WayFollowed g target s found count now → WayFollowed g target t found count now
-followed-from g target s t found count now e = subst (λ (x : ℕ). WayFollowed g target x found count now) e
+-- one step more
+module _ (g : Graph) (target s held v held' ready' left' : ℕ) (out : Member held target → ⊥) (n : NextTaken g held v held' ready' left') where
+  pub taken-next : (count : ℕ) → Taken g target s held count → Taken g target s held' (count + 1)
+  taken-next count t =
+      let p = next-some g held v n.ready n.lowest in
+      taken_more g target s held count t (record { vertex = v; colour = p.0 }) held' n.place out p.1 n.taken
 
--- ---- the search from step to step
+  pub falls-next : count_outside 64 held' < count_outside 64 held
+  falls-next = inserted-fewer held v held' n.place n.ready.0 n.taken
 
--- The target is not held, and the list of successors tells which vertices are ready.
-pub record Onward (g : Graph) (list : List ℕ) (target held ready left : ℕ) : Type 0 where
-  pub successors : Successors g list
-  pub search : Searching g held ready left
-  pub out : Member held target → ⊥
+  -- its vertex is the target, or the target is still not held
+  pub next-here : v ≡ target → Member held' target
+  next-here q = (n.taken.taken n.place target).from (inr (sym q))
 
-pub onward-none : (g : Graph) (list : List ℕ) (target set held ready left : ℕ) → Successors g list → SearchBegun list set held ready left → (Member set target → ⊥)
-    → Onward g list target held ready left
-onward-none g list target set held ready left s b out =
-    record { successors = s; search = b.search g s; out = λ m. out (subst (λ (x : ℕ). Member x target) b.same m) }
-
-module _ (g : Graph) (list : List ℕ) (target held ready left : ℕ) (h : Onward g list target held ready left) where
-  -- a vertex is looked at
-  module _ (v held' ready' left' : ℕ) (k : Looked (rows_at g v) v held ready left held' ready' left') where
-    pub onward-look : Onward g list target held' ready' left'
-    onward-look =
-        record { successors = h.successors; search = k.search g refl h.search; out = λ m. h.out (subst (λ (x : ℕ). Member x target) k.same m) }
-
-    pub falls-look : count_outside 64 held' * 2 ^ 64 + left' < count_outside 64 held * 2 ^ 64 + left
-    falls-look = rw k.same (falls-left held left left' k.less)
-
-  -- the lowest ready vertex is added
-  module _ (v held' ready' left' : ℕ) (z : left ≡ 0) (low : LowestOf ready v) (k : Added list v held ready held' ready' left') where
-    pub onward-add : (v ≡ target → ⊥) → Onward g list target held' ready' left'
-    onward-add n =
-        record {
-          successors = h.successors;
-          search = k.search g h.successors (subst (Searching g held ready) z h.search);
-          out = λ m. ⊎_elim h.out (λ q. n (sym q)) ((k.taken.taken low.vertex.place target).to m);
-        }
-
-    pub falls-add : left' < 2 ^ 64 → count_outside 64 held' * 2 ^ 64 + left' < count_outside 64 held * 2 ^ 64 + left
-    falls-add l =
-        falls-next held held' left left' l (inserted-fewer held v held' low.vertex.place (next-new g held ready left v h.search z low) k.taken)
-
-    -- and is held then
-    pub added-here : v ≡ target → Member held' target
-    added-here q = (k.taken.taken low.vertex.place target).from (inr (sym q))
-
-    pub taken-add : (s count : ℕ) → Taken g target s held count → Taken g target s held' (count + 1)
-    taken-add s count t =
-        let n = next-some g held ready left v h.search z low in
-        taken_more g target s held count t (record { vertex = v; colour = n.0 }) held' low.vertex.place h.out n.1 k.taken
+  pub next-out : (v ≡ target → ⊥) → Member held' target → ⊥
+  next-out d m = ⊎_elim out (λ q. d (sym q)) ((n.taken.taken n.place target).to m)
 
 -- ---- writing the steps
 
@@ -264,13 +211,6 @@ pub writing-none : (g : Graph) (target s : ℕ) (entry entry' : List ℕ) → Wa
 writing-none g target s entry entry' r =
     record { done = []; todo = r.steps; whole = r.way; onward = r.way; counted = refl; room = r.first; room' = r.second; first = refl; second = refl }
 
--- the set may be written in another way
-pub written-now : (g : Graph) (target s t : ℕ) (entry entry' : List ℕ) → t ≡ s → WayRoom g target s entry entry' → Writing g target t t 0 entry entry entry' entry'
-written-now g target s t entry entry' e r = writing-none g target t entry entry' (subst (λ (x : ℕ). WayRoom g target x entry entry') (sym e) r)
-
-pub written_from : (g : Graph) (target s t : ℕ) (entry exit entry' exit' : List ℕ) → s ≡ t → Written g target s entry exit entry' exit' → Written g target t entry exit entry' exit'
-written_from g target s t entry exit entry' exit' e = subst (λ (x : ℕ). Written g target x entry exit entry' exit') e
-
 -- the lists keep their lengths
 pub writing-long : (g : Graph) (target s now i : ℕ) (entry cur entry' cur' : List ℕ) → Writing g target s now i entry cur entry' cur' → (length cur ≡ length entry) × (length cur' ≡ length entry')
 writing-long g target s now i entry cur entry' cur' h =
@@ -293,8 +233,8 @@ module _ (g : Graph) (target s now i : ℕ) (entry cur entry' cur' : List ℕ) (
   next = goes_on g target (Member now) h.todo h.onward out
 
   -- something can be opened
-  pub writing-open : (ready left : ℕ) → Searching g now ready left → left ≡ 0 → ready ≡ 0 → ⊥
-  writing-open ready left k z y = next.3.new (none-ready g now ready left y z k next.0 next.3.opens)
+  pub writing-open : ((v : ℕ) → Ready g now v → ⊥) → ⊥
+  writing-open n = next.3.new (none-ready g now n next.0 next.3.opens)
 
   count : length (h.done ++ h.todo) ≡ i + suc (length next.1)
   count =

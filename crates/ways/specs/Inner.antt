@@ -1,7 +1,6 @@
 -- What the inner functions answer. Nothing of this has to be believed: the contracts of the calls do not cite it.
-use Rattle.std.specs.Prelude.{◌≡◌, Bool, true, false, List, map, ◌⊎◌, ℕ, ◌≤◌, ◌<◌, length}
+use Rattle.std.specs.Prelude.{◌≡◌, Option, MatchOption, List, map, ◌⊎◌, ℕ, ◌≤◌, ◌<◌, length}
 use Rattle.vertex_set.specs.Set.{Member, Inserted, Iff}
-use Rattle.setup.specs.declared.Rows.{Rows}
 use Rattle.setup.specs.declared.Graph.{Graph}
 use Rattle.setup.specs.Setup.{rows_at}
 use Rattle.setup.specs.Calls.{written}
@@ -23,30 +22,31 @@ pub record Searching (g : Graph) (held ready left : ℕ) : Type 0 where
   pub outside : (v : ℕ) → Member left v → Member held v → ⊥
   pub whole : (v : ℕ) → Ready g held v → Member ready v ⊎ Member left v
 
--- The search begins with what the set has. Here and below the graph is any that has these successors.
+-- The search begins with what the set has. The graph is any that has these successors.
 pub record SearchBegun (list : List ℕ) (set held ready left : ℕ) : Type 0 where
   pub same : held ≡ set
   pub search : (g : Graph) → Successors g list → Searching g held ready left
 
--- One vertex is looked at, and what is held stays. The graph is any in which the vertex has these rows.
-pub record Looked (rows : Rows) (v held ready left held' ready' left' : ℕ) : Type 0 where
-  pub same : held' ≡ held
-  pub less : left' < left
-  pub search : (g : Graph) → rows ≡ rows_at g v → Searching g held ready left → Searching g held' ready' left'
-
--- A ready vertex is added, once nothing is left to look at.
-pub record Added (list : List ℕ) (v held ready held' ready' left' : ℕ) : Type 0 where
+-- The lowest of the vertices that can be added was added, and the search goes on from there.
+pub record NextTaken (g : Graph) (held v held' ready' left' : ℕ) : Type 0 where
+  pub place : v < 64
+  pub ready : Ready g held v
+  pub lowest : (u : ℕ) → Ready g held u → v ≤ u
   pub taken : Inserted held v held'
-  pub search : (g : Graph) → Successors g list → Searching g held ready 0 → Searching g held' ready' left'
+  pub search : Searching g held' ready' left'
+
+-- One step of the search: the vertex that was added, or none, since none can be added.
+abbrev pub SearchStepped : Graph → ℕ → Option ℕ → ℕ → ℕ → ℕ → Type 0
+SearchStepped g held o held' ready' left' = MatchOption o ((held' ≡ held) × ((u : ℕ) → Ready g held u → ⊥)) (λ v. NextTaken g held v held' ready' left')
 
 -- ---- the way in
 
--- Where the way in ends. With `found` it comes to the target in `count` steps, and `held` has the vertices of the set and those of the steps; else
--- nothing derives the target, and `held` is the closure.
-pub record WayFollowed (g : Graph) (target s : ℕ) (found : Bool) (count held : ℕ) : Type 0 where
-  pub yes : found ≡ true → (d : List Step) × Way g target (Member s) d × (count ≡ length d)
-      × ((v : ℕ) → Iff (Member held v) (Member s v ⊎ Adds (access g) d v))
-  pub no : found ≡ false → (HasAccess g (Member s) target → ⊥) × AccessFrom g s held
+-- Where the way in ends. It comes to the target in that many steps, and `held` has the vertices of the set and those of the steps; or nothing derives
+-- the target, and `held` is the closure.
+abbrev pub WayFollowed : Graph → ℕ → ℕ → Option ℕ → ℕ → Type 0
+WayFollowed g target s steps held =
+    MatchOption steps ((HasAccess g (Member s) target → ⊥) × AccessFrom g s held)
+    (λ count. (d : List Step) × Way g target (Member s) d × (count ≡ length d) × ((v : ℕ) → Iff (Member held v) (Member s v ⊎ Adds (access g) d v)))
 
 -- There is a way in, and both lists have room for it.
 pub record WayRoom (g : Graph) (target s : ℕ) (entry entry' : List ℕ) : Type 0 where

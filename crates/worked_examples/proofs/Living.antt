@@ -32,7 +32,7 @@ use Rattle.reference.proofs.Graphs.{own-graph}
 use Rattle.reference.proofs.Closures.{closure-of}
 use Rattle.reference.proofs.Tests.{in-with}
 use Rattle.histories.proofs.Reaching.{with_held}
-use Rattle.sheet_format.specs.declared.Reading.{Reading}
+use Rattle.sheet_format.specs.Read.{Reading}
 use Rattle.sheet_format.specs.Read.{read_sheet}
 use Rattle.sheet_format.proofs.Meaning.{empty-setup}
 use Rattle.worked_examples.specs.Sheets.{Yields, lines_text, bench, ordpw, mailpw, token, mail, order}

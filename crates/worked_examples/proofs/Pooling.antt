@@ -7,7 +7,7 @@ use Prim.Native.Nat.{ℕ, ◌<◌}
 use native.Mathlib.Omega.{arith}
 use lib.ListN.{length, get_or}
 use Rattle.setup.specs.Setup.{empty_graph}
-use Rattle.sheet_format.specs.declared.Reading.{Reading}
+use Rattle.sheet_format.specs.Read.{Reading}
 use Rattle.sheet_format.specs.Text.{same_text}
 use Rattle.sheet_format.specs.Fields.{digits_in, decimal}
 use Rattle.sheet_format.specs.Rows.{ItemRow, Valid, first_header, second_header, start_count, loss_count, item_lines, edge_lines, render, number_in, with_edge, with_edges, setup_of}

@@ -10,13 +10,13 @@ use lib.ListN.{length}
 use Rattle.setup.specs.declared.Vertex.{Vertex}
 use Rattle.questions.specs.Asks.{Asks}
 use Rattle.questions.proofs.Asks.{first-no, after-all}
-use Rattle.sheet_format.specs.declared.Reading.{Reading}
+use Rattle.sheet_format.specs.Read.{Reading}
 use Rattle.sheet_format.specs.Text.{same_text}
 use Rattle.sheet_format.specs.Rows.{Doc, render, start_count}
 use Rattle.sheet_format.specs.Questions.{is_known}
 use Rattle.sheet_format.specs.Read.{read_sheet, asks_sheet}
 use Rattle.sheet_format.proofs.Meaning.{accepted-of-valid, rows-unique}
-use Rattle.pool_format.specs.declared.Pooled.{Pooled}
+use Rattle.pool_format.specs.Call.{Pooled}
 use Rattle.pool_format.specs.Rows.{Agree, remaining, uses_colour, lowest_free, is_taken, new_colour, recoloured, pooled, Fits}
 use Rattle.pool_format.specs.Call.{PoolOutcome, with_buffer, asks22, asks23, asks24, pool_refusal, pools_text, PoolsRows, PoolCall}
 use Rattle.pool_format.specs.Meaning.{IsPooled}

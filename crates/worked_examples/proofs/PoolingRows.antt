@@ -6,7 +6,7 @@ use mathlib.Core.List.{[], ◌∷◌}
 use Prim.Native.Nat.{ℕ}
 use Prim.Native.String.{String}
 use Rattle.setup.specs.declared.Kind.TheVariants.{Credential, Account}
-use Rattle.setup.specs.declared.Value.TheVariants.{Blank, Of}
+use Rattle.std.specs.Prelude.{None, Some}
 use Rattle.setup.specs.Setup.{empty_graph}
 use Rattle.sheet_format.specs.Text.{bytes_of, grow, lines_of, fields_of, is_empty, same_text, all}
 use Rattle.sheet_format.specs.Fields.{is_digit, is_name_byte, is_name, is_number, value_behind, number_of, is_number_to, is_kind, kind_of, is_value, field_value}
@@ -20,22 +20,22 @@ use Rattle.worked_examples.proofs.Reading.{HasRows, rows-read}
 -- ---- the rows
 
 abbrev pub badge : ItemRow
-badge = record { name = bytes_of "badge"; kind = Credential; start = Of 2; loss = Of 1; rank = 0 }
+badge = record { name = bytes_of "badge"; kind = Credential; start = Some 2; loss = Some 1; rank = 0 }
 
 abbrev pub store : ItemRow
-store = record { name = bytes_of "store"; kind = Account; start = Blank; loss = Blank; rank = 1 }
+store = record { name = bytes_of "store"; kind = Account; start = None; loss = None; rank = 1 }
 
 abbrev pub bench : ItemRow
-bench = record { name = bytes_of "bench"; kind = Account; start = Blank; loss = Blank; rank = 2 }
+bench = record { name = bytes_of "bench"; kind = Account; start = None; loss = None; rank = 2 }
 
 abbrev pub pin : ItemRow
-pin = record { name = bytes_of "pin"; kind = Credential; start = Of 1; loss = Of 0; rank = 0 }
+pin = record { name = bytes_of "pin"; kind = Credential; start = Some 1; loss = Some 0; rank = 0 }
 
 abbrev pub mail : ItemRow
-mail = record { name = bytes_of "mail"; kind = Account; start = Blank; loss = Blank; rank = 3 }
+mail = record { name = bytes_of "mail"; kind = Account; start = None; loss = None; rank = 3 }
 
 abbrev pub other_store : ItemRow
-other_store = record { name = bytes_of "store"; kind = Account; start = Blank; loss = Blank; rank = 2 }
+other_store = record { name = bytes_of "store"; kind = Account; start = None; loss = None; rank = 2 }
 
 abbrev pub first : Doc
 first =
@@ -70,7 +70,7 @@ ninth = record { items = store ∷ pin ∷ []; edges = record { from = pin.name;
 
 -- starting items
 abbrev starter : String → ItemRow
-starter n = record { name = bytes_of n; kind = Credential; start = Of 1; loss = Blank; rank = 0 }
+starter n = record { name = bytes_of n; kind = Credential; start = Some 1; loss = None; rank = 0 }
 
 abbrev pub starts : Doc
 starts = record { items = starter "a1" ∷ starter "a2" ∷ starter "a3" ∷ starter "a4" ∷ starter "a5" ∷ starter "a6" ∷ starter "a7" ∷ starter "a8" ∷ []; edges = [] }

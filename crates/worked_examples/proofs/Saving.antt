@@ -12,7 +12,7 @@ use Rattle.setup.specs.Inner.{graph_with_row}
 use Rattle.setup.specs.Calls.{written}
 use Rattle.questions.specs.Contract.{gives, ends}
 use Rattle.questions.proofs.Contract.{only-given, only-short}
-use Rattle.sheet_format.specs.declared.Reading.{Reading}
+use Rattle.sheet_format.specs.Read.{Reading}
 use Rattle.sheet_format.specs.Text.{grow, lines_of, fields_of, is_empty, same_text, all}
 use Rattle.sheet_format.specs.Fields.{is_digit, is_name_byte, is_name, is_number, value_behind, number_of, is_number_to, is_kind, kind_of, is_value, field_value, decimal, digits_in}
 use Rattle.sheet_format.specs.Rows.{Doc, render, first_header, second_header, start_count, loss_count, number_in, vertices_of, with_edge, with_edges, recovery_rows, setup_of}

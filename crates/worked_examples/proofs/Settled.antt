@@ -13,7 +13,7 @@ use Rattle.derivations.specs.Way.{Way}
 use Rattle.derivations.proofs.Passes.{passes-unique}
 use Rattle.questions.specs.Contract.{Outcome, gives, ends, Contract, Fulfils}
 use Rattle.questions.proofs.Contract.{answer-of, only-answer}
-use Rattle.access.specs.Answers.{closure_call, Along, way_values, way_call}
+use Rattle.access.specs.Answers.{closure_call, Along, way_call}
 use Rattle.access.proofs.Unique.{one_way}
 use Rattle.bases.specs.Score.{Score}
 use Rattle.bases.specs.Marks.{Counts}

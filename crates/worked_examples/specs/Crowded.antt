@@ -1,17 +1,17 @@
 -- A sheet of 256 edges, and a 257th (document 02, point 8).
 use Rattle.std.specs.Prelude.{◌≡◌, false, List, [], ◌∷◌, ◌++◌, ℕ, zero, suc, ◌+◌, ◌/◌, ◌%◌}
 use Rattle.sheet_format.specs.Read.{read_sheet}
-use Rattle.living.specs.declared.Redrawing.{Redrawing}
+use Rattle.living.specs.Calls.{Redrawing}
 use Rattle.living.specs.Calls.{AddEdge, back, CallOf}
 use Rattle.worked_examples.specs.Sheets.{lines_text}
 
 -- Sixteen items, a to p, and an edge of colour 0 from each to each: the edge i is written as the line "a b 0 0", with the (i / 16)th letter and the (i % 16)th.
-abbrev pub edge_line : ℕ → List ℕ
-edge_line i = (97 + i / 16) ∷ 32 ∷ (97 + i % 16) ∷ 32 ∷ 48 ∷ 32 ∷ 48 ∷ 10 ∷ []
+abbrev pub line_of_edge : ℕ → List ℕ
+line_of_edge i = (97 + i / 16) ∷ 32 ∷ (97 + i % 16) ∷ 32 ∷ 48 ∷ 32 ∷ 48 ∷ 10 ∷ []
 
 abbrev pub first_edges : ℕ → List ℕ
 first_edges zero = []
-first_edges (suc n) = first_edges n ++ edge_line n
+first_edges (suc n) = first_edges n ++ line_of_edge n
 
 abbrev pub items_only : List ℕ
 items_only =

@@ -4,7 +4,7 @@ use Prim.Native.String.{String}
 use Rattle.setup.specs.declared.Setup.{Setup}
 use Rattle.setup.specs.Setup.{no_vertices, no_items}
 use Rattle.sheet_format.specs.Rows.{Each}
-use Rattle.living.specs.declared.Redrawing.{Redrawing}
+use Rattle.living.specs.Calls.{Redrawing}
 use Rattle.living.specs.Calls.{Call, TakeIn, TakeOut, AddEdge, RemoveEdge, back, CallOf}
 use Rattle.sheet_format.specs.Read.{read_sheet}
 use Rattle.histories.specs.Histories.{Ran}

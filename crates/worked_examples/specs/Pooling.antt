@@ -3,7 +3,7 @@ use Rattle.std.specs.Prelude.{◌≡◌, true, List, [], ◌∷◌, ℕ, ◌≤�
 use Prim.Native.String.{String}
 use Rattle.sheet_format.specs.Read.{read_sheet}
 use Rattle.bases.specs.Base.{Derives}
-use Rattle.pool_format.specs.declared.Pooled.{Pooled}
+use Rattle.pool_format.specs.Call.{Pooled}
 use Rattle.pool_format.specs.Call.{PoolOutcome, with_buffer, pool_refusal, pools_text, PoolCall}
 use Rattle.pool_format.specs.Meaning.{IsPooled, SameItem}
 use Rattle.worked_examples.specs.Sheets.{lines_text}

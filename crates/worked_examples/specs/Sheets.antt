@@ -2,7 +2,7 @@
 use Rattle.std.specs.Prelude.{◌≡◌, List, [], ◌∷◌, ◌++◌, map, ℕ, ◌-◌, length, replicate}
 use Prim.Native.String.{String}
 use Rattle.setup.specs.declared.Kind.TheVariants.{Credential, Account}
-use Rattle.setup.specs.declared.Value.TheVariants.{Blank, Of}
+use Rattle.std.specs.Prelude.{None, Some}
 use Rattle.setup.specs.declared.Vertex.{Vertex}
 use Rattle.setup.specs.declared.Rows.{Rows}
 use Rattle.setup.specs.declared.Graph.{Graph}
@@ -67,11 +67,11 @@ bench =
       setup = record {
         count = 5;
         vertices = places
-            (record { kind = Credential; start = Of 1; loss = Of 2; rank = 0 }
-            ∷ record { kind = Credential; start = Of 1; loss = Of 1; rank = 0 }
-            ∷ record { kind = Credential; start = Of 3; loss = Of 2; rank = 0 }
-            ∷ record { kind = Account; start = Blank; loss = Blank; rank = 1 }
-            ∷ record { kind = Account; start = Blank; loss = Blank; rank = 3 }
+            (record { kind = Credential; start = Some 1; loss = Some 2; rank = 0 }
+            ∷ record { kind = Credential; start = Some 1; loss = Some 1; rank = 0 }
+            ∷ record { kind = Credential; start = Some 3; loss = Some 2; rank = 0 }
+            ∷ record { kind = Account; start = None; loss = None; rank = 1 }
+            ∷ record { kind = Account; start = None; loss = None; rank = 3 }
             ∷ []);
         graph = graph ([] ∷ [] ∷ [] ∷ (2 ∷ []) ∷ (5 ∷ 8 ∷ []) ∷ []);
         recovery = graph ([] ∷ [] ∷ [] ∷ [] ∷ (0 ∷ 8 ∷ []) ∷ []);
@@ -122,12 +122,12 @@ ring =
       setup = record {
         count = 6;
         vertices = places
-            (record { kind = Credential; start = Of 1; loss = Blank; rank = 0 }
-            ∷ record { kind = Credential; start = Of 1; loss = Blank; rank = 0 }
-            ∷ record { kind = Credential; start = Of 1; loss = Blank; rank = 0 }
-            ∷ record { kind = Credential; start = Of 1; loss = Blank; rank = 0 }
-            ∷ record { kind = Credential; start = Blank; loss = Blank; rank = 0 }
-            ∷ record { kind = Account; start = Blank; loss = Blank; rank = 0 }
+            (record { kind = Credential; start = Some 1; loss = None; rank = 0 }
+            ∷ record { kind = Credential; start = Some 1; loss = None; rank = 0 }
+            ∷ record { kind = Credential; start = Some 1; loss = None; rank = 0 }
+            ∷ record { kind = Credential; start = Some 1; loss = None; rank = 0 }
+            ∷ record { kind = Credential; start = None; loss = None; rank = 0 }
+            ∷ record { kind = Account; start = None; loss = None; rank = 0 }
             ∷ []);
         graph = graph ((2 ∷ []) ∷ (32 ∷ []) ∷ [] ∷ (32 ∷ []) ∷ (4 ∷ 8 ∷ []) ∷ (17 ∷ []) ∷ []);
         recovery = graph [];
@@ -162,7 +162,7 @@ alone =
       lines = "name kind start loss rank" ∷ "only a 5 - 0" ∷ "" ∷ "from to colour rec" ∷ [];
       setup = record {
         count = 1;
-        vertices = places (record { kind = Account; start = Of 5; loss = Blank; rank = 0 } ∷ []);
+        vertices = places (record { kind = Account; start = Some 5; loss = None; rank = 0 } ∷ []);
         graph = graph [];
         recovery = graph [];
         held = no_vertices;
@@ -176,7 +176,7 @@ closed =
       lines = "name kind start loss rank" ∷ "only a - - 0" ∷ "" ∷ "from to colour rec" ∷ [];
       setup = record {
         count = 1;
-        vertices = places (record { kind = Account; start = Blank; loss = Blank; rank = 0 } ∷ []);
+        vertices = places (record { kind = Account; start = None; loss = None; rank = 0 } ∷ []);
         graph = graph [];
         recovery = graph [];
         held = no_vertices;
@@ -190,7 +190,7 @@ loop =
       lines = "name kind start loss rank" ∷ "only a - 4 0" ∷ "" ∷ "from to colour rec" ∷ "only only 0 0" ∷ [];
       setup = record {
         count = 1;
-        vertices = places (record { kind = Account; start = Blank; loss = Of 4; rank = 0 } ∷ []);
+        vertices = places (record { kind = Account; start = None; loss = Some 4; rank = 0 } ∷ []);
         graph = graph ((1 ∷ []) ∷ []);
         recovery = graph [];
         held = no_vertices;
@@ -209,7 +209,7 @@ pair =
       lines = "name kind start loss rank" ∷ "p a - 1 0" ∷ "q a - 1 0" ∷ "" ∷ "from to colour rec" ∷ "p q 0 0" ∷ "q p 0 0" ∷ [];
       setup = record {
         count = 2;
-        vertices = places (record { kind = Account; start = Blank; loss = Of 1; rank = 0 } ∷ record { kind = Account; start = Blank; loss = Of 1; rank = 0 } ∷ []);
+        vertices = places (record { kind = Account; start = None; loss = Some 1; rank = 0 } ∷ record { kind = Account; start = None; loss = Some 1; rank = 0 } ∷ []);
         graph = graph ((2 ∷ []) ∷ (1 ∷ []) ∷ []);
         recovery = graph [];
         held = no_vertices;
@@ -232,9 +232,9 @@ spare =
       setup = record {
         count = 3;
         vertices = places
-            (record { kind = Credential; start = Of 0; loss = Of 0; rank = 0 }
-            ∷ record { kind = Credential; start = Of 2; loss = Of 1; rank = 0 }
-            ∷ record { kind = Account; start = Blank; loss = Blank; rank = 1 }
+            (record { kind = Credential; start = Some 0; loss = Some 0; rank = 0 }
+            ∷ record { kind = Credential; start = Some 2; loss = Some 1; rank = 0 }
+            ∷ record { kind = Account; start = None; loss = None; rank = 1 }
             ∷ []);
         graph = graph ([] ∷ [] ∷ (1 ∷ 0 ∷ 0 ∷ 0 ∷ 0 ∷ 0 ∷ 0 ∷ 2 ∷ []) ∷ []);
         recovery = graph ([] ∷ [] ∷ (0 ∷ 0 ∷ 0 ∷ 0 ∷ 0 ∷ 0 ∷ 0 ∷ 2 ∷ []) ∷ []);
@@ -275,7 +275,7 @@ full =
           ∷ [];
       setup = record {
         count = 64;
-        vertices = replicate 63 unused_vertex ++ (record { kind = Credential; start = Of 5; loss = Of 6; rank = 0 } ∷ []);
+        vertices = replicate 63 unused_vertex ++ (record { kind = Credential; start = Some 5; loss = Some 6; rank = 0 } ∷ []);
         graph = graph ((0 ∷ 0 ∷ 0 ∷ 0 ∷ 0 ∷ 0 ∷ 0 ∷ 9223372036854775808 ∷ []) ∷ []);
         recovery = graph [];
         held = no_vertices;
@@ -313,11 +313,11 @@ halves =
       setup = record {
         count = 5;
         vertices = places
-            (record { kind = Credential; start = Of 4000000000; loss = Of 4000000000; rank = 0 }
-            ∷ record { kind = Credential; start = Of 2000000000; loss = Of 2000000000; rank = 0 }
-            ∷ record { kind = Credential; start = Of 2000000000; loss = Of 2000000000; rank = 0 }
-            ∷ record { kind = Account; start = Blank; loss = Blank; rank = 0 }
-            ∷ record { kind = Account; start = Blank; loss = Blank; rank = 0 }
+            (record { kind = Credential; start = Some 4000000000; loss = Some 4000000000; rank = 0 }
+            ∷ record { kind = Credential; start = Some 2000000000; loss = Some 2000000000; rank = 0 }
+            ∷ record { kind = Credential; start = Some 2000000000; loss = Some 2000000000; rank = 0 }
+            ∷ record { kind = Account; start = None; loss = None; rank = 0 }
+            ∷ record { kind = Account; start = None; loss = None; rank = 0 }
             ∷ []);
         graph = graph ([] ∷ [] ∷ [] ∷ (1 ∷ 6 ∷ []) ∷ (7 ∷ []) ∷ []);
         recovery = graph [];
@@ -361,10 +361,10 @@ relay =
       setup = record {
         count = 4;
         vertices = places
-            (record { kind = Credential; start = Of 1; loss = Of 1; rank = 0 }
-            ∷ record { kind = Credential; start = Of 1; loss = Of 1; rank = 0 }
-            ∷ record { kind = Credential; start = Of 1; loss = Of 1; rank = 0 }
-            ∷ record { kind = Account; start = Blank; loss = Blank; rank = 0 }
+            (record { kind = Credential; start = Some 1; loss = Some 1; rank = 0 }
+            ∷ record { kind = Credential; start = Some 1; loss = Some 1; rank = 0 }
+            ∷ record { kind = Credential; start = Some 1; loss = Some 1; rank = 0 }
+            ∷ record { kind = Account; start = None; loss = None; rank = 0 }
             ∷ []);
         graph = graph ([] ∷ (1 ∷ []) ∷ [] ∷ (6 ∷ []) ∷ []);
         recovery = graph [];
@@ -414,14 +414,14 @@ figure1 =
       setup = record {
         count = 8;
         vertices = places
-            (record { kind = Credential; start = Of 1; loss = Of 1; rank = 0 }
-            ∷ record { kind = Credential; start = Of 1; loss = Of 1; rank = 0 }
-            ∷ record { kind = Credential; start = Of 1; loss = Of 1; rank = 0 }
-            ∷ record { kind = Credential; start = Of 1; loss = Of 1; rank = 0 }
-            ∷ record { kind = Credential; start = Of 1; loss = Of 1; rank = 0 }
-            ∷ record { kind = Credential; start = Blank; loss = Blank; rank = 0 }
-            ∷ record { kind = Account; start = Blank; loss = Blank; rank = 2 }
-            ∷ record { kind = Account; start = Blank; loss = Blank; rank = 1 }
+            (record { kind = Credential; start = Some 1; loss = Some 1; rank = 0 }
+            ∷ record { kind = Credential; start = Some 1; loss = Some 1; rank = 0 }
+            ∷ record { kind = Credential; start = Some 1; loss = Some 1; rank = 0 }
+            ∷ record { kind = Credential; start = Some 1; loss = Some 1; rank = 0 }
+            ∷ record { kind = Credential; start = Some 1; loss = Some 1; rank = 0 }
+            ∷ record { kind = Credential; start = None; loss = None; rank = 0 }
+            ∷ record { kind = Account; start = None; loss = None; rank = 2 }
+            ∷ record { kind = Account; start = None; loss = None; rank = 1 }
             ∷ []);
         graph = graph ([] ∷ [] ∷ [] ∷ [] ∷ [] ∷ (12 ∷ 20 ∷ []) ∷ (34 ∷ []) ∷ (1 ∷ 64 ∷ []) ∷ []);
         recovery = graph ([] ∷ [] ∷ [] ∷ [] ∷ [] ∷ [] ∷ [] ∷ (0 ∷ 64 ∷ []) ∷ []);
@@ -460,12 +460,12 @@ figure6 =
       setup = record {
         count = 6;
         vertices = places
-            (record { kind = Credential; start = Of 1; loss = Blank; rank = 0 }
-            ∷ record { kind = Credential; start = Of 1; loss = Blank; rank = 0 }
-            ∷ record { kind = Credential; start = Of 2; loss = Blank; rank = 0 }
-            ∷ record { kind = Account; start = Blank; loss = Blank; rank = 0 }
-            ∷ record { kind = Account; start = Blank; loss = Blank; rank = 0 }
-            ∷ record { kind = Account; start = Blank; loss = Blank; rank = 0 }
+            (record { kind = Credential; start = Some 1; loss = None; rank = 0 }
+            ∷ record { kind = Credential; start = Some 1; loss = None; rank = 0 }
+            ∷ record { kind = Credential; start = Some 2; loss = None; rank = 0 }
+            ∷ record { kind = Account; start = None; loss = None; rank = 0 }
+            ∷ record { kind = Account; start = None; loss = None; rank = 0 }
+            ∷ record { kind = Account; start = None; loss = None; rank = 0 }
             ∷ []);
         graph = graph ([] ∷ [] ∷ [] ∷ (3 ∷ []) ∷ (4 ∷ []) ∷ (8 ∷ 16 ∷ []) ∷ []);
         recovery = graph [];
@@ -514,12 +514,12 @@ zeroed =
       setup = record {
         count = 6;
         vertices = places
-            (record { kind = Credential; start = Of 4; loss = Blank; rank = 0 }
-            ∷ record { kind = Credential; start = Of 3; loss = Blank; rank = 0 }
-            ∷ record { kind = Credential; start = Of 0; loss = Blank; rank = 0 }
-            ∷ record { kind = Credential; start = Of 3; loss = Blank; rank = 0 }
-            ∷ record { kind = Credential; start = Of 0; loss = Blank; rank = 0 }
-            ∷ record { kind = Account; start = Blank; loss = Blank; rank = 0 }
+            (record { kind = Credential; start = Some 4; loss = None; rank = 0 }
+            ∷ record { kind = Credential; start = Some 3; loss = None; rank = 0 }
+            ∷ record { kind = Credential; start = Some 0; loss = None; rank = 0 }
+            ∷ record { kind = Credential; start = Some 3; loss = None; rank = 0 }
+            ∷ record { kind = Credential; start = Some 0; loss = None; rank = 0 }
+            ∷ record { kind = Account; start = None; loss = None; rank = 0 }
             ∷ []);
         graph = graph ([] ∷ [] ∷ [] ∷ [] ∷ [] ∷ (1 ∷ 6 ∷ 24 ∷ []) ∷ []);
         recovery = graph [];
@@ -553,13 +553,13 @@ outer =
       setup = record {
         count = 7;
         vertices = places
-            (record { kind = Credential; start = Of 5; loss = Blank; rank = 0 }
-            ∷ record { kind = Credential; start = Of 1; loss = Blank; rank = 0 }
-            ∷ record { kind = Credential; start = Of 3; loss = Blank; rank = 0 }
-            ∷ record { kind = Credential; start = Of 3; loss = Blank; rank = 0 }
-            ∷ record { kind = Credential; start = Of 5; loss = Blank; rank = 0 }
-            ∷ record { kind = Credential; start = Of 1; loss = Blank; rank = 0 }
-            ∷ record { kind = Account; start = Blank; loss = Blank; rank = 0 }
+            (record { kind = Credential; start = Some 5; loss = None; rank = 0 }
+            ∷ record { kind = Credential; start = Some 1; loss = None; rank = 0 }
+            ∷ record { kind = Credential; start = Some 3; loss = None; rank = 0 }
+            ∷ record { kind = Credential; start = Some 3; loss = None; rank = 0 }
+            ∷ record { kind = Credential; start = Some 5; loss = None; rank = 0 }
+            ∷ record { kind = Credential; start = Some 1; loss = None; rank = 0 }
+            ∷ record { kind = Account; start = None; loss = None; rank = 0 }
             ∷ []);
         graph = graph ([] ∷ [] ∷ [] ∷ [] ∷ [] ∷ [] ∷ (3 ∷ 12 ∷ 48 ∷ []) ∷ []);
         recovery = graph [];
@@ -593,13 +593,13 @@ inner =
       setup = record {
         count = 7;
         vertices = places
-            (record { kind = Credential; start = Of 3; loss = Blank; rank = 0 }
-            ∷ record { kind = Credential; start = Of 3; loss = Blank; rank = 0 }
-            ∷ record { kind = Credential; start = Of 5; loss = Blank; rank = 0 }
-            ∷ record { kind = Credential; start = Of 1; loss = Blank; rank = 0 }
-            ∷ record { kind = Credential; start = Of 3; loss = Blank; rank = 0 }
-            ∷ record { kind = Credential; start = Of 3; loss = Blank; rank = 0 }
-            ∷ record { kind = Account; start = Blank; loss = Blank; rank = 0 }
+            (record { kind = Credential; start = Some 3; loss = None; rank = 0 }
+            ∷ record { kind = Credential; start = Some 3; loss = None; rank = 0 }
+            ∷ record { kind = Credential; start = Some 5; loss = None; rank = 0 }
+            ∷ record { kind = Credential; start = Some 1; loss = None; rank = 0 }
+            ∷ record { kind = Credential; start = Some 3; loss = None; rank = 0 }
+            ∷ record { kind = Credential; start = Some 3; loss = None; rank = 0 }
+            ∷ record { kind = Account; start = None; loss = None; rank = 0 }
             ∷ []);
         graph = graph ([] ∷ [] ∷ [] ∷ [] ∷ [] ∷ [] ∷ (3 ∷ 12 ∷ 48 ∷ []) ∷ []);
         recovery = graph [];
@@ -629,11 +629,11 @@ later =
       setup = record {
         count = 5;
         vertices = places
-            (record { kind = Credential; start = Of 5; loss = Blank; rank = 0 }
-            ∷ record { kind = Credential; start = Of 5; loss = Blank; rank = 0 }
-            ∷ record { kind = Credential; start = Of 1; loss = Blank; rank = 0 }
-            ∷ record { kind = Credential; start = Of 1; loss = Blank; rank = 0 }
-            ∷ record { kind = Account; start = Blank; loss = Blank; rank = 0 }
+            (record { kind = Credential; start = Some 5; loss = None; rank = 0 }
+            ∷ record { kind = Credential; start = Some 5; loss = None; rank = 0 }
+            ∷ record { kind = Credential; start = Some 1; loss = None; rank = 0 }
+            ∷ record { kind = Credential; start = Some 1; loss = None; rank = 0 }
+            ∷ record { kind = Account; start = None; loss = None; rank = 0 }
             ∷ []);
         graph = graph ([] ∷ [] ∷ [] ∷ [] ∷ (3 ∷ 12 ∷ []) ∷ []);
         recovery = graph [];

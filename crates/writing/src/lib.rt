@@ -16,16 +16,6 @@ pub fn put_byte(b: u8, out: &mut [u8], at: usize) -> usize
     at + 1
 }
 
-pub fn put_text(text: &[u8], out: &mut [u8], at: usize) -> usize
-    requires { at + length text.now ≤ length out.old }
-    ensures { Wrote out.old at text.now out.new result }
-{
-    for i in 0..text.len() {
-        out[at + i] = text[i];
-    }
-    at + text.len()
-}
-
 // The last two digits of n.
 fn put_two(n: u64, out: &mut [u8], at: usize) -> usize
     requires { at + 2 ≤ length out.old }
@@ -55,7 +45,7 @@ pub fn put_field(text: &[u8], end: u8, out: &mut [u8], at: usize) -> usize
     requires { at + length (ended text.now end) ≤ length out.old }
     ensures { Wrote out.old at (ended text.now end) out.new result }
 {
-    let next = put_text(text, out, at);
+    let next = written::put(text, out, at);
     put_byte(end, out, next)
 }
 

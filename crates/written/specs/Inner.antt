@@ -2,7 +2,7 @@
 use Rattle.std.specs.Prelude.{◌≡◌, List, ℕ, ◌+◌, length}
 use Rattle.std.proofs.lemmas.List.Edits.{sets}
 
--- From `at` on stand the numbers xs, and r is the next place.
-pub record Wrote (entry : List ℕ) (at : ℕ) (xs after : List ℕ) (r : ℕ) : Type 0 where
+-- From `at` on stand the items xs, and r is the next place.
+pub record Wrote {A : Type 0} (entry : List A) (at : ℕ) (xs after : List A) (r : ℕ) : Type 0 where
   pub exit : after ≡ sets entry at xs
   pub next : r ≡ at + length xs

@@ -16,4 +16,4 @@ mark_all-t-requires c =
 pub returns : goal.returns
 returns c =
     let a = c.args in
-    counted-marks a.loss a.s a.target c.chosen-chosen.result.0 _ _ a.handed.now c.both_families-total.result _ c.chosen-chosen.type_inv.1.1.0.1 c.chosen-chosen.ensures c.both_families-total.ensures c.mark_all-t.ensures c.left_of-missing.ensures
+    counted-marks a.loss a.s a.target c.chosen-chosen.result.0 _ _ a.handed.now c.both_families-total.result _ c.chosen-chosen.type_inv.1.1.0.1 c.chosen-chosen.ensures c.both_families-total.ensures c.mark_all-t.ensures c.saturating_sub-missing.ensures

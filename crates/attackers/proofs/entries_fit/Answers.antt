@@ -1,30 +1,26 @@
-use Rattle.attackers.proofs.Loops.{fit-done}
-use native.Mathlib.Omega.{arith}
-use Prim.Native.Nat.{ℕ, ◌-◌, ◌≤◌}
-use mathlib.Core.Path.{◌≡◌}
-use mathlib.Core.Logic.{⊎_elim}
-use lib.ListN.{get_or}
-use Rattle.vertex_set.specs.Set.{Member}
+use Rattle.std.proofs.Common.{ap, ◌∙◌, arith}
+use Rattle.successors.specs.declared.Vertices.{Vertices}
 use Rattle.vertex_set.proofs.Decisions.{decide-yes, decide-no}
-use Rattle.attackers.proofs.Scans.{none_more}
-use borrow.Author.Rules.{rules}
+use Rattle.attackers.proofs.Loops.{fitting-none, fitting-more, fitting-done}
 use Rattle.attackers.proofs.entries_fit.Goals as goal
-use Rattle.attackers.proofs.entries_fit.Goals.{else-has, then-has+else-kind-ge-KINDS}
 
-pub returns-then-kind-ge-KINDS : goal.returns-then-kind-ge-KINDS
-returns-then-kind-ge-KINDS c =
-    let l = c.loop-v in
-    decide-no (λ f. let m = f.each l.v (c.has.ensures.yes c.if-has.true) in let q = c.entry_of-kind.ensures in let k = c.if-kind-ge-KINDS.true in omega arith)
+pub loop-v-init : goal.loop-v-init
+loop-v-init c =
+    let begun = ap (λ (i : Vertices). i.left) c.into_iter-v-iterator.ensures.into_iter_gives ∙ c.vertices_of-v-items.ensures in
+    rw begun (fitting-none _ _)
+
+pub returns-then-entry_of-ge-KINDS : goal.returns-then-entry_of-ge-KINDS
+returns-then-entry_of-ge-KINDS c =
+    let t = c.in-Some.ensures.steps in
+    let m = c.loop-v.invariant.0.each _ t.0.vertex.member in
+    decide-no (λ f. let l = f.each c.in-Some.v m in let e = c.entry_of.ensures in let k = c.if-entry_of-ge-KINDS.true in omega arith)
 
 pub loop-v-preserved : goal.loop-v-preserved
 loop-v-preserved c =
-    let a = c.args in
-    let q : Member a.initial.0 c.loop-v.v × (6 ≤ get_or a.kinds.now c.loop-v.v 0) → ⊥ =
-    λ p. elim c.if-has.branch [ then-has+else-kind-ge-KINDS w ↦ let e = w.entry_of-kind.ensures in let k = w.if-kind-ge-KINDS.false in let b = p.1 in omega arith | else-has w ↦ c.has.ensures.no w.if-has.false p.0 ] in
-    (omega arith, none_more (λ (i : ℕ). Member a.initial.0 i × (6 ≤ get_or a.kinds.now i 0)) c.loop-v.v c.loop-v.invariant.1 q)
+    let t = c.in-Some.ensures.steps in
+    let e = c.entry_of.ensures in
+    let k = c.if-entry_of-ge-KINDS.false in
+    fitting-more _ _ _ _ _ c.loop-v.invariant t.0.vertex t.1 (omega arith)
 
 pub returns : goal.returns
-returns c =
-    let a = c.args in
-    let e : c.loop-v.v ≡ 64 = omega arith in
-    decide-yes (fit-done a.kinds.now a.initial.0 (search rules) (rw e at c.loop-v.invariant.1))
+returns c = decide-yes (fitting-done _ _ _ c.in-None.ensures.steps c.loop-v.invariant)

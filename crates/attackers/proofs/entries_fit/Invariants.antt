@@ -1,8 +1,6 @@
-use Prim.Native.Nat.{ℕ, ◌-◌, ◌≤◌, ◌<◌}
-use lib.ListN.{get_or}
-use Rattle.vertex_set.specs.Set.{Member}
+use Rattle.attackers.proofs.Loops.{Fitting}
 use Rattle.attackers.proofs.entries_fit.Given as goal
 
--- No initial vertex below v has an entry that is no kind.
+-- The entries of the vertices that are no longer left are kinds.
 abbrev pub invariant-loop-v : goal.invariant-loop-v
-invariant-loop-v l = (l.v ≤ 64) × ((i : ℕ) → i < l.v → Member l.initial'.0 i × (6 ≤ get_or l.kinds i 0) → ⊥)
+invariant-loop-v l = Fitting l.kinds l.fn.initial.0 l.v-iterator.left

@@ -6,7 +6,7 @@ use Rattle.vertex_set.proofs.Decisions.{decide-yes, decide-no}
 use Rattle.attackers.specs.Inner.{BothWeaker}
 use Rattle.attackers.proofs.Scans.{none_more}
 use Rattle.attackers.proofs.has_weaker.Goals as goal
-use Rattle.attackers.proofs.has_weaker.Goals.{else-has, then-has+else-is_weaker}
+use Rattle.attackers.proofs.has_weaker.Goals.{else-has-via-else-has, else-has-via-then-has+else-is_weaker}
 
 pub returns-then-is_weaker : goal.returns-then-is_weaker
 returns-then-is_weaker c =
@@ -16,7 +16,7 @@ pub loop-j-preserved : goal.loop-j-preserved
 loop-j-preserved c =
     let a = c.args in
     let q : Member a.set.0 c.loop-j.j × BothWeaker c.loop-j.j a.k → ⊥ =
-    λ p. elim c.if-has.branch [ then-has+else-is_weaker w ↦ w.is_weaker.ensures.no w.if-is_weaker.false p.1 | else-has w ↦ c.has.ensures.no w.if-has.false p.0 ] in
+    λ p. elim c.else-has.branch [ else-has-via-then-has+else-is_weaker w ↦ w.is_weaker.ensures.no w.if-is_weaker.false p.1 | else-has-via-else-has w ↦ c.has.ensures.no w.if-has.false p.0 ] in
     (omega arith, none_more (λ (i : ℕ). Member a.set.0 i × BothWeaker i a.k) c.loop-j.j c.loop-j.invariant.1 q)
 
 pub returns : goal.returns

@@ -1,6 +1,8 @@
+use mathlib.Core.Path.{sym, ◌∙◌}
 use borrow.Author.Rules.{rules}
 use Prim.Native.Nat.{◌^◌, ◌<◌}
 use Rattle.vertex_set.proofs.Decisions.{decide-yes, decide-no}
+use Rattle.closures.proofs.Colours.{found-decides}
 use Rattle.closures.proofs.Passes.{falls-left}
 use Rattle.attackers.proofs.Reaching.{reaching-none, reaching-skip, reaching-take, reaching-done, falls-take}
 use Rattle.attackers.proofs.reaches.Goals as goal
@@ -18,16 +20,16 @@ pub returns-then-left-eq0 : goal.returns-then-left-eq0
 returns-then-left-eq0 c =
     decide-no (reaching-done _ _ c.loop-graph.invariant.0 _ _ _ c.loop-graph.invariant.1 _ c.if-left-eq0.true (c.has.ensures.no c.if-has.false))
 
-pub loop-graph-smaller-then-lowest_colour-lt-COLOURS : goal.loop-graph-smaller-then-lowest_colour-lt-COLOURS
-loop-graph-smaller-then-lowest_colour-lt-COLOURS c =
-    falls-take _ _ c.loop-graph.invariant.0 _ _ _ c.loop-graph.invariant.1 _ _ _ c.lowest-v.ensures.vertex c.without-left.ensures c.lowest_colour.ensures _ c.insert-held.ensures
+pub loop-graph-smaller-then-is_some : goal.loop-graph-smaller-then-is_some
+loop-graph-smaller-then-is_some c =
+    falls-take _ _ c.loop-graph.invariant.0 _ _ _ c.loop-graph.invariant.1 _ _ c.lowest-v.ensures.vertex c.without-left.ensures _ c.insert-held.ensures
 
-pub loop-graph-preserved-then-lowest_colour-lt-COLOURS : goal.loop-graph-preserved-then-lowest_colour-lt-COLOURS
-loop-graph-preserved-then-lowest_colour-lt-COLOURS c =
+pub loop-graph-preserved-then-is_some : goal.loop-graph-preserved-then-is_some
+loop-graph-preserved-then-is_some c =
     let fits : c.insert-held.result.0 < 2 ^ 64 = search rules in (
       c.loop-graph.invariant.0,
-      reaching-take _ _ c.loop-graph.invariant.0 _ _ _ c.loop-graph.invariant.1 _ _ _ c.lowest-v.ensures.vertex c.without-left.ensures c.lowest_colour.ensures _ c.insert-held.ensures
-          c.if-lowest_colour-lt-COLOURS.true c.without-left.type_inv (c.shared_slice_known-then-lowest_colour-lt-COLOURS-1.given c.lowest-v.result).fits fits,
+      reaching-take _ _ c.loop-graph.invariant.0 _ _ _ c.loop-graph.invariant.1 _ _ c.lowest-v.ensures.vertex c.without-left.ensures _ c.insert-held.ensures
+          ((found-decides _ _ _ c.lowest_colour.ensures).yes (sym c.is_some.ensures ∙ c.if-is_some.true)) c.without-left.type_inv (c.shared_slice_known-then-is_some-1.given c.lowest-v.result).fits fits,
     )
 
 pub loop-graph-smaller : goal.loop-graph-smaller
@@ -35,4 +37,4 @@ loop-graph-smaller c = falls-left _ _ _ c.without-left.ensures.less
 
 pub loop-graph-preserved : goal.loop-graph-preserved
 loop-graph-preserved c =
-    (c.loop-graph.invariant.0, reaching-skip _ _ c.loop-graph.invariant.0 _ _ _ c.loop-graph.invariant.1 _ _ _ c.lowest-v.ensures.vertex c.without-left.ensures c.lowest_colour.ensures c.if-lowest_colour-lt-COLOURS.false)
+    (c.loop-graph.invariant.0, reaching-skip _ _ c.loop-graph.invariant.0 _ _ _ c.loop-graph.invariant.1 _ _ c.lowest-v.ensures.vertex c.without-left.ensures ((found-decides _ _ _ c.lowest_colour.ensures).no (sym c.is_some.ensures ∙ c.if-is_some.false)))

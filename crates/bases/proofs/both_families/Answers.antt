@@ -1,11 +1,6 @@
 use mathlib.Core.Path.{◌∙◌}
 use Rattle.bases.proofs.Bridge.{least-words, both-families}
-use Rattle.bases.proofs.Formed.{few}
 use Rattle.bases.proofs.both_families.Goals as goal
-
-pub words_for-words-requires : goal.words_for-words-requires
-words_for-words-requires c =
-    few c.args.loss c.args.s c.args.chosen.0 c.requires.0.formed c.requires.0.is_chosen
 
 pub minimal_members-requires : goal.minimal_members-requires
 minimal_members-requires c =

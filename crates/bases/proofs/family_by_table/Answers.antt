@@ -1,21 +1,13 @@
-use mathlib.Core.Path.{◌≡◌, refl}
-use Prim.Native.Nat.{◌-◌}
-use native.Mathlib.Omega.{arith}
+-- `bases::family_by_table` meets its contract: the words copied are those of the target in the table.
+-- Assumes nothing.
 use Rattle.derivations.specs.Both.{rule_of}
-use Rattle.bases.proofs.Readers.{filled_none, filled_more, copied-family}
-use borrow.Author.Rules.{rules}
+use Rattle.bases.proofs.Readers.{copied-family, copied}
+use Prim.Native.Nat.{◌+◌, ◌-◌, ◌*◌}
+use native.Mathlib.Omega.{arith}
 use Rattle.bases.proofs.family_by_table.Goals as goal
-
-pub loop-b-init : goal.loop-b-init
-loop-b-init c = (search rules, filled_none _ 256 _ c.requires.1)
-
-pub loop-b-preserved : goal.loop-b-preserved
-loop-b-preserved c =
-    (omega arith, filled_more _ 256 c.loop-b.b _ c.loop-b.out (omega arith) c.loop-b.invariant.1 refl)
 
 pub returns : goal.returns
 returns c =
     let a = c.args in
-    let e : c.loop-b.b ≡ 256 = omega arith in
-    let all = rw e at c.loop-b.invariant.1 in
+    let all = copied c.fill.new.w (a.target * 256) 256 (a.target * 256 + 256 - a.target * 256) _ (omega arith) (omega (arith, c.requires.0, c.fill.ensures.w_len)) c.copy_from_slice.ensures.after in
     (all.words, copied-family (rule_of a.loss a.graph) a.chosen.0 a.target _ _ c.requires.0 c.fill.ensures.table all)

@@ -1,31 +1,17 @@
 use Prim.Native.Nat.{◌^◌, ◌<◌}
-use native.Mathlib.Omega.{arith}
 use Rattle.vertex_set.proofs.Sums.{sum-over-same}
 use Rattle.family_lists.proofs.MinimalSets.{least-of-minimal}
 use Rattle.bases.specs.Score.{points_at}
 use Rattle.bases.proofs.Bridge.{least-words, minimal-within, score-of}
 use Rattle.bases.proofs.Scores.{score-base}
-use Rattle.bases.proofs.Formed.{few, points-range}
+use Rattle.bases.proofs.Formed.{few}
 use borrow.Author.Rules.{rules}
 use Rattle.bases.proofs.score_of.Goals as goal
-
-pub words_for-words-requires : goal.words_for-words-requires
-words_for-words-requires c =
-    few c.args.loss c.args.s c.chosen-chosen.result.0 c.requires.0 c.chosen-chosen.ensures
 
 pub minimal_members-requires : goal.minimal_members-requires
 minimal_members-requires c =
     let a = c.args in
     record { f_len = c.family_of.ensures.0; least_below = least-words a.loss a.graph a.target c.chosen-chosen.result.0 _ _ c.family_of.ensures.1 c.words_for-words.ensures; out_len = search rules }
-
-pub least_sum-requires : goal.least_sum-requires
-least_sum-requires c = record {
-  f_len = search rules;
-  summable = record {
-    few = few c.args.loss c.args.s c.chosen-chosen.result.0 c.requires.0 c.chosen-chosen.ensures;
-    small = λ i m. let p = points-range c.args.loss c.args.s c.requires.0 i in let e = c.values_of-values.ensures.each i in omega arith;
-  };
-}
 
 pub returns : goal.returns
 returns c =

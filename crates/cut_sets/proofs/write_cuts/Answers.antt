@@ -11,4 +11,4 @@ returns-then-out-n c =
 pub returns : goal.returns
 returns c =
     let a = c.args in
-    cuts-room a.s a.target c.chosen-initial.result.0 c.cut_family-n.result c.requires.formed _ _ c.cut_family-n.ensures c.if-out-n.false c.write_sets-count.result _ c.write_sets-count.ensures
+    cuts-room a.s a.target c.chosen-initial.result.0 c.cut_family-n.result c.requires.formed _ _ c.cut_family-n.ensures c.if-out-n.false c.write_sets.result _ c.write_sets.ensures

@@ -1,59 +1,26 @@
 use native.Mathlib.Omega.{arith}
-use lib.Pow.{pow_mono}
 use borrow.Author.Rules.{rules}
-use Rattle.vertex_set.proofs.Places.{Lowest, lowest}
-use Rattle.families.proofs.Masks.{gathering-none, gathering-more, gathering-end, added}
+use mathlib.Core.Path.{ap, ◌∙◌}
+use Rattle.successors.specs.declared.Vertices.{Vertices}
+use Rattle.families.proofs.Masks.{gathering-none, gathering-more, gathering-end}
+use Rattle.families.proofs.Turns.{turn}
 use Rattle.families.proofs.mask_of.Goals as goal
 
-pub loop-rest-init : goal.loop-rest-init
-loop-rest-init c = (search rules, gathering-none c.args.chosen.0 c.args.x (search rules))
+pub loop-v-init : goal.loop-v-init
+loop-v-init c =
+    let begun = ap (λ (i : Vertices). i.left) c.into_iter-v-iterator.ensures.into_iter_gives ∙ c.vertices_of-v-items.ensures in
+    (search rules, rw begun (gathering-none c.args.chosen.0 c.args.x (search rules)))
 
-pub overflow_cast-bit : goal.overflow_cast-bit
-overflow_cast-bit c =
-    let low : Lowest c.loop-rest.rest = lowest c.loop-rest.rest c.loop-rest.invariant.1.small c.loop-rest-test.true in
-    omega (arith, low)
-
-pub overflow_shr-bit : goal.overflow_shr-bit
-overflow_shr-bit c =
-    let low : Lowest c.loop-rest.rest = lowest c.loop-rest.rest c.loop-rest.invariant.1.small c.loop-rest-test.true in
-    low.below
-
-pub overflow_add-mask : goal.overflow_add-mask
-overflow_add-mask c =
-    let g = c.loop-rest.invariant.1 in
-    let p = pow_mono {i = c.loop-rest.n} {j = 14} c.loop-rest.invariant.0 in
-    record { fits = omega (arith, added c.args.x c.loop-rest.rest c.loop-rest.mask c.loop-rest.n g.below (omega arith)) }
-
-pub overflow_cast-rest : goal.overflow_cast-rest
-overflow_cast-rest c =
-    let low : Lowest c.loop-rest.rest = lowest c.loop-rest.rest c.loop-rest.invariant.1.small c.loop-rest-test.true in
-    omega (arith, low)
-
-pub overflow_shl-rest : goal.overflow_shl-rest
-overflow_shl-rest c =
-    let low : Lowest c.loop-rest.rest = lowest c.loop-rest.rest c.loop-rest.invariant.1.small c.loop-rest-test.true in
-    low.below
-
-pub overflow_sub-rest : goal.overflow_sub-rest
-overflow_sub-rest c =
-    let low : Lowest c.loop-rest.rest = lowest c.loop-rest.rest c.loop-rest.invariant.1.small c.loop-rest-test.true in
-    omega (arith, low)
-
-pub loop-rest-smaller : goal.loop-rest-smaller
-loop-rest-smaller c =
-    let low : Lowest c.loop-rest.rest = lowest c.loop-rest.rest c.loop-rest.invariant.1.small c.loop-rest-test.true in
-    omega (arith, low)
-
-pub loop-rest-preserved : goal.loop-rest-preserved
-loop-rest-preserved c =
-    let low : Lowest c.loop-rest.rest = lowest c.loop-rest.rest c.loop-rest.invariant.1.small c.loop-rest-test.true in
-    let l = low in (
-      omega (arith, l.count, c.loop-rest.invariant.1.count, c.requires),
-      gathering-more c.args.chosen.0 c.args.x c.loop-rest.rest
-          c.loop-rest.mask c.loop-rest.n (omega arith) c.loop-rest-test.true c.loop-rest.invariant.1,
+pub loop-v-preserved : goal.loop-v-preserved
+loop-v-preserved c =
+    let g = c.loop-v.invariant.1 in
+    let taken = c.in-Some.ensures.steps in
+    let t = turn _ _ _ g.small taken.0 taken.1 in (
+      omega (arith, t.lowest.count, g.count, c.requires),
+      rw (t.vertex, t.rest) (gathering-more c.args.chosen.0 c.args.x _ c.loop-v.mask c.loop-v.n (omega arith) t.some g),
     )
 
 pub returns : goal.returns
 returns c =
-    gathering-end c.args.chosen.0 c.args.x c.loop-rest.rest c.loop-rest.mask c.loop-rest.n (search rules) c.requires
-    c.loop-rest-test.false c.loop-rest.invariant.1
+    gathering-end c.args.chosen.0 c.args.x _ c.loop-v.mask c.loop-v.n (search rules) c.requires c.in-None.ensures.steps
+    c.loop-v.invariant.1

@@ -4,8 +4,5 @@ use Prim.Native.Nat.{◌≤◌}
 use Rattle.families.proofs.Masks.{Gathering}
 use Rattle.families.proofs.mask_of.Given as goal
 
-abbrev pub invariant-loop-rest : goal.invariant-loop-rest
-invariant-loop-rest l = (l.n ≤ 14) × Gathering l.initial.rest l.x l.rest l.mask l.n
-
-abbrev pub decreases-loop-rest : goal.decreases-loop-rest
-decreases-loop-rest l = l.rest
+abbrev pub invariant-loop-v : goal.invariant-loop-v
+invariant-loop-v l = (l.n ≤ 14) × Gathering l.fn.chosen.0 l.x l.v-iterator.left l.mask l.n

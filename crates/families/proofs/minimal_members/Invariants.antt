@@ -1,6 +1,5 @@
 -- `families::minimal_members` meets its contract. The invariant: each word below b has its least lanes, and those from n on have none.
 -- Assumes nothing.
-use Prim.Native.Nat.{◌-◌}
 use Rattle.families.proofs.Families.{LeastTo}
 use Rattle.families.proofs.minimal_members.Given as goal
 

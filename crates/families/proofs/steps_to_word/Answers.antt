@@ -1,11 +1,8 @@
 use mathlib.Core.Path.{◌≡◌}
-use mathlib.Core.Logic.{⊎_elim}
-use Prim.Native.Nat.{ℕ, ◌-◌, ◌*◌, ◌/◌, ◌^◌, ◌%◌, ◌≤◌}
+use Prim.Native.Nat.{ℕ, ◌/◌, ◌^◌, ◌%◌}
 use native.Mathlib.Omega.{arith}
 use borrow.Author.Rules.{rules}
 use Rattle.vertex_set.specs.Set.{Member}
-use Rattle.vertex_set.proofs.Places.{member-le}
-use Rattle.vertex_set.proofs.Sets.{shifted_one}
 use Rattle.families.proofs.Steps.{to_none, to-more, to_same}
 use Rattle.families.proofs.steps_to_word.Goals as goal
 use Rattle.families.proofs.steps_to_word.Goals.{else-bit-eq1, then-bit-eq1}
@@ -21,17 +18,6 @@ is-not-set b j n = n
 pub loop-j-init : goal.loop-j-init
 loop-j-init c = (search rules, to_none c.args.f.now c.args.b)
 
-pub overflow_sub-lanes : goal.overflow_sub-lanes
-overflow_sub-lanes c =
-    let down : (1 * 2 ^ c.loop-j.j) % 2 ^ 64 ≤ c.args.b = rw (shifted_one c.loop-j.j (omega arith)) (member-le _ _ (is_set _ _ c.if-bit-eq1.true)) in
-    down
-
-pub offset_bounds-f-b : goal.offset_bounds-f-b
-offset_bounds-f-b c = record { fits = omega (arith, c.requires.b_lt_family_words) }
-
-pub bounds-f-b : goal.bounds-f-b
-bounds-f-b c = omega (arith, c.requires.f_len, c.requires.b_lt_family_words)
-
 pub loop-j-preserved : goal.loop-j-preserved
 loop-j-preserved c =
     let f = c.args.f.now in
@@ -39,6 +25,3 @@ loop-j-preserved c =
       omega arith,
       elim c.if-bit-eq1.branch [ then-bit-eq1 w ↦ rw w.lanes-is (to-more f c.args.b c.loop-j.j c.loop-j.lanes (omega arith) (is_set _ _ w.if-bit-eq1.true) inv) | else-bit-eq1 w ↦ rw w.lanes-is (to_same f c.args.b c.loop-j.j c.loop-j.lanes (is-not-set _ _ w.if-bit-eq1.false) inv) ],
     )
-
-pub returns : goal.returns
-returns c = let e : c.loop-j.j ≡ 8 = omega arith in rw e at c.loop-j.invariant.1

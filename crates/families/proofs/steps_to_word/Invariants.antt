@@ -1,6 +1,6 @@
 -- `families::steps_to_word` meets its contract. The loop's invariant: `lanes` has the lanes of the words numbered b less one of its bits below j.
 -- Assumes nothing.
-use Prim.Native.Nat.{◌-◌, ◌≤◌}
+use Prim.Native.Nat.{◌≤◌}
 use Rattle.families.specs.Inner.Steps.{StepsToWord}
 use Rattle.families.proofs.steps_to_word.Given as goal
 

@@ -1,13 +1,7 @@
 -- `family_lists::lanes_of_size` meets its contract. A mask has the bits of its word's number and those of its lane.
 -- Assumes nothing.
-use native.Mathlib.Omega.{arith}
-use lib.Count.{ones-le}
-use borrow.Author.Rules.{rules}
 use Rattle.family_lists.proofs.Lists.{lanes-of-layer}
 use Rattle.family_lists.proofs.lanes_of_size.Goals as goal
-
-pub overflow_cast-k : goal.overflow_cast-k
-overflow_cast-k c = omega (arith, ones-le 64 c.args.b (search rules))
 
 pub returns : goal.returns
 returns c = lanes-of-layer c.args.b c.args.s _ c.layer.ensures

@@ -5,11 +5,11 @@ use borrow.Author.Rules.{rules}
 use Rattle.family_lists.proofs.Lists.{sized-lanes, sized-count}
 use Rattle.family_lists.proofs.put_sized.Goals as goal
 
-pub put_word-requires : goal.put_word-requires
-put_word-requires c =
+pub put_word-requires-clause-y_in_bounds : goal.put_word-requires-clause-y_in_bounds
+put_word-requires-clause-y_in_bounds c =
     let l = c.lanes_of_size-lanes in
     let e = sized-count c.args.b c.args.s c.args.x l.result (search rules) l.ensures in
-    record { b_lt_family_words = c.requires.b_lt_family_words; tables_fit = c.requires.tables_fit; y_in_bounds = omega (arith, c.requires.x_in_bounds) }
+    omega (arith, c.requires.x_in_bounds)
 
 pub returns : goal.returns
 returns c =

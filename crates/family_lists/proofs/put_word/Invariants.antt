@@ -5,8 +5,5 @@ use lib.ListN.{get_or}
 use Rattle.family_lists.proofs.Lists.{Putting}
 use Rattle.family_lists.proofs.put_word.Given as goal
 
-abbrev pub invariant-loop-rest : goal.invariant-loop-rest
-invariant-loop-rest l = Putting (λ (i : ℕ). l.base + get_or l.low (l.from + i) 0) l.y l.initial.out l.at l.out l.rest l.next
-
-abbrev pub decreases-loop-rest : goal.decreases-loop-rest
-decreases-loop-rest l = l.rest
+abbrev pub invariant-loop-i : goal.invariant-loop-i
+invariant-loop-i l = Putting (λ (i : ℕ). l.base + get_or l.sums.low (l.from + i) 0) l.fn.y l.initial.out l.at l.out l.i-iterator.left l.next

@@ -1,10 +1,11 @@
 -- Inner: the lists that the functions below write_sets write.
-use Rattle.std.specs.Prelude.{◌≡◌, Bool, List, [], ◌∷◌, ◌++◌, map, ℕ, zero, suc, ◌+◌, ◌*◌, ◌/◌, ◌%◌, ◌^◌, ◌≤◌, ◌<◌, eqb, length, get_or, take}
+use Rattle.std.specs.Prelude.{◌≡◌, Bool, List, [], ◌∷◌, ◌++◌, map, ℕ, zero, suc, ◌+◌, ◌*◌, ◌<◌, eqb, length, get_or}
 use Rattle.std.specs.Int.Count.{ones}
 use Rattle.vertex_set.specs.Set.{Member, Iff, Decides}
 use Rattle.vertex_set.proofs.Places.{places}
 use Rattle.vertex_set.proofs.Sorted.{only}
-use Rattle.families.specs.Inner.Family.{In, family_words, masks}
+use Rattle.families.specs.Inner.Family.{In, family_words}
+pub use Rattle.sums.specs.Inner.Tables.{sum_by, TablesFit}
 
 -- The lanes whose numbers have k bits fewer than s.
 pub record Layer (k s r : ℕ) : Type 0 where
@@ -28,12 +29,10 @@ abbrev pub of_words : List ℕ → List ℕ → List ℕ
 of_words f [] = []
 of_words f (b ∷ bs) = masks_in b (get_or f b 0) ++ of_words f bs
 
--- The first n numbers of the list are those of words in which all of the family's members are.
-pub record Occupied (f index : List ℕ) (n : ℕ) : Type 0 where
-  pub long : length index ≡ family_words
-  pub most : n ≤ family_words
-  pub below : (i : ℕ) → i < n → get_or index i 0 < family_words
-  pub all : of_words f (take n index) ≡ rising 0 f
+-- The listed numbers are those of words in which all of the family's members are.
+pub record Occupied (f words : List ℕ) : Type 0 where
+  pub below : (i : ℕ) → i < length words → get_or words i 0 < family_words
+  pub all : of_words f words ≡ rising 0 f
 
 -- At k stand the lanes that are in some word of the family whose number has k bits.
 pub record JoinedBySize (f joined : List ℕ) : Type 0 where
@@ -57,13 +56,3 @@ of_size s l = only (λ (m : ℕ). eqb (ones m) s) l
 abbrev pub by_size : List ℕ → ℕ → ℕ → List ℕ
 by_size l s zero = []
 by_size l s (suc n) = of_size s l ++ by_size l (suc s) n
-
--- The sum that two tables give for the mask m: the bits from 7 on by `high`, the others by `low`.
-abbrev pub sum_by : List ℕ → List ℕ → ℕ → ℕ
-sum_by low high m = get_or high (m / 128) 0 + get_or low (m % 128) 0
-
--- No sum that the two tables give is too large for a word.
-pub record TablesFit (low high : List ℕ) : Type 0 where
-  pub long-low : length low ≡ 128
-  pub long-high : length high ≡ 128
-  pub fits : (m : ℕ) → m < masks → sum_by low high m < 2 ^ 64

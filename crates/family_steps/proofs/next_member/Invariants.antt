@@ -1,7 +1,6 @@
 -- `family_steps::next_member` meets its contract. The loop's invariant: no member after m has fewer than s bits, and of those with s bits the ones
 -- after m are `from` or above it.
 -- Assumes nothing.
-use Prim.Native.Nat.{◌-◌}
 use Rattle.family_steps.proofs.Steps.{Seeking}
 use Rattle.family_steps.proofs.next_member.Given as goal
 

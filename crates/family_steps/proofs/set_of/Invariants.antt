@@ -3,8 +3,5 @@
 use Rattle.family_steps.proofs.Spreading.{Spreading}
 use Rattle.family_steps.proofs.set_of.Given as goal
 
-abbrev pub invariant-loop-rest : goal.invariant-loop-rest
-invariant-loop-rest l = Spreading l.initial.rest l.mask l.rest l.bits l.set
-
-abbrev pub decreases-loop-rest : goal.decreases-loop-rest
-decreases-loop-rest l = l.rest
+abbrev pub invariant-loop-v : goal.invariant-loop-v
+invariant-loop-v l = Spreading l.fn.chosen.0 l.mask l.v-iterator.left l.bits l.set

@@ -1,6 +1,5 @@
 -- `family_words::merge_in` meets its contract. The invariant: the words before b are merged with those of s, the others are as they were.
 -- Assumes nothing.
-use Prim.Native.Nat.{◌-◌}
 use lib.ListN.{get_or}
 use Rattle.family_words.specs.Inner.Words.{merged_word}
 use Rattle.family_words.proofs.Words.{Mapped}

@@ -1,16 +1,10 @@
-use mathlib.Core.Path.{refl}
-use Prim.Native.Nat.{◌-◌}
-use Rattle.family_words.proofs.Words.{mapped-more}
+use native.Mathlib.Omega.{arith}
 use Rattle.family_words.proofs.Starts.{patterns, start-low, start-high}
 use Rattle.family_words.proofs.start_words.Goals as goal
 
 pub returns-then-k-lt6 : goal.returns-then-k-lt6
 unfolding patterns
-returns-then-k-lt6 c =
-    start-low c.args.k _ c.if-k-lt6.true c.set_all.ensures
-
-pub loop-b-preserved : goal.loop-b-preserved
-loop-b-preserved c = mapped-more _ _ _ _ _ c.loop-b.invariant c.loop-b-test.true refl
+returns-then-k-lt6 c = start-low c.args.k _ c.if-k-lt6.true c.set_all.ensures
 
 pub returns : goal.returns
-returns c = start-high _ _ _ _ c.if-k-lt6.false c.loop-b.invariant c.loop-b-test.false
+returns c = start-high _ _ _ _ c.if-k-lt6.false c.loop-b.invariant (omega arith)

@@ -5,5 +5,5 @@ use Rattle.findings.proofs.find_backdoor.Goals as goal
 pub returns : goal.returns
 returns c =
     let a = c.args in
-    backdoor-found a.s a.v c.without_recovery-less.result c.without_recovery-less.ensures c.security_in-score.result.0 c.security_in-without.result.0
+    backdoor-found a.s a.v c.without_recovery.result c.without_recovery.ensures c.security_in-score.result.0 c.security_in-without.result.0
     c.security_in-score.ensures c.security_in-without.ensures c.below.result c.below.ensures

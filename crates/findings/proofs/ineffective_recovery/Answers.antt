@@ -1,24 +1,26 @@
 -- The questions in their order, then the finding.
 use mathlib.Core.Path.{refl}
+use Rattle.std.proofs.lemmas.Result.{err_from_is_err_and}
 use Rattle.questions.proofs.Questions.{target-asked, target-yes}
-use Rattle.questions.proofs.Contract.{refused, fulfilled, given}
+use Rattle.questions.proofs.Contract.{handed_on, fulfilled, given}
 use Rattle.findings.specs.Answers.{ineffective_call}
 use Rattle.findings.proofs.ineffective_recovery.Goals as goal
 
-pub returns-then-asked-ne0 : goal.returns-then-asked-ne0
-returns-then-asked-ne0 c =
+pub returns-in_err-ask_target : goal.returns-in_err-ask_target
+returns-in_err-ask_target c =
     let a = c.args in
-    refused (ineffective_call a.s a.v) _ (target-asked a.s _ c.well_formed-formed.ensures a.v _ c.ask_target-asked.ensures) c.if-asked-ne0.true
+    let p = err_from_is_err_and c.from_residual.result c.from_residual.ensures.1 in
+    handed_on _ (ineffective_call a.s a.v) _ p.0 (target-asked a.s _ c.well_formed-formed.ensures a.v _ c.in_err-ask_target.ensures) _ p.1 p.2
 
-pub find_ineffective-found-requires : goal.find_ineffective-found-requires
-find_ineffective-found-requires c =
+pub find_ineffective-requires : goal.find_ineffective-requires
+find_ineffective-requires c =
     let a = c.args in
-    let y = target-yes a.s _ c.well_formed-formed.ensures a.v _ c.ask_target-asked.ensures c.if-asked-ne0.false in
+    let y = target-yes a.s _ c.well_formed-formed.ensures a.v _ c.in_ok-ask_target.ensures refl in
     record { formed = y.0; vertex = y.1.0 }
 
 pub returns : goal.returns
 returns c =
     let a = c.args in
-    let y = target-yes a.s _ c.well_formed-formed.ensures a.v _ c.ask_target-asked.ensures c.if-asked-ne0.false in
+    let y = target-yes a.s _ c.well_formed-formed.ensures a.v _ c.in_ok-ask_target.ensures refl in
     let call = ineffective_call a.s a.v in
-    fulfilled call _ y (given call c.find_ineffective-found.result c.find_ineffective-found.ensures tt _ refl)
+    fulfilled call _ y (given call c.find_ineffective.result c.find_ineffective.ensures tt _ refl)

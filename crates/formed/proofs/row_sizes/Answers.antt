@@ -1,38 +1,27 @@
-use mir.Val.{Fits}
-use mir.Syntax.{w64}
-use lib.Seq.{take_all}
-use borrow.Author.Rules.{rules}
-use Prim.Native.Nat.{◌-◌}
-use mathlib.Core.Path.{◌≡◌, refl}
+use Rattle.std.proofs.Common.{◌≡◌, ◌<◌, ◌≤◌, ◌^◌, ℕ, suc, ◌*◌, List, [], ◌∷◌, length, Fits, w64, arith, rules, refl, sym, ◌∙◌}
+use Rattle.std.specs.Prelude.{sum_by}
+use Rattle.std.proofs.lemmas.List.Recursion.{is_sum_by}
 use lib.Count.{ones, ones-le}
-use lib.ListN.{length, get_or}
-use native.Mathlib.Omega.{arith}
-use Rattle.setup.proofs.Counts.{total-more}
+use lib.ListN.{get_or}
+use Rattle.setup.specs.Setup.{total}
 use Rattle.formed.proofs.row_sizes.Goals as goal
 
-pub loop-c-init : goal.loop-c-init
-loop-c-init c = (search rules, refl, search rules)
+few-ones : (xs : List ℕ) → ((i : ℕ) → Fits w64 (get_or xs i 0)) → total ones xs ≤ 64 * length xs
+few-ones [] f = omega arith
+few-ones (x ∷ xs) f = let o = ones-le 64 x (f 0).fits in let r = few-ones xs (λ i. f (suc i)) in omega arith
 
-pub overflow_add-n : goal.overflow_add-n
-overflow_add-n c =
-    let l = c.loop-c in
-    let f : Fits w64 (get_or c.args.rows.needs l.c 0) = search rules in
-    let o = ones-le 64 (get_or c.args.rows.needs l.c 0) f.fits in
-    omega arith
-
-pub loop-c-preserved : goal.loop-c-preserved
-loop-c-preserved c =
-    let l = c.loop-c in
-    let needs' = c.args.rows.needs in
-    let f : Fits w64 (get_or needs' l.c 0) = search rules in
-    let o = ones-le 64 (get_or needs' l.c 0) f.fits in
-    let long : length needs' ≡ 8 = search rules in
-    let m = total-more ones needs' l.c 0 (omega arith) in
-    (omega arith, omega arith, omega arith)
+pub sum-requires-clause-fits : goal.sum-requires-clause-fits
+sum-requires-clause-fits c =
+    let needs = c.args.rows.needs in
+    let long : length needs ≡ 8 = search rules in
+    let same = is_sum_by (total ones) ones refl (λ _ _. refl) needs in
+    let few : sum_by ones needs < 2 ^ 32 = let f = few-ones needs (search rules) in omega arith in
+    search rules
 
 pub returns : goal.returns
 returns c =
-    let e : c.loop-c.c ≡ 8 = omega arith in
-    let long : length c.args.rows.needs ≡ 8 = search rules in
-    let i = rw (e, take_all 8 c.args.rows.needs (omega arith)) at c.loop-c.invariant.1 in
-    (i, omega arith)
+    let needs = c.args.rows.needs in
+    let long : length needs ≡ 8 = search rules in
+    let same = is_sum_by (total ones) ones refl (λ _ _. refl) needs in
+    let e : c.sum.result ≡ sum_by ones needs = search rules in
+    (e ∙ sym same, let f = few-ones needs (search rules) in omega arith)

@@ -1,13 +1,24 @@
 -- Inner: the sets of a line, whatever item rows the keys are of.
-use Rattle.std.specs.Prelude.{◌≡◌, List, [], ◌∷◌, ◌++◌, map, ℕ, ◌≤◌, leb, length}
+use Rattle.std.specs.Prelude.{◌≡◌, Result, Ok, Err, List, [], ◌∷◌, ◌++◌, map, ℕ, ◌≤◌, leb, length}
 use Rattle.written.specs.Inner.{Wrote}
 use Rattle.sheet_format.specs.Rows.{ItemRow}
 use Rattle.sheet_rows.specs.Inner.NameKeys.{NameKeys}
 use Rattle.handin_format.specs.Sets.{set_from}
 use Rattle.handin_format.specs.Entries.{most_handed}
 use Rattle.handin_format.specs.Lines.{FieldAsked, ask_of, first_no_of, set_questions}
-use Rattle.handin_lines.specs.declared.sets.Checked.{Checked}
+use Rattle.questions.specs.Refusals.{number}
+use Rattle.handin_lines.specs.declared.FieldRefusal.{FieldRefusal}
 use Rattle.handin_lines.specs.Inner.Splitting.{split_from}
+
+-- The number and the field of the first no; or 0, 0 and how many sets there are.
+pub record Checked : Type 0 where
+  pub number : ℕ
+  pub place : ℕ
+  pub count : ℕ
+
+abbrev pub checked : Result ℕ FieldRefusal → Checked
+checked (Ok n) = record { number = 0; place = 0; count = n }
+checked (Err e) = record { number = number e.refusal; place = e.place; count = 0 }
 
 -- The sets that the fields from a place on name.
 unfoldable pub sets_from : List ItemRow → ℕ → List ℕ → List ℕ

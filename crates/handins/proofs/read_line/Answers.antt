@@ -1,57 +1,43 @@
 -- `handins::read_line` meets its contract: the sheet, the line, the room, then the sets.
-use borrow.Author.Rules.{rules}
-use mathlib.Core.Path.{◌≡◌, refl}
+use mathlib.Core.Path.{refl}
 use native.Mathlib.Omega.{arith}
-use Prim.Native.Nat.{◌≤◌}
-use lib.ListN.{length}
+use Rattle.std.specs.Prelude.{Ok, Err}
+use Rattle.questions.proofs.Refusals.{number_some}
+use Rattle.sheet_format.specs.Read.{reading}
 use Rattle.sheet_lines.proofs.Accepted.{accepts-of, lines-there}
+use Rattle.handin_lines.specs.Inner.Lines.{line_found}
 use Rattle.handins.proofs.LineCalls.{read-no-sheet, read-no-line, read_short, read-counted, read_all}
 use Rattle.handins.proofs.read_line.Goals as goal
 
-pub returns-then-number-ne0 : goal.returns-then-number-ne0
-returns-then-number-ne0 c =
+pub returns-in-Err : goal.returns-in-Err
+returns-in-Err c =
     let a = c.args in
-    read-no-sheet a.sheet.now a.line.now a.handed.now c.read_sheet-reading.result c.read_sheet-reading.ensures c.no_line.result _ c.if-number-ne0.true c.no_line.ensures refl
+    read-no-sheet a.sheet.now a.line.now a.handed.now (reading (Err c.in-Err.refused)) c.in-Err.ensures c.no_line.result _ (number_some _)
+    c.no_line.ensures refl
 
-pub keys_of-keys-requires : goal.keys_of-keys-requires
-keys_of-keys-requires c =
-    lines-there _ _ (accepts-of _ c.read_sheet-reading.result c.read_sheet-reading.ensures c.if-number-ne0.false)
+pub keys_of-found-requires : goal.keys_of-found-requires
+keys_of-found-requires c = lines-there _ _ (accepts-of _ (reading (Ok c.in-Ok.setup)) c.in-Ok.ensures refl)
 
-pub check_line-read-requires : goal.check_line-read-requires
-check_line-read-requires c =
-    let wide : (c.read_sheet-reading.result.setup.count ≤ length c.keys_of-keys.result.low) × (c.read_sheet-reading.result.setup.count ≤ length c.keys_of-keys.result.high) × (c.read_sheet-reading.result.setup.count ≤ 64) = let few = (lines-there _ _ (accepts-of _ c.read_sheet-reading.result c.read_sheet-reading.ensures c.if-number-ne0.false)).few in
-    let low : length c.keys_of-keys.result.low ≡ 64 = search (rules, c.keys_of-keys.type_inv) in
-    let high : length c.keys_of-keys.result.high ≡ 64 = search (rules, c.keys_of-keys.type_inv) in
-    (omega (arith, few, low), omega (arith, few, high), few) in
-    wide
-
-pub returns-then-refused-ne0 : goal.returns-then-refused-ne0
-returns-then-refused-ne0 c =
+pub returns-in-Err-check_line : goal.returns-in-Err-check_line
+returns-in-Err-check_line c =
     let a = c.args in
-    read-no-line a.sheet.now a.line.now a.handed.now c.read_sheet-reading.result c.read_sheet-reading.ensures c.if-number-ne0.false c.keys_of-keys.result c.keys_of-keys.ensures c.check_line-read.result c.check_line-read.ensures c.no_line-then-refused-ne0.result _ c.if-refused-ne0.true c.no_line-then-refused-ne0.ensures refl
+    read-no-line a.sheet.now a.line.now a.handed.now (reading (Ok c.in-Ok.setup)) c.in-Ok.ensures refl c.keys_of-found.result c.keys_of-found.ensures (line_found (Err c.in-Err-check_line.no)) c.in-Err-check_line.ensures c.no_line-in-Err-check_line.result _ (number_some _)
+    c.no_line-in-Err-check_line.ensures refl
 
 pub returns-then-handed-read : goal.returns-then-handed-read
 returns-then-handed-read c =
     let a = c.args in
-    read_short a.sheet.now a.line.now a.handed.now c.read_sheet-reading.result c.read_sheet-reading.ensures c.if-number-ne0.false c.keys_of-keys.result c.keys_of-keys.ensures c.check_line-read.result c.check_line-read.ensures c.if-refused-ne0.false c.no_line-then-handed-read.result _ c.if-handed-read.true c.no_line-then-handed-read.ensures refl
-
-pub slice_bounds-put_sets-end-2 : goal.slice_bounds-put_sets-end-2
-slice_bounds-put_sets-end-2 c =
-    search (rules, c.keys_of-keys.type_inv)
+    read_short a.sheet.now a.line.now a.handed.now (reading (Ok c.in-Ok.setup)) c.in-Ok.ensures refl c.keys_of-found.result c.keys_of-found.ensures (line_found (Ok c.in-Ok-check_line.read)) c.in-Ok-check_line.ensures refl c.no_line-then-handed-read.result _ c.if-handed-read.true
+    c.no_line-then-handed-read.ensures refl
 
 pub put_sets-requires : goal.put_sets-requires
 put_sets-requires c =
-    let wide : (c.read_sheet-reading.result.setup.count ≤ length c.keys_of-keys.result.low) × (c.read_sheet-reading.result.setup.count ≤ length c.keys_of-keys.result.high) × (c.read_sheet-reading.result.setup.count ≤ 64) = let few = (lines-there _ _ (accepts-of _ c.read_sheet-reading.result c.read_sheet-reading.ensures c.if-number-ne0.false)).few in
-    let low : length c.keys_of-keys.result.low ≡ 64 = search (rules, c.keys_of-keys.type_inv) in
-    let high : length c.keys_of-keys.result.high ≡ 64 = search (rules, c.keys_of-keys.type_inv) in
-    (omega (arith, few, low), omega (arith, few, high), few) in
     let a = c.args in
-    let w = wide in
-    let n = read-counted a.sheet.now a.line.now a.handed.now c.read_sheet-reading.result c.read_sheet-reading.ensures c.if-number-ne0.false c.keys_of-keys.result c.keys_of-keys.ensures c.check_line-read.result c.check_line-read.ensures c.if-refused-ne0.false in
+    let n = read-counted a.sheet.now a.line.now a.handed.now (reading (Ok c.in-Ok.setup)) c.in-Ok.ensures refl c.keys_of-found.result c.keys_of-found.ensures (line_found (Ok c.in-Ok-check_line.read)) c.in-Ok-check_line.ensures refl in
     let h = c.if-handed-read.false in
-    (w.0, w.1, w.2, omega (arith, n, h))
+    omega (arith, n, h)
 
 pub returns : goal.returns
 returns c =
     let a = c.args in
-    read_all a.sheet.now a.line.now a.handed.now c.read_sheet-reading.result c.read_sheet-reading.ensures c.if-number-ne0.false c.keys_of-keys.result c.keys_of-keys.ensures c.check_line-read.result c.check_line-read.ensures c.if-refused-ne0.false c.put_sets.result _ c.if-handed-read.false c.put_sets.ensures
+    read_all a.sheet.now a.line.now a.handed.now (reading (Ok c.in-Ok.setup)) c.in-Ok.ensures refl c.keys_of-found.result c.keys_of-found.ensures (line_found (Ok c.in-Ok-check_line.read)) c.in-Ok-check_line.ensures refl c.put_sets.result _ c.if-handed-read.false c.put_sets.ensures

@@ -1,36 +1,27 @@
 -- `handins::read_set` meets its contract: the sheet, and then the text.
-use borrow.Author.Rules.{rules}
-use mathlib.Core.Path.{◌≡◌, refl}
-use native.Mathlib.Omega.{arith}
-use Prim.Native.Nat.{◌≤◌}
-use lib.ListN.{length}
+use mathlib.Core.Path.{refl}
+use Rattle.std.specs.Prelude.{Ok, Err}
+use Rattle.questions.proofs.Refusals.{number_some}
+use Rattle.sheet_format.specs.Read.{reading}
 use Rattle.sheet_lines.proofs.Accepted.{accepts-of, lines-there}
+use Rattle.handin_lines.specs.Inner.Naming.{set_field}
 use Rattle.handins.proofs.SetCalls.{set-no-sheet, set-refused, set_told_lem}
 use Rattle.handins.proofs.read_set.Goals as goal
 
-pub returns-then-number-ne0 : goal.returns-then-number-ne0
-returns-then-number-ne0 c =
+pub returns-in-Err : goal.returns-in-Err
+returns-in-Err c =
     let a = c.args in
-    set-no-sheet a.sheet.now a.text.now c.read_sheet-reading.result c.read_sheet-reading.ensures c.no_set.result c.if-number-ne0.true c.no_set.ensures
+    set-no-sheet a.sheet.now a.text.now (reading (Err c.in-Err.refused)) c.in-Err.ensures c.no_set.result (number_some _) c.no_set.ensures
 
-pub keys_of-keys-requires : goal.keys_of-keys-requires
-keys_of-keys-requires c =
-    lines-there _ _ (accepts-of _ c.read_sheet-reading.result c.read_sheet-reading.ensures c.if-number-ne0.false)
+pub keys_of-found-requires : goal.keys_of-found-requires
+keys_of-found-requires c = lines-there _ _ (accepts-of _ (reading (Ok c.in-Ok.setup)) c.in-Ok.ensures refl)
 
-pub set_of-field-requires : goal.set_of-field-requires
-set_of-field-requires c =
-    let wide : (c.read_sheet-reading.result.setup.count ≤ length c.keys_of-keys.result.low) × (c.read_sheet-reading.result.setup.count ≤ length c.keys_of-keys.result.high) × (c.read_sheet-reading.result.setup.count ≤ 64) = let few = (lines-there _ _ (accepts-of _ c.read_sheet-reading.result c.read_sheet-reading.ensures c.if-number-ne0.false)).few in
-    let low : length c.keys_of-keys.result.low ≡ 64 = search (rules, c.keys_of-keys.type_inv) in
-    let high : length c.keys_of-keys.result.high ≡ 64 = search (rules, c.keys_of-keys.type_inv) in
-    (omega (arith, few, low), omega (arith, few, high), few) in
-    wide
-
-pub returns-then-refused-ne0 : goal.returns-then-refused-ne0
-returns-then-refused-ne0 c =
+pub returns-in-Err-set_of : goal.returns-in-Err-set_of
+returns-in-Err-set_of c =
     let a = c.args in
-    set-refused a.sheet.now a.text.now c.read_sheet-reading.result c.read_sheet-reading.ensures c.if-number-ne0.false c.keys_of-keys.result c.keys_of-keys.ensures c.set_of-field.result c.set_of-field.ensures c.no_set-then-refused-ne0.result c.if-refused-ne0.true c.no_set-then-refused-ne0.ensures
+    set-refused a.sheet.now a.text.now (reading (Ok c.in-Ok.setup)) c.in-Ok.ensures refl c.keys_of-found.result c.keys_of-found.ensures (set_field (Err c.in-Err-set_of.refusal)) c.in-Err-set_of.ensures c.no_set-in-Err-set_of.result (number_some _) c.no_set-in-Err-set_of.ensures
 
-pub returns : goal.returns
-returns c =
+pub returns-in-Ok-set_of : goal.returns-in-Ok-set_of
+returns-in-Ok-set_of c =
     let a = c.args in
-    set_told_lem a.sheet.now a.text.now c.read_sheet-reading.result c.read_sheet-reading.ensures c.if-number-ne0.false c.keys_of-keys.result c.keys_of-keys.ensures c.set_of-field.result c.set_of-field.ensures _ c.if-refused-ne0.false refl
+    set_told_lem a.sheet.now a.text.now (reading (Ok c.in-Ok.setup)) c.in-Ok.ensures refl c.keys_of-found.result c.keys_of-found.ensures (set_field (Ok c.in-Ok-set_of.set)) c.in-Ok-set_of.ensures _ refl refl

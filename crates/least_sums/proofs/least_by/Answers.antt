@@ -1,7 +1,5 @@
 use mathlib.Core.Path.{◌≡◌, ◌∙◌}
-use mathlib.Core.Logic.{⊎_elim}
 use mathlib.Core.List.{map}
-use Prim.Native.Nat.{ℕ, ◌-◌}
 use native.Mathlib.Omega.{arith}
 use lib.ListN.{get_or}
 use Rattle.family_lists.specs.Inner.Tables.{sum_by, masks_in}
@@ -12,17 +10,15 @@ use Rattle.least_sums.proofs.least_by.Goals.{else-x-ne0, then-x-ne0}
 
 pub loop-b-preserved : goal.loop-b-preserved
 loop-b-preserved c =
-    let sums = sum_by c.args.low.now c.args.high.now in
+    let sums = sum_by c.args.sums.now.low c.args.sums.now.high in
     let after : c.if-x-ne0.least ≡ least_of c.loop-b.least (map sums (masks_in c.loop-b.b (get_or c.args.f.now c.loop-b.b 0))) = elim c.if-x-ne0.branch [
       | then-x-ne0 w ↦ w.least-is ∙ w.least_in_word-least.ensures
-      | else-x-ne0 w ↦ w.least-is ∙ remaining-same sums c.args.f.now c.loop-b.least
-          c.loop-b.b w.if-x-ne0.false
+      | else-x-ne0 w ↦ w.least-is ∙ remaining-same sums c.args.f.now c.loop-b.least c.loop-b.b w.if-x-ne0.false
     ] in
-    let l = c.requires.f_len in
-    (omega arith, remaining-more sums c.args.f.now c.loop-b.least c.loop-b.b c.if-x-ne0.least (omega arith) after c.loop-b.invariant.1)
+    remaining-more sums c.args.f.now c.loop-b.least c.loop-b.b c.if-x-ne0.least (omega arith) after c.loop-b.invariant
 
 pub returns : goal.returns
 returns c =
-    let sums = sum_by c.args.low.now c.args.high.now in
-    least-sum c.args.f.now c.args.low.now c.args.high.now c.loop-b.least c.requires.f_len
-    (remaining-end sums c.args.f.now c.loop-b.least c.loop-b.b (omega (arith, c.requires.f_len)) c.loop-b.invariant.1)
+    let sums = sum_by c.args.sums.now.low c.args.sums.now.high in
+    least-sum c.args.f.now c.args.sums.now.low c.args.sums.now.high c.loop-b.least c.requires
+    (remaining-end sums c.args.f.now c.loop-b.least c.loop-b.b (omega arith) c.loop-b.invariant)

@@ -5,8 +5,5 @@ use lib.ListN.{get_or}
 use Rattle.least_sums.proofs.Least.{Seeking}
 use Rattle.least_sums.proofs.least_in_word.Given as goal
 
-abbrev pub invariant-loop-rest : goal.invariant-loop-rest
-invariant-loop-rest l = Seeking (λ (i : ℕ). l.base + get_or l.low (l.from + i) 0) l.y l.best l.rest l.least
-
-abbrev pub decreases-loop-rest : goal.decreases-loop-rest
-decreases-loop-rest l = l.rest
+abbrev pub invariant-loop-i : goal.invariant-loop-i
+invariant-loop-i l = Seeking (λ (i : ℕ). l.base + get_or l.sums.low (l.from + i) 0) l.fn.y l.fn.best l.i-iterator.left l.least

@@ -2,56 +2,57 @@ use mathlib.Core.Path.{refl}
 use mathlib.Core.List.{[], ◌∷◌}
 use mathlib.Core.Logic.{inl, inr}
 use Rattle.questions.specs.Asks.{Asks}
-use Rattle.questions.proofs.Asks.{AllYes, ask-before, ask-then}
+use Rattle.questions.proofs.Asks.{AllYes, ask-then}
 use Rattle.living.specs.Calls.{RemoveEdge, asks20, back, Done, CallOf}
-use Rattle.living.specs.declared.Redrawing.{Redrawing}
-use Rattle.living.proofs.Calls.{asks_place, place-asked, place-yes, placed, edge-place}
+use Rattle.living.specs.Calls.{Redrawing}
+use Rattle.std.proofs.lemmas.Result.{err_from_is_err_and}
+use Rattle.living.proofs.Calls.{handed-on, asks_place, place-asked, place-yes, placed, edge-place}
 use Rattle.living.proofs.Drawing.{row-place, remove-redrawn}
 use Rattle.living.proofs.remove_edge.Goals as goal
 
-pub returns-then-asked-ne0 : goal.returns-then-asked-ne0
-returns-then-asked-ne0 c =
+pub returns-in_err-ask_place : goal.returns-in_err-ask_place
+returns-in_err-ask_place c =
     let a = c.args in
-    ask-before (back a.s) (Done (RemoveEdge a.from a.to a.colour) a.s) (asks_place a.s a.from a.to a.colour) (asks20 a.s a.from a.to a.colour ∷ []) _
-    (place-asked a.s a.from a.to a.colour _ c.well_formed-formed.ensures _ c.ask_place-asked.ensures) c.if-asked-ne0.true
+    let p = err_from_is_err_and c.from_residual.result c.from_residual.ensures.1 in
+    handed-on a.s (RemoveEdge a.from a.to a.colour) (asks_place a.s a.from a.to a.colour) (asks20 a.s a.from a.to a.colour ∷ []) refl _ p.0 (place-asked a.s a.from a.to a.colour _ c.well_formed-formed.ensures _ c.in_err-ask_place.ensures) _ p.1 p.2
 
 pub has_edge-requires : goal.has_edge-requires
 has_edge-requires c =
     let yes-to : let a = c.args in AllYes (asks_place a.s a.from a.to a.colour) = let a = c.args in
-    place-yes a.s a.from a.to a.colour _ c.well_formed-formed.ensures _ c.ask_place-asked.ensures c.if-asked-ne0.false in
+    place-yes a.s a.from a.to a.colour _ c.well_formed-formed.ensures _ c.in_ok-ask_place.ensures refl in
     let a = c.args in
     row-place a.s a.from a.to a.colour yes-to.0 (placed a.s a.from a.to a.colour yes-to)
 
 pub erase_edge-requires : goal.erase_edge-requires
 erase_edge-requires c =
     let yes-to : let a = c.args in AllYes (asks_place a.s a.from a.to a.colour) = let a = c.args in
-    place-yes a.s a.from a.to a.colour _ c.well_formed-formed.ensures _ c.ask_place-asked.ensures c.if-asked-ne0.false in
+    place-yes a.s a.from a.to a.colour _ c.well_formed-formed.ensures _ c.in_ok-ask_place.ensures refl in
     let a = c.args in
     edge-place a.s a.from a.to a.colour yes-to
-
-pub returns-then-has_edge : goal.returns-then-has_edge
-unfolding Asks
-returns-then-has_edge c =
-    let yes-to : let a = c.args in AllYes (asks_place a.s a.from a.to a.colour) = let a = c.args in
-    place-yes a.s a.from a.to a.colour _ c.well_formed-formed.ensures _ c.ask_place-asked.ensures c.if-asked-ne0.false in
-    let behind : let a = c.args in (r : Redrawing) → Asks (back a.s) (asks20 a.s a.from a.to a.colour ∷ []) (Done (RemoveEdge a.from a.to a.colour) a.s) r → CallOf (RemoveEdge a.from a.to a.colour) a.s r = λ r h. let a = c.args in
-    ask-then (back a.s) (Done (RemoveEdge a.from a.to a.colour) a.s) (asks_place a.s a.from a.to a.colour) (asks20 a.s a.from a.to a.colour ∷ []) r yes-to h in
-    let a = c.args in
-    let y = yes-to in
-    let d = c.erase_edge.ensures.1 in
-    behind _ (inr (
-      c.has_edge.ensures.yes c.if-has_edge.true,
-      record {
-        numbered = c.erase_edge.ensures.0;
-        redrawn = remove-redrawn a.s c.erase_edge.result.setup a.from a.to a.colour y.0 (placed a.s a.from a.to a.colour y) d.graph d.recovery d.drawn d.less d.unmarked;
-      },
-    ))
 
 pub returns : goal.returns
 unfolding Asks
 returns c =
     let yes-to : let a = c.args in AllYes (asks_place a.s a.from a.to a.colour) = let a = c.args in
-    place-yes a.s a.from a.to a.colour _ c.well_formed-formed.ensures _ c.ask_place-asked.ensures c.if-asked-ne0.false in
+    place-yes a.s a.from a.to a.colour _ c.well_formed-formed.ensures _ c.in_ok-ask_place.ensures refl in
     let behind : let a = c.args in (r : Redrawing) → Asks (back a.s) (asks20 a.s a.from a.to a.colour ∷ []) (Done (RemoveEdge a.from a.to a.colour) a.s) r → CallOf (RemoveEdge a.from a.to a.colour) a.s r = λ r h. let a = c.args in
     ask-then (back a.s) (Done (RemoveEdge a.from a.to a.colour) a.s) (asks_place a.s a.from a.to a.colour) (asks20 a.s a.from a.to a.colour ∷ []) r yes-to h in
-    behind _ (inl (c.has_edge.ensures.no c.if-has_edge.false, refl))
+    let a = c.args in
+    let y = yes-to in
+    let d = c.erase_edge.ensures in
+    behind _ (inr (
+      c.has_edge.ensures.yes c.if-not-has_edge.false,
+      record {
+        numbered = refl;
+        redrawn = remove-redrawn a.s c.erase_edge.result a.from a.to a.colour y.0 (placed a.s a.from a.to a.colour y) d.graph d.recovery d.drawn d.less d.unmarked;
+      },
+    ))
+
+pub returns-then-not-has_edge : goal.returns-then-not-has_edge
+unfolding Asks
+returns-then-not-has_edge c =
+    let yes-to : let a = c.args in AllYes (asks_place a.s a.from a.to a.colour) = let a = c.args in
+    place-yes a.s a.from a.to a.colour _ c.well_formed-formed.ensures _ c.in_ok-ask_place.ensures refl in
+    let behind : let a = c.args in (r : Redrawing) → Asks (back a.s) (asks20 a.s a.from a.to a.colour ∷ []) (Done (RemoveEdge a.from a.to a.colour) a.s) r → CallOf (RemoveEdge a.from a.to a.colour) a.s r = λ r h. let a = c.args in
+    ask-then (back a.s) (Done (RemoveEdge a.from a.to a.colour) a.s) (asks_place a.s a.from a.to a.colour) (asks20 a.s a.from a.to a.colour ∷ []) r yes-to h in
+    behind _ (inl (c.has_edge.ensures.no c.if-not-has_edge.true, refl))

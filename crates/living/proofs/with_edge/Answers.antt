@@ -6,4 +6,4 @@ use Rattle.living.proofs.with_edge.Goals as goal
 pub returns : goal.returns
 returns c =
     let place : c.args.from < 64 = search rules in
-    rows_more _ _ _ _ place c.insert-more.ensures
+    rows_more _ _ _ _ place c.insert.ensures

@@ -1,5 +1,5 @@
 use mathlib.Core.Path.{◌≡◌}
-use Prim.Native.Nat.{◌+◌, ◌-◌, ◌*◌, ◌≤◌}
+use Prim.Native.Nat.{◌+◌, ◌*◌, ◌≤◌}
 use lib.ListN.{drop}
 use Rattle.families.specs.Inner.Family.{size}
 use Rattle.marking.specs.Inner.Counting.{meet}
@@ -7,4 +7,4 @@ use Rattle.marking.proofs.count_common.Given as goal
 
 -- n, at most 64 for each word before b, and the common masks of the words from b on make all common masks.
 abbrev pub invariant-loop-b : goal.invariant-loop-b
-invariant-loop-b l = (l.b ≤ 256) × (l.n ≤ 64 * l.b) × (l.n + size (drop l.b (meet l.f l.g)) ≡ size (meet l.f l.g))
+invariant-loop-b l = (l.n ≤ 64 * l.b) × (l.n + size (drop l.b (meet l.f l.g)) ≡ size (meet l.f l.g))

@@ -1,7 +1,6 @@
 -- `multiset_fronts::drop_above` meets its contract. The loop's invariant: of the first i sets those that stay stand at the first `left` places, and
 -- the places from i on are as they were.
 -- Assumes nothing.
-use Prim.Native.Nat.{◌-◌}
 use Rattle.multiset_fronts.proofs.Dropping.{Dropping}
 use Rattle.multiset_fronts.proofs.drop_above.Given as goal
 

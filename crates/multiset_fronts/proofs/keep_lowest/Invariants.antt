@@ -2,7 +2,7 @@
 -- their keys at the first places, and the others from i on where they stood.
 -- Assumes nothing.
 use mathlib.Core.Path.{◌≡◌}
-use Prim.Native.Nat.{◌-◌, ◌≤◌}
+use Prim.Native.Nat.{◌≤◌}
 use lib.ListN.{length}
 use Rattle.family_lists.specs.Inner.Tables.{sum_by}
 use Rattle.multiset_fronts.proofs.Keeping.{Keeping}
@@ -10,4 +10,4 @@ use Rattle.multiset_fronts.proofs.keep_lowest.Given as goal
 
 abbrev pub invariant-loop-i : goal.invariant-loop-i
 invariant-loop-i l =
-    (l.i ≤ l.n) × (length l.list ≡ length l.initial.list) × (length l.first ≡ 3432) × (length l.second ≡ 3432) × Keeping l.initial.list (sum_by l.low1 l.high1) (sum_by l.low2 l.high2) l.i l.list l.first l.second l.count
+    (l.i ≤ l.n) × (length l.list ≡ length l.initial.list) × (length l.first ≡ 3432) × (length l.second ≡ 3432) × Keeping l.initial.list (sum_by l.firsts.low l.firsts.high) (sum_by l.seconds.low l.seconds.high) l.i l.list l.first l.second l.count

@@ -5,6 +5,3 @@ use Rattle.multiset_keys.proofs.column.Given as goal
 
 abbrev pub invariant-loop-k : goal.invariant-loop-k
 invariant-loop-k l = Pushing l.thresholds l.value l.k l.key
-
-abbrev pub decreases-loop-k : goal.decreases-loop-k
-decreases-loop-k l = l.k

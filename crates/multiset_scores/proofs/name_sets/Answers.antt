@@ -1,24 +1,26 @@
-use Prim.Native.Nat.{◌-◌, ◌^◌, ◌<◌}
-use native.Mathlib.Omega.{arith}
-use borrow.Author.Rules.{rules}
-use Rattle.multiset_scores.proofs.Finding.{naming-none, naming-more, naming-all}
+use Rattle.std.proofs.Common.{ℕ, ◌^◌, ◌<◌, ◌≡◌, ◌∙◌, ap, sym, length, take, arith, rules}
+use Rattle.std.proofs.lemmas.List.{take-append-le, length-take-le}
+use Rattle.std.proofs.Math.Seq.{take-length}
+use Rattle.multiset_scores.specs.Inner.{sets_of_masks}
+use Rattle.multiset_scores.proofs.Finding.{naming-none, naming-more}
 use Rattle.multiset_scores.proofs.name_sets.Goals as goal
 
-pub loop-i-init : goal.loop-i-init
-loop-i-init c = (search rules, naming-none _ _)
+pub loop-mask-init : goal.loop-mask-init
+loop-mask-init c = naming-none _ _
 
-pub bounds-kept-i : goal.bounds-kept-i
-bounds-kept-i c =
-    omega (arith, c.requires, c.loop-i-test.true, c.loop-i.invariant.1.long)
-
-pub loop-i-preserved : goal.loop-i-preserved
-loop-i-preserved c =
+pub loop-mask-preserved : goal.loop-mask-preserved
+loop-mask-preserved c =
     let word : c.args.initial.0 < 2 ^ 64 = search rules in
-    (omega arith, naming-more c.args.initial.0 c.args.kept.now c.loop-i.i c.loop-i.kept word (omega (arith, c.requires, c.loop-i-test.true)) c.loop-i.invariant.1 _ c.set_of-set.ensures)
-
-pub shape_of-kept : goal.shape_of-kept
-shape_of-kept c = c.loop-i.invariant.1.long
+    naming-more c.args.initial.0 _ c.loop-mask.mask-index c.loop-mask.mask-items word c.loop-mask-test.true c.loop-mask.invariant _ c.set_of.ensures
 
 pub returns : goal.returns
 returns c =
-    naming-all c.args.initial.0 c.args.kept.now c.args.n c.loop-i.i c.loop-i.kept (omega arith) c.loop-i.invariant.1
+    let l = c.loop-mask in
+    let n = length-take-le c.args.n c.args.kept.now c.requires in
+    let long : length l.mask-items ≡ c.args.n = l.invariant.long ∙ n in
+    let end : l.mask-index ≡ c.args.n = omega arith in
+    record {
+      are = take-append-le c.args.n l.mask-items _ (omega arith)
+          ∙ (ap (λ (i : ℕ). take i l.mask-items) (sym end)
+          ∙ (l.invariant.done ∙ ap (sets_of_masks c.args.initial.0) (ap (λ (i : ℕ). take i (take c.args.n c.args.kept.now)) (end ∙ sym n) ∙ take-length _)));
+    }

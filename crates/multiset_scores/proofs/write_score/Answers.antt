@@ -25,8 +25,8 @@ write_rows-requires c =
     let a = c.args in
     rows_fit a.s a.target a.places.now a.lengths.now _ c.find_score-n.result c.find_score-n.ensures c.if-places-n.false
 
-pub write_lengths-count-requires : goal.write_lengths-count-requires
-write_lengths-count-requires c =
+pub write_lengths-requires : goal.write_lengths-requires
+write_lengths-requires c =
     let l = c.find_score-n.ensures.long in
     let m = c.find_score-n.ensures.most in
     record { n_in_bounds = omega arith; n_in_bounds_2 = c.if-lengths-n.false }
@@ -35,4 +35,4 @@ pub returns : goal.returns
 returns c =
     let a = c.args in
     bags-room a.s a.target a.places.now a.lengths.now _ c.find_score-n.result c.find_score-n.ensures c.values_of-points.result c.values_of-points.ensures
-    _ c.write_rows.result c.write_rows.ensures _ c.write_lengths-count.result c.write_lengths-count.ensures c.if-places-n.false c.if-lengths-n.false
+    _ c.write_rows.result c.write_rows.ensures _ c.write_lengths.result c.write_lengths.ensures c.if-places-n.false c.if-lengths-n.false

@@ -1,5 +1,4 @@
 use borrow.Author.Rules.{rules}
-use Prim.Native.Nat.{◌-◌}
 use Rattle.pool_colours.proofs.Renaming.{below_none, below_more, lowest-found, lowest-none}
 use Rattle.pool_colours.proofs.lowest_free.Goals as goal
 

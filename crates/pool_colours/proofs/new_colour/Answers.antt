@@ -1,7 +1,6 @@
 use borrow.Author.Rules.{rules}
 use mathlib.Core.Path.{◌≡◌, sym, subst}
-use mathlib.Core.Logic.{⊎_elim}
-use Prim.Native.Nat.{◌+◌, ◌-◌}
+use Prim.Native.Nat.{◌+◌}
 use native.Mathlib.Omega.{arith}
 use Rattle.vertex_set.specs.declared.VertexSet.{VertexSet}
 use Rattle.pool_colours.proofs.Renaming.{NewSoFar, taken_none, taken-same, taken_more, new_is}

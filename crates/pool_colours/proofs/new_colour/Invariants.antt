@@ -1,5 +1,5 @@
 -- `pool_colours::new_colour` meets its contract: one lower colour is renamed a turn.
-use Prim.Native.Nat.{◌-◌, ◌≤◌}
+use Prim.Native.Nat.{◌≤◌}
 use Rattle.pool_colours.proofs.Renaming.{NewSoFar}
 use Rattle.pool_colours.proofs.new_colour.Given as goal
 

@@ -1,5 +1,5 @@
 -- `pool_colours::used_colours` meets its contract: one colour a turn.
-use Prim.Native.Nat.{◌-◌, ◌≤◌}
+use Prim.Native.Nat.{◌≤◌}
 use Rattle.pool_colours.proofs.Renaming.{UsedBelow}
 use Rattle.pool_colours.proofs.used_colours.Given as goal
 

@@ -5,7 +5,7 @@ use Rattle.setup.specs.declared.Rows.{Rows}
 use Rattle.setup.specs.declared.Graph.{Graph}
 use Rattle.setup.specs.Setup.{row_of}
 use Rattle.sheet_format.specs.Text.{lines_of}
-use Rattle.sheet_format.specs.Rows.{ItemRow, EdgeRow, Doc, Each, Valid, setup_of}
+use Rattle.sheet_format.specs.Rows.{EdgeRow, Doc, Each, Valid, setup_of}
 use Rattle.sheet_format.specs.Stated.{StandsAt}
 use Rattle.sheet_format.proofs.Rows.{edge_line}
 use Rattle.sheet_format.proofs.Question12Lists.{In}

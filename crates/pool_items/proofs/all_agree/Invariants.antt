@@ -1,5 +1,5 @@
 -- `pool_items::all_agree` meets its contract: one item a turn.
-use Prim.Native.Nat.{◌-◌, ◌≤◌}
+use Prim.Native.Nat.{◌≤◌}
 use Rattle.pool_items.specs.Inner.Items.{AllAgree}
 use Rattle.pool_items.proofs.all_agree.Given as goal
 

@@ -1,5 +1,5 @@
 -- `pool_items::count_remaining` meets its contract: one item a turn.
-use Prim.Native.Nat.{◌-◌, ◌≤◌}
+use Prim.Native.Nat.{◌≤◌}
 use Rattle.pool_items.proofs.Items.{CountsSoFar}
 use Rattle.pool_items.proofs.count_remaining.Given as goal
 

@@ -1,23 +1,19 @@
-use borrow.Author.Rules.{rules}
-use Prim.Native.Nat.{◌-◌}
-use native.Mathlib.Omega.{arith}
-use Rattle.pool_items.proofs.NameRows.{places-none, places-more, places-all}
+use mathlib.Core.Path.{◌≡◌, ◌∙◌}
+use lib.ListN.{length}
+use Rattle.std.proofs.Common.{arith, rules}
+use Rattle.pool_items.proofs.NameRows.{places-none, places-more, places-all, place_or}
 use Rattle.pool_items.proofs.places_of.Goals as goal
 
 pub loop-j-init : goal.loop-j-init
-loop-j-init c = (search rules, search rules, search rules, places-none _ _ _ _ _ _ (search rules))
-
-pub find_name-requires : goal.find_name-requires
-find_name-requires c =
-    let p = c.requires in
-    let a = c.loop-j.invariant.1 in
-    let b = c.loop-j.invariant.2 in
-    (omega (arith, p.0), omega (arith, p.0))
+loop-j-init c = places-none _ _ _ _ _ (search rules)
 
 pub loop-j-preserved : goal.loop-j-preserved
 loop-j-preserved c =
-    (search rules, c.loop-j.invariant.1, c.loop-j.invariant.2, places-more _ _ _ _ _ _ _ _ (search rules) c.loop-j.invariant.3 c.find_name.ensures)
+    let a = c.args.first.now in
+    let few = a.few in
+    let more = c.args.second.now.few in
+    let l : length a.low ≡ 64 = search rules in
+    places-more _ _ _ _ _ _ _ (omega arith) c.loop-j.invariant (c.unwrap_or.ensures ∙ place_or a.low a.high a.count _ c.find.result (omega arith) c.find.ensures)
 
 pub returns : goal.returns
-returns c =
-    places-all _ _ _ _ _ _ (omega arith) c.loop-j.invariant.3
+returns c = places-all _ _ _ _ (omega arith) c.loop-j.invariant

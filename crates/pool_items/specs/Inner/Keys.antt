@@ -2,9 +2,9 @@
 use Rattle.std.specs.Prelude.{List, ℕ}
 use Rattle.sheet_format.specs.Rows.{ItemRow}
 use Rattle.sheet_rows.specs.Inner.NameKeys.{NameKeys}
-use Rattle.sheet_lines.specs.declared.item_keys.Keys.{Keys}
+use Rattle.sheet_rows.specs.declared.ItemKeys.{ItemKeys}
 use Rattle.pool_format.specs.Inner.{PlacesAmong}
 
 -- The places of the second sheet's items in the first, for whatever item rows the keys are of.
-pub record KeyPlaces (first : Keys) (na : ℕ) (second : Keys) (nb : ℕ) (r : List ℕ) : Type 0 where
-  pub places : (xs ys : List ItemRow) → NameKeys xs first.low first.high na → NameKeys ys second.low second.high nb → PlacesAmong xs ys r
+pub record KeyPlaces (first second : ItemKeys) (r : List ℕ) : Type 0 where
+  pub places : (xs ys : List ItemRow) → NameKeys xs first.low first.high first.count → NameKeys ys second.low second.high second.count → PlacesAmong xs ys r

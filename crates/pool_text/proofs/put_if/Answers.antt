@@ -2,13 +2,13 @@
 use Rattle.pool_text.proofs.Rows.{room-asked, wrote-asked, wrote-not}
 use Rattle.pool_text.proofs.put_if.Goals as goal
 
-pub put_text-requires : goal.put_text-requires
-put_text-requires c =
+pub put-requires : goal.put-requires
+put-requires c =
     room-asked _ _ _ _ c.if-asked.true c.requires
 
 pub returns-then-asked : goal.returns-then-asked
 returns-then-asked c =
-    wrote-asked _ _ _ _ _ _ c.if-asked.true c.put_text.ensures
+    wrote-asked _ _ _ _ _ _ c.if-asked.true c.put.ensures
 
 pub returns : goal.returns
 returns c = wrote-not _ _ _ _ c.if-asked.false

@@ -15,11 +15,6 @@ keys_of-own-requires c = lines-there _ _ c.requires.0
 pub keys_of-keys-requires : goal.keys_of-keys-requires
 keys_of-keys-requires c = lines-there _ _ c.requires.1
 
-pub places_of-places-requires : goal.places_of-places-requires
-places_of-places-requires c =
-    let p = c.requires in
-    ((lines-there _ _ p.0).few, (lines-there _ _ p.1).few)
-
 pub all_agree-requires : goal.all_agree-requires
 all_agree-requires c =
     let p = c.requires in
@@ -28,7 +23,7 @@ all_agree-requires c =
 pub returns-then-not-all_agree : goal.returns-then-not-all_agree
 returns-then-not-all_agree c =
     plan-disagrees _ _ _ _ c.keys_of-own.result c.keys_of-keys.result _ c.requires c.keys_of-own.ensures c.keys_of-keys.ensures c.places_of-places.ensures
-    c.all_agree.result c.no_plan.result c.all_agree.ensures c.if-not-all_agree.true c.no_plan.ensures
+    c.all_agree.result c.all_agree.ensures c.if-not-all_agree.true
 
 pub bounds_of-bounds-requires : goal.bounds_of-bounds-requires
 bounds_of-bounds-requires c =
@@ -37,7 +32,7 @@ bounds_of-bounds-requires c =
 pub returns-then-not-bounds : goal.returns-then-not-bounds
 returns-then-not-bounds c =
     plan-beyond _ _ _ _ c.keys_of-own.result c.keys_of-keys.result _ c.requires c.keys_of-own.ensures c.keys_of-keys.ensures c.places_of-places.ensures
-    c.all_agree.result c.all_agree.ensures c.if-not-all_agree.false c.bounds_of-bounds.result c.bounds_of-bounds.ensures c.no_plan-then-not-bounds.result c.if-not-bounds.true c.no_plan-then-not-bounds.ensures
+    c.all_agree.result c.all_agree.ensures c.if-not-all_agree.false c.bounds_of-bounds.result c.bounds_of-bounds.ensures c.if-not-bounds.true
 
 pub offset_bounds-from-count : goal.offset_bounds-from-count
 offset_bounds-from-count c =
@@ -62,14 +57,14 @@ overflow_add-start c =
     let t = text-short _ _ c.requires.1 in
     omega arith
 
-pub colours_in-colours-requires : goal.colours_in-colours-requires
-colours_in-colours-requires c = let p = c.requires in ((lines-there _ _ p.1).few, (lines-there _ _ p.0).few)
+pub colours_of-colours-requires : goal.colours_of-colours-requires
+colours_of-colours-requires c = (lines-there _ _ c.requires.0).few
 
 pub returns-then-not-colours : goal.returns-then-not-colours
 returns-then-not-colours c =
     plan-ninth _ _ _ _ c.keys_of-own.result c.keys_of-keys.result _ c.requires c.keys_of-own.ensures c.keys_of-keys.ensures c.places_of-places.ensures
-    c.all_agree.result c.all_agree.ensures c.if-not-all_agree.false c.bounds_of-bounds.result c.bounds_of-bounds.ensures c.if-not-bounds.false _ refl c.colours_in-colours.result c.colours_in-colours.ensures
-    c.no_plan-then-not-colours.result c.if-not-colours.true c.no_plan-then-not-colours.ensures
+    c.all_agree.result c.all_agree.ensures c.if-not-all_agree.false c.bounds_of-bounds.result c.bounds_of-bounds.ensures c.if-not-bounds.false _ refl c.colours_of-colours.result c.colours_of-colours.ensures
+    c.if-not-colours.true
 
 pub overflow_add-parts : goal.overflow_add-parts
 overflow_add-parts c =
@@ -104,5 +99,5 @@ bounds-begins-known c = let f = (lines-there _ _ c.requires.0).few in omega arit
 pub returns : goal.returns
 returns c =
     plan-ready _ _ _ _ c.keys_of-own.result c.keys_of-keys.result _ c.requires c.keys_of-own.ensures c.keys_of-keys.ensures c.places_of-places.ensures
-    c.all_agree.result c.all_agree.ensures c.if-not-all_agree.false c.bounds_of-bounds.result c.bounds_of-bounds.ensures c.if-not-bounds.false _ refl c.colours_in-colours.result c.colours_in-colours.ensures
+    c.all_agree.result c.all_agree.ensures c.if-not-all_agree.false c.bounds_of-bounds.result c.bounds_of-bounds.ensures c.if-not-bounds.false _ refl c.colours_of-colours.result c.colours_of-colours.ensures
     _ _ c.if-not-colours.false refl refl

@@ -1,13 +1,13 @@
 use Rattle.living.specs.Calls.{AddEdge}
-use Rattle.portal_living.proofs.Calls.{has_room, living-told}
+use Rattle.portal_living.proofs.Calls.{room-for, answer_told}
 use Rattle.portal_living.proofs.portal_add_edge.Goals as goal
 
 pub put_back-requires : goal.put_back-requires
 put_back-requires c =
     let a = c.args in
-    has_room (AddEdge a.from a.to a.colour a.recovery) _ _ c.setup_in-s.ensures _ c.add_edge-redrawing.ensures
+    room-for (AddEdge a.from a.to a.colour a.recovery) _ _ c.setup_in-s.ensures _ c.add_edge-redrawing.ensures
 
 pub returns : goal.returns
 returns c =
     let a = c.args in
-    living-told (AddEdge a.from a.to a.colour a.recovery) _ _ c.setup_in-s.ensures _ _ _ c.add_edge-redrawing.ensures c.put_back.ensures
+    answer_told (AddEdge a.from a.to a.colour a.recovery) _ _ c.setup_in-s.ensures _ _ _ c.add_edge-redrawing.ensures c.put_back.ensures.number c.put_back.ensures.accepted c.put_back.ensures.refused

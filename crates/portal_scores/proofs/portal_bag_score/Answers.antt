@@ -6,4 +6,4 @@ use Rattle.portal_scores.proofs.portal_bag_score.Goals as goal
 pub returns : goal.returns
 returns c =
     let a = c.args in
-    told (λ (x : Setup). bags_call x a.target a.values.now a.lengths.now) _ _ c.setup_in-s.ensures _ _ _ _ c.multiset_score-answer.ensures c.tell_bags.ensures
+    told (λ (x : Setup). bags_call x a.target a.values.now a.lengths.now) _ _ c.setup_in-s.ensures _ _ _ _ c.multiset_score-answer.ensures c.from.ensures

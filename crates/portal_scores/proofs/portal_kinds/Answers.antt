@@ -7,4 +7,4 @@ use Rattle.portal_scores.proofs.portal_kinds.Goals as goal
 pub returns : goal.returns
 returns c =
     let a = c.args in
-    told (λ (x : Setup). attacker_call x a.target a.kinds.now) _ _ c.setup_in-s.ensures _ [] _ _ c.attacker_score-answer.ensures c.tell_kinds.ensures
+    told (λ (x : Setup). attacker_call x a.target a.kinds.now) _ _ c.setup_in-s.ensures _ [] _ _ c.attacker_score-answer.ensures c.from.ensures

@@ -8,4 +8,4 @@ use Rattle.portal_scores.proofs.portal_mark_openings.Goals as goal
 pub returns : goal.returns
 returns c =
     let a = c.args in
-    told (λ (x : Setup). marks_call false x a.target a.sets.now) _ _ c.setup_in-s.ensures _ [] _ _ c.mark_access-answer.ensures c.tell_marks.ensures
+    told (λ (x : Setup). marks_call false x a.target a.sets.now) _ _ c.setup_in-s.ensures _ [] _ _ c.mark_access-answer.ensures c.from.ensures

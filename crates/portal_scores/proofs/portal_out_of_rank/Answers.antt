@@ -7,4 +7,4 @@ use Rattle.portal_scores.proofs.portal_out_of_rank.Goals as goal
 pub returns : goal.returns
 returns c =
     let a = c.args in
-    told (λ (x : Setup). inconsistent_call x a.above a.below) _ _ c.setup_in-s.ensures _ [] _ _ c.inconsistent-answer.ensures c.tell_finding.ensures
+    told (λ (x : Setup). inconsistent_call x a.above a.below) _ _ c.setup_in-s.ensures _ [] _ _ c.inconsistent-answer.ensures c.from.ensures

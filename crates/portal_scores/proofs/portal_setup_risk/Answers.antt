@@ -8,4 +8,4 @@ use Rattle.portal_scores.proofs.portal_setup_risk.Goals as goal
 pub returns : goal.returns
 returns c =
     let a = c.args in
-    told (λ (x : Setup). score_call true x a.target) _ _ c.setup_in-s.ensures _ [] _ _ c.recoverability_score-answer.ensures c.tell_risk.ensures
+    told (λ (x : Setup). score_call true x a.target) _ _ c.setup_in-s.ensures _ [] _ _ c.recoverability_score-answer.ensures c.from.ensures

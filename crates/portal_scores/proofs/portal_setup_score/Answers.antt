@@ -8,4 +8,4 @@ use Rattle.portal_scores.proofs.portal_setup_score.Goals as goal
 pub returns : goal.returns
 returns c =
     let a = c.args in
-    told (λ (x : Setup). score_call false x a.target) _ _ c.setup_in-s.ensures _ [] _ _ c.security_score-answer.ensures c.tell_score.ensures
+    told (λ (x : Setup). score_call false x a.target) _ _ c.setup_in-s.ensures _ [] _ _ c.security_score-answer.ensures c.from.ensures

@@ -13,4 +13,4 @@ returns-then-well_formed c =
 pub returns : goal.returns
 unfolding Asks
 returns c =
-    inl (λ h. c.well_formed-2.ensures.no c.if-well_formed.false (subst WellFormed (sym c.setup_in-s.ensures) ((question-12 _).from h)), refl)
+    inl (λ h. c.well_formed-2.ensures.no c.if-well_formed.false (subst WellFormed (sym c.setup_in-s.ensures) ((question-12 _).from h)), c.number.ensures)

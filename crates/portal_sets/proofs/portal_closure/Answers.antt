@@ -7,4 +7,4 @@ use Rattle.portal_sets.proofs.portal_closure.Goals as goal
 pub returns : goal.returns
 returns c =
     let a = c.args in
-    told (λ (x : Setup). closure_call x a.set) _ _ c.setup_in-s.ensures _ [] _ _ c.access_from-answer.ensures c.tell_closure.ensures
+    told (λ (x : Setup). closure_call x a.set) _ _ c.setup_in-s.ensures _ [] _ _ c.access_from-answer.ensures c.from.ensures

@@ -7,4 +7,4 @@ use Rattle.portal_sets.proofs.portal_forecast.Goals as goal
 pub returns : goal.returns
 returns c =
     let a = c.args in
-    told (λ (x : Setup). forecast_call x a.target) _ _ c.setup_in-s.ensures _ [] _ _ c.forecast_base-answer.ensures c.tell_forecast.ensures
+    told (λ (x : Setup). forecast_call x a.target) _ _ c.setup_in-s.ensures _ [] _ _ c.forecast_base-answer.ensures c.from.ensures

@@ -7,4 +7,4 @@ use Rattle.portal_sets.proofs.portal_next_opening.Goals as goal
 pub returns : goal.returns
 returns c =
     let a = c.args in
-    told (λ (x : Setup). next_call x a.target a.last) _ _ c.setup_in-s.ensures _ [] _ _ c.next_access_set-answer.ensures c.tell_next.ensures
+    told (λ (x : Setup). next_call x a.target a.last) _ _ c.setup_in-s.ensures _ [] _ _ c.next_access_set-answer.ensures c.from.ensures

@@ -7,4 +7,4 @@ use Rattle.portal_sets.proofs.portal_opens.Goals as goal
 pub returns : goal.returns
 returns c =
     let a = c.args in
-    told (λ (x : Setup). quick_call x a.target a.set) _ _ c.setup_in-s.ensures _ [] _ _ c.opens-answer.ensures c.tell_quick.ensures
+    told (λ (x : Setup). quick_call x a.target a.set) _ _ c.setup_in-s.ensures _ [] _ _ c.opens-answer.ensures c.from.ensures

@@ -1,25 +1,20 @@
-use Rattle.sheet.proofs.Names.{RowThere, row-there, span-order}
+use Rattle.std.proofs.Common.{refl}
+use Rattle.questions.proofs.Refusals.{number_some}
+use Rattle.sheet.proofs.Names.{row-there, span-order}
 use Rattle.portal_sheets.proofs.Sheets.{name-refused, name-beyond, name-there}
 use Rattle.portal_sheets.proofs.portal_name.Goals as goal
 
-pub returns-then-number-ne0 : goal.returns-then-number-ne0
-returns-then-number-ne0 c =
-    name-refused _ c.read_sheet-reading.result c.read_sheet-reading.ensures _ c.if-number-ne0.true
-
 pub returns-then-s-item : goal.returns-then-s-item
-returns-then-s-item c =
-    name-beyond _ c.read_sheet-reading.result c.read_sheet-reading.ensures _ c.if-number-ne0.false c.if-s-item.true
+returns-then-s-item c = rw c.refused.ensures (name-beyond _ _ c.in-Ok.ensures _ refl c.if-s-item.true)
 
 pub name_span-span-requires : goal.name_span-span-requires
-name_span-span-requires c =
-    let there : RowThere c.args.sheet.now c.args.item = row-there _ _ c.read_sheet-reading.result c.read_sheet-reading.ensures c.if-number-ne0.false c.if-s-item.false in
-    there.few
+name_span-span-requires c = (row-there _ _ _ c.in-Ok.ensures refl c.if-s-item.false).few
 
 pub overflow_sub-result : goal.overflow_sub-result
-overflow_sub-result c =
-    let there : RowThere c.args.sheet.now c.args.item = row-there _ _ c.read_sheet-reading.result c.read_sheet-reading.ensures c.if-number-ne0.false c.if-s-item.false in
-    span-order _ _ there _ c.name_span-span.ensures
+overflow_sub-result c = span-order _ _ (row-there _ _ _ c.in-Ok.ensures refl c.if-s-item.false) _ c.name_span-span.ensures
 
-pub returns : goal.returns
-returns c =
-    name-there _ c.read_sheet-reading.result c.read_sheet-reading.ensures _ c.if-number-ne0.false c.if-s-item.false _ c.name_span-span.ensures
+pub returns-else-s-item : goal.returns-else-s-item
+returns-else-s-item c = name-there _ _ c.in-Ok.ensures _ refl c.if-s-item.false _ c.name_span-span.ensures
+
+pub returns-in-Err : goal.returns-in-Err
+returns-in-Err c = rw c.refused-in-Err.ensures (name-refused _ _ c.in-Err.ensures _ (number_some c.in-Err.refused.refusal))

@@ -10,7 +10,7 @@ loop-v-init c = (search rules, filled_none _ 64 _ refl)
 
 pub loop-v-preserved : goal.loop-v-preserved
 loop-v-preserved c =
-    (omega arith, filled_more _ 64 c.loop-v.r.rows c.loop-v.v _ (omega arith) c.rows_in-rows.ensures c.loop-v.invariant.1)
+    (omega arith, filled_more _ 64 c.loop-v.r.rows c.loop-v.v _ (omega arith) c.rows_in.ensures c.loop-v.invariant.1)
 
 pub returns : goal.returns
 returns c =

@@ -1,18 +1,18 @@
-use borrow.Author.Rules.{rules}
-use Prim.Native.Nat.{◌-◌}
-use mathlib.Core.Path.{◌≡◌, refl}
-use native.Mathlib.Omega.{arith}
-use Rattle.portal_words.proofs.Filling.{filled_none, filled_more, filled-all}
+use Rattle.std.proofs.Common.{◌≡◌, sym, ap, ◌∙◌, ℕ, List, ◌+◌, length, take, drop, ◌-◌, arith, length-drop}
+use Rattle.std.proofs.lemmas.List.{get_or-drop}
+use Rattle.setup.specs.declared.Rows.{Rows}
+use Rattle.portal_words.specs.Words.{word_at}
+use Rattle.portal_words.proofs.Saying.{tabulate-front}
 use Rattle.portal_words.proofs.rows_in.Goals as goal
 
-pub loop-c-init : goal.loop-c-init
-loop-c-init c = (search rules, filled_none _ 8 _ refl)
-
-pub loop-c-preserved : goal.loop-c-preserved
-loop-c-preserved c =
-    (omega arith, filled_more _ 8 c.loop-c.r.needs c.loop-c.c _ (omega arith) refl c.loop-c.invariant.1)
+abbrev the-rows : List ℕ → Rows
+the-rows l = record { needs = l }
 
 pub returns : goal.returns
 returns c =
-    let e : c.loop-c.c ≡ 8 = omega arith in
-    λ i. record { needs = filled-all _ 8 c.loop-c.r.needs (rw e at c.loop-c.invariant.1) i }
+    let words = c.args.words.now in
+    let at = c.args.at in
+    let r = c.requires in
+    let said = tabulate-front (λ (k : ℕ). word_at words (at + k)) (drop at words) 0 8 (omega (arith, length-drop at words)) (λ k h. sym (get_or-drop at words k 0)) in
+    let eight : (at + 8) - at ≡ 8 = omega arith in
+    ap the-rows (c.copy_from_slice.ensures.after ∙ (ap (λ (n : ℕ). take n (drop at words)) eight ∙ sym said))

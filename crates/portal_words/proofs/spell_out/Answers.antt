@@ -7,9 +7,9 @@ returns c =
     let words = c.args.words.now in
     λ k. record {
       count = word_at words 0;
-      vertices = c.vertices_in-vertices.ensures k;
-      graph = c.graph_in-graph.ensures k;
-      recovery = c.graph_in-recovery.ensures k;
+      vertices = c.vertices_in.ensures k;
+      graph = c.graph_in.ensures k;
+      recovery = c.graph_in-2.ensures k;
       held = record { 0 = word_at words 1281 };
       opened = record { 0 = word_at words 1282 };
     }

@@ -6,8 +6,8 @@ pub returns : goal.returns
 returns c =
     let a = c.args in
     λ i. record {
-      kind = c.kind_in-kind.ensures i;
-      start = c.value_in-start.ensures i;
-      loss = c.value_in-loss.ensures i;
+      kind = c.kind_in.ensures i;
+      start = c.value_in.ensures i;
+      loss = c.value_in-2.ensures i;
       rank = word_at a.words.now (1 + 4 * a.v + 3);
     }

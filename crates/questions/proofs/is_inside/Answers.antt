@@ -8,4 +8,4 @@ pub returns : goal.returns
 returns c =
     let a = c.args in
     let fits : a.set.0 < 2 ^ 64 = search rules in
-    decide_iff (inside-iff a.count a.set.0 c.below-known.result.0 fits c.below-known.ensures) c.within.ensures
+    decide_iff (inside-iff a.count a.set.0 c.below.result.0 fits c.below.ensures) c.within.ensures

@@ -1,20 +1,21 @@
-use mathlib.Core.Path.{◌≡◌}
-use mathlib.Core.Bool.{cond}
-use Prim.Native.Nat.{ℕ}
-use lib.Dec.{eqb}
-use Rattle.vertex_set.proofs.Cases.{by_test}
+use borrow.Author.Rules.{rules}
+use lib.Seq.{length-take-le}
+use Rattle.std.proofs.lemmas.Iterator.{YieldsList-from_slice}
+use Rattle.std.proofs.lemmas.Iterator.Search.{position_from_yields_List}
 use Rattle.records.specs.Records.{same_three}
-use Rattle.records.specs.Inner.{turn, takes_of, pass_behind, hand_in_turn}
-use Rattle.records.specs.declared.Record.{Record}
-use Rattle.records.specs.declared.Task.{Task}
-use Rattle.records.specs.declared.Pass.{Pass}
+use Rattle.records.proofs.Laws.{placed, all-used, laid-down}
 use Rattle.records.proofs.lay.Goals as goal
 
--- by cases: the record has its place already, it goes behind the used ones, it takes this place, or another stands here
-laid : (t : Task) (p : Pass) (r : Record) (i : ℕ) → turn i (cond (takes_of p r t.row i) t.row r) (pass_behind p (takes_of p r t.row i) i) ≡ hand_in_turn t p r i
-laid t p r i = by_test p.found (λ e. rw e) (λ e. by_test (eqb i p.used) (λ u. rw (e, u)) (λ u. by_test (same_three r t.row) (λ s. rw (e, u, s)) (λ s. rw (e, u, s))))
+pub returns-then-place-records : goal.returns-then-place-records
+returns-then-place-records c =
+    let a = c.args in
+    let f = position_from_yields_List (λ r. same_three r a.new) _ _ c.position.result c.position.ensures.ran (YieldsList-from_slice _ c.iter.ensures.rest) (λ x b q k. search rules) in
+    let p = placed a.new _ a.used c.unwrap_or-place.result c.position.result (length-take-le a.used a.records.now c.requires) f c.unwrap_or-place.ensures in
+    all-used _ _ _ _ c.requires p c.if-place-records.true
 
 pub returns : goal.returns
 returns c =
     let a = c.args in
-    rw (c.pass_on-next.ensures, c.choose-row.ensures, c.takes-take.ensures) (laid a.t a.p a.r a.i)
+    let f = position_from_yields_List (λ r. same_three r a.new) _ _ c.position.result c.position.ensures.ran (YieldsList-from_slice _ c.iter.ensures.rest) (λ x b q k. search rules) in
+    let p = placed a.new _ a.used c.unwrap_or-place.result c.position.result (length-take-le a.used a.records.now c.requires) f c.unwrap_or-place.ensures in
+    laid-down _ _ _ _ c.requires p _ c.if-place-records.false c.max.ensures

@@ -5,4 +5,4 @@ use Rattle.register.proofs.withdraw.Goals as goal
 pub returns : goal.returns
 returns c =
     let a = c.args in
-    withdraws a.used a.student c.leave-t.result c.apply.result a.records.now c.apply.new.records c.leave-t.ensures c.apply.ensures
+    withdraws a.used a.student c.apply.result a.records.now c.apply.new.records c.apply.ensures

@@ -6,25 +6,25 @@ use Rattle.report_writer.proofs.Filling.{went-inside, left-some}
 use Rattle.report.proofs.Printing.{going, printing-begun, printing-more}
 use Rattle.report.proofs.print_report.Goals as goal
 
-pub loop-opening-init : goal.loop-opening-init
-loop-opening-init g c =
+pub loop-source-init : goal.loop-source-init
+loop-source-init g c =
     printing-begun _ _ _ _ _ _ _ c.begin-report.result c.begin-report.ensures (search rules) (search rules) (search rules) (search rules)
 
 pub fill-next-requires : goal.fill-next-requires
 fill-next-requires g c =
-    let l = c.loop-opening.invariant in
+    let l = c.loop-source.invariant in
     let o = l.long_out in
     record { can_step = going _ _ _ _ _ _ _ l; in_bounds = omega arith }
 
 pub slice_bounds-out-end : goal.slice_bounds-out-end
-slice_bounds-out-end g c = went-inside _ _ _ _ _ _ _ _ _ _ _ (going _ _ _ _ _ _ _ c.loop-opening.invariant) c.fill-next.ensures
+slice_bounds-out-end g c = went-inside _ _ _ _ _ _ _ _ _ _ _ (going _ _ _ _ _ _ _ c.loop-source.invariant) c.fill-next.ensures
 
 pub slice_bounds-write_whole-end : goal.slice_bounds-write_whole-end
 slice_bounds-write_whole-end g c =
-    sym (length-take-le _ _ (went-inside _ _ _ _ _ _ _ _ _ _ _ (going _ _ _ _ _ _ _ c.loop-opening.invariant) c.fill-next.ensures))
+    sym (length-take-le _ _ (went-inside _ _ _ _ _ _ _ _ _ _ _ (going _ _ _ _ _ _ _ c.loop-source.invariant) c.fill-next.ensures))
 
-pub loop-opening-smaller : goal.loop-opening-smaller
-loop-opening-smaller g c = c.fill-next.ensures.less (left-some _ _ (c.unfinished.ensures.yes (search rules)))
+pub loop-source-smaller : goal.loop-source-smaller
+loop-source-smaller g c = c.fill-next.ensures.less (left-some _ _ (c.unfinished.ensures.yes (search rules)))
 
-pub loop-opening-preserved : goal.loop-opening-preserved
-loop-opening-preserved g c = printing-more _ _ _ _ _ _ _ _ _ _ c.loop-opening.invariant c.fill-next.ensures (search rules) (search rules)
+pub loop-source-preserved : goal.loop-source-preserved
+loop-source-preserved g c = printing-more _ _ _ _ _ _ _ _ _ _ c.loop-source.invariant c.fill-next.ensures (search rules) (search rules)

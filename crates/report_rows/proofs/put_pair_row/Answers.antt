@@ -5,25 +5,12 @@ use Prim.Native.Nat.{ℕ}
 use native.Mathlib.Omega.{arith}
 use Rattle.report_text.specs.Rows.{pair_row}
 use Rattle.sheet_format.specs.Names.{name_of}
-use Rattle.report_rows.proofs.Lines.{line-none, field_room, field-more, last-room, last_end}
+use Rattle.report_rows.proofs.Lines.{line-none, field-more, last_end}
 use Rattle.report_rows.proofs.put_pair_row.Goals as goal
-
-pub put_name_field-next-requires : goal.put_name_field-next-requires
-unfolding pair_row
-put_name_field-next-requires c =
-    let fields : List (List ℕ) = name_of c.args.sheet.now c.args.v ∷ name_of c.args.sheet.now c.args.w ∷ [] in
-    record { name_place = c.requires.name_place; end_in_bounds = field_room fields c.args.out.now c.args.at 0 _ _ (line-none fields _ _) (omega arith) c.requires.w_in_bounds }
-
-pub put_name_field-requires : goal.put_name_field-requires
-unfolding pair_row
-put_name_field-requires c =
-    let fields : List (List ℕ) = name_of c.args.sheet.now c.args.v ∷ name_of c.args.sheet.now c.args.w ∷ [] in
-    let w = field-more fields _ _ 0 _ _ (line-none fields _ _) (omega arith) _ _ c.put_name_field-next.ensures in
-    record { name_place = c.requires.name_place_2; end_in_bounds = last-room fields _ _ 1 _ _ w refl c.requires.w_in_bounds }
 
 pub returns : goal.returns
 unfolding pair_row
 returns c =
-    let fields : List (List ℕ) = name_of c.args.sheet.now c.args.v ∷ name_of c.args.sheet.now c.args.w ∷ [] in
+    let fields : List (List ℕ) = name_of c.args.names.sheet.now c.args.v ∷ name_of c.args.names.sheet.now c.args.w ∷ [] in
     let w = field-more fields _ _ 0 _ _ (line-none fields _ _) (omega arith) _ _ c.put_name_field-next.ensures in
     record { row_written = last_end fields _ _ 1 _ _ w refl c.requires.w_in_bounds _ _ c.put_name_field.ensures }

@@ -5,29 +5,8 @@ use Prim.Native.Nat.{ℕ}
 use native.Mathlib.Omega.{arith}
 use Rattle.sheet_format.specs.Fields.{decimal}
 use Rattle.report_text.specs.Rows.{refused_row}
-use Rattle.report_rows.proofs.Lines.{line-none, field_room, field-more, last-room, last_end}
+use Rattle.report_rows.proofs.Lines.{line-none, field-more, last_end}
 use Rattle.report_rows.proofs.put_refused_row.Goals as goal
-
-pub put_field-next-requires : goal.put_field-next-requires
-unfolding refused_row
-put_field-next-requires c =
-    let fields : List (List ℕ) = (114 ∷ 101 ∷ 102 ∷ 117 ∷ 115 ∷ 101 ∷ 100 ∷ []) ∷ decimal c.args.number ∷ decimal c.args.line ∷ [] in
-    field_room fields c.args.out.now c.args.at 0 _ _ (line-none fields _ _) (omega arith) c.requires
-
-pub put_number-next-requires : goal.put_number-next-requires
-unfolding refused_row
-put_number-next-requires c =
-    let fields : List (List ℕ) = (114 ∷ 101 ∷ 102 ∷ 117 ∷ 115 ∷ 101 ∷ 100 ∷ []) ∷ decimal c.args.number ∷ decimal c.args.line ∷ [] in
-    let w = field-more fields _ _ 0 _ _ (line-none fields _ _) (omega arith) _ _ c.put_field-next.ensures in
-    field_room fields _ _ 1 _ _ w (omega arith) c.requires
-
-pub put_number-requires : goal.put_number-requires
-unfolding refused_row
-put_number-requires c =
-    let fields : List (List ℕ) = (114 ∷ 101 ∷ 102 ∷ 117 ∷ 115 ∷ 101 ∷ 100 ∷ []) ∷ decimal c.args.number ∷ decimal c.args.line ∷ [] in
-    let w = field-more fields _ _ 0 _ _ (line-none fields _ _) (omega arith) _ _ c.put_field-next.ensures in
-    let w = field-more fields _ _ 1 _ _ w (omega arith) _ _ c.put_number-next.ensures in
-    last-room fields _ _ 2 _ _ w refl c.requires
 
 pub returns : goal.returns
 unfolding refused_row

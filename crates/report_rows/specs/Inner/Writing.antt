@@ -3,10 +3,9 @@ use Rattle.std.specs.Prelude.{◌≡◌, Bool, true, false, List, [], ◌∷◌,
 use Rattle.vertex_set.specs.Set.{Member}
 use Rattle.sheet_format.specs.Names.{name_of}
 
--- The name of the vertex v stands in the sheet from its place in `from` up to its place in `to`.
+-- The name of the vertex v, one of 64, stands in the sheet from its place in `from` up to its place in `to`.
 pub record NamePlace (sheet from to : List ℕ) (v : ℕ) : Type 0 where
-  pub has_from : v < length from
-  pub has_to : v < length to
+  pub below : v < 64
   pub order : get_or from v 0 ≤ get_or to v 0
   pub inside : get_or to v 0 ≤ length sheet
   pub is : take (get_or to v 0 - get_or from v 0) (drop (get_or from v 0) sheet) ≡ name_of sheet v

@@ -10,4 +10,4 @@ pub returns : goal.returns
 returns c =
     let v = c.args.target in
     kept_at c.args.w.now _ v (v * 256 + 256 - v * 256) c.requires.w_len c.requires.target_bound (omega arith) (search rules)
-    c.args.low.now c.args.high.now c.least_by.result c.keep_minimal.ensures c.least_by.ensures
+    c.args.sums.now.low c.args.sums.now.high c.least_by.result c.keep_minimal.ensures c.least_by.ensures

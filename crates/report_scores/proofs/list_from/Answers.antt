@@ -10,7 +10,7 @@ pub write_sets-requires : goal.write_sets-requires
 write_sets-requires c =
     let v = c.args.target in
     writable c.args.w.now c.args.chosen.0 v (v * 256 + 256 - v * 256) c.args.out.now (omega arith)
-    (λ i. (c.shared_slice_known-1.given i).fits) c.requires
+    (λ i. (c.type_inv.w i).fits) c.requires
 
 pub returns : goal.returns
 returns c =

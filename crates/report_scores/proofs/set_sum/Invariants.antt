@@ -5,8 +5,5 @@ use lib.ListN.{get_or}
 use Rattle.report_scores.proofs.Sums.{Summing}
 use Rattle.report_scores.proofs.set_sum.Given as goal
 
-abbrev pub invariant-loop-rest : goal.invariant-loop-rest
-invariant-loop-rest l = Summing (λ (v : ℕ). get_or l.values v 0) l.x l.rest l.sum
-
-abbrev pub decreases-loop-rest : goal.decreases-loop-rest
-decreases-loop-rest l = l.rest
+abbrev pub invariant-loop-v : goal.invariant-loop-v
+invariant-loop-v l = Summing (λ (v : ℕ). get_or l.values v 0) l.fn.x l.v-iterator.left l.sum

@@ -1,5 +1,4 @@
 use mathlib.Core.Path.{◌≡◌, refl, ◌∙◌}
-use Prim.Native.Nat.{◌-◌}
 use native.Mathlib.Omega.{arith}
 use Rattle.written.proofs.Writing.{wrote-length}
 use Rattle.setup.specs.Setup.{rows_at}
@@ -15,12 +14,12 @@ loop-v-init c = (search rules, refl, texts-none _ _ _)
 pub put_place-next-requires : goal.put_place-next-requires
 unfolding edges_text
 put_place-next-requires c =
-    record { place_named = c.requires.edges_named.each c.loop-v.v; marked_in_bounds = texts-room (λ k. place_text (name_of c.args.sheet.now) k (rows_at c.args.graph k) (rows_at c.args.recovery k)) _ _ _ _ c.loop-v.v 64 c.loop-v-test.true c.loop-v.invariant.2 c.loop-v.invariant.1 c.requires.recovery_in_bounds }
+    record { place_named = c.requires.edges_named.each c.loop-v.v; marked_in_bounds = texts-room (λ k. place_text (name_of c.args.names.sheet.now) k (rows_at c.args.graph.now k) (rows_at c.args.recovery.now k)) _ _ _ _ c.loop-v.v 64 c.loop-v-test.true c.loop-v.invariant.2 c.loop-v.invariant.1 c.requires.recovery_in_bounds }
 
 pub loop-v-preserved : goal.loop-v-preserved
 loop-v-preserved c =
     let w = c.put_place-next.ensures in
-    (search rules, wrote-length _ _ _ _ _ w ∙ c.loop-v.invariant.1, texts-more (λ k. place_text (name_of c.args.sheet.now) k (rows_at c.args.graph k) (rows_at c.args.recovery k)) _ _ _ _ c.loop-v.v _ _ c.loop-v.invariant.2 w)
+    (search rules, wrote-length _ _ _ _ _ w ∙ c.loop-v.invariant.1, texts-more (λ k. place_text (name_of c.args.names.sheet.now) k (rows_at c.args.graph.now k) (rows_at c.args.recovery.now k)) _ _ _ _ c.loop-v.v _ _ c.loop-v.invariant.2 w)
 
 pub returns : goal.returns
 unfolding edges_text

@@ -1,5 +1,4 @@
 use mathlib.Core.Path.{◌≡◌, refl, ◌∙◌}
-use Prim.Native.Nat.{◌-◌}
 use native.Mathlib.Omega.{arith}
 use Rattle.written.proofs.Writing.{wrote-length}
 use Rattle.setup.specs.Setup.{row_of}
@@ -15,12 +14,12 @@ loop-c-init c = (search rules, refl, texts-none _ _ _)
 pub put_row-next-requires : goal.put_row-next-requires
 unfolding place_text
 put_row-next-requires c =
-    record { row_named = c.requires.place_named.each c.loop-c.c; marked_in_bounds = texts-room (λ k. row_text (name_of c.args.sheet.now) c.args.to k (row_of c.args.rows k) (row_of c.args.marked k)) _ _ _ _ c.loop-c.c 8 c.loop-c-test.true c.loop-c.invariant.2 c.loop-c.invariant.1 c.requires.marked_in_bounds }
+    record { row_named = c.requires.place_named.each c.loop-c.c; marked_in_bounds = texts-room (λ k. row_text (name_of c.args.names.sheet.now) c.args.to k (row_of c.args.rows.now k) (row_of c.args.marked.now k)) _ _ _ _ c.loop-c.c 8 c.loop-c-test.true c.loop-c.invariant.2 c.loop-c.invariant.1 c.requires.marked_in_bounds }
 
 pub loop-c-preserved : goal.loop-c-preserved
 loop-c-preserved c =
     let w = c.put_row-next.ensures in
-    (search rules, wrote-length _ _ _ _ _ w ∙ c.loop-c.invariant.1, texts-more (λ k. row_text (name_of c.args.sheet.now) c.args.to k (row_of c.args.rows k) (row_of c.args.marked k)) _ _ _ _ c.loop-c.c _ _ c.loop-c.invariant.2 w)
+    (search rules, wrote-length _ _ _ _ _ w ∙ c.loop-c.invariant.1, texts-more (λ k. row_text (name_of c.args.names.sheet.now) c.args.to k (row_of c.args.rows.now k) (row_of c.args.marked.now k)) _ _ _ _ c.loop-c.c _ _ c.loop-c.invariant.2 w)
 
 pub returns : goal.returns
 unfolding place_text

@@ -1,24 +1,10 @@
 -- `saving::hand_out` meets its contract: 15, or the bytes copied.
-use mathlib.Core.Path.{refl, sym}
-use native.Mathlib.Omega.{arith}
-use lib.Seq.{length-take-le}
+use mathlib.Core.Path.{refl}
 use Rattle.saving.proofs.Calls.{written-short, written-room}
 use Rattle.saving.proofs.hand_out.Goals as goal
 
 pub returns-then-out-size : goal.returns-then-out-size
-returns-then-out-size c =
-    written-short c.args.text.now c.args.size c.args.out.now c.requires c.refuse.result _ c.if-out-size.true c.refuse.ensures refl
-
-pub slice_bounds-put_text-end : goal.slice_bounds-put_text-end
-slice_bounds-put_text-end c =
-    sym (length-take-le c.args.size c.args.text.now c.requires)
-
-pub put_text-requires : goal.put_text-requires
-put_text-requires c =
-    let e = length-take-le c.args.size c.args.text.now c.requires in
-    let h = c.if-out-size.false in
-    omega arith
+returns-then-out-size c = written-short c.args.text.now c.args.size c.args.out.now c.requires _ _ c.if-out-size.true refl refl
 
 pub returns : goal.returns
-returns c =
-    written-room c.args.text.now c.args.size c.args.out.now c.requires _ _ c.if-out-size.false c.put_text.ensures
+returns c = written-room c.args.text.now c.args.size c.args.out.now c.requires _ _ c.if-out-size.false c.put.ensures

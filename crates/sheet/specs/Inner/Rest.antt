@@ -1,6 +1,6 @@
 -- Reading what stands behind the item rows.
 use Rattle.std.specs.Prelude.{◌≡◌, List, ℕ, drop}
-use Rattle.sheet_format.specs.declared.Reading.{Reading}
+use Rattle.sheet_format.specs.Read.{Reading}
 use Rattle.sheet_format.specs.Text.{lines_of}
 use Rattle.sheet_format.specs.Read.{AmongItems, no_rows, read_lines}
 use Rattle.sheet_items.specs.declared.Items.{Items}

@@ -1,13 +1,9 @@
-use Rattle.sheet_fields.proofs.Cutting.{end_same, end-inside, end-outside}
+use Rattle.std.proofs.Common.{arith}
+use Rattle.sheet_fields.proofs.Cutting.{end_is, end_not}
 use Rattle.sheet_fields.proofs.end_of_field.Goals as goal
 
-pub returns-then-end-at : goal.returns-then-end-at
-returns-then-end-at c = end_same c.args.l.now c.args.at c.find-end.result c.find-end.ensures c.if-end-at.true
-
 pub returns-then-end-l : goal.returns-then-end-l
-returns-then-end-l c =
-    end-inside c.args.l.now c.args.at c.find-end.result c.find-end.ensures c.if-end-at.false c.if-end-l.true
+returns-then-end-l c = end_is c.args.l.now c.args.at c.find-end.result c.find-end.ensures (omega arith) (omega arith)
 
-pub returns-else-end-l : goal.returns-else-end-l
-returns-else-end-l c =
-    end-outside c.args.l.now c.args.at c.find-end.result c.find-end.ensures c.if-end-at.false c.if-end-l.false
+pub returns-else-at-end : goal.returns-else-at-end
+returns-else-at-end c = end_not c.args.l.now c.args.at c.find-end.result c.find-end.ensures (λ s h. omega arith)

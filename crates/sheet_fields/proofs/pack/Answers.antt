@@ -1,34 +1,6 @@
-use mathlib.Core.Path.{◌≡◌, ◌∙◌}
-use Prim.Native.Nat.{◌-◌}
-use native.Mathlib.Omega.{arith}
-use Rattle.sheet_fields.proofs.Packing.{packed-back, packed-fits, packed-end}
+use mathlib.Core.Path.{◌∙◌}
+use Rattle.sheet_fields.proofs.Packing.{packed-front}
 use Rattle.sheet_fields.proofs.pack.Goals as goal
 
-pub loop-i-init : goal.loop-i-init
-loop-i-init c = (omega arith, packed-end c.args.f.now)
-
-pub overflow_cast-b : goal.overflow_cast-b
-overflow_cast-b c = omega (arith, c.type_inv.f (c.loop-i.i - 1))
-
-pub overflow_mul-n : goal.overflow_mul-n
-overflow_mul-n c =
-    let z = packed-fits c.args.f.now c.loop-i.i c.loop-i-test.true c.loop-i.invariant.0 c.requires (λ j. (c.type_inv.f j).fits) in
-    let e = c.loop-i.invariant.1 in
-    omega arith
-
-pub overflow_add-n : goal.overflow_add-n
-overflow_add-n c =
-    let z = packed-fits c.args.f.now c.loop-i.i c.loop-i-test.true c.loop-i.invariant.0 c.requires (λ j. (c.type_inv.f j).fits) in
-    let e = c.loop-i.invariant.1 in
-    omega arith
-
-pub loop-i-preserved : goal.loop-i-preserved
-loop-i-preserved c =
-    let z = packed-back c.args.f.now c.loop-i.i c.loop-i-test.true c.loop-i.invariant.0 in
-    let e = c.loop-i.invariant.1 in
-    (omega arith, omega arith)
-
 pub returns : goal.returns
-returns c =
-    let e : c.loop-i.i ≡ 0 = omega arith in
-    c.loop-i.invariant.1 ∙ rw e
+returns c = c.from_le_bytes.ensures ∙ packed-front c.args.f.now c.copy_from_slice.new.self c.copy_from_slice.ensures.after c.requires

@@ -1,11 +1,18 @@
-use Rattle.sheet_fields.proofs.Forms.{kind-not, kind-account, kind-other}
+use Rattle.std.proofs.Common.{rules}
+use Rattle.sheet_fields.proofs.Forms.{kind_short, kind_long, kind_credential, kind_account, kind_other}
 use Rattle.sheet_fields.proofs.read_kind.Goals as goal
 
-pub returns-then-f-ne1 : goal.returns-then-f-ne1
-returns-then-f-ne1 c = kind-not c.args.f.now c.if-f-ne1.true
+pub returns-in-c : goal.returns-in-c
+returns-in-c c = search (rules, kind_credential)
 
-pub returns-then-f-eq97 : goal.returns-then-f-eq97
-returns-then-f-eq97 c = kind-account c.args.f.now c.if-f-ne1.false c.if-f-eq97.true
+pub returns-in-a : goal.returns-in-a
+returns-in-a c = search (rules, kind_account)
 
-pub returns : goal.returns
-returns c = kind-other c.args.f.now c.if-f-ne1.false c.if-f-eq97.false
+pub returns-in_default : goal.returns-in_default
+returns-in_default c = kind_short c.args.f.now c.in_default.len_below
+
+pub returns-in_default-2 : goal.returns-in_default-2
+returns-in_default-2 c = search (rules, kind_other)
+
+pub returns-in_default-3 : goal.returns-in_default-3
+returns-in_default-3 c = kind_long c.args.f.now c.in_default.len_at_least

@@ -1,28 +1,36 @@
-use mathlib.Core.Path.{sym, ◌∙◌}
-use Prim.Native.Nat.{◌-◌}
-use native.Mathlib.Omega.{arith}
-use Rattle.sheet_fields.proofs.Numbers.{run-next, run_end, no-digits, leading-zero, number-run, step-le, zero-alone}
+use mathlib.Core.Path.{refl, sym, ◌∙◌}
+use Prim.Native.Nat.{◌+◌}
+use lib.ListN.{drop}
+use Rattle.std.proofs.Common.{arith}
+use Rattle.std.proofs.lemmas.Bool.Decides.{nat_tests}
+use Rattle.sheet_fields.proofs.Numbers.{number-none, leading-zero, number-read, digits-no, digits-more, digits-next, digits_end}
 use Rattle.sheet_fields.proofs.read_number.Goals as goal
 
-pub returns-then-f-eq0 : goal.returns-then-f-eq0
-returns-then-f-eq0 c = sym (no-digits c.args.f.now c.if-f-eq0.true)
+pub returns-then-is_empty : goal.returns-then-is_empty
+returns-then-is_empty c = number-none c.args.f.now (grind (arith, nat_tests))
 
-pub returns-then-f-eq1 : goal.returns-then-f-eq1
-returns-then-f-eq1 c = sym (zero-alone c.args.f.now c.if-f-eq1.true c.if-f-eq48.true)
+pub returns-then-f-ne1 : goal.returns-then-f-ne1
+returns-then-f-ne1 c = leading-zero c.args.f.now (omega arith) c.if-f-ne1.true
 
-pub returns-else-f-eq1 : goal.returns-else-f-eq1
-returns-else-f-eq1 c = sym (leading-zero c.args.f.now c.if-f-eq1.false c.if-f-eq48.true)
+pub loop-b-init : goal.loop-b-init
+loop-b-init c = (omega arith, refl)
 
-pub loop-i-init : goal.loop-i-init
-loop-i-init c = (omega arith, number-run c.args.f.now c.if-f-eq0.false c.if-f-eq48.false)
-
-pub loop-i-preserved : goal.loop-i-preserved
-loop-i-preserved c =
+pub returns-in_err-n : goal.returns-in_err-n
+returns-in_err-n c =
     let f = c.args.f.now in
-    let e = c.with_digit-n.ensures in
-    (rw e (step-le _ _), c.loop-i.invariant.1 ∙ run-next c.loop-i.n f c.loop-i.i c.loop-i-test.true ∙ rw e)
+    c.from_residual.ensures
+    ∙ digits-no c.loop-b.n _ (drop (c.loop-b.b-index + 1) f) c.in_err-n.ensures
+    ∙ sym (digits-next c.loop-b.n f c.loop-b.b-index c.loop-b-test.true)
+    ∙ sym c.loop-b.invariant.1
+    ∙ number-read f (grind (arith, nat_tests)) (omega arith)
+
+pub loop-b-preserved : goal.loop-b-preserved
+loop-b-preserved c =
+    let f = c.args.f.now in
+    let m = digits-more c.loop-b.n _ c.in_ok-n.n (drop (c.loop-b.b-index + 1) f) c.in_ok-n.ensures in
+    (m.0, c.loop-b.invariant.1 ∙ digits-next c.loop-b.n f c.loop-b.b-index c.loop-b-test.true ∙ m.1)
 
 pub returns : goal.returns
 returns c =
     let f = c.args.f.now in
-    sym (c.loop-i.invariant.1 ∙ run_end c.loop-i.n f c.loop-i.i c.loop-i-test.false)
+    sym (c.loop-b.invariant.1 ∙ digits_end c.loop-b.n f c.loop-b.b-index c.loop-b-test.false) ∙ number-read f (grind (arith, nat_tests)) (omega arith)

@@ -1,8 +1,9 @@
 -- Where a byte stands next, and the places at which a row of four fields is cut.
-use Rattle.std.specs.Prelude.{◌≡◌, List, [], ◌∷◌, Bool, true, cond, ◌&&◌, ℕ, suc, ◌+◌, ◌-◌, ◌<◌, length, take, drop, eqb, ltb}
+use Rattle.std.specs.Prelude.{◌≡◌, Option, Some, None, List, [], ◌∷◌, Bool, true, false, cond, ◌&&◌, ℕ, suc, ◌+◌, ◌-◌, ◌<◌, length, take, drop, eqb, ltb}
 use Rattle.sheet_format.specs.Text.{fields_of}
 use Rattle.sheet_format.specs.Questions.{question4}
 use Rattle.sheet_fields.specs.declared.Cut.{Cut}
+use Rattle.sheet_fields.specs.Inner.Forms.{read_if}
 
 -- How many bytes stand before the first b; all of them where there is none.
 unfoldable pub until : ℕ → List ℕ → ℕ
@@ -13,9 +14,9 @@ until b (a ∷ s) = cond (eqb a b) 0 (suc (until b s))
 unfoldable pub more_follow : List ℕ → Bool
 more_follow l = ltb 0 (until 32 l) && ltb (until 32 l) (length l)
 
--- The end of the field that begins at `at`, where it is not empty and another one follows; else 0.
-unfoldable pub end_at : List ℕ → ℕ → ℕ
-end_at l at = cond (more_follow (drop at l)) (at + until 32 (drop at l)) 0
+-- The end of the field that begins at `at`, where it is not empty and another one follows.
+unfoldable pub end_at : List ℕ → ℕ → Option ℕ
+end_at l at = read_if (more_follow (drop at l)) (at + until 32 (drop at l))
 
 -- The four fields of a line that is cut at these places.
 abbrev pub four_fields : List ℕ → ℕ → ℕ → ℕ → List (List ℕ)
@@ -27,8 +28,13 @@ pub record CutPlaces (l : List ℕ) (a b c : ℕ) : Type 0 where
   pub second : b < c
   pub third : c < length l
 
--- A cut says whether a line has four fields, none empty, and if so where the first three end.
-pub record CutsFour (l : List ℕ) (r : Cut) : Type 0 where
-  pub answer : r.ok ≡ question4 4 (fields_of l)
-  pub places : r.ok ≡ true → CutPlaces l r.first r.second r.third
-  pub fields : r.ok ≡ true → fields_of l ≡ four_fields l r.first r.second r.third
+-- A line that has four fields, none empty, is cut where the first three end.
+pub record CutWell (l : List ℕ) (c : Cut) : Type 0 where
+  pub yes : question4 4 (fields_of l) ≡ true
+  pub places : CutPlaces l c.first c.second c.third
+  pub fields : fields_of l ≡ four_fields l c.first c.second c.third
+
+-- A line is cut exactly where it has four fields, none empty.
+abbrev pub CutsFour : List ℕ → Option Cut → Type 0
+CutsFour l None = question4 4 (fields_of l) ≡ false
+CutsFour l (Some c) = CutWell l c

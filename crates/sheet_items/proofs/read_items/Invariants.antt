@@ -6,10 +6,10 @@ use Rattle.sheet_items.proofs.ItemRows.{SoFar}
 use Rattle.sheet_items.proofs.read_items.Given as goal
 
 -- The rows above the place `at` are kept and counted, and the reading of all rows is that of the rows from there on.
-abbrev pub invariant-loop-at : goal.invariant-loop-at
-invariant-loop-at l =
-    SoFar l.s l.start l.vertices l.low l.high l.count l.starts l.losses l.at
+abbrev pub invariant-loop-items : goal.invariant-loop-items
+invariant-loop-items l =
+    SoFar l.s l.start l.items.vertices l.items.keys.low l.items.keys.high l.items.keys.count l.starts l.losses l.items.at
 
-abbrev pub decreases-loop-at : goal.decreases-loop-at
-decreases-loop-at l =
-    length l.s - l.at
+abbrev pub decreases-loop-items : goal.decreases-loop-items
+decreases-loop-items l =
+    length l.s - l.items.at

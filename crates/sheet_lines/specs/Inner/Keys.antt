@@ -19,5 +19,6 @@ pub record HasLines (s : List ℕ) (count : ℕ) : Type 0 where
 
 -- For whatever valid rows the sheet is the written form of, r has the keys of their items' names; and where the item rows begin.
 pub record SheetKeys (s : List ℕ) (count : ℕ) (r : Keys) : Type 0 where
-  pub keys : (d : Doc) → Valid d → s ≡ render d → count ≡ length d.items → NameKeys d.items r.low r.high count
+  pub size : r.keys.count ≡ count
+  pub keys : (d : Doc) → Valid d → s ≡ render d → count ≡ length d.items → NameKeys d.items r.keys.low r.keys.high r.keys.count
   pub starts : (k : ℕ) → k ≤ count → get_or r.from k 0 ≡ line_start (lines_of s) (suc k)

@@ -1,43 +1,43 @@
 use mathlib.Core.Path.{sym, ap, ◌∙◌}
 use Prim.Native.Nat.{ℕ, ◌+◌}
 use native.Mathlib.Omega.{arith}
+use Rattle.std.proofs.lemmas.Result.{err_from_is_err_and}
+use Rattle.sheet_rows.proofs.Items.{line-yes, some-is, none-is}
 use Rattle.sheet_rows.proofs.Taking.{item-unread, item-used, item-taken, item-full}
 use Rattle.sheet_rows.proofs.take_item.Goals as goal
 
-pub returns-then-number-ne0 : goal.returns-then-number-ne0
-returns-then-number-ne0 c =
-    let a = c.args in
-    item-unread a.l.now a.low.now a.high.now a.count a.starts a.losses c.read_item-item.result c.read_item-item.ensures
-    c.no_taken.result c.if-number-ne0.true c.no_taken.ensures
+pub returns-in_err-item : goal.returns-in_err-item
+returns-in_err-item c =
+    let p = err_from_is_err_and c.from_residual.result c.from_residual.ensures.1 in
+    rw (p.1, p.2) (item-unread c.args.l.now c.args.keys.now.low c.args.keys.now.high c.args.keys.now.count c.args.starts c.args.losses _ c.in_err-item.ensures)
 
-pub returns-then-found-count : goal.returns-then-found-count
-returns-then-found-count c =
-    let a = c.args in
-    item-used a.l.now a.low.now a.high.now a.count a.starts a.losses c.read_item-item.result c.read_item-item.ensures
-    c.if-number-ne0.false c.find_name-found.result c.find_name-found.ensures c.no_taken-then-found-count.result c.if-found-count.true c.no_taken-then-found-count.ensures
+pub returns-then-is_some : goal.returns-then-is_some
+returns-then-is_some c =
+    let i = some-is c.find.result c.is_some.result c.is_some.ensures c.if-is_some.true in
+    item-used c.args.l.now c.args.keys.now.low c.args.keys.now.high c.args.keys.now.count c.args.starts c.args.losses c.in_ok-item.item (line-yes _ _ _ _ c.in_ok-item.ensures) i.0 (sym i.1 ∙ c.find.ensures)
 
 pub overflow_add-starts : goal.overflow_add-starts
 overflow_add-starts c =
     let e = c.count_given.ensures.1 in
-    omega (arith, c.requires.2)
+    omega (arith, c.requires.0)
 
 pub overflow_add-losses : goal.overflow_add-losses
 overflow_add-losses c =
     let e = c.count_given-2.ensures.1 in
-    omega (arith, c.requires.3)
+    omega (arith, c.requires.1)
 
-pub returns-then-has_room : goal.returns-then-has_room
-returns-then-has_room c =
+pub returns-then-not-has_room : goal.returns-then-not-has_room
+returns-then-not-has_room c =
     let a = c.args in
-    item-taken a.l.now a.low.now a.high.now a.count a.starts a.losses c.read_item-item.result c.read_item-item.ensures
-    c.if-number-ne0.false c.find_name-found.result c.find_name-found.ensures _ _
-    (ap (λ (i : ℕ). a.starts + i) c.count_given.ensures.0) (ap (λ (i : ℕ). a.losses + i) c.count_given-2.ensures.0) c.if-found-count.false
-    (sym c.has_room.ensures ∙ c.if-has_room.true)
+    item-full c.args.l.now c.args.keys.now.low c.args.keys.now.high c.args.keys.now.count a.starts a.losses c.in_ok-item.item (line-yes _ _ _ _ c.in_ok-item.ensures) _ _
+    (ap (λ (i : ℕ). a.starts + i) c.count_given.ensures.0) (ap (λ (i : ℕ). a.losses + i) c.count_given-2.ensures.0)
+    (sym (none-is c.find.result c.is_some.result c.is_some.ensures c.if-is_some.false) ∙ c.find.ensures)
+    (sym c.has_room.ensures ∙ c.if-not-has_room.true)
 
-pub returns-else-has_room : goal.returns-else-has_room
-returns-else-has_room c =
+pub returns : goal.returns
+returns c =
     let a = c.args in
-    item-full a.l.now a.low.now a.high.now a.count a.starts a.losses c.read_item-item.result c.read_item-item.ensures
-    c.if-number-ne0.false c.find_name-found.result c.find_name-found.ensures _ _
-    (ap (λ (i : ℕ). a.starts + i) c.count_given.ensures.0) (ap (λ (i : ℕ). a.losses + i) c.count_given-2.ensures.0) c.if-found-count.false
-    c.no_taken-else-has_room.result (sym c.has_room.ensures ∙ c.if-has_room.false) c.no_taken-else-has_room.ensures
+    item-taken c.args.l.now c.args.keys.now.low c.args.keys.now.high c.args.keys.now.count a.starts a.losses c.in_ok-item.item (line-yes _ _ _ _ c.in_ok-item.ensures) _ _
+    (ap (λ (i : ℕ). a.starts + i) c.count_given.ensures.0) (ap (λ (i : ℕ). a.losses + i) c.count_given-2.ensures.0)
+    (sym (none-is c.find.result c.is_some.result c.is_some.ensures c.if-is_some.false) ∙ c.find.ensures)
+    (sym c.has_room.ensures ∙ c.if-not-has_room.false)

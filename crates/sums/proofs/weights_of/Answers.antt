@@ -1,62 +1,31 @@
 use native.Mathlib.Omega.{arith}
 use borrow.Author.Rules.{rules}
-use Rattle.vertex_set.proofs.Places.{Lowest, lowest}
+use mathlib.Core.Path.{ap, ◌∙◌}
+use Rattle.successors.specs.declared.Vertices.{Vertices}
+use Rattle.families.proofs.Turns.{turn}
 use Rattle.sums.proofs.Weights.{weighing-none, weighing-more, weighing-end}
 use Rattle.sums.proofs.weights_of.Goals as goal
 
-pub loop-rest-init : goal.loop-rest-init
-loop-rest-init c = (search rules, weighing-none c.args.chosen.0 _ (search rules))
-
-pub overflow_cast-weights : goal.overflow_cast-weights
-overflow_cast-weights c =
-    let low : Lowest c.loop-rest.rest = lowest c.loop-rest.rest c.loop-rest.invariant.1.small c.loop-rest-test.true in
-    omega (arith, low)
-
-pub offset_bounds-values-v : goal.offset_bounds-values-v
-offset_bounds-values-v c =
-    let low : Lowest c.loop-rest.rest = lowest c.loop-rest.rest c.loop-rest.invariant.1.small c.loop-rest-test.true in
-    omega (arith, low)
-
-pub bounds-values-v : goal.bounds-values-v
-bounds-values-v c =
-    let low : Lowest c.loop-rest.rest = lowest c.loop-rest.rest c.loop-rest.invariant.1.small c.loop-rest-test.true in
-    low.below
+pub loop-v-init : goal.loop-v-init
+loop-v-init c =
+    let begun = ap (λ (i : Vertices). i.left) c.into_iter-v-iterator.ensures.into_iter_gives ∙ c.vertices_of-v-items.ensures in
+    (search rules, rw begun (weighing-none c.args.chosen.0 _ (search rules)))
 
 pub bounds-weights-n : goal.bounds-weights-n
 bounds-weights-n c =
-    let low : Lowest c.loop-rest.rest = lowest c.loop-rest.rest c.loop-rest.invariant.1.small c.loop-rest-test.true in
-    let l = low in omega (arith, l.count, c.loop-rest.invariant.1.left, c.requires)
+    let g = c.loop-v.invariant.1 in
+    let taken = c.in-Some.ensures.steps in
+    omega (arith, (turn _ _ _ g.small taken.0 taken.1).lowest.count, g.left, c.requires)
 
-pub overflow_cast-rest : goal.overflow_cast-rest
-overflow_cast-rest c =
-    let low : Lowest c.loop-rest.rest = lowest c.loop-rest.rest c.loop-rest.invariant.1.small c.loop-rest-test.true in
-    omega (arith, low)
-
-pub overflow_shl-rest : goal.overflow_shl-rest
-overflow_shl-rest c =
-    let low : Lowest c.loop-rest.rest = lowest c.loop-rest.rest c.loop-rest.invariant.1.small c.loop-rest-test.true in
-    low.below
-
-pub overflow_sub-rest : goal.overflow_sub-rest
-overflow_sub-rest c =
-    let low : Lowest c.loop-rest.rest = lowest c.loop-rest.rest c.loop-rest.invariant.1.small c.loop-rest-test.true in
-    omega (arith, low)
-
-pub loop-rest-smaller : goal.loop-rest-smaller
-loop-rest-smaller c =
-    let low : Lowest c.loop-rest.rest = lowest c.loop-rest.rest c.loop-rest.invariant.1.small c.loop-rest-test.true in
-    omega (arith, low)
-
-pub loop-rest-preserved : goal.loop-rest-preserved
-loop-rest-preserved c =
-    let low : Lowest c.loop-rest.rest = lowest c.loop-rest.rest c.loop-rest.invariant.1.small c.loop-rest-test.true in
-    let l = low in (
-      omega (arith, l.count, c.loop-rest.invariant.1.left, c.requires),
-      weighing-more c.args.chosen.0 _ c.loop-rest.rest c.loop-rest.n
-          c.loop-rest.weights (omega (arith, l.count, c.loop-rest.invariant.1.left, c.requires)) c.loop-rest-test.true c.loop-rest.invariant.1,
+pub loop-v-preserved : goal.loop-v-preserved
+loop-v-preserved c =
+    let g = c.loop-v.invariant.1 in
+    let taken = c.in-Some.ensures.steps in
+    let t = turn _ _ _ g.small taken.0 taken.1 in (
+      omega (arith, t.lowest.count, g.left, c.requires),
+      rw (t.vertex, t.rest) (weighing-more c.args.chosen.0 _ _ c.loop-v.n c.loop-v.weights (omega (arith, t.lowest.count, g.left, c.requires)) t.some g),
     )
 
 pub returns : goal.returns
 returns c =
-    weighing-end c.args.chosen.0 _ c.loop-rest.rest c.loop-rest.n c.loop-rest.weights (search rules) c.loop-rest.invariant.0 c.loop-rest-test.false
-    c.loop-rest.invariant.1
+    weighing-end c.args.chosen.0 _ _ c.loop-v.n c.loop-v.weights (search rules) c.loop-v.invariant.0 c.in-None.ensures.steps c.loop-v.invariant.1

@@ -5,8 +5,5 @@ use lib.ListN.{get_or}
 use Rattle.sums.proofs.Weights.{Weighing}
 use Rattle.sums.proofs.weights_of.Given as goal
 
-abbrev pub invariant-loop-rest : goal.invariant-loop-rest
-invariant-loop-rest l = (l.n ≤ 14) × Weighing l.initial.rest (λ (v : ℕ). get_or l.values v 0) l.rest l.n l.weights
-
-abbrev pub decreases-loop-rest : goal.decreases-loop-rest
-decreases-loop-rest l = l.rest
+abbrev pub invariant-loop-v : goal.invariant-loop-v
+invariant-loop-v l = (l.n ≤ 14) × Weighing l.fn.chosen.0 (λ (v : ℕ). get_or l.values v 0) l.v-iterator.left l.n l.weights

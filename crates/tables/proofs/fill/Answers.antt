@@ -1,8 +1,6 @@
 use Rattle.derivations.specs.Both.{rule_of}
-use Prim.Native.Nat.{◌-◌}
 use native.Mathlib.Omega.{arith}
 use Rattle.tables.proofs.Blocks.{below_none, below_more, below_all}
-use borrow.Author.Rules.{rules}
 use Rattle.tables.proofs.fill.Goals as goal
 
 pub loop-b-init : goal.loop-b-init
@@ -12,20 +10,6 @@ loop-b-init c =
       place = (omega arith, omega arith);
       room = c.first_block.ensures.words;
       table = below_more (rule_of a.loss a.graph) a.chosen.0 _ _ _ _ (omega arith) (below_none (rule_of a.loss a.graph) a.chosen.0 _ c.requires) c.first_block.ensures c.put_block.ensures;
-    }
-
-pub next_block-requires : goal.next_block-requires
-next_block-requires c =
-    let l = c.loop-b.invariant in
-    record { successors = c.fill.ensures; b_nonzero = (l.place.0, c.loop-b-test.true); x_len = l.room; table_below = l.table }
-
-pub loop-b-preserved : goal.loop-b-preserved
-loop-b-preserved c =
-    let l = c.loop-b.invariant in
-    record {
-      place = (omega arith, let h = c.loop-b-test.true in omega arith);
-      room = search rules;
-      table = c.next_block.ensures;
     }
 
 pub returns : goal.returns

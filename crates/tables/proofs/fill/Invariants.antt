@@ -1,7 +1,6 @@
 -- `tables::fill` meets its contract. The invariant: the blocks before b are those of the table.
 -- Assumes nothing.
 use Rattle.derivations.specs.Both.{rule_of}
-use Prim.Native.Nat.{◌-◌}
 use Rattle.tables.proofs.Blocks.{Filling}
 use Rattle.tables.proofs.fill.Given as goal
 

@@ -1,26 +1,14 @@
 -- `tables::next_block` meets its contract: the block without the lowest bit of b, widened by the chosen vertex at that bit, is block b.
 -- Assumes nothing.
 use Rattle.derivations.specs.Both.{rule_of}
-use native.Mathlib.Omega.{arith}
-use Prim.Native.Nat.{◌<◌}
 use Rattle.tables.proofs.Blocks.{block-of-table, block-quiet, block-next, below_more}
 use Rattle.tables.proofs.next_block.Goals as goal
-
-pub take_block-requires : goal.take_block-requires
-take_block-requires c =
-    let l : c.without-smaller.result < c.args.b = c.without-smaller.ensures.less in
-    let h = c.requires.b_nonzero.1 in
-    record { w_len = c.requires.table_below.words; b_lt_table_blocks = omega (arith, l, h); x_len = c.requires.x_len }
 
 pub widen-requires : goal.widen-requires
 widen-requires c =
     let a = c.args in
     let block = block-of-table (rule_of a.loss a.graph) a.chosen.0 _ _ _ _ c.without-smaller.ensures.less c.requires.table_below c.take_block.ensures in
     record { successors = c.requires.successors; w_len = c.take_block.ensures.words; quiet = block-quiet a.loss a.graph a.chosen.0 _ _ block }
-
-pub put_block-requires : goal.put_block-requires
-put_block-requires c =
-    record { x_len = c.widen.ensures.words; b_lt_table_blocks = c.requires.b_nonzero.1; w_len = c.requires.table_below.words }
 
 pub returns : goal.returns
 returns c =

@@ -1,6 +1,5 @@
 -- `tables::put_block` meets its contract. The invariant: the words of the vertices before v are put in.
 -- Assumes nothing.
-use Prim.Native.Nat.{◌-◌}
 use Rattle.tables.proofs.Blocks.{PutBelow}
 use Rattle.tables.proofs.put_block.Given as goal
 

@@ -1,12 +1,8 @@
 use mathlib.Core.Path.{◌≡◌}
 use lib.Bits.{or_lt}
-use lib.ListN.{length, length-map}
-use Rattle.tables.proofs.Settling.{settling-none, settling-same, settling-more, settled, falls-same, falls-more}
+use lib.ListN.{length}
+use Rattle.tables.proofs.Settling.{settling-more, settled, falls-more}
 use Rattle.tables.proofs.settle.Goals as goal
-
-pub loop-todo-init : goal.loop-todo-init
-loop-todo-init c =
-    settling-none _ _ _ _ _ c.requires.w_len c.requires.successors c.requires.quiet
 
 pub loop-todo-smaller-then-step : goal.loop-todo-smaller-then-step
 loop-todo-smaller-then-step c =
@@ -15,14 +11,6 @@ loop-todo-smaller-then-step c =
 pub loop-todo-preserved-then-step : goal.loop-todo-preserved-then-step
 loop-todo-preserved-then-step c =
     settling-more _ _ _ _ _ _ _ _ _ _ c.loop-todo.invariant c.without-todo.ensures c.next-v.ensures.place c.step.ensures _ c.users-todo.ensures
-
-pub loop-todo-smaller : goal.loop-todo-smaller
-loop-todo-smaller c =
-    falls-same _ _ _ _ (c.step.ensures.same c.if-step.false) c.without-todo.ensures.less
-
-pub loop-todo-preserved : goal.loop-todo-preserved
-loop-todo-preserved c =
-    settling-same _ _ _ _ _ _ _ _ _ _ c.loop-todo.invariant c.without-todo.ensures c.next-v.ensures.place c.step.ensures c.if-step.false
 
 pub returns : goal.returns
 returns c =

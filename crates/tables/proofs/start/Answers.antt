@@ -1,11 +1,8 @@
 use Prim.Native.Nat.{◌+◌, ◌-◌, ◌*◌}
 use native.Mathlib.Omega.{arith}
 use borrow.Author.Rules.{rules}
-use Rattle.tables.proofs.Starts.{started_none, started-more, started-done}
+use Rattle.tables.proofs.Starts.{started-more, started-done}
 use Rattle.tables.proofs.start.Goals as goal
-
-pub loop-v-init : goal.loop-v-init
-loop-v-init c = started_none _ _ c.requires
 
 pub loop-v-preserved : goal.loop-v-preserved
 loop-v-preserved c =

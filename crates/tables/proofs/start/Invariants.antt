@@ -1,6 +1,5 @@
 -- `tables::start` meets its contract. The invariant: the families of the vertices before v are written.
 -- Assumes nothing.
-use Prim.Native.Nat.{◌-◌}
 use Rattle.tables.proofs.Starts.{StartedBelow}
 use Rattle.tables.proofs.start.Given as goal
 

@@ -1,6 +1,5 @@
 -- `tables::take_block` meets its contract. The invariant: the words of the vertices before v are taken.
 -- Assumes nothing.
-use Prim.Native.Nat.{◌-◌}
 use Rattle.tables.proofs.Blocks.{TakenBelow}
 use Rattle.tables.proofs.take_block.Given as goal
 

@@ -3,8 +3,5 @@
 use Rattle.tables.proofs.Blocks.{Seeking}
 use Rattle.tables.proofs.vertex_at.Given as goal
 
-abbrev pub invariant-loop-left : goal.invariant-loop-left
-invariant-loop-left l = Seeking l.chosen l.k l.left
-
-abbrev pub decreases-loop-left : goal.decreases-loop-left
-decreases-loop-left l = l.left
+abbrev pub invariant-loop-v : goal.invariant-loop-v
+invariant-loop-v l = Seeking l.fn.chosen l.k l.v-iterator.left

@@ -1,5 +1,5 @@
 -- Inner: the blocks of a table. A mask's low ten bits are its lane within a block, the others the block's number.
-use Rattle.std.specs.Prelude.{◌≡◌, List, ℕ, ◌+◌, ◌*◌, ◌<◌, length, get_or}
+use Rattle.std.specs.Prelude.{◌≡◌, List, Option, Some, ℕ, ◌+◌, ◌*◌, ◌<◌, length, get_or}
 use Rattle.vertex_set.specs.Set.{Member, Iff}
 use Rattle.derivations.specs.Derivation.{Vertices, Rule, Derivation}
 use Rattle.families.specs.Inner.Family.{family_words}
@@ -22,9 +22,10 @@ table_blocks = 16
 abbrev pub AtPlace : ℕ → ℕ → Vertices
 AtPlace chosen k v = Member chosen v × (place_among chosen v ≡ k)
 
--- r is the chosen vertex at bit k; if there is none, r is no vertex.
-pub record VertexAt (chosen k r : ℕ) : Type 0 where
-  pub each : (v : ℕ) → Iff (AtPlace chosen k v) ((r < 64) × (v ≡ r))
+-- r is the chosen vertex at bit k, if there is one.
+pub record VertexAt (chosen k : ℕ) (r : Option ℕ) : Type 0 where
+  pub place : (v : ℕ) → r ≡ Some v → v < 64
+  pub each : (v : ℕ) → Iff (AtPlace chosen k v) (r ≡ Some v)
 
 -- x is a block that has the words of block b of the table w. A place past the end of either list reads as 0.
 pub record BlockOf (w : List ℕ) (b : ℕ) (x : List ℕ) : Type 0 where

@@ -1,52 +1,44 @@
-use Prim.Native.Nat.{◌^◌, ◌<◌}
-use native.Mathlib.Omega.{arith}
 use Rattle.ways.proofs.Searches.{none-ready}
-use Rattle.ways.proofs.Ways.{onward-none, onward-look, onward-add, falls-look, falls-add, added-here, taken_none, taken-add, taken-all, taken-stuck, followed-from}
+use Rattle.ways.proofs.Ways.{taken_none, taken-all, taken-stuck, taken-next, falls-next, next-here, next-out}
 use Rattle.ways.proofs.follow_way.Goals as goal
 
 pub returns-then-has : goal.returns-then-has
 returns-then-has c = taken-all _ _ _ _ _ (taken_none _ _ _) (c.has.ensures.yes c.if-has.true)
 
-pub loop-search-init : goal.loop-search-init
-loop-search-init c =
-    (onward-none _ _ _ _ _ _ _ c.fill.ensures c.begin-search.ensures (c.has.ensures.no c.if-has.false), taken_none _ _ _)
-
-pub loop-search-smaller-then-search-ne0 : goal.loop-search-smaller-then-search-ne0
-loop-search-smaller-then-search-ne0 c =
-    falls-look _ _ _ _ _ _ c.loop-search.invariant.0 _ _ _ _ c.look-search.ensures
-
-pub loop-search-preserved-then-search-ne0 : goal.loop-search-preserved-then-search-ne0
-loop-search-preserved-then-search-ne0 c =
-    (onward-look _ _ _ _ _ _ c.loop-search.invariant.0 _ _ _ _ c.look-search.ensures, rw c.look-search.ensures.same c.loop-search.invariant.1)
-
-pub returns-then-ready-eq0 : goal.returns-then-ready-eq0
-returns-then-ready-eq0 c =
-    let i = c.loop-search.invariant in
-    followed-from _ _ _ _ _ _ _ c.begin-search.ensures.same
-    (taken-stuck _ _ _ _ _ i.1 _ i.0.out (none-ready _ _ _ _ c.if-ready-eq0.true c.if-search-ne0.false i.0.search))
-
-pub overflow_add-count : goal.overflow_add-count
-overflow_add-count c =
-    let i = c.loop-search.invariant in
-    let more = (taken-add _ _ _ _ _ _ i.0 _ _ _ _ c.if-search-ne0.false c.lowest-v-in-loop-search.ensures c.add-search.ensures _ _ i.1).few in
-    omega arith
+pub loop-v-init : goal.loop-v-init
+loop-v-init c =
+    let begun = c.begin-search.ensures in
+    record {
+      list = c.fill.ensures;
+      search = begun.search c.args.graph c.fill.ensures;
+      out = rw begun.same (c.has.ensures.no c.if-has.false);
+      taken = rw begun.same (taken_none _ _ _);
+    }
 
 pub returns-then-v-target : goal.returns-then-v-target
 returns-then-v-target c =
-    let i = c.loop-search.invariant in
-    followed-from _ _ _ _ _ _ _ c.begin-search.ensures.same
-    (taken-all _ _ _ _ _ (taken-add _ _ _ _ _ _ i.0 _ _ _ _ c.if-search-ne0.false c.lowest-v-in-loop-search.ensures c.add-search.ensures _ _ i.1)
-    (added-here _ _ _ _ _ _ i.0 _ _ _ _ c.if-search-ne0.false c.lowest-v-in-loop-search.ensures c.add-search.ensures c.if-v-target.true))
+    let s = c.args.set.0 in
+    let i = c.loop-v.invariant in
+    let n = c.in-Some.ensures in
+    taken-all _ _ _ _ _ (taken-next _ _ s _ _ _ _ _ i.out n _ i.taken) (next-here _ _ s _ _ _ _ _ i.out n c.if-v-target.true)
 
-pub loop-search-smaller : goal.loop-search-smaller
-loop-search-smaller c =
-    let i = c.loop-search.invariant in
-    let fits : c.add-search.result.left < 2 ^ 64 = c.add-search.type_inv.1.1.1.1.0.1 in
-    falls-add _ _ _ _ _ _ i.0 _ _ _ _ c.if-search-ne0.false c.lowest-v-in-loop-search.ensures c.add-search.ensures fits
+pub loop-v-smaller : goal.loop-v-smaller
+loop-v-smaller c = falls-next _ _ c.args.set.0 _ _ _ _ _ c.loop-v.invariant.out c.in-Some.ensures
 
-pub loop-search-preserved : goal.loop-search-preserved
-loop-search-preserved c =
-    let i = c.loop-search.invariant in (
-      onward-add _ _ _ _ _ _ i.0 _ _ _ _ c.if-search-ne0.false c.lowest-v-in-loop-search.ensures c.add-search.ensures c.if-v-target.false,
-      taken-add _ _ _ _ _ _ i.0 _ _ _ _ c.if-search-ne0.false c.lowest-v-in-loop-search.ensures c.add-search.ensures _ _ i.1,
-    )
+pub loop-v-preserved : goal.loop-v-preserved
+loop-v-preserved c =
+    let s = c.args.set.0 in
+    let i = c.loop-v.invariant in
+    let n = c.in-Some.ensures in
+    record {
+      list = i.list;
+      search = n.search;
+      out = next-out _ _ s _ _ _ _ _ i.out n c.if-v-target.false;
+      taken = taken-next _ _ s _ _ _ _ _ i.out n _ i.taken;
+    }
+
+pub returns : goal.returns
+returns c =
+    let i = c.loop-v.invariant in
+    let e = c.in_default.ensures in
+    rw e.0 (taken-stuck _ _ _ _ _ i.taken i.out (none-ready _ _ e.1))

@@ -1,18 +1,27 @@
+use mathlib.Core.Path.{sym, ◌∙◌}
+use Rattle.std.proofs.lemmas.Result.{err_from_is_err_and}
+use Rattle.sheet_rows.proofs.Items.{ok_or-some, ok_or-none}
 use Rattle.handin_lines.proofs.Naming.{item-unnamed, item-known, item-unknown}
 use Rattle.handin_lines.proofs.by_name.item_of.Goals as goal
 
-pub returns-then-item-count : goal.returns-then-item-count
-returns-then-item-count c =
+pub returns-in_err-key : goal.returns-in_err-key
+returns-in_err-key c =
     let a = c.args in
-    item-known a.l.now a.low.now a.high.now a.count c.read_name-name.result c.read_name-name.ensures c.if-name.true c.find_name-item.result c.find_name-item.ensures c.if-item-count.true
+    let p = err_from_is_err_and c.from_residual.result c.from_residual.ensures.1 in
+    let n = ok_or-none c.read_name.result _ _ c.in_err-key.ensures.value in
+    rw (p.1, p.2, n.1) (item-unnamed a.l.now a.keys.now.low a.keys.now.high a.keys.now.count (sym n.0 ∙ c.read_name.ensures))
 
-pub returns-then-name : goal.returns-then-name
-returns-then-name c =
+pub returns-in_err-item : goal.returns-in_err-item
+returns-in_err-item c =
     let a = c.args in
-    rw c.no_item.ensures
-    (item-unknown a.l.now a.low.now a.high.now a.count c.read_name-name.result c.read_name-name.ensures c.if-name.true c.find_name-item.result c.find_name-item.ensures c.if-item-count.false)
+    let p = err_from_is_err_and c.from_residual-in_err-item.result c.from_residual-in_err-item.ensures.1 in
+    let n = ok_or-none c.find.result _ _ c.in_err-item.ensures.value in
+    let k = ok_or-some c.read_name.result _ _ c.in_ok-key.ensures.value in
+    rw (p.1, p.2, n.1) (item-unknown a.l.now a.keys.now.low a.keys.now.high a.keys.now.count c.in_ok-key.key (sym k ∙ c.read_name.ensures) (sym n.0 ∙ c.find.ensures))
 
 pub returns : goal.returns
 returns c =
     let a = c.args in
-    rw c.no_item-2.ensures (item-unnamed a.l.now a.low.now a.high.now a.count c.read_name-name.result c.read_name-name.ensures c.if-name.false)
+    let k = ok_or-some c.read_name.result _ _ c.in_ok-key.ensures.value in
+    let i = ok_or-some c.find.result _ _ c.in_ok-item.ensures.value in
+    item-known a.l.now a.keys.now.low a.keys.now.high a.keys.now.count c.in_ok-key.key (sym k ∙ c.read_name.ensures) c.in_ok-item.item (sym i ∙ c.find.ensures)

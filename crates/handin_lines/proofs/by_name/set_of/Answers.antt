@@ -1,20 +1,22 @@
-use mathlib.Core.Path.{sym, ◌∙◌}
-use Prim.Native.Nat.{◌-◌, ◌≤◌}
+use mathlib.Core.Path.{sym, refl, ◌∙◌}
+use Rattle.std.proofs.lemmas.Result.{err_from_is_err_and}
+use Rattle.questions.proofs.Refusals.{number_some}
+use Prim.Native.Nat.{◌≤◌}
 use native.Mathlib.Omega.{arith}
 use lib.ListN.{length, drop, length-drop}
 use Rattle.sheet_fields.proofs.Cutting.{until-le}
 use Rattle.handin_lines.proofs.Naming.{reading-first, reading-refused, reading-next, reading-over, set-empty}
 use Rattle.handin_lines.proofs.by_name.set_of.Goals as goal
 
-pub returns-then-is_dash : goal.returns-then-is_dash
-returns-then-is_dash c =
+pub returns-then-same_text : goal.returns-then-same_text
+returns-then-same_text c =
     let a = c.args in
-    rw c.no_set.ensures (set-empty a.low.now a.high.now a.count a.l.now (sym c.is_dash.ensures ∙ c.if-is_dash.true))
+    (set-empty a.keys.now.low a.keys.now.high a.keys.now.count a.l.now (sym c.same_text.ensures ∙ c.if-same_text.true))
 
 pub loop-at-init : goal.loop-at-init
 loop-at-init c =
     let a = c.args in
-    (omega arith, reading-first a.l.now a.low.now a.high.now a.count (sym c.is_dash.ensures ∙ c.if-is_dash.false))
+    (omega arith, reading-first a.l.now a.keys.now.low a.keys.now.high a.keys.now.count (sym c.same_text.ensures ∙ c.if-same_text.false))
 
 pub slice_bounds-take_name-end : goal.slice_bounds-take_name-end
 slice_bounds-take_name-end c =
@@ -27,10 +29,11 @@ slice_bounds-take_name-end c =
     let e = name-end in
     omega arith
 
-pub returns-then-next-ne0 : goal.returns-then-next-ne0
-returns-then-next-ne0 c =
+pub returns-in_err-x : goal.returns-in_err-x
+returns-in_err-x c =
     let a = c.args in
-    reading-refused a.l.now a.low.now a.high.now a.count c.loop-at.x c.loop-at.at c.find-end.result c.loop-at.invariant.1 c.loop-at-test.true c.find-end.ensures c.take_name-next.result c.take_name-next.ensures c.if-next-ne0.true
+    let p = err_from_is_err_and c.from_residual.result c.from_residual.ensures.1 in
+    rw (p.1, p.2) (reading-refused a.l.now a.keys.now.low a.keys.now.high a.keys.now.count c.loop-at.x c.loop-at.at c.find-end.result c.loop-at.invariant.1 c.loop-at-test.true c.find-end.ensures _ c.in_err-x.ensures (number_some _))
 
 pub overflow_add-at : goal.overflow_add-at
 overflow_add-at c =
@@ -53,9 +56,9 @@ loop-at-preserved c =
     omega arith in
     let a = c.args in
     let e = name-end in
-    (omega arith, reading-next a.l.now a.low.now a.high.now a.count c.loop-at.x c.loop-at.at c.find-end.result c.loop-at.invariant.1 c.loop-at-test.true c.find-end.ensures c.take_name-next.result c.take_name-next.ensures c.if-next-ne0.false)
+    (omega arith, reading-next a.l.now a.keys.now.low a.keys.now.high a.keys.now.count c.loop-at.x c.loop-at.at c.find-end.result c.loop-at.invariant.1 c.loop-at-test.true c.find-end.ensures _ c.in_ok-x.ensures refl)
 
 pub returns : goal.returns
 returns c =
     let a = c.args in
-    reading-over a.l.now a.low.now a.high.now a.count c.loop-at.x c.loop-at.at c.loop-at.invariant.1 c.loop-at-test.false
+    reading-over a.l.now a.keys.now.low a.keys.now.high a.keys.now.count c.loop-at.x c.loop-at.at c.loop-at.invariant.1 c.loop-at-test.false

@@ -1,24 +1,29 @@
+use mathlib.Core.Path.{refl}
+use Rattle.std.specs.Prelude.{Ok, Err}
+use Rattle.std.proofs.lemmas.Result.{err_from_is_err_and}
+use Rattle.questions.proofs.Refusals.{number_some}
+use Rattle.handin_lines.specs.Inner.Lines.{form_found}
 use Rattle.handin_lines.proofs.Fields.{attempt-target, attempt-way, attempt-sets, attempt-read}
 use Rattle.handin_lines.proofs.lines.check_attempt.Goals as goal
 
-pub returns-then-unknown-ne0 : goal.returns-then-unknown-ne0
-returns-then-unknown-ne0 c =
+pub returns-in-Err : goal.returns-in-Err
+returns-in-Err c =
     let a = c.args in
-    rw c.refuse.ensures (attempt-target a.low.now a.high.now a.count a.l.now a.form a.student c.item_of-target.result c.item_of-target.ensures c.if-unknown-ne0.true)
+    rw c.no.ensures (attempt-target a.keys.now.low a.keys.now.high a.keys.now.count a.l.now (form_found (Ok a.form)) a.student (Err c.in-Err.refusal) c.in-Err.ensures (number_some _))
 
-pub returns-then-number-ne0 : goal.returns-then-number-ne0
-returns-then-number-ne0 c =
+pub returns-in-None : goal.returns-in-None
+returns-in-None c =
     let a = c.args in
-    rw c.refuse-then-number-ne0.ensures
-    (attempt-sets a.low.now a.high.now a.count a.l.now a.form a.student c.item_of-target.result c.item_of-target.ensures c.if-unknown-ne0.false c.way_of-way.result c.way_of-way.ensures c.if-way.true c.check_handed-found.result c.check_handed-found.ensures c.if-number-ne0.true)
+    rw c.no-in-None.ensures (attempt-way a.keys.now.low a.keys.now.high a.keys.now.count a.l.now (form_found (Ok a.form)) a.student (Ok c.in-Ok.item) c.in-Ok.ensures refl _ c.in-None.ensures refl)
 
-pub returns-then-way : goal.returns-then-way
-returns-then-way c =
+pub returns-in_err-count : goal.returns-in_err-count
+returns-in_err-count c =
     let a = c.args in
-    attempt-read a.low.now a.high.now a.count a.l.now a.form a.student c.item_of-target.result c.item_of-target.ensures c.if-unknown-ne0.false c.way_of-way.result c.way_of-way.ensures c.if-way.true c.check_handed-found.result c.check_handed-found.ensures c.if-number-ne0.false
+    let p = err_from_is_err_and c.from_residual.result c.from_residual.ensures.1 in
+    rw (p.1, p.2)
+    (attempt-sets a.keys.now.low a.keys.now.high a.keys.now.count a.l.now (form_found (Ok a.form)) a.student (Ok c.in-Ok.item) c.in-Ok.ensures refl _ c.in-Some.ensures refl _ c.in_err-count.ensures (number_some _))
 
 pub returns : goal.returns
 returns c =
     let a = c.args in
-    rw c.refuse-2.ensures
-    (attempt-way a.low.now a.high.now a.count a.l.now a.form a.student c.item_of-target.result c.item_of-target.ensures c.if-unknown-ne0.false c.way_of-way.result c.way_of-way.ensures c.if-way.false)
+    attempt-read a.keys.now.low a.keys.now.high a.keys.now.count a.l.now (form_found (Ok a.form)) a.student (Ok c.in-Ok.item) c.in-Ok.ensures refl _ c.in-Some.ensures refl _ c.in_ok-count.ensures refl

@@ -1,38 +1,27 @@
-use mathlib.Core.Path.{sym}
-use native.Mathlib.Omega.{arith}
-use lib.Seq.{length-take-le}
-use Rattle.handin_lines.proofs.Fields.{line-form, line-student, line-withdraws, line-attempt}
+use mathlib.Core.Path.{refl, sym}
+use Rattle.std.specs.Prelude.{Ok}
+use Rattle.sheet_rows.proofs.Items.{none-no, some-yes}
+use Rattle.handin_format.specs.Lines.{is_student}
+use Rattle.handin_lines.specs.Inner.Lines.{form_found}
+use Rattle.handin_lines.proofs.Fields.{line-student, line-withdraws, line-attempt}
 use Rattle.handin_lines.proofs.lines.check_line.Goals as goal
 
-pub returns-then-number-ne0 : goal.returns-then-number-ne0
-returns-then-number-ne0 c =
+pub returns-in-None : goal.returns-in-None
+unfolding is_student
+returns-in-None c =
     let a = c.args in
-    rw c.refuse.ensures (line-form a.low.now a.high.now a.count a.l.now c.form_of-form.result c.form_of-form.ensures c.if-number-ne0.true)
+    rw c.no.ensures (line-student a.keys.now.low a.keys.now.high a.keys.now.count a.l.now (form_found (Ok c.in_ok-form.form)) c.in_ok-form.ensures refl (none-no _ _ c.in-None.ensures))
 
-pub slice_bounds-read_number-end : goal.slice_bounds-read_number-end
-slice_bounds-read_number-end c =
-    sym (length-take-le c.form_of-form.result.first c.args.l.now (c.form_of-form.ensures.cut c.if-number-ne0.false).inside.0)
-
-pub returns-then-student-gt-MAX_VALUE : goal.returns-then-student-gt-MAX_VALUE
-returns-then-student-gt-MAX_VALUE c =
+pub returns-then-form-l : goal.returns-then-form-l
+unfolding is_student
+returns-then-form-l c =
     let a = c.args in
-    rw c.refuse-then-student-gt-MAX_VALUE.ensures (line-student a.low.now a.high.now a.count a.l.now c.form_of-form.result c.form_of-form.ensures c.if-number-ne0.false c.read_number-student.result c.read_number-student.ensures c.if-student-gt-MAX_VALUE.true)
-
-pub check_attempt-requires : goal.check_attempt-requires
-check_attempt-requires c =
-    record { attempt_places = ((c.form_of-form.ensures.cut c.if-number-ne0.false).more c.if-second-l.true).places; count_in_bounds = c.requires }
-
-pub returns-then-second-l : goal.returns-then-second-l
-returns-then-second-l c =
-    let a = c.args in
-    line-attempt a.low.now a.high.now a.count a.l.now c.form_of-form.result c.form_of-form.ensures c.if-number-ne0.false c.read_number-student.result c.read_number-student.ensures c.if-student-gt-MAX_VALUE.false c.if-second-l.true c.check_attempt.result c.check_attempt.ensures
-
-pub overflow_add-result : goal.overflow_add-result
-overflow_add-result c =
-    let i = (c.form_of-form.ensures.cut c.if-number-ne0.false).inside.1 in
-    omega (arith, i)
+    let s = some-yes _ _ _ c.in-Some.ensures in
+    line-attempt a.keys.now.low a.keys.now.high a.keys.now.count a.l.now (form_found (Ok c.in_ok-form.form)) c.in_ok-form.ensures refl c.in-Some.student s.0 (sym s.1) c.if-form-l.true _ c.check_attempt.ensures
 
 pub returns : goal.returns
+unfolding is_student
 returns c =
     let a = c.args in
-    line-withdraws a.low.now a.high.now a.count a.l.now c.form_of-form.result c.form_of-form.ensures c.if-number-ne0.false c.read_number-student.result c.read_number-student.ensures c.if-student-gt-MAX_VALUE.false c.if-second-l.false
+    let s = some-yes _ _ _ c.in-Some.ensures in
+    line-withdraws a.keys.now.low a.keys.now.high a.keys.now.count a.l.now (form_found (Ok c.in_ok-form.form)) c.in_ok-form.ensures refl c.in-Some.student s.0 (sym s.1) c.if-form-l.false

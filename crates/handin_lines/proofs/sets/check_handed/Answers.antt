@@ -1,17 +1,21 @@
+use mathlib.Core.Path.{refl}
+use Rattle.std.proofs.lemmas.Result.{err_from_is_err_and}
+use Rattle.questions.proofs.Refusals.{number_some}
 use Rattle.handin_lines.proofs.Fields.{handed-no, handed-many, handed-all}
 use Rattle.handin_lines.proofs.sets.check_handed.Goals as goal
 
-pub returns-then-found-ne0 : goal.returns-then-found-ne0
-returns-then-found-ne0 c =
+pub returns-in_err-count : goal.returns-in_err-count
+returns-in_err-count c =
     let a = c.args in
-    handed-no a.low.now a.high.now a.count a.l.now a.start c.check_sets-found.result c.check_sets-found.ensures c.if-found-ne0.true
+    let p = err_from_is_err_and c.from_residual.result c.from_residual.ensures.1 in
+    rw (p.1, p.2) (handed-no a.keys.now.low a.keys.now.high a.keys.now.count a.l.now a.start _ c.in_err-count.ensures (number_some _))
 
-pub returns-then-found-gt-MAX_HANDED : goal.returns-then-found-gt-MAX_HANDED
-returns-then-found-gt-MAX_HANDED c =
+pub returns-then-count-gt-MAX_HANDED : goal.returns-then-count-gt-MAX_HANDED
+returns-then-count-gt-MAX_HANDED c =
     let a = c.args in
-    handed-many a.low.now a.high.now a.count a.l.now a.start c.check_sets-found.result c.check_sets-found.ensures c.if-found-ne0.false c.if-found-gt-MAX_HANDED.true
+    handed-many a.keys.now.low a.keys.now.high a.keys.now.count a.l.now a.start _ c.in_ok-count.ensures refl c.if-count-gt-MAX_HANDED.true
 
 pub returns : goal.returns
 returns c =
     let a = c.args in
-    handed-all a.low.now a.high.now a.count a.l.now a.start c.check_sets-found.result c.check_sets-found.ensures c.if-found-ne0.false c.if-found-gt-MAX_HANDED.false
+    handed-all a.keys.now.low a.keys.now.high a.keys.now.count a.l.now a.start _ c.in_ok-count.ensures refl c.if-count-gt-MAX_HANDED.false

@@ -1,5 +1,6 @@
 use mathlib.Core.Path.{refl}
-use Prim.Native.Nat.{◌-◌, ◌≤◌}
+use Rattle.questions.proofs.Refusals.{number_some}
+use Prim.Native.Nat.{◌≤◌}
 use native.Mathlib.Omega.{arith}
 use lib.ListN.{length, drop, length-drop}
 use Rattle.sheet_fields.proofs.Cutting.{until-le}
@@ -9,7 +10,7 @@ use Rattle.handin_lines.proofs.sets.check_sets.Goals as goal
 pub loop-at-init : goal.loop-at-init
 loop-at-init c =
     let a = c.args in
-    (omega arith, checking-first a.low.now a.high.now a.count a.l.now a.start)
+    (omega arith, checking-first a.keys.now.low a.keys.now.high a.keys.now.count a.l.now a.start)
 
 pub slice_bounds-set_of-end : goal.slice_bounds-set_of-end
 slice_bounds-set_of-end c =
@@ -28,10 +29,10 @@ overflow_add-result c =
     let t = c.loop-at-test.true in
     omega (arith, i, t)
 
-pub returns-then-number-ne0 : goal.returns-then-number-ne0
-returns-then-number-ne0 c =
+pub returns-in-Err : goal.returns-in-Err
+returns-in-Err c =
     let a = c.args in
-    checking-no a.low.now a.high.now a.count a.l.now a.start c.loop-at.n c.loop-at.at c.find-end.result c.loop-at.invariant.1 c.loop-at-test.true c.find-end.ensures c.set_of-set.result c.set_of-set.ensures _ c.if-number-ne0.true refl refl
+    checking-no a.keys.now.low a.keys.now.high a.keys.now.count a.l.now a.start c.loop-at.n c.loop-at.at c.find-end.result c.loop-at.invariant.1 c.loop-at-test.true c.find-end.ensures _ c.in-Err.ensures _ (number_some _) refl refl
 
 pub overflow_add-n : goal.overflow_add-n
 overflow_add-n c =
@@ -61,9 +62,9 @@ loop-at-preserved c =
     let a = c.args in
     let e = field_end in
     let i = c.loop-at.invariant.0 in
-    (omega (arith, i, e.1), checking-next a.low.now a.high.now a.count a.l.now a.start c.loop-at.n c.loop-at.at c.find-end.result c.loop-at.invariant.1 c.loop-at-test.true c.find-end.ensures c.set_of-set.result c.set_of-set.ensures c.if-number-ne0.false)
+    (omega (arith, i, e.1), checking-next a.keys.now.low a.keys.now.high a.keys.now.count a.l.now a.start c.loop-at.n c.loop-at.at c.find-end.result c.loop-at.invariant.1 c.loop-at-test.true c.find-end.ensures _ c.in-Ok.ensures refl)
 
 pub returns : goal.returns
 returns c =
     let a = c.args in
-    checking-over a.low.now a.high.now a.count a.l.now a.start c.loop-at.n c.loop-at.at c.loop-at.invariant.1 c.loop-at-test.false
+    checking-over a.keys.now.low a.keys.now.high a.keys.now.count a.l.now a.start c.loop-at.n c.loop-at.at c.loop-at.invariant.1 c.loop-at-test.false

@@ -6,7 +6,7 @@ use Rattle.handin_lines.proofs.sets.check_sets.Given as goal
 
 -- n fields before `at` are sets.
 abbrev pub invariant-loop-at : goal.invariant-loop-at
-invariant-loop-at l = (l.n ≤ l.at) × Checking l.low l.high l.count l.l l.start l.n l.at
+invariant-loop-at l = (l.n ≤ l.at) × Checking l.keys.low l.keys.high l.keys.count l.l l.start l.n l.at
 
 abbrev pub decreases-loop-at : goal.decreases-loop-at
 decreases-loop-at l = length l.l + 1 - l.at

@@ -1,14 +1,14 @@
-use Prim.Native.Nat.{◌-◌, ◌≤◌}
+use Prim.Native.Nat.{◌≤◌}
 use native.Mathlib.Omega.{arith}
 use lib.ListN.{length, drop, length-drop}
 use Rattle.sheet_fields.proofs.Cutting.{until-le}
-use Rattle.handin_lines.proofs.SetFields.{putting-first, putting-room, putting-next, putting-over}
+use Rattle.handin_lines.proofs.SetFields.{set-read, putting-first, putting-room, putting-next, putting-over}
 use Rattle.handin_lines.proofs.sets.put_sets.Goals as goal
 
 pub loop-at-init : goal.loop-at-init
 loop-at-init c =
     let a = c.args in
-    (omega arith, putting-first a.low.now a.high.now a.count a.l.now a.start a.out.now)
+    (omega arith, putting-first a.keys.now.low a.keys.now.high a.keys.now.count a.l.now a.start a.out.now)
 
 pub slice_bounds-set_of-end : goal.slice_bounds-set_of-end
 slice_bounds-set_of-end c =
@@ -24,7 +24,7 @@ slice_bounds-set_of-end c =
 pub bounds-out-n : goal.bounds-out-n
 bounds-out-n c =
     let a = c.args in
-    putting-room a.low.now a.high.now a.count a.l.now a.start c.loop-at.n c.loop-at.at c.find-end.result a.out.now c.loop-at.out c.loop-at.invariant.1 c.loop-at-test.true c.find-end.ensures c.requires.3
+    putting-room a.keys.now.low a.keys.now.high a.keys.now.count a.l.now a.start c.loop-at.n c.loop-at.at c.find-end.result a.out.now c.loop-at.out c.loop-at.invariant.1 c.loop-at-test.true c.find-end.ensures c.requires
 
 pub overflow_add-at : goal.overflow_add-at
 overflow_add-at c =
@@ -48,9 +48,9 @@ loop-at-preserved c =
     let a = c.args in
     let e = field_end in
     let i = c.loop-at.invariant.0 in
-    (omega (arith, i, e.1), putting-next a.low.now a.high.now a.count a.l.now a.start c.loop-at.n c.loop-at.at c.find-end.result a.out.now c.loop-at.out c.loop-at.invariant.1 c.loop-at-test.true c.find-end.ensures c.set_of-set.result c.set_of-set.ensures)
+    (omega (arith, i, e.1), rw (c.unwrap_or.ensures, set-read c.set_of.result) (putting-next a.keys.now.low a.keys.now.high a.keys.now.count a.l.now a.start c.loop-at.n c.loop-at.at c.find-end.result a.out.now c.loop-at.out c.loop-at.invariant.1 c.loop-at-test.true c.find-end.ensures _ c.set_of.ensures))
 
 pub returns : goal.returns
 returns c =
     let a = c.args in
-    putting-over a.low.now a.high.now a.count a.l.now a.start c.loop-at.n c.loop-at.at a.out.now c.loop-at.out c.loop-at.invariant.1 c.loop-at-test.false
+    putting-over a.keys.now.low a.keys.now.high a.keys.now.count a.l.now a.start c.loop-at.n c.loop-at.at a.out.now c.loop-at.out c.loop-at.invariant.1 c.loop-at-test.false

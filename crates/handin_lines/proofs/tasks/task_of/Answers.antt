@@ -1,51 +1,37 @@
 -- `handin_lines::tasks::task_of` meets its contract: the sheet, then the line.
-use borrow.Author.Rules.{rules}
-use mathlib.Core.Path.{◌≡◌}
-use native.Mathlib.Omega.{arith}
-use Prim.Native.Nat.{◌≤◌}
-use lib.ListN.{length}
+use mathlib.Core.Path.{refl}
+use Rattle.std.specs.Prelude.{Ok, Err}
+use Rattle.questions.proofs.Refusals.{number_some}
+use Rattle.sheet_format.specs.Read.{reading}
 use Rattle.sheet_lines.proofs.Accepted.{accepts-of, lines-there}
+use Rattle.handin_lines.specs.Inner.Lines.{line_found}
 use Rattle.handin_lines.proofs.Entering.{task-no-sheet, task-no-line, task-leaves, can-hand-over, task-hands-over}
 use Rattle.handin_lines.proofs.tasks.task_of.Goals as goal
 
-pub returns-then-number-ne0 : goal.returns-then-number-ne0
-returns-then-number-ne0 c =
+pub returns-in-Err : goal.returns-in-Err
+returns-in-Err c =
     let a = c.args in
-    task-no-sheet a.sheet.now a.line.now c.read_sheet-reading.result c.read_sheet-reading.ensures c.refuse.result c.if-number-ne0.true c.refuse.ensures
+    task-no-sheet a.sheet.now a.line.now (reading (Err c.in-Err.refused)) c.in-Err.ensures _ (number_some _) refl
 
-pub keys_of-keys-requires : goal.keys_of-keys-requires
-keys_of-keys-requires c =
-    lines-there _ _ (accepts-of _ c.read_sheet-reading.result c.read_sheet-reading.ensures c.if-number-ne0.false)
+pub keys_of-found-requires : goal.keys_of-found-requires
+keys_of-found-requires c = lines-there _ _ (accepts-of _ (reading (Ok c.in-Ok.setup)) c.in-Ok.ensures refl)
 
-pub check_line-read-requires : goal.check_line-read-requires
-check_line-read-requires c =
-    let wide : (c.read_sheet-reading.result.setup.count ≤ length c.keys_of-keys.result.low) × (c.read_sheet-reading.result.setup.count ≤ length c.keys_of-keys.result.high) × (c.read_sheet-reading.result.setup.count ≤ 64) = let few = (lines-there _ _ (accepts-of _ c.read_sheet-reading.result c.read_sheet-reading.ensures c.if-number-ne0.false)).few in
-    let low : length c.keys_of-keys.result.low ≡ 64 = search (rules, c.keys_of-keys.type_inv) in
-    let high : length c.keys_of-keys.result.high ≡ 64 = search (rules, c.keys_of-keys.type_inv) in
-    (omega (arith, few, low), omega (arith, few, high), few) in
-    wide
-
-pub returns-then-refused-ne0 : goal.returns-then-refused-ne0
-returns-then-refused-ne0 c =
+pub returns-in-Err-check_line : goal.returns-in-Err-check_line
+returns-in-Err-check_line c =
     let a = c.args in
-    task-no-line a.sheet.now a.line.now c.read_sheet-reading.result c.read_sheet-reading.ensures c.if-number-ne0.false c.keys_of-keys.result c.keys_of-keys.ensures c.check_line-read.result c.check_line-read.ensures c.refuse-then-refused-ne0.result c.if-refused-ne0.true c.refuse-then-refused-ne0.ensures
+    task-no-line a.sheet.now a.line.now (reading (Ok c.in-Ok.setup)) c.in-Ok.ensures refl c.keys_of-found.result c.keys_of-found.ensures (line_found (Err c.in-Err-check_line.no)) c.in-Err-check_line.ensures _ (number_some _) refl
 
 pub returns-then-read : goal.returns-then-read
 returns-then-read c =
     let a = c.args in
-    task-leaves a.sheet.now a.line.now c.read_sheet-reading.result c.read_sheet-reading.ensures c.if-number-ne0.false c.keys_of-keys.result c.keys_of-keys.ensures c.check_line-read.result c.check_line-read.ensures c.if-refused-ne0.false c.leave.result c.if-read.true c.leave.ensures
+    task-leaves a.sheet.now a.line.now (reading (Ok c.in-Ok.setup)) c.in-Ok.ensures refl c.keys_of-found.result c.keys_of-found.ensures (line_found (Ok c.in-Ok-check_line.read)) c.in-Ok-check_line.ensures refl _ c.if-read.true refl
 
 pub hand_over-requires : goal.hand_over-requires
 hand_over-requires c =
-    let wide : (c.read_sheet-reading.result.setup.count ≤ length c.keys_of-keys.result.low) × (c.read_sheet-reading.result.setup.count ≤ length c.keys_of-keys.result.high) × (c.read_sheet-reading.result.setup.count ≤ 64) = let few = (lines-there _ _ (accepts-of _ c.read_sheet-reading.result c.read_sheet-reading.ensures c.if-number-ne0.false)).few in
-    let low : length c.keys_of-keys.result.low ≡ 64 = search (rules, c.keys_of-keys.type_inv) in
-    let high : length c.keys_of-keys.result.high ≡ 64 = search (rules, c.keys_of-keys.type_inv) in
-    (omega (arith, few, low), omega (arith, few, high), few) in
     let a = c.args in
-    let w = wide in
-    (w.0, w.1, w.2, can-hand-over a.sheet.now a.line.now c.read_sheet-reading.result c.read_sheet-reading.ensures c.if-number-ne0.false c.keys_of-keys.result c.keys_of-keys.ensures c.check_line-read.result c.check_line-read.ensures c.if-refused-ne0.false)
+    can-hand-over a.sheet.now a.line.now (reading (Ok c.in-Ok.setup)) c.in-Ok.ensures refl c.keys_of-found.result c.keys_of-found.ensures (line_found (Ok c.in-Ok-check_line.read)) c.in-Ok-check_line.ensures refl
 
 pub returns : goal.returns
 returns c =
     let a = c.args in
-    task-hands-over a.sheet.now a.line.now c.read_sheet-reading.result c.read_sheet-reading.ensures c.if-number-ne0.false c.keys_of-keys.result c.keys_of-keys.ensures c.check_line-read.result c.check_line-read.ensures c.if-refused-ne0.false c.hand_over.result c.if-read.false c.hand_over.ensures
+    task-hands-over a.sheet.now a.line.now (reading (Ok c.in-Ok.setup)) c.in-Ok.ensures refl c.keys_of-found.result c.keys_of-found.ensures (line_found (Ok c.in-Ok-check_line.read)) c.in-Ok-check_line.ensures refl _ c.if-read.false c.hand_over.ensures

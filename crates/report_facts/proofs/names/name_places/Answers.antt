@@ -18,18 +18,6 @@ loop-v-init c =
     let u = c.requires.lines in
     (omega arith, names-none _ _ _ _ (search rules) (search rules) (omega arith) c.find-at.ensures)
 
-pub slice_bounds-find-count : goal.slice_bounds-find-count
-slice_bounds-find-count c =
-    let more : suc c.loop-v.v < length (lines_of c.args.sheet.now) = let u = c.requires.lines in omega arith in
-    let bounds : (c.loop-v.at ≤ c.find-stop.result) × (c.find-stop.result ≤ length c.args.sheet.now) = line-stops _ _ _ _ _ c.loop-v.invariant.1 more _ c.find-stop.ensures in
-    bounds.0
-
-pub slice_bounds-find-start : goal.slice_bounds-find-start
-slice_bounds-find-start c =
-    let more : suc c.loop-v.v < length (lines_of c.args.sheet.now) = let u = c.requires.lines in omega arith in
-    let bounds : (c.loop-v.at ≤ c.find-stop.result) × (c.find-stop.result ≤ length c.args.sheet.now) = line-stops _ _ _ _ _ c.loop-v.invariant.1 more _ c.find-stop.ensures in
-    bounds.0
-
 pub slice_bounds-find-end : goal.slice_bounds-find-end
 slice_bounds-find-end c =
     let more : suc c.loop-v.v < length (lines_of c.args.sheet.now) = let u = c.requires.lines in omega arith in
@@ -60,7 +48,3 @@ loop-v-preserved c =
     let more : suc c.loop-v.v < length (lines_of c.args.sheet.now) = let u = c.requires.lines in omega arith in
     let there : has_item c.args.sheet.now c.loop-v.v ≡ true = c.requires.items c.loop-v.v (omega arith) in
     (search rules, names_more _ _ _ _ _ c.loop-v.invariant.1 more _ _ (search rules) there c.find-stop.ensures c.find.ensures)
-
-pub returns : goal.returns
-returns c =
-    record { each = λ v l. c.loop-v.invariant.1.each v (let e = c.loop-v.invariant.0 in omega arith) }

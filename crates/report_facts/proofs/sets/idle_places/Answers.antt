@@ -1,32 +1,10 @@
-use borrow.Author.Rules.{rules}
-use Prim.Native.Nat.{◌+◌, ◌≤◌, ◌<◌}
-use mathlib.Core.Path.{◌≡◌, sym, subst}
-use native.Mathlib.Omega.{arith}
-use Rattle.vertex_set.specs.declared.VertexSet.{VertexSet}
+use Rattle.std.proofs.Common.{rules, leb}
+use Rattle.vertex_set.proofs.Decisions.{decide-leb}
 use Rattle.scores.specs.Inner.Lists.{recoverability_at}
-use Rattle.vertex_set.specs.Inner.{TakenBelow}
-use Rattle.vertex_set.proofs.Taking.{taken_none, taken_more, taken-same}
+use Rattle.report_facts.proofs.Gathering.{places-are}
 use Rattle.report_facts.proofs.sets.idle_places.Goals as goal
-use Rattle.report_facts.proofs.sets.idle_places.Goals.{else-at_most, then-at_most}
-
-pub loop-v-init : goal.loop-v-init
-loop-v-init c = (search rules, taken_none _)
-
-pub loop-v-preserved : goal.loop-v-preserved
-loop-v-preserved c =
-    let a = c.args in
-    let small : c.loop-v.v < 64 = omega arith in
-    let d = c.at_most.ensures in (
-      omega arith,
-      elim c.if-at_most.branch [
-        | then-at_most w ↦ subst (λ (x : VertexSet). TakenBelow (λ i. recoverability_at a.risks i ≤ recoverability_at a.without i) (c.loop-v.v + 1) x.0) (sym w.r-is)
-            (taken_more (λ i. recoverability_at a.risks i ≤ recoverability_at a.without i) c.loop-v.v c.loop-v.r.0 c.loop-v.invariant.1 w.insert-r.result.0 small (d.yes w.if-at_most.true) w.insert-r.ensures)
-        | else-at_most w ↦ subst (λ (x : VertexSet). TakenBelow (λ i. recoverability_at a.risks i ≤ recoverability_at a.without i) (c.loop-v.v + 1) x.0) (sym w.r-is)
-            (taken-same (λ i. recoverability_at a.risks i ≤ recoverability_at a.without i) c.loop-v.v c.loop-v.r.0 c.loop-v.invariant.1 (d.no w.if-at_most.false))
-      ],
-    )
 
 pub returns : goal.returns
 returns c =
-    let e : c.loop-v.v ≡ 64 = omega arith in
-    rw e at c.loop-v.invariant.1
+    let a = c.args in
+    places-are _ _ _ (λ v. leb (recoverability_at a.risks.now v) (recoverability_at a.without.now v)) c.places_where.ensures (λ v. decide-leb _ _) (λ v b h e. search rules)

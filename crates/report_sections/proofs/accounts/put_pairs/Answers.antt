@@ -10,23 +10,8 @@ use Rattle.report_sections.proofs.accounts.put_pairs.Goals as goal
 pub loop-rest-init : goal.loop-rest-init
 loop-rest-init c = pairs-none _ _ _ _ _ (search rules)
 
-pub overflow_cast-rest : goal.overflow_cast-rest
-overflow_cast-rest c =
-    let low : Lowest c.loop-rest.rest = lowest c.loop-rest.rest c.loop-rest.invariant.small c.loop-rest-test.true in
-    omega (arith, low)
-
-pub overflow_shl-rest : goal.overflow_shl-rest
-overflow_shl-rest c =
-    let low : Lowest c.loop-rest.rest = lowest c.loop-rest.rest c.loop-rest.invariant.small c.loop-rest-test.true in
-    low.below
-
 pub overflow_sub-rest : goal.overflow_sub-rest
 overflow_sub-rest c =
-    let low : Lowest c.loop-rest.rest = lowest c.loop-rest.rest c.loop-rest.invariant.small c.loop-rest-test.true in
-    omega (arith, low)
-
-pub overflow_cast-w : goal.overflow_cast-w
-overflow_cast-w c =
     let low : Lowest c.loop-rest.rest = lowest c.loop-rest.rest c.loop-rest.invariant.small c.loop-rest-test.true in
     omega (arith, low)
 
@@ -34,19 +19,11 @@ pub put_pair_row-next-requires : goal.put_pair_row-next-requires
 put_pair_row-next-requires c =
     let low : Lowest c.loop-rest.rest = lowest c.loop-rest.rest c.loop-rest.invariant.small c.loop-rest-test.true in record { name_place = c.requires.name_place; name_place_2 = c.requires.set_name_places.each _ (c.loop-rest.invariant.within.each _ low.member); w_in_bounds = pairs-room _ _ _ _ _ _ _ _ c.loop-rest.invariant c.loop-rest-test.true c.requires.x_in_bounds }
 
-pub loop-rest-smaller : goal.loop-rest-smaller
-loop-rest-smaller c =
-    let low : Lowest c.loop-rest.rest = lowest c.loop-rest.rest c.loop-rest.invariant.small c.loop-rest-test.true in
-    omega (arith, low)
-
 pub loop-rest-preserved : goal.loop-rest-preserved
 loop-rest-preserved c =
     let low : Lowest c.loop-rest.rest = lowest c.loop-rest.rest c.loop-rest.invariant.small c.loop-rest-test.true in
     let less : c.loop-rest.rest - (1 * 2 ^ count_trailing_zeros 64 c.loop-rest.rest) % 2 ^ 64 ≡ c.loop-rest.rest - 2 ^ count_trailing_zeros 64 c.loop-rest.rest = ap (λ (p : ℕ). c.loop-rest.rest - p) low.power in
     pairs-more _ _ _ _ _ _ _ _ c.loop-rest.invariant _ less c.loop-rest-test.true _ _ c.put_pair_row-next.ensures.row_written
-
-pub shape_of-out : goal.shape_of-out
-shape_of-out c = c.loop-rest.invariant.writing.long
 
 pub returns : goal.returns
 returns c = record { row_written = pairs_end _ _ _ _ _ _ _ _ c.loop-rest.invariant c.loop-rest-test.false c.requires.x_in_bounds }

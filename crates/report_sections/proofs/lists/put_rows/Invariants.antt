@@ -1,11 +1,7 @@
-use Prim.Native.Nat.{◌-◌}
 use Rattle.sheet_format.specs.Names.{name_of}
 use Rattle.report_sections.proofs.Rows.{RowsWriting}
 use Rattle.report_sections.proofs.lists.put_rows.Given as goal
 
 -- The rows of the list from row i up to `row` stand from `at` up to `next`; as long as there is none, nothing does.
 abbrev pub invariant-loop-row : goal.invariant-loop-row
-invariant-loop-row l = RowsWriting (name_of l.sheet) l.loss l.target l.values l.list l.i l.n l.initial.out l.at l.out l.row l.next
-
-abbrev pub decreases-loop-row : goal.decreases-loop-row
-decreases-loop-row l = l.n - l.row
+invariant-loop-row l = RowsWriting (name_of l.names.sheet.now) l.loss l.target l.values l.list l.i l.n l.initial.out l.at l.out l.row l.next

@@ -12,7 +12,7 @@ unfolding list_header
 returns-in-Start c =
     let o = c.requires.at_in_bounds in
     went-at _ _ _ _ _ _ _ c.in-Start.is _ _ _ _ _
-    (start-step _ _ _ _ _ _ _ _ _ _ _ _ refl (omega arith) c.put_text-next.ensures c.load-n.ensures)
+    (start-step _ _ _ _ _ _ _ _ _ _ _ _ refl (omega arith) c.put-next.ensures c.load-n.ensures)
 
 pub step_lists-requires : goal.step_lists-requires
 step_lists-requires c = record { can_step = going-at _ _ _ _ _ _ _ c.in-Lists.is c.requires.can_step; at_in_bounds = c.requires.at_in_bounds }

@@ -1,10 +1,11 @@
+use mathlib.Core.Path.{◌≡◌, refl, ◌∙◌}
 use borrow.Author.Rules.{rules}
-use Prim.Native.Nat.{suc, ◌-◌, ◌≤◌, ◌<◌}
+use Prim.Native.Nat.{suc, ◌≤◌, ◌<◌}
 use native.Mathlib.Omega.{arith}
 use lib.ListN.{length}
 use Rattle.sheet_format.specs.Text.{lines_of}
 use Rattle.sheet_fields.proofs.Cutting.{until-le}
-use Rattle.sheet_lines.proofs.Keys.{keys_none, row_at, keys-more, keys-all}
+use Rattle.sheet_lines.proofs.Keys.{keys_none, row_at, row-key, keys-more, keys-all}
 use Rattle.sheet_lines.proofs.item_keys.keys_of.Goals as goal
 
 pub overflow_add-at : goal.overflow_add-at
@@ -13,22 +14,22 @@ overflow_add-at c = let u = until-le 10 c.args.s.now in omega (arith, c.find-at.
 pub loop-v-init : goal.loop-v-init
 loop-v-init c =
     let u = c.requires.lines in
-    (omega arith, keys_none _ _ _ _ _ (search rules) (search rules) (search rules) (omega arith) c.find-at.ensures)
+    (refl, keys_none _ _ _ _ _ (search rules) (search rules) (search rules) (omega arith) c.find-at.ensures)
 
-pub slice_bounds-read_item-count : goal.slice_bounds-read_item-count
-slice_bounds-read_item-count c =
+pub slice_bounds-row_key-count : goal.slice_bounds-row_key-count
+slice_bounds-row_key-count c =
     let more : suc c.loop-v.v < length (lines_of c.args.s.now) = let u = c.requires.lines in omega arith in
     let bounds : (c.loop-v.at ≤ c.find-end.result) × (c.find-end.result ≤ length c.args.s.now) = let r = row_at _ _ _ _ _ _ _ c.loop-v.invariant.1 more c.find-end.ensures in (r.order, r.inside) in
     bounds.0
 
-pub slice_bounds-read_item-start : goal.slice_bounds-read_item-start
-slice_bounds-read_item-start c =
+pub slice_bounds-row_key-start : goal.slice_bounds-row_key-start
+slice_bounds-row_key-start c =
     let more : suc c.loop-v.v < length (lines_of c.args.s.now) = let u = c.requires.lines in omega arith in
     let bounds : (c.loop-v.at ≤ c.find-end.result) × (c.find-end.result ≤ length c.args.s.now) = let r = row_at _ _ _ _ _ _ _ c.loop-v.invariant.1 more c.find-end.ensures in (r.order, r.inside) in
     bounds.0
 
-pub slice_bounds-read_item-end : goal.slice_bounds-read_item-end
-slice_bounds-read_item-end c =
+pub slice_bounds-row_key-end : goal.slice_bounds-row_key-end
+slice_bounds-row_key-end c =
     let more : suc c.loop-v.v < length (lines_of c.args.s.now) = let u = c.requires.lines in omega arith in
     let bounds : (c.loop-v.at ≤ c.find-end.result) × (c.find-end.result ≤ length c.args.s.now) = let r = row_at _ _ _ _ _ _ _ c.loop-v.invariant.1 more c.find-end.ensures in (r.order, r.inside) in
     bounds.1
@@ -42,8 +43,14 @@ overflow_add-at-in-loop-v c =
 pub loop-v-preserved : goal.loop-v-preserved
 loop-v-preserved c =
     let more : suc c.loop-v.v < length (lines_of c.args.s.now) = let u = c.requires.lines in omega arith in
-    (search rules, keys-more _ _ _ _ _ _ _ c.loop-v.invariant.1 more c.find-end.ensures _ (search rules) c.read_item-item.ensures)
+    let p = c.push.ensures in
+    let i = c.loop-v.invariant.0 in (
+      omega (arith, p.count),
+      rw (p.low, p.high, i)
+          (keys-more _ _ _ _ _ _ _ c.loop-v.invariant.1 more c.find-end.ensures c.row_key-key.result (let f = c.requires.few in omega arith) (row-key _ _ c.row_key-key.ensures)),
+    )
 
 pub returns : goal.returns
 returns c =
-    keys-all _ _ _ _ _ _ _ c.requires.few (search rules) c.loop-v.invariant.1
+    let e : c.loop-v.v ≡ c.args.count = omega arith in
+    keys-all _ _ _ _ _ c.requires.few (c.loop-v.invariant.0 ∙ e) (rw e at c.loop-v.invariant.1)

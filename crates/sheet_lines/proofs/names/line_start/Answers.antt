@@ -9,45 +9,45 @@ use Rattle.sheet_fields.proofs.Cutting.{until-le}
 use Rattle.sheet_lines.proofs.Starts.{start_first, start-over, start-next}
 use Rattle.sheet_lines.proofs.names.line_start.Goals as goal
 
-pub loop-i-init : goal.loop-i-init
-loop-i-init c =
+pub loop-line-init : goal.loop-line-init
+loop-line-init c =
     let e = sub-zero c.args.k in
-    (omega arith, omega arith, rw e (omega arith))
+    (omega arith, rw e (omega arith))
 
 pub returns-then-s-at : goal.returns-then-s-at
 returns-then-s-at c =
     let s = c.args.s.now in
-    let z = start-over s c.loop-i.at (c.args.k - c.loop-i.i) c.if-s-at.true in
-    omega (arith, c.loop-i.invariant.2)
+    let z = start-over s c.loop-line.at (c.args.k - c.loop-line._line) c.if-s-at.true in
+    omega (arith, c.loop-line.invariant.1)
 
 pub overflow_add-at : goal.overflow_add-at
 overflow_add-at c =
-    let line-end : c.find-end.result ≤ length c.args.s.now = let s = c.args.s.now in
-    let d = length-drop c.loop-i.at s in
-    let u = until-le 10 (drop c.loop-i.at s) in
+    let line-end : c.find-at.result ≤ length c.args.s.now = let s = c.args.s.now in
+    let d = length-drop c.loop-line.at s in
+    let u = until-le 10 (drop c.loop-line.at s) in
     let t = c.if-s-at.false in
-    let e = c.find-end.ensures in
+    let e = c.find-at.ensures in
     omega arith in
     let l = line-end in
     omega arith
 
-pub loop-i-preserved : goal.loop-i-preserved
-loop-i-preserved c =
-    let line-end : c.find-end.result ≤ length c.args.s.now = let s = c.args.s.now in
-    let d = length-drop c.loop-i.at s in
-    let u = until-le 10 (drop c.loop-i.at s) in
+pub loop-line-preserved : goal.loop-line-preserved
+loop-line-preserved c =
+    let line-end : c.find-at.result ≤ length c.args.s.now = let s = c.args.s.now in
+    let d = length-drop c.loop-line.at s in
+    let u = until-le 10 (drop c.loop-line.at s) in
     let t = c.if-s-at.false in
-    let e = c.find-end.ensures in
+    let e = c.find-at.ensures in
     omega arith in
     let a = c.args in
     let l = line-end in
-    let z = start-next a.s.now c.loop-i.at c.find-end.result c.loop-i.i a.k c.if-s-at.false c.find-end.ensures c.loop-i-test.true in
-    (omega arith, omega arith, c.loop-i.invariant.2 ∙ z)
+    let z = start-next a.s.now c.loop-line.at c.find-at.result c.loop-line._line a.k c.if-s-at.false c.find-at.ensures c.loop-line-test.true in
+    (omega arith, c.loop-line.invariant.1 ∙ z)
 
 pub returns : goal.returns
 returns c =
     let a = c.args in
-    let e : a.k - c.loop-i.i ≡ 0 = omega (arith, c.loop-i-test.false) in
-    let z = start_first (lines_of (drop c.loop-i.at a.s.now)) in
-    let i : line_start (lines_of a.s.now) a.k ≡ c.loop-i.at + line_start (lines_of (drop c.loop-i.at a.s.now)) 0 = c.loop-i.invariant.2 ∙ rw e in
+    let e : a.k - c.loop-line._line ≡ 0 = omega (arith, c.loop-line-test.false) in
+    let z = start_first (lines_of (drop c.loop-line.at a.s.now)) in
+    let i : line_start (lines_of a.s.now) a.k ≡ c.loop-line.at + line_start (lines_of (drop c.loop-line.at a.s.now)) 0 = c.loop-line.invariant.1 ∙ rw e in
     omega arith

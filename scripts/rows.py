@@ -5,8 +5,8 @@ The crates of the program `report` that write rows, and all crates below them, h
 constant and no answer, and no memory from an allocator. The program has two, named below, and two more: one for the words of a failed read or
 write, and one for the eight bytes of a name that are read as one number. Of the library they use what is named below, and nothing else. So there is no byte array to build a row in, or its digits, names and
 sums, and to copy them from. Byte strings are no such place: they are constants, and rows have their fixed words from them. Where rows are written, arrays of words and of structs are named below too, by function, so that no row is packed
-into words; and no function reads from the bytes that are lent to it for writing, so that no row is built behind its place and moved. Pooling is
-not looked at, which writes a sheet and no report. The exit status is 1 where something of this does not hold. `rows.py FOLDER` looks at another
+into words; and no function reads from the bytes that are lent to it for writing, so that no row is built behind its place and moved. A struct may hold
+such bytes in a field that no other crate reaches; then the same holds of the field. Pooling is not looked at, which writes a sheet and no report. The exit status is 1 where something of this does not hold. `rows.py FOLDER` looks at another
 copy of the repository.
 """
 import re
@@ -46,7 +46,10 @@ ALIAS = re.compile(r"^\s*(?:pub\s+)?type\b(?! Item = (?:[ui](?:16|32|64|128|size
 ALIASES = {"pub type SecurityScore = Score<Security>;", "pub type RecoverabilityScore = Score<Recoverability>;"}
 WORDS = re.compile(r"(?:[ui](?:16|32|64|128|size)|bool|[A-Z]\w+)")
 # Bytes lent for writing, as a parameter's type.
-LENT = re.compile(r"&mut \[(?:u8|[A-Z])\]")
+LENT = re.compile(r"&\s*(?:'\w+\s+)?mut\s*\[\s*(?:u8|[A-Z])\s*\]")
+# What is declared, and the fields of a struct that hold such bytes.
+DECLARED = re.compile(r"\b(struct|enum)\s+(\w+)[^;{(]*(\{[^}]*\}|\([^;]*;)")
+HELD = re.compile(rf"^\s*(pub\b.*?)?\b(\w+)\s*:\s*{LENT.pattern}\s*,?\s*$", re.M)
 # A byte string by value.
 COPIED = re.compile(r'\*\s*b""')
 LITERAL = re.compile(r"""//[^\n]*|/\*.*?\*/|b"(?:[^"\\]|\\.)*"|b'(?:[^'\\]|\\.)*'""", re.S)
@@ -81,7 +84,13 @@ BODIES = {
 PROGRAM = {
     "ground": ("", "pub fn least(n: u64) -> u64 {\n    n\n}"),
     "beside": ("", "pub fn copy() {\n    let line = [0u8; 300];\n}"),
-    "writing": ("", "pub fn put_byte(b: u8, out: &mut [u8], at: usize) {\n    out[at] = b;\n}"),
+    "writing": (
+        "",
+        "pub struct Pen<'a> {\n    out: &'a mut [u8],\n    at: usize,\n}\n"
+        "impl<'a> Pen<'a> {\n    pub fn on(out: &'a mut [u8]) -> Pen<'a> {\n        Pen { out, at: 0 }\n    }\n"
+        "    pub fn put_next(&mut self, b: u8) {\n        put_byte(b, self.out, self.at);\n    }\n}\n"
+        "pub fn put_byte(b: u8, out: &mut [u8], at: usize) {\n    out[at] = b;\n}",
+    ),
     "pool": ("writing", "pub fn colours() {\n    let digits = [0u8; 256];\n}"),
     "sheet_fields": ("", "fn pack() -> u64 {\n    let mut bytes = [0; WORD_BYTES];\n    u64::from_le_bytes(bytes)\n}"),
     "report_rows": ("ground writing sheet_fields", "pub fn put_row(out: &mut [u8]) {\n    writing::put_byte(ground::least(1) as u8, out, 0);\n}"),
@@ -97,6 +106,8 @@ PROGRAM = {
 }
 # Changes of it, by crate, line before and lines after, each with how many faults there then are.
 CHANGES = [
+    ("writing", "    out[at] = b;\n}", "    out[at] = b;\n}\n\fpub fn first(pen: &Pen) -> u8 {\n    pen.out[0]\n}", 1),
+    ("writing", "    out[at] = b;\n}", "    out[at] = b;\n}\n\fpub fn last(pen: &mut Pen, b: u8) {\n    pen.out[0] = b;\n}", 0),
     ("ground", "    n", "    let mut line = [0u8; 300]; n", 1),
     ("ground", "-> u64", "-> [u8; 20]", 1),
     ("ground", "pub fn", "struct Line {\n    bytes: [u8; 300],\n}\npub fn", 1),
@@ -135,6 +146,15 @@ CHANGES = [
     ("report_rows", "{\n", "{\n    shown(&out[9..]);\n", 1),
     ("writing", "out[at] = b;", "if out[at] == b { out[at] = b; }", 1),
     ("writing", "out[at] = b;", "out[at] = out[at + 1];", 1),
+    ("writing", "put_byte(b, self.out, self.at);", "self.out[self.at] = b;", 0),
+    ("writing", "put_byte(b, self.out, self.at);", "if self.at < self.out.len() { self.out[self.at] = b; }", 0),
+    ("writing", "put_byte(b, self.out, self.at);", "self.out[self.at] = self.out[0];", 1),
+    ("writing", "put_byte(b, self.out, self.at);", "shown(self.out);", 1),
+    ("writing", "put_byte(b, self.out, self.at);", "let Pen { out, at } = self;", 1),
+    ("writing", "    out: &'a", "    pub out: &'a", 2),
+    ("writing", "Pen { out, at: 0 }", "Row { out, at: 0 }", 1),
+    ("writing", "impl", "struct Row<'a>(&'a mut [u8]);\nimpl", 1),
+    ("writing", "impl", "enum Row<'a> {\n    Kept(&'a mut [u8]),\n}\nimpl", 1),
 ]
 # What each crate of that program depends on.
 TRIED = {crate: set(used.split()) for crate, (used, _) in PROGRAM.items()}
@@ -236,7 +256,17 @@ def arrays(head, body, constants):
 
 def lent_for_writing(head):
     """The parameters that are bytes lent for writing, or may be: of a parameter's type."""
-    return re.findall(r"\b(\w+)\s*:\s*&\s*mut\s*\[\s*(?:u8|[A-Z])\s*\]", head)
+    return re.findall(rf"\b(\w+)\s*:\s*{LENT.pattern}", head)
+
+
+def holders(text):
+    """Yields the place and the name of each struct of a source that holds bytes lent for writing, and the field; no field where others may reach them."""
+    for found in DECLARED.finditer(text):
+        fields = list(HELD.finditer(found.group(3))) if found.group(1) == "struct" else []
+        if LENT.search(found.group(3)) and len(fields) != len(LENT.findall(found.group(3))):
+            yield found.start(), found.group(2), ""
+        for field in fields:
+            yield found.start(), found.group(2), "" if field.group(1) else field.group(2)
 
 
 def calls(body):
@@ -256,20 +286,38 @@ def lends_on(body, name, signatures):
     """The places at which these bytes are handed on to a function that is lent them for writing too."""
     whole = re.compile(rf"{name}|&mut {name}\[.*\]", re.S)
     for called, args in calls(body):
-        kinds = signatures.get(called.lstrip(".").split("::")[-1], set())
+        key = called.lstrip(".")
+        kinds = signatures.get(key if key in signatures else key.split("::")[-1], set())
         for at, (start, arg) in enumerate(args):
             if whole.fullmatch(arg) and (called == READ or kinds and all(len(k) > at and LENT.search(k[at]) for k in kinds)):
-                yield start + body[start:].index(name)
+                yield start + re.search(name, body[start:]).start()
 
 
-def reads_back(head, body, signatures):
-    """Yields the place of each use of bytes lent for writing that is no write, no length and no lending on."""
-    for name in lent_for_writing(head):
+def is_kept(body, found, held):
+    """Does this use of a name give the bytes to a struct of the same source that holds them?"""
+    for struct, field in held:
+        kept = re.compile(rf"(?<!let )\b{struct}\s*\{{(?:[^{{}}]*,)?\s*(?:{field}\s*:\s*)?$")
+        if found.group() == field and kept.search(body[: found.start()]) and re.match(r"\s*[,}]", body[found.end() :]):
+            return True
+    return False
+
+
+def reads_back(head, body, signatures, held):
+    """Yields the place of each use of bytes lent for writing that is no write, no length, no lending on and no keeping; `held` are such fields of the crate."""
+    lent = lent_for_writing(head)
+    names = [rf"(?<![.\w]){name}\b" for name in lent]
+    names += [rf"(?<!\w)(?:\w+\.)+{field}\b" for _, field in held]
+    for name in names:
         fine = set(lends_on(body, name, signatures))
-        for found in re.finditer(rf"\b{name}\b", body):
+        for found in re.finditer(name, body):
             behind = body[found.end() :]
             stored = re.match(r"\[[^\[\]]*(?:\[[^\]]*\][^\[\]]*)*\](?:\s*=(?!=)|\.copy_from_slice\()", behind)
-            if not stored and not behind.startswith(".len()") and found.start() not in fine:
+            if not stored and not behind.startswith(".len()") and found.start() not in fine and not is_kept(body, found, held):
+                yield found.start()
+    # A field that is reached in another way than behind a name and a dot.
+    for _, field in held:
+        for found in re.finditer(rf"(?<!\w){field}\b", body):
+            if not (field in lent and body[found.start() - 1] != ".") and not re.search(r"\w\.$", body[: found.start()]):
                 yield found.start()
 
 
@@ -297,10 +345,19 @@ def line_faults(lines):
                 yield number, f"{found[0]}, of which it is not known what it gives"
 
 
-def faults_of(crate, text, constants, seen, signatures):
-    """The faults of a source without comments; the arrays that are named above go to `seen`. Where rows are written `signatures` are known."""
+def held_faults(text):
+    """The faults of what holds bytes lent for writing."""
+    for place, name, field in holders(text):
+        if not field:
+            yield 1 + text.count("\n", 0, place), f"{name} holds bytes that are lent for writing, and others may reach them"
+
+
+def faults_of(crate, text, constants, seen, signatures, held):
+    """The faults of a source without comments; the arrays that are named above go to `seen`. Where rows are written `signatures` are known. `held` are the fields of
+    the crate's structs, in whichever of its sources, that hold bytes lent for writing: a module reaches those of the modules above it."""
     lines = text.split("\n")
     yield from line_faults(lines)
+    yield from held_faults(text)
     for start, _, name, head, _ in functions(lines):
         first = start + head.count("\n")
         depth, last = 0, first - 1
@@ -315,10 +372,10 @@ def faults_of(crate, text, constants, seen, signatures):
             if (crate, name, own) not in OWN:
                 yield first + body.count("\n", 0, place), f"{name} makes a byte array"
         if signatures:
-            yield from row_faults(crate, name, clean, body, seen, signatures, first, bytes_at)
+            yield from row_faults(crate, name, clean, body, seen, signatures, first, bytes_at, held)
 
 
-def row_faults(crate, name, head, body, seen, signatures, first, bytes_at):
+def row_faults(crate, name, head, body, seen, signatures, first, bytes_at, held):
     """The faults of a function where rows are written: another array, or bytes that are read where they are lent for writing."""
     for place, before, _, field in made(body):
         own = crate, name, field or name_of(before)
@@ -327,19 +384,20 @@ def row_faults(crate, name, head, body, seen, signatures, first, bytes_at):
         seen[own] += 1
         if own not in PERMITTED:
             yield first + body.count("\n", 0, place), f"{name} makes an array that is not named"
-    for place in reads_back(head, body, signatures):
+    for place in reads_back(head, body, signatures, held):
         yield first + body.count("\n", 0, place), f"{name} reads from bytes that are lent for writing"
 
 
 def signatures_of(texts):
-    """Of each function's name the kinds of its parameters, one tuple for each function of that name."""
+    """Of each function's name, and of its crate's and its own, the kinds of its parameters, one tuple for each function of that name."""
     found = {}
-    for text in texts:
+    for crate, text in texts:
         for _, _, name, head, _ in functions(text.split("\n")):
             inside = re.sub(r"\s+", " ", head.partition("(")[2].partition(")")[0])
             # The value that a method is called on stands before its arguments.
             kinds = tuple(part.partition(":")[2].strip() for part in inside.split(",") if part.strip() and not re.fullmatch(r"\s*(?:&|mut |\s)*self\s*", part))
-            found.setdefault(name, set()).add(kinds)
+            for key in (name, f"{crate}::{name}"):
+                found.setdefault(key, set()).add(kinds)
     return found
 
 
@@ -362,9 +420,10 @@ def check(needs, sources):
     for _, _, text in looked_at:
         for name, kind in re.findall(r"\bconst (\w+)\s*:\s*([^=]+?)\s*=", text):
             constants.setdefault(name, set()).add(kind)
-    signatures = signatures_of(text for _, _, text in looked_at)
+    signatures = signatures_of((crate, text) for crate, _, text in looked_at)
     for crate, path, text in looked_at:
-        found = faults_of(crate, text, constants, seen, signatures if crate in writers else None)
+        held = [(name, field) for other, _, whole in looked_at if other == crate for _, name, field in holders(whole) if field]
+        found = faults_of(crate, text, constants, seen, signatures if crate in writers else None, held)
         faults += [f"{path}:{line}: {fault}" for line, fault in found]
     for crate, name, own in sorted(OWN | {named for named in PERMITTED if named[0] in needs and needs is not TRIED}):
         if seen[crate, name, own] != 1:
@@ -382,7 +441,9 @@ def trials():
         if found != many:
             yield f"{body} makes {found} byte arrays and not {many}, says the check"
     for crate, old, new, many in [("report", "out", "out", 0), *CHANGES]:
-        sources = {name: {name: text.replace(old, new, 1) if name == crate else text} for name, (_, text) in PROGRAM.items()}
+        # What stands behind a form feed is another source of the crate.
+        whole = {name: text.replace(old, new, 1) if name == crate else text for name, (_, text) in PROGRAM.items()}
+        sources = {name: {f"{name} {at}": part for at, part in enumerate(text.split("\f"))} for name, text in whole.items()}
         found = check(TRIED, sources)[2]
         if len(found) != many or old not in PROGRAM[crate][1]:
             yield f"{crate} with {new!r} for {old!r} has {len(found)} faults and not {many}, says the check"

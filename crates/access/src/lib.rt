@@ -42,7 +42,8 @@ pub fn lockout_from(s: Setup, set: VertexSet) -> Result<VertexSet, Refusal>
 
 // The way in (document 003: a derivation by definition 3), and how many steps it has; none where the
 // target is shut. The lists are the caller's: the steps' vertices go to the one, their colours to the
-// other.
+// other. Setup, target and set are no struct: the call is offered with them, and so is that of
+// `quick_yes`.
 pub fn access_derivation(
     s: Setup,
     target: usize,

@@ -32,6 +32,9 @@ pub struct Marks {
     pub missing: usize,
 }
 
+// Setup and target are no struct that has them and `Answerable` in these functions: the calls are offered
+// with both, those on marks with the handed-in list too, and each function of `bases` takes both.
+
 // Both lists of a target of a well-formed setup. Their lengths are known before a set is written,
 // so that a lent list which is too short stays as it was.
 fn write_bases(s: Setup, target: usize, out: &mut [u64]) -> Result<Lengths, Refusal>

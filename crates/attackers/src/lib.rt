@@ -72,8 +72,9 @@ fn held_by(kinds: &[u8], initial: VertexSet, t: usize) -> VertexSet
 }
 
 // Does the set open the target? Vertices are taken in until the target is among them, or nothing is
-// left to look at. `list` has each vertex's successors.
-fn reaches(graph: Graph, list: &[u64], set: VertexSet, target: usize) -> bool
+// left to look at. `list` has each vertex's successors; graph and list are no struct, since the clause on
+// them has more than one proof, as in `tables`.
+fn reaches(graph: Graph, list: &[u64; 64], set: VertexSet, target: usize) -> bool
     requires { Successors graph list.now }
     ensures { Decides (HasAccess graph (Member set.0) target) result }
 {
@@ -174,7 +175,7 @@ fn lowest_kinds(graph: Graph, kinds: &[u8], initial: VertexSet, target: usize) -
 }
 
 // The target's score by kinds of attacker. `kinds` has one for each vertex; those of initial vertices
-// alone are read.
+// alone are read. The call is offered with these parameters.
 pub fn attacker_score(s: Setup, target: usize, kinds: &[u8]) -> Result<u64, Refusal>
     ensures { Fulfils (attacker_call s target kinds.now) (ends (attacker_reply result) []) }
 {

@@ -2,26 +2,35 @@
 
 #![tactic(auto)]
 
-ghost use Rattle.std.specs.Prelude.{◌≡◌, ◌≤◌, ◌<◌, length};
+ghost use Rattle.std.specs.Prelude.{◌≤◌, ◌<◌};
 ghost use Rattle.std.specs.Int.Count.{ones};
 ghost use Rattle.formed.specs.WellFormed.{WellFormed};
 ghost use Rattle.derivations.specs.Both.{rule_of};
 ghost use Rattle.tables.specs.Inner.Blocks.{block_bits};
 ghost use Rattle.tables.specs.Inner.Table.{FamilyOfVertex};
-ghost use Rattle.families.specs.Inner.Family.{family_words};
 ghost use Rattle.bases.specs.Inner.Readers.{CanList, BaseFamily, BothFamilies, Values, ScoreBoth};
 
 use families::WORDS;
 use family_words::PART;
+use lanes::BLOCK;
 use setup::{Graph, Setup};
-use tables::{BLOCK, BLOCK_BITS, TABLE};
+use tables::{BLOCK_BITS, TABLE};
 use vertex_set::VertexSet;
 
 // The family of the sets of chosen vertices from which the target has a derivation, by a table of
-// all vertices. The table is a local of this function alone.
-fn family_by_table(graph: Graph, chosen: VertexSet, loss: bool, target: usize, out: &mut [u64])
-    requires { (target < 64) × (length out.old ≡ family_words) }
-    ensures { (length out.new ≡ family_words) × FamilyOfVertex (rule_of loss graph) chosen.0 target out.new }
+// all vertices. The table is a local of this function alone. Here and in the functions below the target's
+// bound stays a clause: it is a number for the calls, and becomes an index here. Graph, chosen vertices, way and
+// target are no struct: a target is one place of a table, which `tables` makes of the other three, and a setup has
+// two graphs.
+fn family_by_table(
+    graph: Graph,
+    chosen: VertexSet,
+    loss: bool,
+    target: usize,
+    out: &mut [u64; WORDS],
+)
+    requires { target < 64 }
+    ensures { FamilyOfVertex (rule_of loss graph) chosen.0 target out.new }
 {
     let mut w = [0u64; TABLE];
     tables::fill(graph, chosen, loss, &mut w);
@@ -31,10 +40,16 @@ fn family_by_table(graph: Graph, chosen: VertexSet, loss: bool, target: usize, o
 
 // The same by one block of a table. At most ten vertices are chosen: no mask's set heeds a bit that
 // tells blocks apart, so the target's words of one block are those of every block.
-fn family_by_block(graph: Graph, chosen: VertexSet, loss: bool, target: usize, out: &mut [u64])
-    requires target_bound { (target < 64) × (length out.old ≡ family_words) }
+fn family_by_block(
+    graph: Graph,
+    chosen: VertexSet,
+    loss: bool,
+    target: usize,
+    out: &mut [u64; WORDS],
+)
+    requires target_bound { target < 64 }
     requires chosen_bound { ones chosen.0 ≤ block_bits }
-    ensures { (length out.new ≡ family_words) × FamilyOfVertex (rule_of loss graph) chosen.0 target out.new }
+    ensures { FamilyOfVertex (rule_of loss graph) chosen.0 target out.new }
 {
     let mut x = [0u64; BLOCK];
     tables::fill_block(graph, chosen, loss, &mut x);
@@ -47,9 +62,9 @@ fn family_by_block(graph: Graph, chosen: VertexSet, loss: bool, target: usize, o
 // The family of the sets of chosen vertices from which the target has a derivation. The table is
 // asked for in two places: the compiler then leaves it out of this function's frame, and with at
 // most ten chosen vertices a call needs no stack for it.
-pub fn family_of(graph: Graph, chosen: VertexSet, loss: bool, target: usize, out: &mut [u64])
-    requires { (target < 64) × (length out.old ≡ family_words) }
-    ensures { (length out.new ≡ family_words) × FamilyOfVertex (rule_of loss graph) chosen.0 target out.new }
+pub fn family_of(graph: Graph, chosen: VertexSet, loss: bool, target: usize, out: &mut [u64; WORDS])
+    requires { target < 64 }
+    ensures { FamilyOfVertex (rule_of loss graph) chosen.0 target out.new }
 {
     if u64::count_ones(chosen.0) as usize <= BLOCK_BITS {
         family_by_block(graph, chosen, loss, target, out);
@@ -99,10 +114,10 @@ pub fn both_families(
     loss: bool,
     target: usize,
     chosen: VertexSet,
-    family: &mut [u64],
-    minimal: &mut [u64],
+    family: &mut [u64; WORDS],
+    minimal: &mut [u64; WORDS],
 ) -> usize
-    requires { CanList loss s target chosen.0 family.old × (length minimal.old ≡ family_words) }
+    requires { CanList loss s target chosen.0 }
     ensures { BothFamilies loss s graph target chosen.0 family.new minimal.new result }
 {
     family_of(graph, chosen, loss, target, family);
@@ -118,9 +133,9 @@ pub fn base_family(
     loss: bool,
     target: usize,
     chosen: VertexSet,
-    out: &mut [u64],
+    out: &mut [u64; WORDS],
 ) -> usize
-    requires { CanList loss s target chosen.0 out.old }
+    requires { CanList loss s target chosen.0 }
     ensures { BaseFamily loss s graph target chosen.0 out.new result }
 {
     let mut family = [0u64; WORDS];

@@ -1,8 +1,6 @@
 // The dual of a family: a mask is in it exactly if the mask of all other bits is not in the family.
 // All 2^14 masks take part, however few vertices are chosen: bits beyond the chosen vertices pick
 // nothing.
-ghost use Rattle.std.specs.Prelude.{◌≡◌, length};
-ghost use Rattle.families.specs.Inner.Family.{family_words};
 ghost use Rattle.cut_sets.specs.Inner.{TurnedRound, Dual};
 
 use families::WORDS;
@@ -21,13 +19,11 @@ fn turn_round(x: u64) -> u64
 
 // The dual of the family f, written to out. The mask of all other bits stands as far from the end
 // as the mask from the beginning: in the word opposite, in the lane opposite.
-pub(crate) fn dual(f: &[u64], out: &mut [u64])
-    requires f_len { length f.now ≡ family_words }
-    requires out_len { length out.old ≡ family_words }
+pub(crate) fn dual(f: &[u64; WORDS], out: &mut [u64; WORDS])
     ensures { Dual f.now out.new }
 {
-    for b in 0..WORDS {
+    for (b, word) in out.iter_mut().enumerate() {
         let turned = turn_round(f[WORDS - 1 - b]);
-        out[b] = !turned;
+        *word = !turned;
     }
 }

@@ -19,8 +19,8 @@ use setup::Setup;
 use vertex_set::VertexSet;
 
 // The family of the target's smallest cut sets, and their number.
-fn cut_family(s: Setup, target: usize, initial: VertexSet, out: &mut [u64]) -> usize
-    requires { CanList false s target initial.0 out.old }
+fn cut_family(s: Setup, target: usize, initial: VertexSet, out: &mut [u64; WORDS]) -> usize
+    requires { CanList false s target initial.0 }
     ensures { CutFamily s target initial.0 out.new result }
 {
     let mut opening = [0u64; WORDS];
@@ -31,7 +31,8 @@ fn cut_family(s: Setup, target: usize, initial: VertexSet, out: &mut [u64]) -> u
 }
 
 // The smallest cut sets of a target of a well-formed setup. Their number is known before a set is
-// written, so that a lent list which is too short stays as it was.
+// written, so that a lent list which is too short stays as it was. Setup and target are no struct with
+// `Answerable`: the call is offered with both, and `bases` takes both.
 fn write_cuts(s: Setup, target: usize, out: &mut [u64]) -> Result<usize, Refusal>
     requires { Answerable s target }
     ensures { Answers (cuts_call s target out.old) (ends (cuts_reply result) (out.new ∷ [])) }

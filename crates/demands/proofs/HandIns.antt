@@ -16,8 +16,8 @@ use Rattle.sheet_format.specs.Read.{read_sheet}
 use Rattle.records.specs.declared.Record.{Record}
 use Rattle.records.specs.declared.Registered.{Registered}
 use Rattle.records.specs.Records.{RegisterOutcome, with_slice, hands_back}
-use Rattle.handin_format.specs.declared.NamedSet.{NamedSet}
-use Rattle.handin_format.specs.declared.LineAnswer.{LineAnswer}
+use Rattle.handin_format.specs.Calls.{NamedSet}
+use Rattle.handin_format.specs.Calls.{LineAnswer}
 use Rattle.handin_format.specs.Calls.{set_told, ReadSetCall, write_set_call, LineOutcome, with_sets, line_refused, ReadLineCall, EnterCall}
 use Rattle.handin_format.specs.Meaning.{NamesSet}
 use Rattle.handin_format.proofs.Unique.{line_numbers, SetComes, set-no-sheet, set-no-names, set-named, set-comes, one-read-set, LineComes, line-no-sheet, line-no, line-short, line-told, reading-comes, one-read-line, EnterComes, enter-overfull, enter-no-sheet, enter-no-line, enter-no-place, enter-done, enter-comes, one-entering}

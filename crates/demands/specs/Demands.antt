@@ -38,8 +38,8 @@ use Rattle.portal_living.specs.Living.{living_call, LivesInWords}
 use Rattle.portal_register.specs.declared.ReadLineResult.{ReadLineResult}
 use Rattle.portal_register.specs.Lines.{TellLineCall}
 use Rattle.portal.specs.Portal.{PortalCall}
-use Rattle.handin_format.specs.declared.NamedSet.{NamedSet}
-use Rattle.handin_format.specs.declared.LineAnswer.{LineAnswer}
+use Rattle.handin_format.specs.Calls.{NamedSet}
+use Rattle.handin_format.specs.Calls.{LineAnswer}
 use Rattle.handin_format.specs.Calls.{ReadSetCall, write_set_call, ReadLineCall, EnterCall}
 use Rattle.handin_format.specs.Afternoon.{LinesLaw}
 use Rattle.handin_format.specs.Meaning.{LineOfEntry, EntryOfLine, SetOfNames, SetReadBack, SetEnough}

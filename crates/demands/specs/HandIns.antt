@@ -6,8 +6,8 @@ use Rattle.records.specs.declared.Record.{Record}
 use Rattle.records.specs.declared.Registered.{Registered}
 use Rattle.records.specs.Records.{with_slice, hands_back}
 use Rattle.register.specs.Afternoon.{RegisterCall}
-use Rattle.handin_format.specs.declared.NamedSet.{NamedSet}
-use Rattle.handin_format.specs.declared.LineAnswer.{LineAnswer}
+use Rattle.handin_format.specs.Calls.{NamedSet}
+use Rattle.handin_format.specs.Calls.{LineAnswer}
 use Rattle.handin_format.specs.Calls.{set_told, ReadSetCall, with_sets, line_refused, tells_call, ReadLineCall, EnterCall}
 use Rattle.handin_format.specs.Meaning.{NamesSet, LineSays}
 use Rattle.demands.specs.Sheets.{sheet_numbers}

@@ -17,7 +17,7 @@ ghost use Rattle.living.specs.Calls.{handed_back, TakeIn, TakeOut, AddEdge, Remo
 ghost use Rattle.register.specs.Calls.{HandInCall, WithdrawCall};
 ghost use Rattle.pool_format.specs.Call.{pool_answer, PoolCall};
 ghost use Rattle.save_format.specs.Call.{saved, save_call};
-ghost use Rattle.handin_format.specs.Calls.{ReadSetCall, write_set_call, ReadLineCall};
+ghost use Rattle.handin_format.specs.Calls.{named_set, set_written, line_answer, ReadSetCall, write_set_call, ReadLineCall};
 ghost use Rattle.sheet_format.specs.Read.{reading, read_sheet};
 ghost use Rattle.portal.specs.Portal.{PortalCall};
 ghost use Rattle.histories.specs.Histories.{Reached};
@@ -28,7 +28,7 @@ ghost use Rattle.demands.specs.Demands.{Demand1, Demand2, Demand3Reached};
 
 use access::Opened;
 use answers::AllAnswers;
-use handin_format::{LineAnswer, NamedSet, SetWritten};
+use handin_format::{LineSaid, Unread};
 use pool_format::PoolRefusal;
 use questions::Refusal;
 use quick_yes::QuickAnswer;
@@ -91,6 +91,9 @@ pub struct LivingAnswers {
     pub added: Result<Setup, Refusal>,
     pub removed: Result<Setup, Refusal>,
 }
+
+// These functions hand on what the demands are about, one parameter for each that an offered call has:
+// README and docs name them, and their clauses, as they are.
 
 // Asks for closure, lost set, way in and quick yes.
 fn ask_sets(
@@ -324,25 +327,25 @@ pub fn demands_of_saving(sheet: &[u8], s: Setup, out: &mut [u8]) -> Result<usize
 }
 
 // Both demands of a set by its names.
-pub fn demands_of_set(sheet: &[u8], text: &[u8]) -> NamedSet
-    ensures one { SettledReadSet sheet.now text.now result }
-    ensures two { ReadSetCall sheet.now text.now result }
+pub fn demands_of_set(sheet: &[u8], text: &[u8]) -> Result<u64, Unread>
+    ensures one { SettledReadSet sheet.now text.now (named_set result) }
+    ensures two { ReadSetCall sheet.now text.now (named_set result) }
 {
     handins::read_set(sheet, text)
 }
 
 // Both demands of the names of a set.
-pub fn demands_of_set_names(sheet: &[u8], set: u64, out: &mut [u8]) -> SetWritten
-    ensures one { SettledTold (write_set_call sheet.now set out.old) result.number (result.length ∷ []) (out.new ∷ []) }
-    ensures two { Told (write_set_call sheet.now set out.old) result.number (result.length ∷ []) (out.new ∷ []) }
+pub fn demands_of_set_names(sheet: &[u8], set: u64, out: &mut [u8]) -> Result<usize, Refusal>
+    ensures one { SettledTold (write_set_call sheet.now set out.old) (set_written result).number ((set_written result).size ∷ []) (out.new ∷ []) }
+    ensures two { Told (write_set_call sheet.now set out.old) (set_written result).number ((set_written result).size ∷ []) (out.new ∷ []) }
 {
     handins::write_set(sheet, set, out)
 }
 
 // Both demands of what a hand-in line says.
-pub fn demands_of_line(sheet: &[u8], line: &[u8], handed: &mut [u64]) -> LineAnswer
-    ensures one { SettledReadLine sheet.now line.now result handed.old handed.new }
-    ensures two { ReadLineCall sheet.now line.now result handed.old handed.new }
+pub fn demands_of_line(sheet: &[u8], line: &[u8], handed: &mut [u64]) -> Result<LineSaid, Unread>
+    ensures one { SettledReadLine sheet.now line.now (line_answer result) handed.old handed.new }
+    ensures two { ReadLineCall sheet.now line.now (line_answer result) handed.old handed.new }
 {
     handins::read_line(sheet, line, handed)
 }

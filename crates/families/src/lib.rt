@@ -3,23 +3,22 @@
 
 #![tactic(auto)]
 
-ghost use Rattle.std.specs.Prelude.{◌≡◌, ◌≤◌, ◌<◌, length};
+ghost use Rattle.std.specs.Prelude.{◌≡◌, ◌≤◌, ◌<◌};
 ghost use Rattle.std.specs.Int.Count.{ones};
-ghost use Rattle.families.specs.Inner.Family.{family_words, mask_bits, size, MinimalMembers, LeastBelow};
+ghost use Rattle.families.specs.Inner.Family.{family_words, mask_bits, size, WordsFit, MinimalMembers, LeastBelow};
 ghost use Rattle.families.specs.Inner.Exact.{WordsFor};
 ghost use Rattle.families.specs.Inner.Masks.{MaskOf};
 ghost use Rattle.families.specs.Inner.Steps.{StepsInWord, StepsToWord, LeastWord, ClearedFrom};
 
 use vertex_set::VertexSet;
 
-// A family has 256 words of 64 bits, a bit for each of 2^14 masks. The number of masks is no mask. A family
-// is lent as a slice, whose length a contract states, and not as an array: many are parts of a table, and
-// what is cut out of a table is a slice.
+// A family has 256 words of 64 bits, a bit for each of 2^14 masks. The number of masks is no mask.
 pub const WORDS: usize = 256;
 
 pub const MASKS: usize = WORDS * 64;
 
-// How many words the masks of sets of chosen vertices fill: no minimal member is in a later one.
+// How many words the masks of sets of chosen vertices fill: no minimal member is in a later one. Here and
+// in `mask_of` the count stays a clause: the calls speak of any set of vertices, and so of no narrower type.
 pub fn words_for(chosen: VertexSet) -> usize
     requires { ones chosen.0 ≤ mask_bits }
     ensures { WordsFor chosen.0 result }
@@ -41,10 +40,11 @@ fn count_word(x: u64) -> usize
     x.count_ones() as usize
 }
 
-// The number of the family's members.
-pub fn count_members(f: &[u64]) -> usize
-    requires { length f.now ≡ family_words }
-    ensures { result ≡ size f.now }
+// The number of the family's members. That its words are words of 64 bits is told as well: of an array
+// that a call has written, a caller's proof knows the length alone.
+pub fn count_members(f: &[u64; WORDS]) -> usize
+    ensures count { result ≡ size f.now }
+    ensures words { WordsFit f.now }
 {
     let mut n: usize = 0;
     for x in f {
@@ -66,10 +66,10 @@ fn steps_in_word(x: u64) -> u64
     a | b | c | d | e | g
 }
 
-// The lanes that the family has in a word whose number is b less one of its bits.
-fn steps_to_word(f: &[u64], b: usize) -> u64
-    requires f_len { length f.now ≡ family_words }
-    requires b_lt_family_words { b < family_words }
+// The lanes that the family has in a word whose number is b less one of its bits. Here and in
+// `least_word` the bound of b stays a clause: a type for it would be made and opened on the spot.
+fn steps_to_word(f: &[u64; WORDS], b: usize) -> u64
+    requires { b < family_words }
     ensures { StepsToWord f.now b 8 result }
 {
     let mut lanes: u64 = 0;
@@ -84,9 +84,8 @@ fn steps_to_word(f: &[u64], b: usize) -> u64
 }
 
 // The lanes of word b whose masks are members of the family, while no mask with one bit fewer is.
-fn least_word(f: &[u64], b: usize) -> u64
-    requires f_len { length f.now ≡ family_words }
-    requires b_lt_family_words { b < family_words }
+fn least_word(f: &[u64; WORDS], b: usize) -> u64
+    requires { b < family_words }
     ensures { LeastWord f.now b result }
 {
     let x = f[b];
@@ -96,9 +95,8 @@ fn least_word(f: &[u64], b: usize) -> u64
 }
 
 // The words from n on become 0.
-fn clear_from(n: usize, d: &mut [u64])
-    requires d_len { length d.old ≡ family_words }
-    requires n_le_family_words { n ≤ family_words }
+fn clear_from(n: usize, d: &mut [u64; WORDS])
+    requires { n ≤ family_words }
     ensures { ClearedFrom n d.new }
 {
     d[n..].fill(0);
@@ -106,14 +104,12 @@ fn clear_from(n: usize, d: &mut [u64])
 
 // The family's minimal members, written to out; they are all in the first n words. One step down is
 // enough: the family is monotone.
-pub fn minimal_members(f: &[u64], n: usize, out: &mut [u64])
-    requires f_len { length f.now ≡ family_words }
-    requires least_below { LeastBelow n f.now }
-    requires out_len { length out.old ≡ family_words }
+pub fn minimal_members(f: &[u64; WORDS], n: usize, out: &mut [u64; WORDS])
+    requires { LeastBelow n f.now }
     ensures { MinimalMembers f.now out.new }
 {
     clear_from(n, out);
-    // By number, since a word is judged by the words of smaller numbers.
+    // By number, by which both families are taken.
     for b in 0..n {
         out[b] = least_word(f, b);
     }
@@ -121,8 +117,7 @@ pub fn minimal_members(f: &[u64], n: usize, out: &mut [u64])
 
 // Keeps the family's minimal members alone. Each word is judged by itself and by words of smaller
 // numbers, so the last word goes first and no copy is needed.
-pub fn keep_minimal(f: &mut [u64])
-    requires { length f.old ≡ family_words }
+pub fn keep_minimal(f: &mut [u64; WORDS])
     ensures { MinimalMembers f.old f.new }
 {
     for b in (0..WORDS).rev() {

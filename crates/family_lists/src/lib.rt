@@ -44,7 +44,9 @@ pub fn lanes_of_size(b: usize, s: usize) -> u64
     layer(k, s)
 }
 
-// Writes the sums of the masks of word b in the lanes of y, from `at` on, and gives the next place.
+// Writes the sums of the masks of word b in the lanes of y, from `at` on, and gives the next place. Here and
+// in `put_sized` the bound of b stays a clause: a type for it would be made and opened on the spot. Sums, list and
+// place are no struct: `writing::Pen` is of bytes, and what these three write is made word by word and not copied.
 fn put_word(y: u64, b: usize, sums: &MaskSums, out: &mut [u64], at: usize) -> usize
     requires b_lt_family_words { b < family_words }
     requires y_in_bounds { at + ones y ≤ length out.old }
@@ -73,8 +75,7 @@ fn put_sized(x: u64, b: usize, s: usize, sums: &MaskSums, out: &mut [u64], at: u
 
 // Writes the numbers of the family's words that are not empty to the front of `index`, and gives
 // their count. By them the other loops pass over empty words.
-fn occupied_words(f: &[u64], index: &mut [usize; WORDS]) -> usize
-    requires { length f.now ≡ family_words }
+fn occupied_words(f: &[u64; WORDS], index: &mut [usize; WORDS]) -> usize
     ensures { (result ≤ family_words) × Occupied f.now (take result index.new) }
 {
     let mut n: usize = 0;
@@ -90,14 +91,13 @@ fn occupied_words(f: &[u64], index: &mut [usize; WORDS]) -> usize
 // Writes the sums of the family's members that have s bits, from `at` on, and gives the next place.
 // All members are in the words with the listed numbers.
 fn put_size(
-    f: &[u64],
+    f: &[u64; WORDS],
     occupied: &[usize],
     s: usize,
     sums: &MaskSums,
     out: &mut [u64],
     at: usize,
 ) -> usize
-    requires f_len { length f.now ≡ family_words }
     requires words { Occupied f.now occupied.now }
     requires f_in_bounds { at + length (of_size s (rising 0 f.now)) ≤ length out.old }
     ensures { Wrote out.old at (map (sum_by sums.now.low sums.now.high) (of_size s (rising 0 f.now))) out.new result }
@@ -111,9 +111,8 @@ fn put_size(
 
 // At place k stand the lanes that are in some word of the family whose number has k bits. All
 // members are in the words with the listed numbers.
-fn joined_words(f: &[u64], occupied: &[usize]) -> [u64; 9]
-    requires f_len { length f.now ≡ family_words }
-    requires words { Occupied f.now occupied.now }
+fn joined_words(f: &[u64; WORDS], occupied: &[usize]) -> [u64; 9]
+    requires { Occupied f.now occupied.now }
     ensures { JoinedBySize f.now result }
 {
     let mut joined = [0u64; 9];
@@ -140,9 +139,8 @@ fn some_of_size(joined: &[u64; 9], s: usize) -> bool
 
 // Writes the sums of all members of the family to the front of `out`, fewer bits first, and gives
 // their number. Sizes that no member has are passed over.
-fn put_all(f: &[u64], sums: &MaskSums, out: &mut [u64]) -> usize
-    requires f_len { length f.now ≡ family_words }
-    requires f_in_bounds { size f.now ≤ length out.old }
+fn put_all(f: &[u64; WORDS], sums: &MaskSums, out: &mut [u64]) -> usize
+    requires { size f.now ≤ length out.old }
     ensures { Wrote out.old 0 (map (sum_by sums.now.low sums.now.high) (by_size (rising 0 f.now) 0 15)) out.new result }
 {
     let mut index = [0usize; WORDS];
@@ -161,7 +159,7 @@ fn put_all(f: &[u64], sums: &MaskSums, out: &mut [u64]) -> usize
 // Writes the sets of the family's members to the front of `out`, fewer vertices first and then the
 // smaller set number, and gives the count of sets. The number of a set is the sum of its vertices'
 // powers of 2.
-pub fn write_sets(f: &[u64], chosen: VertexSet, out: &mut [u64]) -> usize
+pub fn write_sets(f: &[u64; WORDS], chosen: VertexSet, out: &mut [u64]) -> usize
     requires { Writable chosen.0 f.now (length out.old) }
     ensures { WroteSets chosen.0 f.now out.old result out.new }
 {

@@ -3,7 +3,7 @@
 
 #![tactic(auto)]
 
-ghost use Rattle.std.specs.Prelude.{◌≡◌, ◌<◌, length};
+ghost use Rattle.std.specs.Prelude.{◌<◌};
 ghost use Rattle.families.specs.Inner.Family.{family_words, masks};
 ghost use Rattle.families.specs.Inner.Masks.{SetOfMask};
 ghost use Rattle.family_steps.specs.Inner.{LanesFrom, FirstOfSize, NextMember};
@@ -14,7 +14,8 @@ use vertex_set::VertexSet;
 // The most bits that a mask has, and one more.
 const SIZES: usize = 15;
 
-// The lanes of word b whose masks are `from` or above it.
+// The lanes of word b whose masks are `from` or above it. The bound of b stays a clause, as that of
+// `next_member`'s mask: a type for it would be made and opened on the spot.
 fn lanes_from(b: usize, from: usize) -> u64
     requires { b < family_words }
     ensures { LanesFrom b from result }
@@ -28,10 +29,10 @@ fn lanes_from(b: usize, from: usize) -> u64
 }
 
 // The lowest member that has s bits and is `from` or above it.
-fn first_of_size(f: &[u64], s: usize, from: usize) -> Option<usize>
-    requires { length f.now ≡ family_words }
+fn first_of_size(f: &[u64; WORDS], s: usize, from: usize) -> Option<usize>
     ensures { FirstOfSize f.now s from result }
 {
+    // By number, since it begins in the middle of the family, at the word of `from`.
     for b in from / 64..WORDS {
         let sized = family_lists::lanes_of_size(b, s);
         let later = lanes_from(b, from);
@@ -45,9 +46,8 @@ fn first_of_size(f: &[u64], s: usize, from: usize) -> Option<usize>
 
 // The first member after the mask m. Of m's own size only larger masks come after it, of the sizes
 // above all do.
-pub fn next_member(f: &[u64], m: usize) -> Option<usize>
-    requires f_len { length f.now ≡ family_words }
-    requires m_lt_masks { m < masks }
+pub fn next_member(f: &[u64; WORDS], m: usize) -> Option<usize>
+    requires { m < masks }
     ensures { NextMember f.now m result }
 {
     let size = m.count_ones() as usize;

@@ -33,14 +33,16 @@ mapped-part f P d₀ d n m h p =
     }
 
 -- every word is x
-pub filled-part : (x : ℕ) (d₀ d : List ℕ) → length d₀ ≡ 16 → d ≡ replicate (length d₀) x → PartWhere (λ b i. Member x i) d
+pub same-words : (x : ℕ) → PartWhere (λ b i. Member x i) (replicate 16 x)
 unfolding At
-filled-part x d₀ d e f =
-    let all : d ≡ replicate 16 x = rw e at f in
+same-words x =
     record {
-      words = ap length all ∙ length-replicate 16 x;
-      each = λ b i hb hi. subst (λ (y : ℕ). Iff (Member y i) (Member x i)) (sym (ap (λ (l : List ℕ). get_or l b 0) all ∙ get_or-replicate 16 b x 0 hb)) iff-refl;
+      words = length-replicate 16 x;
+      each = λ b i hb hi. subst (λ (y : ℕ). Iff (Member y i) (Member x i)) (sym (get_or-replicate 16 b x 0 hb)) iff-refl;
     }
+
+pub filled-part : (x : ℕ) (d₀ d : List ℕ) → length d₀ ≡ 16 → d ≡ replicate (length d₀) x → PartWhere (λ b i. Member x i) d
+filled-part x d₀ d e f = subst (PartWhere (λ b i. Member x i)) (sym (f ∙ ap (λ (n : ℕ). replicate n x) e)) (same-words x)
 
 in-merged : (any : Bool) (x y i : ℕ) → Iff (Member (merged_word any x y) i) (Merged any (Member x i) (Member y i))
 unfolding merged_word Merged

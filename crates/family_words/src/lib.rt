@@ -7,18 +7,8 @@ ghost use Rattle.std.specs.Prelude.{◌≡◌, ◌+◌, ◌*◌, ◌<◌, length
 ghost use Rattle.vertex_set.specs.Set.{Member};
 ghost use Rattle.family_words.specs.Inner.Words.{part_words, At, PartWhere, Merged, merged_word, Joined};
 
-// A part of a family has 16 words of 64 bits, a bit for each of 2^10 masks. It is lent as a slice, whose
-// length a contract states, and not as an array: parts are cut out of a block, and what is cut out is a
-// slice.
+// A part of a family has 16 words of 64 bits, a bit for each of 2^10 masks.
 pub const PART: usize = 16;
-
-// Every word of the part becomes x.
-pub fn set_all(d: &mut [u64], x: u64)
-    requires { length d.old ≡ part_words }
-    ensures { PartWhere (λ b i. Member x i) d.new }
-{
-    d.fill(x);
-}
 
 // The bits that both words have or, with `any`, that one of them has.
 #[tactic(auto, unfolding(crate::specs::Inner::Words::merged_word))]
@@ -30,9 +20,7 @@ fn merged(any: bool, x: u64, y: u64) -> u64
 
 // The part keeps only the masks that the other has too or, with `any`, gains those that the other
 // has.
-pub fn merge_in(any: bool, d: &mut [u64], s: &[u64])
-    requires d_len { length d.old ≡ part_words }
-    requires s_len { length s.now ≡ part_words }
+pub fn merge_in(any: bool, d: &mut [u64; PART], s: &[u64; PART])
     ensures { PartWhere (λ b i. Merged any (At d.old b i) (At s.now b i)) d.new }
 {
     for (b, y) in s.iter().enumerate() {
@@ -40,10 +28,10 @@ pub fn merge_in(any: bool, d: &mut [u64], s: &[u64])
     }
 }
 
-// The part gains the masks that the other has. Was one of them new?
-pub fn join(d: &mut [u64], s: &[u64]) -> bool
-    requires d_len { length d.old ≡ part_words }
-    requires s_len { length s.now ≡ part_words }
+// The part gains the masks that the other has. Was one of them new? `d` is a slice, since it is cut out
+// of a block and written there: tried with `first_chunk_mut`, of whose end the proof learns the length alone.
+pub fn join(d: &mut [u64], s: &[u64; PART]) -> bool
+    requires { length d.old ≡ part_words }
     ensures { Joined d.old s.now result d.new }
 {
     let mut fresh: u64 = 0;
@@ -65,19 +53,21 @@ const PATTERNS: [u64; 6] = [
     0xFFFF_FFFF_0000_0000,
 ];
 
-// The part becomes that of the masks that have the bit k.
-pub fn start_words(d: &mut [u64], k: usize)
-    requires d_len { length d.old ≡ part_words }
-    requires k_bound { k < 64 }
-    ensures { PartWhere (λ b i. Member (b * 64 + i) k) d.new }
+// The part of the masks that have the bit k. Its bound stays a clause: a type for it would be made and
+// opened on the spot.
+pub fn start_words(k: usize) -> [u64; PART]
+    requires { k < 64 }
+    ensures { PartWhere (λ b i. Member (b * 64 + i) k) result }
 {
+    let mut part = [0u64; PART];
     if k < 6 {
-        set_all(d, PATTERNS[k]);
-        return;
+        part.fill(PATTERNS[k]);
+        return part;
     }
     let j = k - 6;
-    for (b, word) in d.iter_mut().enumerate() {
+    for (b, word) in part.iter_mut().enumerate() {
         let bit = (b >> j) % 2;
         *word = (bit as u64) * u64::MAX;
     }
+    part
 }

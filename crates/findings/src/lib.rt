@@ -13,6 +13,9 @@ use questions::Refusal;
 use scores::{RecoverabilityScore, SecurityScore};
 use setup::{Graph, Setup};
 
+// Setup and item are no struct that has them and `Answerable` in these functions: the calls are offered
+// with both, and `bases::score_of` takes both.
+
 // The security score of v in the setup's own graph, or in the graph without recovery.
 fn security_in(s: Setup, graph: Graph, v: usize) -> SecurityScore
     requires { Answerable s v }

@@ -23,7 +23,7 @@ use Rattle.records.specs.declared.Record.{Record}
 use Rattle.records.specs.declared.Registered.{Registered}
 use Rattle.records.specs.Records.{RegisterOutcome}
 use Rattle.register.specs.Afternoon.{RegisterCall, HandIn, Withdraw}
-use Rattle.handin_format.specs.declared.LineAnswer.{LineAnswer}
+use Rattle.handin_format.specs.Calls.{LineAnswer}
 use Rattle.handin_format.specs.Sets.{set_from, with_names, with_name, parts_of, some_set}
 use Rattle.handin_format.specs.Lines.{line_no, first_no_of, line_questions, field_questions, set_questions, fields_there, fields_filled, is_way, is_student, is_line_byte, line_call, call_of_fields}
 use Rattle.handin_format.specs.Calls.{LineOutcome, with_sets, ReadLineCall, EnterCall}

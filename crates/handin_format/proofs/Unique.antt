@@ -31,8 +31,8 @@ use Rattle.register.specs.Afternoon.{RegisterCall, HandIn, Withdraw, MeetsCall}
 use Rattle.register.proofs.Outcomes.{answer-number}
 use Rattle.register.proofs.Unique.{one-hand-in, one-withdrawal}
 use Rattle.handin_format.specs.Sets.{SetField}
-use Rattle.handin_format.specs.declared.NamedSet.{NamedSet}
-use Rattle.handin_format.specs.declared.LineAnswer.{LineAnswer}
+use Rattle.handin_format.specs.Calls.{NamedSet}
+use Rattle.handin_format.specs.Calls.{LineAnswer}
 use Rattle.handin_format.specs.Sets.{no_set, some_set, parts_of, with_name, with_names, set_from}
 use Rattle.handin_format.specs.Entries.{LineEntry, HandsIn, Withdraws, most_handed, ValidEntry, stated}
 use Rattle.handin_format.specs.Lines.{FieldAsked, ask_of, fields_filled, fields_there, set_questions, field_questions, line_questions, first_no_of, line_no, line_call}

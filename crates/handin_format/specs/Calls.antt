@@ -1,6 +1,8 @@
 -- What the calls on sets by name and on lines answer, for every sheet, text, register and lent list.
-use Rattle.std.specs.Prelude.{◌≡◌, true, false, List, [], ◌∷◌, ℕ, ◌≤◌, length}
+use Rattle.std.specs.Prelude.{◌≡◌, Result, Ok, Err, Bool, true, false, List, [], ◌∷◌, ℕ, ◌≤◌, length}
 use Rattle.setup.specs.Calls.{written}
+use Rattle.questions.specs.declared.Refusal.{Refusal}
+use Rattle.questions.specs.Refusals.{number}
 use Rattle.questions.specs.Asks.{Question, Asks}
 use Rattle.questions.specs.Contract.{Contract}
 use Rattle.questions.specs.Questions.{asks14}
@@ -12,12 +14,25 @@ use Rattle.records.specs.declared.Registered.{Registered}
 use Rattle.records.specs.Records.{RegisterOutcome, with_slice, hands_back}
 use Rattle.register.specs.Calls.{asks25}
 use Rattle.register.specs.Afternoon.{RegisterCall, HandIn, Withdraw, MeetsCall}
-use Rattle.handin_format.specs.declared.NamedSet.{NamedSet}
-use Rattle.handin_format.specs.declared.LineAnswer.{LineAnswer}
+use Rattle.handin_format.specs.declared.LineSaid.{LineSaid}
+use Rattle.handin_format.specs.declared.LineSaid.TheVariants as said
+use Rattle.handin_format.specs.declared.Unread.{Unread}
+use Rattle.handin_format.specs.declared.Unread.TheVariants as unread
 use Rattle.handin_format.specs.Sets.{set_from, set_names}
 use Rattle.handin_format.specs.Lines.{line_no, line_call}
 
+-- In the two answers below `number` is that of the refusal, or 0. `text` is 1 where the sheet is refused and 2 where the
+-- handed-in text is, else 0; `place` is then the sheet's line, or the line's field, counted from 1, and 0 where the no is
+-- about the whole text.
+
 -- ---- a set by its names
+
+-- A set that was read from its names. A refusal gives the set 0.
+pub record NamedSet : Type 0 where
+  pub number : ℕ
+  pub text : ℕ
+  pub place : ℕ
+  pub set : ℕ
 
 -- 5, 8, 6: does the text name a set? The number for no is that of the first no of its names.
 abbrev pub asks_set : List ItemRow → List ℕ → Question
@@ -30,6 +45,13 @@ set_refused text place q = record { number = q; text = text; place = place; set 
 -- The set x was named.
 abbrev pub set_told : ℕ → NamedSet
 set_told x = record { number = 0; text = 0; place = 0; set = x }
+
+-- What the call hands back, as such an answer.
+abbrev pub named_set : Result ℕ Unread → NamedSet
+named_set (Ok x) = set_told x
+named_set (Err (unread.Sheet e)) = set_refused 1 e.line (number e.refusal)
+named_set (Err (unread.Text e)) = set_refused 2 e.place (number e.refusal)
+named_set (Err unread.Short) = set_refused 0 0 15
 
 -- The sheet is read, and has the rows d: the refusal of the names, else the set that they name among its items.
 pub record ReadsSet (sheet l : List ℕ) (a : NamedSet) : Type 0 where
@@ -57,7 +79,30 @@ write_set_call sheet x out =
       writes = λ text. text ∷ [];
     }
 
+-- The names of a set, written. Number 0: they stand in the lent buffer and have `size` bytes. Else the number of the
+-- first question whose answer is no, and size 0.
+pub record SetWritten : Type 0 where
+  pub number : ℕ
+  pub size : ℕ
+
+-- What the call hands back, as such.
+abbrev pub set_written : Result ℕ Refusal → SetWritten
+set_written (Ok n) = record { number = 0; size = n }
+set_written (Err q) = record { number = number q; size = 0 }
+
 -- ---- a line by itself
+
+-- A line that was read: a withdrawal, or a hand-in whose `count` sets stand in a lent list. `loss` is true for lockout
+-- sets. A refusal gives false and 0 behind its place, and so does a withdrawal behind its student.
+pub record LineAnswer : Type 0 where
+  pub number : ℕ
+  pub text : ℕ
+  pub place : ℕ
+  pub withdraws : Bool
+  pub student : ℕ
+  pub target : ℕ
+  pub loss : Bool
+  pub count : ℕ
 
 -- 2, 4, 5, 8, 6, 7: is the line accepted beside these item rows? The number for no is that of its first no.
 abbrev pub asks_line : List ItemRow → List ℕ → Question
@@ -78,6 +123,39 @@ answer_of (HandIn x) =
     }
 answer_of (Withdraw k) =
     record { number = 0; text = 0; place = 0; withdraws = true; student = k; target = 0; loss = false; count = 0 }
+
+-- No line is read: the number q, of the sheet, 1, or the line, 2, or neither, 0, and the place.
+abbrev pub unread_line : ℕ → ℕ → ℕ → LineAnswer
+unread_line q text place =
+    record {
+      number = q;
+      text = text;
+      place = place;
+      withdraws = false;
+      student = 0;
+      target = 0;
+      loss = false;
+      count = 0;
+    }
+
+-- What the call hands back, as such an answer.
+abbrev pub line_answer : Result LineSaid Unread → LineAnswer
+line_answer (Ok (said.Withdrawal k)) =
+    record { number = 0; text = 0; place = 0; withdraws = true; student = k; target = 0; loss = false; count = 0 }
+line_answer (Ok (said.Attempt x)) =
+    record {
+      number = 0;
+      text = 0;
+      place = 0;
+      withdraws = false;
+      student = x.student;
+      target = x.target;
+      loss = x.loss;
+      count = x.count;
+    }
+line_answer (Err (unread.Sheet e)) = unread_line (number e.refusal) 1 e.line
+line_answer (Err (unread.Text e)) = unread_line (number e.refusal) 2 e.place
+line_answer (Err unread.Short) = unread_line 15 0 0
 
 -- The sets that it hands in: a withdrawal none.
 abbrev pub handed_of : RegisterCall → List ℕ
@@ -101,18 +179,7 @@ with_sets a sets = record { answer = a; sets = sets }
 -- place. The list is as it was.
 abbrev pub line_refused : ℕ → ℕ → List ℕ → ℕ → LineOutcome
 line_refused text place lent q =
-    with_sets
-    (record {
-      number = q;
-      text = text;
-      place = place;
-      withdraws = false;
-      student = 0;
-      target = 0;
-      loss = false;
-      count = 0;
-    })
-    lent
+    with_sets (unread_line q text place) lent
 
 -- What the call says is told; its sets stand in the first places of the list, and the places behind them are unchanged.
 abbrev pub tells_call : RegisterCall → List ℕ → LineOutcome

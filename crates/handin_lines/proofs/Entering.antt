@@ -95,11 +95,11 @@ module _ (sheet line : List ℕ) (r : Reading) (is : r ≡ read_sheet sheet) whe
               says = λ d v q _. subst (λ (x : RegisterCall). TaskFor (setup_of d) x t) (sym (c.says z d.items (keys-are d v q)).call) (h d v q);
             }
 
-        pub can-hand-over : CanHandOver line read
-        can-hand-over =
+        pub can-hand-over : read.withdraws ≡ false → CanHandOver line read
+        can-hand-over w =
             let d = rows-of-text sheet r.setup (accepts-of sheet r is zero) in
             let y = c.says z d.doc.items (keys-are d.doc d.valid d.text) in
-            record { counted = y.counted; few = y.few }
+            record { counted = y.counted w; few = y.few }
 
         pub task-leaves : (t : Task) → read.withdraws ≡ true → t ≡ task.Withdraw read.student → TaskOfLine sheet line t
         unfolding call_read

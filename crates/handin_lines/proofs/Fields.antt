@@ -29,8 +29,7 @@ use Rattle.handin_lines.specs.Inner.Lines.{LineFound}
 use Rattle.handin_lines.specs.Inner.Splitting.{split_from}
 use Rattle.handin_lines.specs.Inner.Naming.{item_from, NamesItem}
 use Rattle.handin_lines.specs.Inner.Sets.{sets_from, ChecksSets, handed_questions, ChecksHanded}
-use Rattle.handin_lines.specs.Inner.Lines.{no_line, part_of, FormOf, ReadsWay, attempt_questions, attempt_read, ChecksAttempt, call_read, SaysCall, ChecksLine}
-use Rattle.handin_lines.proofs.Splitting.{split-over}
+use Rattle.handin_lines.specs.Inner.Lines.{no_line, part_of, FormOf, ReadsWay, attempt_questions, attempt_read, withdrawal_read, ChecksAttempt, call_read, SaysCall, ChecksLine}
 
 -- ---- way
 
@@ -184,14 +183,14 @@ module _ (low high : List ℕ) (count : ℕ) (l : List ℕ) (form : FormFound) (
     module _ (student : ℕ) (yes : is_student (take form.first l) ≡ true) (number_is : number_of (take form.first l) ≡ student) where
       pub line-withdraws : length l ≤ form.second
           → ChecksLine low high count l
-          (record { number = 0; place = 0; withdraws = true; student = student; target = 0; loss = false; start = form.second + 1; count = 0 })
+          (withdrawal_read student)
       unfolding first_no_of field_questions line_call call_of_fields call_read
       line-withdraws a =
           record {
             first = λ items t. f.yes z items ∙ rw ((f.cut z).alone a, yes);
             says = λ _ items t. record {
               call = rw ((f.cut z).alone a, number_is);
-              counted = ap length (sym (split-over 32 l (form.second + 1) (omega arith)));
+              counted = λ w. absurd (false-true (sym w));
               few = omega arith;
               alone = λ _. (refl, refl, refl);
             };
@@ -210,7 +209,7 @@ module _ (low high : List ℕ) (count : ℕ) (l : List ℕ) (form : FormFound) (
         attempt-says items r e few =
             record {
               call = rw (e, ((f.cut z).more m).fields, number_is);
-              counted = ap (λ (x : LineFound). x.count) e ∙ sym (ap (λ (x : LineFound). length (split_from 32 x.start l)) e);
+              counted = λ _. ap (λ (x : LineFound). x.count) e ∙ sym (ap (λ (x : LineFound). length (split_from 32 x.start l)) e);
               few = few;
               alone = λ w. absurd (false-true (sym (ap (λ (x : LineFound). x.withdraws) e) ∙ w));
             }

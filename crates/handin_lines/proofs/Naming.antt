@@ -3,10 +3,10 @@
 use mathlib.Core.Path.{◌≡◌, refl, sym, ap, ◌∙◌}
 use mathlib.Core.List.{List, [], ◌∷◌}
 use mathlib.Core.Bool.{true, false, cond}
-use Prim.Native.Nat.{ℕ, ◌+◌, ◌-◌, ◌*◌, ◌/◌, ◌%◌, ◌^◌, ◌≤◌, ◌<◌}
+use Prim.Native.Nat.{ℕ, ◌*◌, ◌/◌, ◌%◌, ◌^◌, ◌≤◌, ◌<◌}
 use native.Mathlib.Omega.{arith}
 use lib.Bits.{bit_or}
-use lib.ListN.{length, take, drop}
+use lib.ListN.{length, take}
 use lib.Dec.{eqb, ltb}
 use borrow.Author.Tests.{lt-ltb, le-ltb, eq-eqb, ne_eqb}
 use Rattle.sheet_format.specs.Fields.{is_name}
@@ -26,10 +26,9 @@ use Rattle.vertex_set.proofs.Cases.{by_test}
 use Rattle.vertex_set.proofs.Sets.{shifted_one}
 use Rattle.sheet_format.specs.Text.{same_text}
 use Rattle.sheet_format.specs.Fields.{dash}
-use Rattle.sheet_fields.specs.Inner.Parts.{until}
-use Rattle.handin_lines.specs.Inner.Splitting.{split_from}
+use Rattle.std.specs.List.{slice_split}
 use Rattle.handin_lines.specs.Inner.Naming.{item_from, set_field, NamesItem, TakesName, ReadsNames}
-use Rattle.handin_lines.proofs.Splitting.{parts-split, split_at, split-over}
+use Rattle.handin_lines.proofs.Splitting.{parts-split}
 use Rattle.handin_format.specs.Sets.{SetField}
 use Rattle.handin_format.specs.Sets.{no_set, some_set, with_name, with_names, set_from}
 
@@ -101,55 +100,59 @@ module _ (l low high : List ℕ) (count x : ℕ) where
 
 -- ---- the names from the left
 
--- What is left to read at a place, with the set x of the names before it.
-unfoldable pub left_from : List ItemRow → ℕ → ℕ → List ℕ → SetField
-left_from items x at l = with_names items (record { number = 0; set = x }) (split_from 43 at l)
+-- What is left to read, with the set x of the names before.
+unfoldable pub left_of : List ItemRow → ℕ → List (List ℕ) → SetField
+left_of items x names = with_names items (record { number = 0; set = x }) names
 
 names-stop : (items : List ItemRow) (r : SetField) (ns : List (List ℕ)) → (r.number ≡ 0 → ⊥) → with_names items r ns ≡ r
 unfolding with_names
 names-stop items r [] n = refl
 names-stop items r (m ∷ ns) n = rw (ne_eqb r.number 0 n)
 
-module _ (l low high : List ℕ) (count x at e : ℕ) (h : at ≤ length l) (q : e ≡ at + until 43 (drop at l)) (r : SetField) (takes : TakesName low high count x (take (e - at) (drop at l)) r) (items : List ItemRow) (t : NameKeys items low high count) where
-  step : left_from items x at l ≡ with_names items r (split_from 43 (e + 1) l)
-  unfolding left_from with_names
-  step = rw (split_at 43 l at e h q, sym (takes.each items t))
+module _ (low high : List ℕ) (count x : ℕ) (name : List ℕ) (more : List (List ℕ)) (r : SetField) (takes : TakesName low high count x name r) (items : List ItemRow) (t : NameKeys items low high count) where
+  step : left_of items x (name ∷ more) ≡ with_names items r more
+  unfolding left_of with_names
+  step = rw (sym (takes.each items t))
 
-  pub left-refused : (r.number ≡ 0 → ⊥) → left_from items x at l ≡ r
-  left-refused n = step ∙ names-stop items r (split_from 43 (e + 1) l) n
+  pub left-refused : (r.number ≡ 0 → ⊥) → left_of items x (name ∷ more) ≡ r
+  left-refused n = step ∙ names-stop items r more n
 
-  pub left-next : r.number ≡ 0 → left_from items x at l ≡ left_from items r.set (e + 1) l
-  unfolding left_from
+  pub left-next : r.number ≡ 0 → left_of items x (name ∷ more) ≡ left_of items r.set more
+  unfolding left_of
   left-next z = step ∙ rw (same r z)
     where
       same : (f : SetField) → f.number ≡ 0 → f ≡ record { number = 0; set = f.set }
       same f y = rw y
 
-pub left_over : (items : List ItemRow) (x at : ℕ) (l : List ℕ) → length l < at → left_from items x at l ≡ record { number = 0; set = x }
-unfolding left_from with_names
-left_over items x at l h = rw (split-over 43 l at h)
+left_over : (items : List ItemRow) (x : ℕ) → left_of items x [] ≡ record { number = 0; set = x }
+unfolding left_of with_names
+left_over items x = refl
 
-pub left-first : (items : List ItemRow) (l : List ℕ) → same_text l dash ≡ false → set_from items l ≡ left_from items 0 0 l
-unfolding left_from set_from
+left-first : (items : List ItemRow) (l : List ℕ) → same_text l dash ≡ false → set_from items l ≡ left_of items 0 (slice_split (λ b. eqb b 43) l)
+unfolding left_of set_from
 left-first items l n = rw (n, parts-split l)
 
 pub set-empty : (low high : List ℕ) (count : ℕ) (l : List ℕ) → same_text l dash ≡ true → ReadsNames low high count l (no_set 0)
 unfolding set_from
 set-empty low high count l e = record { each = λ items t. rw e }
 
--- The set of the whole text is what is left to read at this place, whatever item rows the table has.
-pub record Reading (l low high : List ℕ) (count x at : ℕ) : Type 0 where
-  pub each : (items : List ItemRow) → NameKeys items low high count → set_from items l ≡ left_from items x at l
+-- The set of the whole text is what these names give, put into the set x, whatever item rows the table has.
+pub record Reading (l low high : List ℕ) (count x : ℕ) (names : List (List ℕ)) : Type 0 where
+  pub each : (items : List ItemRow) → NameKeys items low high count → set_from items l ≡ left_of items x names
 
-pub reading-first : (l low high : List ℕ) (count : ℕ) → same_text l dash ≡ false → Reading l low high count 0 0
+pub reading-first : (l low high : List ℕ) (count : ℕ) → same_text l dash ≡ false → Reading l low high count 0 (slice_split (λ b. eqb b 43) l)
 reading-first l low high count n = record { each = λ items t. left-first items l n }
 
-module _ (l low high : List ℕ) (count x at e : ℕ) (here : Reading l low high count x at) (h : at ≤ length l) (q : e ≡ at + until 43 (drop at l)) (r : SetField) (takes : TakesName low high count x (take (e - at) (drop at l)) r) where
+module _ (l low high : List ℕ) (count x : ℕ) (names : List (List ℕ)) (here : Reading l low high count x names) (name : List ℕ) (more : List (List ℕ)) (q : names ≡ name ∷ more) (r : SetField)
+    (takes : TakesName low high count x name r) where
+  left : (items : List ItemRow) → NameKeys items low high count → set_from items l ≡ left_of items x (name ∷ more)
+  left items t = here.each items t ∙ ap (left_of items x) q
+
   pub reading-refused : (r.number ≡ 0 → ⊥) → ReadsNames low high count l r
-  reading-refused n = record { each = λ items t. sym (here.each items t ∙ left-refused l low high count x at e h q r takes items t n) }
+  reading-refused n = record { each = λ items t. sym (left items t ∙ left-refused low high count x name more r takes items t n) }
 
-  pub reading-next : r.number ≡ 0 → Reading l low high count r.set (e + 1)
-  reading-next z = record { each = λ items t. here.each items t ∙ left-next l low high count x at e h q r takes items t z }
+  pub reading-next : r.number ≡ 0 → Reading l low high count r.set more
+  reading-next z = record { each = λ items t. left items t ∙ left-next low high count x name more r takes items t z }
 
-pub reading-over : (l low high : List ℕ) (count x at : ℕ) → Reading l low high count x at → length l < at → ReadsNames low high count l (record { number = 0; set = x })
-reading-over l low high count x at here h = record { each = λ items t. sym (here.each items t ∙ left_over items x at l h) }
+pub reading-over : (l low high : List ℕ) (count x : ℕ) (names : List (List ℕ)) → Reading l low high count x names → names ≡ [] → ReadsNames low high count l (record { number = 0; set = x })
+reading-over l low high count x names here q = record { each = λ items t. sym (here.each items t ∙ ap (left_of items x) q ∙ left_over items x) }

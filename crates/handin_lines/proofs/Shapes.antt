@@ -1,25 +1,29 @@
 -- The form of a line: its bytes, no empty field, none missing.
 -- Assumes nothing.
-use mathlib.Core.Path.{◌≡◌, refl, ap, ◌∙◌}
+use mathlib.Core.Path.{◌≡◌, refl, sym, ap, ◌∙◌}
 use mathlib.Core.Bool.{true, false}
 use mathlib.Core.List.{List, [], ◌∷◌, ◌++◌}
 use Prim.Native.Nat.{ℕ, suc, ◌+◌, ◌-◌, ◌≤◌, ◌<◌}
+use native.Mathlib.Numerals.{add-one}
 use native.Mathlib.Omega.{arith}
-use lib.Dec.{leb}
+use lib.Dec.{eqb, leb}
 use lib.ListN.{length, take, drop, length-drop}
 use lib.Seq.{length-take-le}
-use borrow.Author.Tests.{le-leb, lt-leb}
+use borrow.Author.Tests.{ne_eqb, le-leb, lt-leb}
 use Rattle.sheet_format.specs.Text.{fields_of, is_empty, same_text, all}
 use Rattle.sheet_format.specs.Rows.{ItemRow}
 use Rattle.sheet_fields.specs.Inner.Parts.{until}
 use Rattle.sheet_fields.proofs.Cutting.{until-le}
 use Rattle.handin_format.specs.Entries.{withdraw_text}
 use Rattle.handin_format.specs.Lines.{FieldAsked, is_line_byte, fields_filled, fields_there, field_questions, first_no_of, line_questions, line_no}
-use Rattle.std.specs.Prelude.{Some, None}
+use Rattle.std.specs.Prelude.{Option, Some, None}
+use Rattle.std.specs.Option.{MatchOption}
+use Rattle.std.specs.List.{slice_split, position_from}
+use Rattle.vertex_set.proofs.Cases.{by_test}
 use Rattle.handin_lines.specs.Inner.Lines.{FormFound}
 use Rattle.handin_lines.specs.Inner.Splitting.{split_from}
 use Rattle.handin_lines.specs.Inner.Lines.{no_form, part_of, FirstEmpty, CutsFields, FormOf}
-use Rattle.handin_lines.proofs.Splitting.{split_at, split-over, fields_split}
+use Rattle.handin_lines.proofs.Splitting.{split_at, split-over, fields_split, fields_are}
 
 -- ---- a byte of a line
 
@@ -33,14 +37,10 @@ byte_high b h = rw (le-leb 32 b h)
 
 -- ---- empty fields
 
-not-empty : (s : List ℕ) → 0 < length s → is_empty s ≡ false
+empty-is : (s : List ℕ) → is_empty s ≡ eqb (length s) 0
 unfolding is_empty
-not-empty [] h = absurd (omega arith)
-not-empty (b ∷ s) h = refl
-
-take_none : (n : ℕ) (s : List ℕ) → n ≡ 0 → is_empty (take n s) ≡ true
-unfolding is_empty
-take_none n s z = rw z
+empty-is [] = refl
+empty-is (b ∷ s) = sym (ne_eqb (suc (length s)) 0 (λ z. omega arith))
 
 filled-no : (k : ℕ) (f : List ℕ) (fs : List (List ℕ)) (later : List FieldAsked) → is_empty f ≡ true
     → first_no_of (fields_filled k (f ∷ fs) ++ later) ≡ record { number = 4; place = k }
@@ -56,44 +56,30 @@ filled_none : (k : ℕ) (later : List FieldAsked) → first_no_of (fields_filled
 unfolding fields_filled
 filled_none k later = refl
 
--- None of the n fields before `at` is empty.
-pub record Filled (l : List ℕ) (n at : ℕ) : Type 0 where
-  pub asked : (later : List FieldAsked) → first_no_of (fields_filled 1 (fields_of l) ++ later) ≡ first_no_of (fields_filled (n + 1) (split_from 32 at l) ++ later)
+-- the first empty one of the fields, the first of which is field i + 1
+first_filled : (fs : List (List ℕ)) (i : ℕ) (later : List FieldAsked)
+    → MatchOption (position_from (λ f. eqb (length f) 0) i fs) (first_no_of (fields_filled (i + 1) fs ++ later) ≡ first_no_of later)
+    (λ n. first_no_of (fields_filled (i + 1) fs ++ later) ≡ record { number = 4; place = n + 1 })
+first_filled [] i later = filled_none (i + 1) later
+first_filled (f ∷ fs) i later =
+    by_test (eqb (length f) 0)
+    (λ e. rw e (filled-no (i + 1) f fs later (empty-is f ∙ e)))
+    (λ e. rw e (rw (filled-yes (i + 1) f fs later (empty-is f ∙ e), sym (add-one (i + 1))) (first_filled fs (i + 1) later)))
 
-pub filled-first : (l : List ℕ) → Filled l 0 0
-filled-first l = record { asked = λ later. ap (λ (fs : List (List ℕ)). first_no_of (fields_filled 1 fs ++ later)) (fields_split l) }
+module _ (l : List ℕ) (r : Option ℕ) (h : r ≡ position_from (λ f. eqb (length f) 0) 0 (slice_split (λ b. eqb b 32) l)) where
+  filled : (later : List FieldAsked)
+      → MatchOption r (first_no_of (fields_filled 1 (fields_of l) ++ later) ≡ first_no_of later) (λ n. first_no_of (fields_filled 1 (fields_of l) ++ later) ≡ record { number = 4; place = n + 1 })
+  filled later = rw (h, ← (fields_are l)) (first_filled (slice_split (λ b. eqb b 32) l) 0 later)
 
-module _ (l : List ℕ) (n at e : ℕ) (here : Filled l n at) (h : at ≤ length l) (q : e ≡ at + until 32 (drop at l)) where
-  cut : (later : List FieldAsked)
-      → first_no_of (fields_filled 1 (fields_of l) ++ later) ≡ first_no_of (fields_filled (n + 1) (take (e - at) (drop at l) ∷ split_from 32 (e + 1) l) ++ later)
-  cut later = here.asked later ∙ ap (λ (fs : List (List ℕ)). first_no_of (fields_filled (n + 1) fs ++ later)) (split_at 32 l at e h q)
-
-  pub filled-found : e ≡ at → FirstEmpty l (Some (n + 1))
-  filled-found z =
+  pub filled-found : (n : ℕ) → r ≡ Some n → FirstEmpty l (Some (n + 1))
+  filled-found n e =
       record {
-        some = λ m i later. let j : n + 1 ≡ m = cc in rw (← j) (cut later ∙ filled-no (n + 1) (take (e - at) (drop at l)) (split_from 32 (e + 1) l) later (take_none (e - at) (drop at l) (omega arith)));
+        some = λ m i later. let j : n + 1 ≡ m = cc in rw (← j) (rw e at (filled later));
         none = λ i. absurd (cc);
       }
 
-  pub filled_next : (e ≡ at → ⊥) → Filled l (n + 1) (e + 1)
-  filled_next z =
-      let u = until-le 32 (drop at l) in
-      let t = length-take-le (e - at) (drop at l) (omega arith) in
-      let s : suc (n + 1) ≡ n + 1 + 1 = omega arith in
-      record {
-        asked = λ later.
-            cut later
-            ∙ filled-yes (n + 1) (take (e - at) (drop at l)) (split_from 32 (e + 1) l) later (not-empty (take (e - at) (drop at l)) (omega (arith, z)))
-            ∙ ap (λ (k : ℕ). first_no_of (fields_filled k (split_from 32 (e + 1) l) ++ later)) s;
-      }
-
-pub filled-over : (l : List ℕ) (n at : ℕ) → Filled l n at → length l < at → FirstEmpty l None
-filled-over l n at here h =
-    record {
-      some = λ m i. absurd (cc);
-      none = λ _ later.
-          here.asked later ∙ ap (λ (fs : List (List ℕ)). first_no_of (fields_filled (n + 1) fs ++ later)) (split-over 32 l at h) ∙ filled_none (n + 1) later;
-    }
+  pub filled-over : r ≡ None → FirstEmpty l None
+  filled-over e = record { some = λ m i. absurd (cc); none = λ _ later. rw e at (filled later) }
 
 -- ---- missing fields
 

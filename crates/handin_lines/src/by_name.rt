@@ -33,11 +33,8 @@ pub fn set_of(l: &[u8], keys: &ItemKeys) -> Result<u64, Refusal>
         return Ok(0);
     }
     let mut x: u64 = 0;
-    let mut at = 0;
-    while at <= l.len() {
-        let end = sheet_fields::find(l, at, b'+');
-        x = take_name(x, &l[at..end], keys)?;
-        at = end + 1;
+    for name in l.split(|b| *b == b'+') {
+        x = take_name(x, name, keys)?;
     }
     Ok(x)
 }

@@ -7,13 +7,3 @@ pub mod by_name;
 pub mod lines;
 pub mod sets;
 pub mod tasks;
-
-use questions::Refusal;
-
-// The first no about a line, and the field that it is about, counted from 1; 0 where it is about the
-// whole line.
-#[derive(Clone, Copy)]
-pub struct FieldRefusal {
-    pub refusal: Refusal,
-    pub place: u64,
-}

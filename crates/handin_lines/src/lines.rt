@@ -5,7 +5,7 @@ ghost use Rattle.handin_format.specs.Lines.{is_line_byte};
 ghost use Rattle.handin_lines.specs.Inner.Lines.{FirstEmpty, form_found, CutsFields, FormOf, way_field, ReadsWay, AttemptPlaces, line_found, ChecksAttempt, ChecksLine};
 
 use super::{by_name, sets};
-use crate::FieldRefusal;
+use handin_format::{AttemptRead, FieldRefusal};
 use questions::Refusal;
 use sheet_fields::SPACE;
 use sheet_rows::ItemKeys;
@@ -23,16 +23,11 @@ struct Form {
     third: usize,
 }
 
-// What a line says; of a withdrawal the rest behind its student is 0 or false. The line's `count` sets
-// begin at `start`.
+// What a line says: the student that it withdraws, or a hand-in, and where its sets begin.
 #[derive(Clone, Copy)]
-pub struct LineRead {
-    pub withdraws: bool,
-    pub student: u64,
-    pub target: usize,
-    pub loss: bool,
-    pub start: usize,
-    pub count: usize,
+pub enum LineRead {
+    Withdrawal(u64),
+    Attempt(AttemptRead, usize),
 }
 
 // A no with its field.
@@ -60,17 +55,8 @@ fn is_line(l: &[u8]) -> bool
 fn first_empty(l: &[u8]) -> Option<u64>
     ensures { FirstEmpty l.now result }
 {
-    let mut n: u64 = 0;
-    let mut at = 0;
-    while at <= l.len() {
-        let end = sheet_fields::find(l, at, SPACE);
-        n += 1;
-        if end == at {
-            return Some(n);
-        }
-        at = end + 1;
-    }
-    None
+    let empty = l.split(|b| *b == SPACE).position(|f| f.is_empty())?;
+    Some(empty as u64 + 1)
 }
 
 // Question 4, once no field is empty: is none missing? Where the first three fields end.
@@ -147,14 +133,13 @@ fn check_attempt(
     };
     let start = form.third + 1;
     let count = sets::check_handed(l, start, keys)?;
-    Ok(LineRead {
-        withdraws: false,
+    let attempt = AttemptRead {
         student,
         target,
         loss,
-        start,
         count,
-    })
+    };
+    Ok(LineRead::Attempt(attempt, start))
 }
 
 // What the line says, or its first no.
@@ -169,12 +154,5 @@ pub fn check_line(l: &[u8], keys: &ItemKeys) -> Result<LineRead, FieldRefusal>
     if form.second < l.len() {
         return check_attempt(l, form, student, keys);
     }
-    Ok(LineRead {
-        withdraws: true,
-        student,
-        target: 0,
-        loss: false,
-        start: form.second + 1,
-        count: 0,
-    })
+    Ok(LineRead::Withdrawal(student))
 }

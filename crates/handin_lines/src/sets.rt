@@ -5,7 +5,7 @@ ghost use Rattle.handin_lines.specs.Inner.Splitting.{split_from};
 ghost use Rattle.handin_lines.specs.Inner.Sets.{checked, ChecksSets, ChecksHanded, PutsSets};
 
 use super::by_name;
-use crate::FieldRefusal;
+use handin_format::FieldRefusal;
 use questions::Refusal;
 use sheet_fields::SPACE;
 use sheet_rows::ItemKeys;
@@ -16,24 +16,23 @@ const FIRST_SET: u64 = 4;
 // The most sets of one line: as many as 14 items have subsets.
 pub const MAX_HANDED: usize = 16384;
 
-// Are all the fields sets? How many they are.
+// Are all the fields sets? How many they are. Here and below line, place and keys are no struct: the keys are the
+// sheet's, and the place is of one line.
 fn check_sets(l: &[u8], start: usize, keys: &ItemKeys) -> Result<usize, FieldRefusal>
     ensures { ChecksSets keys.now.low keys.now.high keys.now.count l.now start (checked result) }
 {
+    let Some(rest) = l.get(start..) else {
+        return Ok(0);
+    };
     let mut n: usize = 0;
-    let mut at = start;
-    while at <= l.len() {
-        let end = sheet_fields::find(l, at, SPACE);
-        match by_name::set_of(&l[at..end], keys) {
-            Ok(_) => n += 1,
-            Err(refusal) => {
-                return Err(FieldRefusal {
-                    refusal,
-                    place: FIRST_SET + n as u64,
-                });
-            }
+    for field in rest.split(|b| *b == SPACE) {
+        if let Err(refusal) = by_name::set_of(field, keys) {
+            return Err(FieldRefusal {
+                refusal,
+                place: FIRST_SET + n as u64,
+            });
         }
-        at = end + 1;
+        n += 1;
     }
     Ok(n)
 }
@@ -58,13 +57,13 @@ pub fn put_sets(l: &[u8], start: usize, keys: &ItemKeys, out: &mut [u64]) -> usi
     requires { length (split_from 32 start l.now) ≤ length out.old }
     ensures { PutsSets keys.now.low keys.now.high keys.now.count l.now start result out.old out.new }
 {
+    let Some(rest) = l.get(start..) else {
+        return 0;
+    };
     let mut n: usize = 0;
-    let mut at = start;
-    while at <= l.len() {
-        let end = sheet_fields::find(l, at, SPACE);
-        out[n] = by_name::set_of(&l[at..end], keys).unwrap_or(0);
+    for field in rest.split(|b| *b == SPACE) {
+        out[n] = by_name::set_of(field, keys).unwrap_or(0);
         n += 1;
-        at = end + 1;
     }
     n
 }

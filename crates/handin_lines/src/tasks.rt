@@ -3,6 +3,7 @@ ghost use Rattle.handin_lines.specs.Inner.Lines.{line_said};
 ghost use Rattle.handin_lines.specs.Inner.Tasks.{CanHandOver, HandsOver, TaskOfLine};
 
 use super::{lines, sets};
+use handin_format::AttemptRead;
 use lines::LineRead;
 use records::Task;
 use setup::Setup;
@@ -10,18 +11,18 @@ use sheet_lines::item_keys;
 use sheet_rows::ItemKeys;
 
 // The task of a hand-in: its sets are marked.
-fn hand_over(s: Setup, l: &[u8], read: LineRead, keys: &ItemKeys) -> Task
-    requires { CanHandOver l.now (line_said read) }
-    ensures { HandsOver keys.now.low keys.now.high keys.now.count s l.now (line_said read) result }
+fn hand_over(s: Setup, l: &[u8], attempt: AttemptRead, start: usize, keys: &ItemKeys) -> Task
+    requires { CanHandOver l.now (line_said (LineRead.Attempt attempt start)) }
+    ensures { HandsOver keys.now.low keys.now.high keys.now.count s l.now (line_said (LineRead.Attempt attempt start)) result }
 {
-    let size = read.count;
+    let size = attempt.count;
     let mut handed = [0u64; sets::MAX_HANDED];
-    sets::put_sets(l, read.start, keys, &mut handed);
+    sets::put_sets(l, start, keys, &mut handed);
     records::attempt(
         s,
-        read.student,
-        read.target as u64,
-        read.loss,
+        attempt.student,
+        attempt.target as u64,
+        attempt.loss,
         &handed[..size],
     )
 }
@@ -35,12 +36,9 @@ pub fn task_of(sheet: &[u8], line: &[u8]) -> Task
         Err(refused) => return Task::Refuse(refused.refusal),
     };
     let found = item_keys::keys_of(sheet, s.count);
-    let read = match lines::check_line(line, &found.keys) {
-        Ok(read) => read,
-        Err(no) => return Task::Refuse(no.refusal),
-    };
-    if read.withdraws {
-        return Task::Withdraw(read.student);
+    match lines::check_line(line, &found.keys) {
+        Ok(LineRead::Withdrawal(student)) => Task::Withdraw(student),
+        Ok(LineRead::Attempt(attempt, start)) => hand_over(s, line, attempt, start, &found.keys),
+        Err(no) => Task::Refuse(no.refusal),
     }
-    hand_over(s, line, read, &found.keys)
 }

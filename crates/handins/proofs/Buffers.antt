@@ -1,17 +1,13 @@
--- The names of a set, in a buffer of their own and in the lent one.
+-- The names of a set, in a buffer of their own.
 -- Assumes nothing.
-use mathlib.Core.Path.{◌≡◌, sym, ap, ◌∙◌}
+use mathlib.Core.Path.{◌≡◌}
 use mathlib.Core.List.{List, [], ◌∷◌, map}
-use mathlib.Core.Logic.{inr}
 use Prim.Native.Nat.{ℕ, zero, suc, ◌^◌, ◌≤◌, ◌<◌}
 use native.Mathlib.Omega.{arith}
 use lib.Count.{ones-le}
-use lib.ListN.{length, get_or, take, drop}
-use lib.Seq.{length-take-le, take-append_seam}
+use lib.ListN.{length, get_or}
 use Rattle.vertex_set.specs.Set.{Member}
 use Rattle.vertex_set.proofs.Places.{places, length-places, listed-places}
-use Rattle.written.specs.Inner.{Wrote}
-use Rattle.written.proofs.Writing.{wrote-front}
 use Rattle.sheet_format.specs.Read.{Reading}
 use Rattle.sheet_format.specs.Rows.{ItemRow, Doc, Each, ValidItem, Valid, render}
 use Rattle.sheet_format.specs.Read.{read_sheet}
@@ -22,33 +18,11 @@ use Rattle.sheet.proofs.Names.{item-there, names-of-rows}
 use Rattle.report_text.specs.Rows.{set_text}
 use Rattle.report_text.proofs.Items.{set-text}
 use Rattle.report_text.proofs.Lengths.{joined_length}
-use Rattle.report_rows.specs.Inner.Writing.{SetNamePlaces}
 use Rattle.report_facts.specs.declared.names.Names.{Names}
 use Rattle.report_facts.specs.Inner.Places.{NamesPlaced}
-use Rattle.handins.specs.Inner.{CanName, HandsNames}
-
--- ---- the first bytes of a text
-
-module _ (text : List ℕ) (size : ℕ) (entry : List ℕ) (few : size ≤ length text) where
-  long : length (take size text) ≡ size
-  long = length-take-le size text few
-
-  pub written-room : (exit : List ℕ) (n : ℕ) → size ≤ length entry → Wrote entry 0 (take size text) exit n → HandsNames (take size text) (record { number = 0; length = size }) entry exit
-  written-room exit n h w =
-      let k = long in
-      let l : length (take size text) ≤ length entry = omega arith in
-      inr (l, ap (λ (i : ℕ). record { number = 0; length = i }) (sym k), wrote-front entry (take size text) exit n l w)
-
--- a text that was written to a buffer of its own
-pub text-there : (zeros text out : List ℕ) (n : ℕ) → length text ≤ length zeros → Wrote zeros 0 text out n → take n out ≡ text
-text-there zeros text out n h w =
-    let e : n ≡ length text = let k = w.next in omega arith in
-    ap (λ (i : ℕ). take i out) e ∙ ap (take (length text)) (wrote-front zeros text out n h w) ∙ take-append_seam text (drop (length text) zeros)
+use Rattle.handins.specs.Inner.{CanName}
 
 -- ---- the names of a set
-
-pub set-named : (sheet : List ℕ) (count x : ℕ) (r : Names) → CanName sheet count x → NamesPlaced sheet count r → SetNamePlaces sheet r.from r.to x
-set-named sheet count x r c n = record { each = λ v m. n.each v (c.inside v m) }
 
 each-short : (xs : List ItemRow) (i : ℕ) → Each ValidItem xs → i < length xs → length (get_or (map (λ (x : ItemRow). x.name) xs) i []) ≤ 16
 each-short [] i v h = omega arith

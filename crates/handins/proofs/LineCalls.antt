@@ -1,6 +1,7 @@
 -- Reading a line, and taking it to the register.
 -- Assumes nothing.
 use mathlib.Core.Path.{◌≡◌, refl, sym, ap, ◌∙◌}
+use mathlib.Core.Bool.{true, false}
 use mathlib.Core.List.{List, [], ◌∷◌}
 use mathlib.Core.Logic.{◌⊎◌, inl, inr, ⊎_elim}
 use Prim.Native.Nat.{ℕ, ◌≤◌, ◌<◌}
@@ -24,16 +25,15 @@ use Rattle.sheet_format.specs.Read.{read_sheet}
 use Rattle.sheet_lines.specs.declared.item_keys.Keys.{Keys}
 use Rattle.sheet_lines.specs.Inner.Keys.{SheetKeys}
 use Rattle.sheet_lines.proofs.Accepted.{accepts-of, rows-of-text}
-use Rattle.handin_format.specs.declared.LineAnswer.{LineAnswer}
+use Rattle.handin_format.specs.Calls.{LineAnswer}
 use Rattle.handin_format.specs.Lines.{LineNo, line_no, line_call}
-use Rattle.handin_format.specs.Calls.{answer_of, handed_of, with_sets, line_refused, TellsCall, ReadLineCall, EnterCall}
+use Rattle.handin_format.specs.Calls.{answer_of, handed_of, with_sets, unread_line, line_refused, TellsCall, ReadLineCall, EnterCall}
 use Rattle.handin_lines.specs.Inner.Lines.{LineFound}
 use Rattle.handin_lines.specs.Inner.Splitting.{split_from}
 use Rattle.handin_lines.specs.Inner.Sets.{sets_from, PutsSets}
 use Rattle.handin_lines.specs.Inner.Lines.{call_read, SaysCall, ChecksLine}
 use Rattle.handin_lines.specs.Inner.Tasks.{TaskFor, TaskOfLine}
 use Rattle.handin_lines.proofs.Entering.{keys-are, sets-many}
-use Rattle.handins.specs.Inner.{unread_line}
 
 -- ---- a line by itself
 
@@ -42,43 +42,43 @@ abbrev pub told_of : LineFound → LineAnswer
 told_of r = record { number = 0; text = 0; place = 0; withdraws = r.withdraws; student = r.student; target = r.target; loss = r.loss; count = r.count }
 
 module _ (items : List ItemRow) (l : List ℕ) (r : LineFound) (s : SaysCall items l r) where
-  -- no sets are written of a withdrawal
-  no-sets : r.count ≡ 0 → sets_from items r.start l ≡ []
-  no-sets z = none (sets_from items r.start l) (sets-many items r.start l ∙ sym s.counted ∙ z)
-    where
-      none : (xs : List ℕ) → length xs ≡ 0 → xs ≡ []
-      none [] h = refl
-      none (x ∷ xs) h = absurd (omega arith)
-
   answer-is : answer_of (line_call items l) ≡ told_of r
   unfolding call_read
   answer-is =
       by_test r.withdraws
       (λ w. let a = s.alone w in ap answer_of s.call ∙ rw (w, a.0, a.1, a.2))
-      (λ w. ap answer_of s.call ∙ rw (w, sets-many items r.start l, s.counted))
+      (λ w. ap answer_of s.call ∙ rw (w, sets-many items r.start l, s.counted w))
 
-  handed-is : handed_of (line_call items l) ≡ sets_from items r.start l
-  unfolding call_read
-  handed-is =
-      by_test r.withdraws
-      (λ w. ap handed_of s.call ∙ rw w (sym (no-sets (s.alone w).2)))
-      (λ w. ap handed_of s.call ∙ rw w)
-
-  many : length (handed_of (line_call items l)) ≡ r.count
-  many = ap length handed-is ∙ sets-many items r.start l ∙ sym s.counted
-
-  tells-short : (lent : List ℕ) (a : LineAnswer) (exit : List ℕ) → length lent < r.count → a ≡ unread_line 15 0 0 → exit ≡ lent → TellsCall (line_call items l) lent (with_sets a exit)
-  unfolding Asks
-  tells-short lent a exit h e u =
-      inl (λ y. let m = many in omega arith, ap (with_sets a) u ∙ ap (λ (b : LineAnswer). with_sets b lent) e)
-
-  tells_all : (lent exit : List ℕ) → r.count ≤ length lent → exit ≡ written (sets_from items r.start l) lent → TellsCall (line_call items l) lent (with_sets (told_of r) exit)
-  unfolding Asks
-  tells_all lent exit h u =
+  -- no sets are written of a withdrawal
+  tells-none : r.withdraws ≡ true → (lent : List ℕ) → TellsCall (line_call items l) lent (with_sets (told_of r) lent)
+  unfolding Asks call_read
+  tells-none w lent =
+      let none : handed_of (line_call items l) ≡ [] = ap handed_of s.call ∙ rw w in
       inr (
-        let m = many in omega arith,
-        ap (with_sets (told_of r)) (u ∙ ap (λ (xs : List ℕ). written xs lent) (sym handed-is)) ∙ ap (λ (b : LineAnswer). with_sets b (written (handed_of (line_call items l)) lent)) (sym answer-is),
+        let m = ap length none in omega arith,
+        ap (λ (b : LineAnswer). with_sets b lent) (sym answer-is) ∙ ap (λ (xs : List ℕ). with_sets (answer_of (line_call items l)) (written xs lent)) (sym none),
       )
+
+  module _ (w : r.withdraws ≡ false) where
+    handed-is : handed_of (line_call items l) ≡ sets_from items r.start l
+    unfolding call_read
+    handed-is = ap handed_of s.call ∙ rw w
+
+    many : length (handed_of (line_call items l)) ≡ r.count
+    many = ap length handed-is ∙ sets-many items r.start l ∙ sym (s.counted w)
+
+    tells-short : (lent : List ℕ) (a : LineAnswer) (exit : List ℕ) → length lent < r.count → a ≡ unread_line 15 0 0 → exit ≡ lent → TellsCall (line_call items l) lent (with_sets a exit)
+    unfolding Asks
+    tells-short lent a exit h e u =
+        inl (λ y. let m = many in omega arith, ap (with_sets a) u ∙ ap (λ (b : LineAnswer). with_sets b lent) e)
+
+    tells_all : (lent exit : List ℕ) → r.count ≤ length lent → exit ≡ written (sets_from items r.start l) lent → TellsCall (line_call items l) lent (with_sets (told_of r) exit)
+    unfolding Asks
+    tells_all lent exit h u =
+        inr (
+          let m = many in omega arith,
+          ap (with_sets (told_of r)) (u ∙ ap (λ (xs : List ℕ). written xs lent) (sym handed-is)) ∙ ap (λ (b : LineAnswer). with_sets b (written (handed_of (line_call items l)) lent)) (sym answer-is),
+        )
 
 module _ (sheet line lent : List ℕ) (r : Reading) (is : r ≡ read_sheet sheet) where
   number_is : r.number ≡ (read_sheet sheet).number
@@ -115,24 +115,28 @@ module _ (sheet line lent : List ℕ) (r : Reading) (is : r ≡ read_sheet sheet
           let k = keys-are sheet line r is zero keys has d v t in
           (ap (λ (x : LineNo). x.number) (c.first d.items k) ∙ z, c.says z d.items k)
 
-      pub read_short : (a : LineAnswer) (exit : List ℕ) → length lent < read.count → a ≡ unread_line 15 0 0 → exit ≡ lent → ReadLineCall sheet line a lent exit
-      read_short a exit h e u =
-          read_told a exit (λ d v t. let y = says d v t in inr (y.0, tells-short d.items line read y.1 lent a exit h e u))
+      -- a withdrawal
+      pub read-none : read.withdraws ≡ true → ReadLineCall sheet line (told_of read) lent lent
+      read-none w = read_told (told_of read) lent (λ d v t. let y = says d v t in inr (y.0, tells-none d.items line read y.1 w lent))
+
+      pub read_short : read.withdraws ≡ false → (a : LineAnswer) (exit : List ℕ) → length lent < read.count → a ≡ unread_line 15 0 0 → exit ≡ lent → ReadLineCall sheet line a lent exit
+      read_short w a exit h e u =
+          read_told a exit (λ d v t. let y = says d v t in inr (y.0, tells-short d.items line read y.1 w lent a exit h e u))
 
       -- the sets are as many as were counted
-      pub read-counted : read.count ≡ length (split_from 32 read.start line)
-      read-counted = let d = rows-of-text sheet r.setup (accepts-of sheet r is zero) in (says d.doc d.valid d.text).1.counted
+      pub read-counted : read.withdraws ≡ false → read.count ≡ length (split_from 32 read.start line)
+      read-counted w = let d = rows-of-text sheet r.setup (accepts-of sheet r is zero) in (says d.doc d.valid d.text).1.counted w
 
-      pub read_all : (n : ℕ) (exit : List ℕ) → read.count ≤ length lent → PutsSets keys.keys.low keys.keys.high keys.keys.count line read.start n lent exit
+      pub read_all : read.withdraws ≡ false → (n : ℕ) (exit : List ℕ) → read.count ≤ length lent → PutsSets keys.keys.low keys.keys.high keys.keys.count line read.start n lent exit
           → ReadLineCall sheet line (told_of read) lent exit
-      read_all n exit h p =
+      read_all w n exit h p =
           read_told (told_of read) exit (λ d v t.
           let y = says d v t in
           let m = sets-many d.items read.start line in
-          let k = y.1.counted in
+          let k = y.1.counted w in
           inr (
             y.0,
-            tells_all d.items line read y.1 lent exit h
+            tells_all d.items line read y.1 w lent exit h
                 (wrote-front lent (sets_from d.items read.start line) exit n (omega arith) (p.each d.items (keys-are sheet line r is zero keys has d v t))),
           ))
 

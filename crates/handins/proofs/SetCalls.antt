@@ -24,12 +24,15 @@ use Rattle.sheet_lines.specs.Inner.Keys.{SheetKeys}
 use Rattle.sheet_lines.proofs.Accepted.{accepts-of, count_of, rows-of-text}
 use Rattle.report_text.specs.Rows.{set_text}
 use Rattle.handin_format.specs.Sets.{SetField}
-use Rattle.handin_format.specs.declared.NamedSet.{NamedSet}
-use Rattle.handin_format.specs.declared.SetWritten.{SetWritten}
+use Rattle.handin_format.specs.Calls.{NamedSet}
+use Rattle.std.specs.Prelude.{Option}
+use Rattle.std.specs.Option.{ok_or}
+use Rattle.questions.specs.declared.Refusal.TheVariants.{Short}
+use Rattle.handin_format.specs.Calls.{SetWritten}
 use Rattle.handin_format.specs.Sets.{set_from, set_names}
-use Rattle.handin_format.specs.Calls.{set_refused, set_told, ReadSetCall, write_set_call}
+use Rattle.handin_format.specs.Calls.{set_refused, set_told, ReadSetCall, set_written, write_set_call}
 use Rattle.handin_lines.specs.Inner.Naming.{ReadsNames}
-use Rattle.handins.specs.Inner.{HandsNames}
+use Rattle.writing.specs.Inner.HandOut.{HandsOut}
 
 -- ---- reading
 
@@ -79,29 +82,29 @@ pub inside-yes : (count x r : ℕ) → FirstNumber (answered12 true ∷ inside14
 unfolding Asks
 inside-yes count x r h z = ⊎_elim (λ a. absurd (a.0 refl)) (λ b. ⊎_elim (λ a. absurd (let e = a.1 in omega arith)) (λ c. c.0) b.1) h
 
-names-empty : (name : ℕ → List ℕ) (x : ℕ) → x ≡ 0 → set_names name x ≡ dash
+pub names-empty : (name : ℕ → List ℕ) (x : ℕ) → x ≡ 0 → set_names name x ≡ dash
 unfolding set_names
 names-empty name x z = rw (eq-eqb x 0 z)
 
-names-some : (name : ℕ → List ℕ) (x : ℕ) → (x ≡ 0 → ⊥) → set_names name x ≡ set_text name x
+pub names-some : (name : ℕ → List ℕ) (x : ℕ) → (x ≡ 0 → ⊥) → set_names name x ≡ set_text name x
 unfolding set_names
 names-some name x n = rw (ne_eqb x 0 n)
 
 module _ (sheet : List ℕ) (x : ℕ) (r : SetWritten) (entry exit : List ℕ) where
   abbrev Tells : Type 0
-  Tells = Told (write_set_call sheet x entry) r.number (r.length ∷ []) (exit ∷ [])
+  Tells = Told (write_set_call sheet x entry) r.number (r.size ∷ []) (exit ∷ [])
 
   -- a refusal
-  turned : (q : ℕ) → Fulfils (write_set_call sheet x entry) (turns_away (entry ∷ []) q) → r ≡ record { number = q; length = 0 } → exit ≡ entry → Tells
+  turned : (q : ℕ) → Fulfils (write_set_call sheet x entry) (turns_away (entry ∷ []) q) → r ≡ record { number = q; size = 0 } → exit ≡ entry → Tells
   turned q f e u =
-      subst (λ (y : SetWritten). Told (write_set_call sheet x entry) y.number (y.length ∷ []) (exit ∷ [])) (sym e)
+      subst (λ (y : SetWritten). Told (write_set_call sheet x entry) y.number (y.size ∷ []) (exit ∷ [])) (sym e)
       (subst (λ (l : List ℕ). Told (write_set_call sheet x entry) q (0 ∷ []) (l ∷ [])) (sym u) (record { values = []; call = f; unused = 1; told = refl }))
 
   -- an answer
   answered : (text : List ℕ) → Fulfils (write_set_call sheet x entry) (ends (gives (length text ∷ [])) (written text entry ∷ []))
-      → r ≡ record { number = 0; length = length text } → exit ≡ written text entry → Tells
+      → r ≡ record { number = 0; size = length text } → exit ≡ written text entry → Tells
   answered text f e u =
-      subst (λ (y : SetWritten). Told (write_set_call sheet x entry) y.number (y.length ∷ []) (exit ∷ [])) (sym e)
+      subst (λ (y : SetWritten). Told (write_set_call sheet x entry) y.number (y.size ∷ []) (exit ∷ [])) (sym e)
       (subst (λ (l : List ℕ). Told (write_set_call sheet x entry) 0 (length text ∷ []) (l ∷ [])) (sym u)
       (record { values = length text ∷ []; call = f; unused = 0; told = refl }))
 
@@ -109,10 +112,10 @@ module _ (sheet : List ℕ) (x : ℕ) (r : SetWritten) (entry exit : List ℕ) w
     read_number : read.number ≡ (read_sheet sheet).number
     read_number = ap (λ (y : Reading). y.number) is
 
-    pub write-no-sheet : (read.number ≡ 0 → ⊥) → r ≡ record { number = read.number; length = 0 } → exit ≡ entry → Tells
+    pub write-no-sheet : (read.number ≡ 0 → ⊥) → r ≡ record { number = read.number; size = 0 } → exit ≡ entry → Tells
     unfolding Fulfils Asks
     write-no-sheet n e u =
-        turned (read_sheet sheet).number (inl (λ z. n (read_number ∙ z), refl)) (e ∙ ap (λ (q : ℕ). record { number = q; length = 0 }) read_number) u
+        turned (read_sheet sheet).number (inl (λ z. n (read_number ∙ z), refl)) (e ∙ ap (λ (q : ℕ). record { number = q; size = 0 }) read_number) u
 
     module _ (z : read.number ≡ 0) where
       zero_is : (read_sheet sheet).number ≡ 0
@@ -122,12 +125,12 @@ module _ (sheet : List ℕ) (x : ℕ) (r : SetWritten) (entry exit : List ℕ) w
       count-is = ap (λ (y : Reading). y.setup.count) is
 
       module _ (asked : ℕ) (first : FirstNumber (answered12 true ∷ inside14 read.setup.count x ∷ []) asked) where
-        pub write-outside : (asked ≡ 0 → ⊥) → r ≡ record { number = asked; length = 0 } → exit ≡ entry → Tells
+        pub write-outside : (asked ≡ 0 → ⊥) → r ≡ record { number = asked; size = 0 } → exit ≡ entry → Tells
         unfolding Fulfils Asks
         write-outside n e u =
             let o = inside-no read.setup.count x asked first n in
             turned 14 (inr (zero_is, inl (λ i. o.0 (λ v k. let c = count-is in let h = i.each v k in omega arith), refl)))
-            (e ∙ ap (λ (q : ℕ). record { number = q; length = 0 }) o.1) u
+            (e ∙ ap (λ (q : ℕ). record { number = q; size = 0 }) o.1) u
 
         module _ (none : asked ≡ 0) where
           inside : (v : ℕ) → Member x v → v < read.setup.count
@@ -146,16 +149,10 @@ module _ (sheet : List ℕ) (x : ℕ) (r : SetWritten) (entry exit : List ℕ) w
                 ),
               )
 
-          write-names : HandsNames (set_names (name_of sheet) x) r entry exit → Tells
-          write-names t =
+          pub write-names : (o : Option ℕ) → r ≡ set_written (ok_or o Short) → HandsOut (set_names (name_of sheet) x) o entry exit → Tells
+          write-names o e t =
               ⊎_elim
-              (λ l. let k = l.0 in turned 15 (names-told (turns_away (entry ∷ []) 15) (inl (λ m. let n = m.0 in omega arith, refl))) l.1 l.2)
+              (λ l. let k = l.0 in turned 15 (names-told (turns_away (entry ∷ []) 15) (inl (λ m. let n = m.0 in omega arith, refl))) (e ∙ ap (λ (y : Option ℕ). set_written (ok_or y Short)) l.1) l.2)
               (λ l. answered (set_names (name_of sheet) x)
-              (names-told (ends (gives (length (set_names (name_of sheet) x) ∷ [])) (written (set_names (name_of sheet) x) entry ∷ [])) (inr ((l.0, tt), refl))) l.1 l.2)
+              (names-told (ends (gives (length (set_names (name_of sheet) x) ∷ [])) (written (set_names (name_of sheet) x) entry ∷ [])) (inr ((l.0, tt), refl))) (e ∙ ap (λ (y : Option ℕ). set_written (ok_or y Short)) l.1) l.2)
               t
-
-          pub write-empty : x ≡ 0 → HandsNames dash r entry exit → Tells
-          write-empty e h = write-names (subst (λ (t : List ℕ). HandsNames t r entry exit) (sym (names-empty (name_of sheet) x e)) h)
-
-          pub write-some : (x ≡ 0 → ⊥) → HandsNames (set_text (name_of sheet) x) r entry exit → Tells
-          write-some n h = write-names (subst (λ (t : List ℕ). HandsNames t r entry exit) (sym (names-some (name_of sheet) x n)) h)

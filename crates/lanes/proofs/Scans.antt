@@ -1,6 +1,6 @@
 -- A row's vertices are passed one after the other, and the parts of those passed are merged.
 -- Assumes nothing.
-use mathlib.Core.Path.{◌≡◌, sym, ◌∙◌, subst}
+use mathlib.Core.Path.{◌≡◌, sym, ap, ◌∙◌, subst}
 use mathlib.Core.Bool.{Bool}
 use mathlib.Core.List.{List}
 use mathlib.Core.Logic.{◌⊎◌, ⊎_elim}
@@ -19,10 +19,11 @@ use Rattle.lanes.specs.Inner.Lanes.{Lane, Over}
 use Rattle.lanes.proofs.Over.{merged-same, over-same, over-one, over-more}
 
 -- the words from v * 16 on are the part of v
-pub part-lane : (w : List ℕ) (v n b i : ℕ) → b < n → Iff (At (take n (drop (v * 16) w)) b i) (Lane w b i v)
+pub part-lane : (w : List ℕ) (v : ℕ) (part : List ℕ) (b i : ℕ) → b < 16 → part ≡ take 16 (drop (v * 16) w) → Iff (At part b i) (Lane w b i v)
 unfolding At Lane
-part-lane w v n b i h =
-    let e : get_or (take n (drop (v * 16) w)) b 0 ≡ get_or w (v * 16 + b) 0 = get_or-take n (drop (v * 16) w) b 0 h ∙ get_or-drop (v * 16) w b 0 in
+part-lane w v part b i h q =
+    let e : get_or part b 0 ≡ get_or w (v * 16 + b) 0 =
+    ap (λ (l : List ℕ). get_or l b 0) q ∙ get_or-take 16 (drop (v * 16) w) b 0 h ∙ get_or-drop (v * 16) w b 0 in
     record { to = subst (λ (x : ℕ). Member x i) e; from = subst (λ (x : ℕ). Member x i) (sym e) }
 
 pub record Scan (any : Bool) (w : List ℕ) (row left : ℕ) (out : List ℕ) : Type 0 where
@@ -31,15 +32,15 @@ pub record Scan (any : Bool) (w : List ℕ) (row left : ℕ) (out : List ℕ) : 
 
 module _ (any : Bool) (w : List ℕ) (row : ℕ) where
   -- the first vertex alone has been passed
-  pub scan-first : (v rest n : ℕ) (out : List ℕ) → Member row v → Without row v rest → n ≡ 16 → length out ≡ 16 → out ≡ take n (drop (v * 16) w)
+  pub scan-first : (v rest : ℕ) (out : List ℕ) → Member row v → Without row v rest → length out ≡ 16 → out ≡ take 16 (drop (v * 16) w)
       → Scan any w row rest out
-  scan-first v rest n out m o h long e =
+  scan-first v rest out m o long e =
       record {
         within = record { each = λ i r. ((o.each i).to r).0 };
         family = record {
           words = long;
           each = λ b i hb hi.
-              iff-trans (subst (λ (f : List ℕ). Iff (At f b i) (Lane w b i v)) (sym e) (part-lane w v n b i (omega arith)))
+              iff-trans (part-lane w v out b i hb e)
               (iff-trans (over-one any (Lane w b i) v) (over-same any (λ u. u ≡ v) (Passed row rest) (Lane w b i) passed));
         };
       }
@@ -52,13 +53,13 @@ module _ (any : Bool) (w : List ℕ) (row : ℕ) where
           }
 
   -- and one more
-  pub scan-more : (left v rest n : ℕ) (out out' : List ℕ) → Member left v → Without left v rest → n ≡ 16 → Scan any w row left out
-      → PartWhere (λ b i. Merged any (At out b i) (At (take n (drop (v * 16) w)) b i)) out' → Scan any w row rest out'
-  scan-more left v rest n out out' m o h s l =
+  pub scan-more : (left v rest : ℕ) (part out out' : List ℕ) → Member left v → Without left v rest → part ≡ take 16 (drop (v * 16) w)
+      → Scan any w row left out → PartWhere (λ b i. Merged any (At out b i) (At part b i)) out' → Scan any w row rest out'
+  scan-more left v rest part out out' m o e s l =
       record {
         within = left-within row left v rest s.within o;
         family = part-as out' l (λ b i hb hi.
-            iff-trans (merged-same any _ _ _ _ (s.family.each b i hb hi) (part-lane w v n b i (omega arith)))
+            iff-trans (merged-same any _ _ _ _ (s.family.each b i hb hi) (part-lane w v part b i hb e))
             (iff-trans (over-more any (Passed row left) (Lane w b i) v)
             (over-same any (λ u. Passed row left u ⊎ (u ≡ v)) (Passed row rest) (Lane w b i) (passed-more row left v rest s.within m o))));
       }

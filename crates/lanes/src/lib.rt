@@ -4,38 +4,45 @@
 
 #![tactic(auto)]
 
-ghost use Rattle.std.specs.Prelude.{◌≡◌, length};
+ghost use Rattle.std.specs.Prelude.{◌≡◌, ◌*◌, ◌<◌, take, drop};
 ghost use Rattle.vertex_set.specs.Set.{Member};
 ghost use Rattle.family_words.specs.Inner.Words.{part_words, At, PartWhere};
 ghost use Rattle.derivations.specs.Inner.Admits.{Admits};
-ghost use Rattle.lanes.specs.Inner.Lanes.{Lane, Over, Takes, untaken_word, block_words};
+ghost use Rattle.lanes.specs.Inner.Lanes.{Lane, Over, Takes, untaken_word};
 
 use family_words::PART;
 use setup::Rows;
+use vertex_set::VERTICES;
+
+// A block has the words of a part for each vertex.
+pub const BLOCK: usize = VERTICES * PART;
+
+// The part of the vertex v. Its bound stays a clause, as that `scan`'s row is not empty: a type for either
+// would be made and opened on the spot.
+fn part_of(w: &[u64; BLOCK], v: usize) -> &[u64; PART]
+    requires { v < 64 }
+    ensures { result.now ≡ take part_words (drop (v * part_words) w.now) }
+{
+    w[v * PART..].first_chunk().unwrap()
+}
 
 // The masks whose sets have every vertex of the row or, with `any`, some vertex of the row. The row
 // is not empty.
-fn scan(w: &[u64], row: u64, any: bool, out: &mut [u64])
-    requires fact { row ≡ 0 → ⊥ }
-    requires w_len { length w.now ≡ block_words }
-    requires out_len { length out.old ≡ part_words }
+fn scan(w: &[u64; BLOCK], row: u64, any: bool, out: &mut [u64; PART])
+    requires { row ≡ 0 → ⊥ }
     ensures { PartWhere (λ b i. Over any (Member row) (Lane w.now b i)) out.new }
 {
     let first = successors::lowest(row);
-    let at = first * PART;
-    out.copy_from_slice(&w[at..at + PART]);
+    out.copy_from_slice(part_of(w, first));
     for v in successors::vertices_of(successors::without(row, first)) {
-        let a = v * PART;
-        family_words::merge_in(any, out, &w[a..a + PART]);
+        family_words::merge_in(any, out, part_of(w, v));
     }
 }
 
 // Takes one colour in: the part gains the masks whose sets have the whole row or, with loss,
 // keeps only those whose sets have a vertex of the row. An empty row is no colour: it gives no
 // mask, and takes none away.
-fn take_colour(w: &[u64], row: u64, loss: bool, out: &mut [u64])
-    requires w_len { length w.now ≡ block_words }
-    requires out_len { length out.old ≡ part_words }
+fn take_colour(w: &[u64; BLOCK], row: u64, loss: bool, out: &mut [u64; PART])
     ensures { PartWhere (λ b i. Takes loss (At out.old b i) (Lane w.now b i) row) out.new }
 {
     if row == 0 {
@@ -56,17 +63,14 @@ fn untaken(loss: bool) -> u64
 
 // The masks by whose sets a vertex with these rows is opened or, with loss, lost. A vertex without
 // a colour is neither.
-pub fn admitted(w: &[u64], rows: Rows, loss: bool, out: &mut [u64])
-    requires w_len { length w.now ≡ block_words }
-    requires out_len { length out.old ≡ part_words }
+pub fn admitted(w: &[u64; BLOCK], rows: Rows, loss: bool, out: &mut [u64; PART])
     ensures { PartWhere (λ b i. Admits loss rows (Lane w.now b i)) out.new }
 {
     if successors::needed(rows) == 0 {
-        family_words::set_all(out, 0);
+        out.fill(0);
         return;
     }
-    let first = untaken(loss);
-    family_words::set_all(out, first);
+    out.fill(untaken(loss));
     for row in rows.needs {
         take_colour(w, row, loss, out);
     }

@@ -2,17 +2,19 @@
 
 #![tactic(auto)]
 
-ghost use Rattle.std.specs.Prelude.{◌≡◌, map, ℕ, ◌<◌, length, get_or};
+ghost use Rattle.std.specs.Prelude.{◌≡◌, map, ℕ, ◌<◌, get_or};
 ghost use Rattle.family_lists.specs.Inner.Lists.{Summable, SumTables, LeastSum, LeastBy};
 ghost use Rattle.family_lists.specs.Inner.Tables.{masks_in, sum_by};
 ghost use Rattle.families.specs.Inner.Family.{family_words};
 ghost use Rattle.least_sums.specs.Inner.Least.{least_of};
 
+use families::WORDS;
 use scores::NEVER;
 use sums::MaskSums;
 use vertex_set::VertexSet;
 
-// The least of `best` and the sums of the masks of word b in the lanes of y.
+// The least of `best` and the sums of the masks of word b in the lanes of y. The bound of b stays a clause:
+// a type for it would be made and opened on the spot.
 fn least_in_word(y: u64, b: usize, sums: &MaskSums, best: u64) -> u64
     requires { b < family_words }
     ensures { result ≡ least_of best (map (sum_by sums.now.low sums.now.high) (masks_in b y)) }
@@ -28,8 +30,7 @@ fn least_in_word(y: u64, b: usize, sums: &MaskSums, best: u64) -> u64
 }
 
 // The least sum over the family's members by two tables of sums; NEVER for an empty family.
-pub fn least_by(f: &[u64], sums: &MaskSums) -> u64
-    requires { length f.now ≡ family_words }
+pub fn least_by(f: &[u64; WORDS], sums: &MaskSums) -> u64
     ensures { LeastBy f.now sums.now.low sums.now.high result }
 {
     let mut least = NEVER;
@@ -51,9 +52,8 @@ pub fn sum_tables(chosen: VertexSet, values: [u64; 64]) -> MaskSums
 }
 
 // The least sum of values over the sets of the family's members; NEVER for an empty family.
-pub fn least_sum(f: &[u64], chosen: VertexSet, values: [u64; 64]) -> u64
-    requires f_len { length f.now ≡ family_words }
-    requires summable { Summable chosen.0 (λ (v : ℕ). get_or values v 0) }
+pub fn least_sum(f: &[u64; WORDS], chosen: VertexSet, values: [u64; 64]) -> u64
+    requires { Summable chosen.0 (λ (v : ℕ). get_or values v 0) }
     ensures { LeastSum chosen.0 f.now (λ (v : ℕ). get_or values v 0) result }
 {
     let sums = sum_tables(chosen, values);

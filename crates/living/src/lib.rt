@@ -13,7 +13,7 @@ ghost use Rattle.vertex_set.specs.Set.{Decides};
 ghost use Rattle.setup.specs.Setup.{Edge, edge_count};
 ghost use Rattle.questions.specs.Inner.{FirstRefusal};
 ghost use Rattle.living.specs.Calls.{handed_back, TakeIn, TakeOut, AddEdge, RemoveEdge, CallOf};
-ghost use Rattle.living.specs.Inner.{LetGo, RowPlace, EdgePlace, WithHeld, Drawn, place_questions, RowsWithEdge, RowsWithoutEdge, RowsMarked, EdgeAdded, EdgeRemoved};
+ghost use Rattle.living.specs.Inner.{LetGo, EdgePlace, WithHeld, Drawn, place_questions, RowsWithEdge, RowsWithoutEdge, RowsMarked, EdgeAdded, EdgeRemoved};
 
 use questions::Refusal;
 use setup::{Graph, Rows, Setup};
@@ -29,11 +29,71 @@ fn let_go(s: VertexSet, v: usize) -> VertexSet
     s
 }
 
-fn has_edge(graph: Graph, from: usize, to: usize, colour: usize) -> bool
-    requires { RowPlace to colour }
-    ensures { Decides (Edge graph from to colour) result }
-{
-    VertexSet(graph.rows[to].needs[colour]).has(from)
+// An edge that a call names: both ends and the colour are places of a graph.
+#[derive(Clone, Copy)]
+struct Named {
+    from: usize,
+    to: usize,
+    colour: usize,
+    ghost place: { EdgePlace from to colour },
+}
+
+impl Named {
+    fn is_in(self, graph: Graph) -> bool
+        ensures { Decides (Edge graph self.from self.to self.colour) result }
+    {
+        VertexSet(graph.rows[self.to].needs[self.colour]).has(self.from)
+    }
+
+    // The rows of its second end with the edge.
+    fn with(self, rows: Rows) -> Rows
+        ensures { RowsWithEdge rows self.from self.colour result }
+    {
+        let mut r = rows;
+        r.needs[self.colour] = VertexSet(rows.needs[self.colour]).insert(self.from).0;
+        r
+    }
+
+    // The rows of its second end without the edge, which need not be there.
+    fn without(self, rows: Rows) -> Rows
+        ensures { RowsWithoutEdge rows self.from self.colour result }
+    {
+        let mut r = rows;
+        r.needs[self.colour] = let_go(VertexSet(rows.needs[self.colour]), self.from).0;
+        r
+    }
+
+    // The recovery edges of its second end, with the edge where the mark is a yes.
+    fn mark(self, marks: Rows, rec: bool) -> Rows
+        ensures { RowsMarked marks self.from self.colour rec result }
+    {
+        if rec {
+            return self.with(marks);
+        }
+        marks
+    }
+
+    // Accepts: the setup with the edge, and with its mark.
+    fn draw(self, s: Setup, rec: bool) -> Setup
+        ensures { EdgeAdded s self.from self.to self.colour rec result }
+    {
+        let mut graph = s.graph;
+        graph.rows[self.to] = self.with(graph.rows[self.to]);
+        let mut recovery = s.recovery;
+        recovery.rows[self.to] = self.mark(recovery.rows[self.to], rec);
+        redraw(s, graph, recovery)
+    }
+
+    // Accepts: the setup without the edge, and without its mark.
+    fn erase(self, s: Setup) -> Setup
+        ensures { EdgeRemoved s self.from self.to self.colour result }
+    {
+        let mut graph = s.graph;
+        graph.rows[self.to] = self.without(graph.rows[self.to]);
+        let mut recovery = s.recovery;
+        recovery.rows[self.to] = self.without(recovery.rows[self.to]);
+        redraw(s, graph, recovery)
+    }
 }
 
 fn edge_count(graph: Graph) -> u32
@@ -80,7 +140,8 @@ pub fn take_out(s: Setup, v: usize) -> Result<Setup, Refusal>
 }
 
 // Questions 12, 13 of both ends, and 18, which come first where an edge is named. `formed` is the
-// answer to question 12.
+// answer to question 12. From, to and colour come one by one, as the offered calls have them: places of a
+// graph they are where these questions are answered with yes.
 #[tactic(auto, unfolding(questions::specs::Asks::Asks))]
 fn ask_place(
     formed: bool,
@@ -114,61 +175,6 @@ fn redraw(s: Setup, graph: Graph, recovery: Graph) -> Setup
     setup
 }
 
-// The rows of a vertex with an edge more.
-fn with_edge(rows: Rows, from: usize, colour: usize) -> Rows
-    requires { RowPlace from colour }
-    ensures { RowsWithEdge rows from colour result }
-{
-    let mut r = rows;
-    r.needs[colour] = VertexSet(rows.needs[colour]).insert(from).0;
-    r
-}
-
-// The rows of a vertex without an edge, which need not be there.
-fn without_edge(rows: Rows, from: usize, colour: usize) -> Rows
-    requires { RowPlace from colour }
-    ensures { RowsWithoutEdge rows from colour result }
-{
-    let mut r = rows;
-    r.needs[colour] = let_go(VertexSet(rows.needs[colour]), from).0;
-    r
-}
-
-// The recovery edges of a vertex with one more where the mark is a yes.
-fn with_mark(marks: Rows, from: usize, colour: usize, rec: bool) -> Rows
-    requires { RowPlace from colour }
-    ensures { RowsMarked marks from colour rec result }
-{
-    if rec {
-        return with_edge(marks, from, colour);
-    }
-    marks
-}
-
-// Accepts: the setup with an edge more, and with its mark.
-fn draw_edge(s: Setup, from: usize, to: usize, colour: usize, rec: bool) -> Setup
-    requires { EdgePlace from to colour }
-    ensures { EdgeAdded s from to colour rec result }
-{
-    let mut graph = s.graph;
-    graph.rows[to] = with_edge(graph.rows[to], from, colour);
-    let mut recovery = s.recovery;
-    recovery.rows[to] = with_mark(recovery.rows[to], from, colour, rec);
-    redraw(s, graph, recovery)
-}
-
-// Accepts: the setup without an edge, and without its mark.
-fn erase_edge(s: Setup, from: usize, to: usize, colour: usize) -> Setup
-    requires { EdgePlace from to colour }
-    ensures { EdgeRemoved s from to colour result }
-{
-    let mut graph = s.graph;
-    graph.rows[to] = without_edge(graph.rows[to], from, colour);
-    let mut recovery = s.recovery;
-    recovery.rows[to] = without_edge(recovery.rows[to], from, colour);
-    redraw(s, graph, recovery)
-}
-
 // Adds an edge. A yes for `rec` marks it as a recovery edge, which stands in both graphs.
 pub fn add_edge(
     s: Setup,
@@ -181,13 +187,14 @@ pub fn add_edge(
 {
     let formed = formed::well_formed(s);
     ask_place(formed, s.count, from, to, colour)?;
-    if has_edge(s.graph, from, to, colour) {
+    let edge = Named { from, to, colour };
+    if edge.is_in(s.graph) {
         return Err(Refusal::EdgeThere);
     }
     if setup::MAX_EDGES as u32 <= edge_count(s.graph) {
         return Err(Refusal::Bound);
     }
-    Ok(draw_edge(s, from, to, colour, rec))
+    Ok(edge.draw(s, rec))
 }
 
 // Removes an edge from both graphs, whatever its mark.
@@ -196,8 +203,9 @@ pub fn remove_edge(s: Setup, from: usize, to: usize, colour: usize) -> Result<Se
 {
     let formed = formed::well_formed(s);
     ask_place(formed, s.count, from, to, colour)?;
-    if !has_edge(s.graph, from, to, colour) {
+    let edge = Named { from, to, colour };
+    if !edge.is_in(s.graph) {
         return Err(Refusal::NoEdge);
     }
-    Ok(erase_edge(s, from, to, colour))
+    Ok(edge.erase(s))
 }

@@ -78,7 +78,6 @@ unfolding In
 seen_none chosen =
     record {
       words = refl;
-      fits = λ i. rw (zeros 256 i) (omega arith);
       each = λ m. record {
         to = λ h. absurd (none-in-zero (m % 64) (subst (λ (w : ℕ). Member w (m % 64)) (zeros 256 (m / 64)) h));
         from = λ h. absurd h.listed;
@@ -94,7 +93,6 @@ module _ (chosen : ℕ) (l seen : List ℕ) (i : ℕ) (h : i < length l) (s : Se
   seen-kept old =
       record {
         words = s.words;
-        fits = s.fits;
         each = λ m. record {
           to = λ p. widen m ((s.each m).to p);
           from = λ k. (s.each m).from (record {
@@ -112,12 +110,11 @@ module _ (chosen : ℕ) (l seen : List ℕ) (i : ℕ) (h : i < length l) (s : Se
   pub seen-again : Listed (take i l) (get_or l i 0) → Seen chosen (take (i + 1) l) seen
   seen-again q = seen-kept (λ x w e. subst (Listed (take i l)) (sym e) q)
 
-  pub seen-new : (m : ℕ) (next : List ℕ) → chosen < 2 ^ 64 → Within (get_or l i 0) chosen → MaskOf chosen (get_or l i 0) m → length next ≡ 256 → Words next → Put seen m next
+  pub seen-new : (m : ℕ) (next : List ℕ) → chosen < 2 ^ 64 → Within (get_or l i 0) chosen → MaskOf chosen (get_or l i 0) m → length next ≡ 256 → Put seen m next
       → Seen chosen (take (i + 1) l) next
-  seen-new m next f w o e b p =
+  seen-new m next f w o e p =
       record {
         words = e;
-        fits = b;
         each = λ k. record {
           to = λ q. ⊎_elim (λ a. widen k ((s.each k).to a))
               (λ a. record { set = get_or l i 0; listed = (listed_next l i (get_or l i 0) h).from (inr refl); within = w; mask = subst (MaskOf chosen (get_or l i 0)) (sym a) o }) ((p.each k).to q);

@@ -200,13 +200,14 @@ module _ (loss : Bool) (s : Setup) (g : Graph) (target chosen : ℕ) (family min
 
 -- ---- all marks
 
-module _ (chosen : ℕ) (family minimal handed seen : List ℕ) (outsiders : ℕ) (fits : chosen < 2 ^ 64) (can : CanMark chosen family minimal) (words : Words handed)
-    (is : Seen chosen handed seen) (out : HasSize (OutsiderOf chosen handed 0 18446744073709551615) outsiders) where
+module _ (chosen : ℕ) (family minimal handed seen : List ℕ) (outsiders : ℕ) (fits : chosen < 2 ^ 64) (can : CanMark chosen family minimal)
+    (long : length family ≡ 256) (long_minimal : length minimal ≡ 256) (words : Words handed)
+    (is : Seen chosen handed seen) (fits-seen : Words seen) (out : HasSize (OutsiderOf chosen handed 0 18446744073709551615) outsiders) where
   of-minimal : HasSize (λ k. In seen k × In minimal k) (size (meet seen minimal))
-  of-minimal = meet-size seen minimal (is.words ∙ sym can.words_minimal) is.fits
+  of-minimal = meet-size seen minimal (is.words ∙ sym long_minimal) fits-seen
 
   of-family : HasSize (λ k. In seen k × In family k) (size (meet seen family))
-  of-family = meet-size seen family (is.words ∙ sym can.words) is.fits
+  of-family = meet-size seen family (is.words ∙ sym long) fits-seen
 
   pub right_le : size (meet seen minimal) ≤ size (meet seen family)
   right_le =
@@ -214,12 +215,12 @@ module _ (chosen : ℕ) (family minimal handed seen : List ℕ) (outsiders : ℕ
       (λ k h. (h.0, ((can.is_minimal.least k ((is.each k).to h.0).mask.room).to h.1).is)) of-minimal of-family
 
   pub opening-le : size (meet seen family) ≤ size seen
-  opening-le = size-le (λ k. In seen k × In family k) (In seen) (size (meet seen family)) (size seen) (λ k h. h.0) of-family (family-size seen is.fits)
+  opening-le = size-le (λ k. In seen k × In family k) (In seen) (size (meet seen family)) (size seen) (λ k h. h.0) of-family (family-size seen fits-seen)
 
   inside : HasSize (λ x. Listed handed x × Within x chosen) (size seen)
   inside =
       size-of-sets chosen handed (In seen) (λ x. Within x chosen) (size seen) fits can.few (λ k. (is.each k).to) (λ x w. w)
-      (λ k x l w o. record { to = λ h. w; from = λ h. (is.each k).from (record { set = x; listed = l; within = w; mask = o }) }) (family-size seen is.fits)
+      (λ k x l w o. record { to = λ h. w; from = λ h. (is.each k).from (record { set = x; listed = l; within = w; mask = o }) }) (family-size seen fits-seen)
 
   all : HasSize (λ x. Listed handed x × Unit {0}) (size seen + outsiders)
   all =

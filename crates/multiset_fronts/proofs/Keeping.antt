@@ -16,8 +16,8 @@ use Rattle.family_lists.specs.Inner.Tables.{sum_by}
 use Rattle.multiset_keys.specs.Inner.{CountKey}
 use Rattle.vertex_set.proofs.Decisions.{and_parts, and_both}
 use Rattle.multiset_keys.proofs.Lanes.{key-refl, key-trans}
-use Rattle.multiset_fronts.specs.Inner.{both_le, Keyed, not_above, CanTakeIn, SetTakenIn, KeysLe, Front, CanKeep, KeptLowest}
-use Rattle.multiset_fronts.proofs.Lists.{listed-take, listed-longer, sorted-place, take_more}
+use Rattle.multiset_fronts.specs.Inner.{both_le, Keyed, not_above, SetTakenIn, KeysLe, Front, CanKeep, KeptLowest}
+use Rattle.multiset_fronts.proofs.Lists.{listed-take, sorted-place, take_more}
 use Rattle.multiset_fronts.proofs.Front.{front_same, front-more}
 
 true-or : (t : Bool) → (t ≡ true) ⊎ (t ≡ true → ⊥)
@@ -63,29 +63,16 @@ module _ (list : List ℕ) (n : ℕ) (low₁ high₁ low₂ high₂ : List ℕ) 
   pub next_small : get_or kept i 0 < masks
   next_small = subst (λ (z : ℕ). z < masks) (sym (k.rest i (omega arith))) (can.small (get_or list i 0) (listed-take list n i l inside))
 
-  kept_small : length kept ≡ length list → (j : ℕ) → j < count → get_or kept j 0 < masks
-  kept_small e j h =
-      let m = k.most in
-      can.small (get_or kept j 0) (listed-longer list i n (get_or kept j 0) (omega arith) (k.front.of (get_or kept j 0) (listed-take kept count j h (omega arith))))
+  -- its keys are keys
+  pub next_first : (a : ℕ) → a ≡ sum_by low₁ high₁ (get_or kept i 0) → CountKey a
+  next_first a p = subst CountKey (sym p) (can.is_first.keys (get_or kept i 0) next_small)
 
-  -- the next mask can be taken in
-  pub keeping-takes : length kept ≡ length list → length low ≡ 3432 → length high ≡ 3432 → (a b : ℕ)
-      → a ≡ sum_by low₁ high₁ (get_or kept i 0) → b ≡ sum_by low₂ high₂ (get_or kept i 0) → CanTakeIn kept low high count a b
-  keeping-takes e f g a b p q =
-      let m = k.most in
-      record {
-        comparable = record {
-          room-low = omega (arith, can.few);
-          room-high = omega (arith, can.few);
-          lows = λ j h. subst CountKey (sym (k.keyed.is_low j h)) (can.is_first.keys (get_or kept j 0) (kept_small e j h));
-          highs = λ j h. subst CountKey (sym (k.keyed.is_high j h)) (can.is_second.keys (get_or kept j 0) (kept_small e j h));
-          first = subst CountKey (sym p) (can.is_first.keys (get_or kept i 0) next_small);
-          second = subst CountKey (sym q) (can.is_second.keys (get_or kept i 0) next_small);
-        };
-        room = omega (arith, inside);
-        room-low = omega (arith, can.few);
-        room-high = omega (arith, can.few);
-      }
+  pub next_second : (b : ℕ) → b ≡ sum_by low₂ high₂ (get_or kept i 0) → CountKey b
+  next_second b q = subst CountKey (sym q) (can.is_second.keys (get_or kept i 0) next_small)
+
+  -- there is room for it
+  pub keeping-room : length kept ≡ length list → (count < length kept) × (count < 3432)
+  keeping-room e = let m = k.most in (omega (arith, inside), omega (arith, can.few))
 
   takes-in : (kept' low' high' : List ℕ) (x r : ℕ) → x ≡ get_or list i 0 → SetTakenIn kept low high kept' low' high' count x (sum_by low₁ high₁ x) (sum_by low₂ high₂ x) r
       → Keeping list (sum_by low₁ high₁) (sum_by low₂ high₂) (i + 1) kept' low' high' r

@@ -1,4 +1,5 @@
 pub mod Lists
+pub mod Pairs
 pub mod Dropping
 pub mod Front
 pub mod Keeping

@@ -1,24 +1,23 @@
 -- Inner: the running list of the lowest sets. Nothing of this has to be believed: no contract of an offered call cites it.
-use Rattle.std.specs.Prelude.{◌≡◌, Bool, true, not, ◌&&◌, List, [], ◌∷◌, ◌++◌, ◌⊎◌, ℕ, ◌+◌, ◌≤◌, ◌<◌, length, get_or, take}
+use Rattle.std.specs.Prelude.{◌≡◌, Bool, true, not, ◌&&◌, List, [], ◌∷◌, ◌++◌, map, ◌⊎◌, ℕ, ◌+◌, ◌≤◌, ◌<◌, length, get_or, take}
 use Rattle.vertex_set.specs.Order.{Listed, Before}
 use Rattle.vertex_set.proofs.Sorted.{only, Sorted}
 use Rattle.families.specs.Inner.Family.{masks}
 use Rattle.family_lists.specs.Inner.Tables.{sum_by}
 use Rattle.antichains.specs.Antichains.{most_sets}
-use Rattle.multiset_keys.specs.Inner.{CountKey, key_le, KeyTables}
+use Rattle.multiset_keys.specs.Inner.{key_le, KeyTables}
+use Rattle.multiset_fronts.specs.declared.keys.Keys.{Keys}
+
+-- The keys of a list, as two lists of numbers.
+abbrev pub firsts : List Keys → List ℕ
+firsts l = map (λ (k : Keys). k.first) l
+
+abbrev pub seconds : List Keys → List ℕ
+seconds l = map (λ (k : Keys). k.second) l
 
 -- Is the pair of keys a, b at most the pair c, d?
 abbrev pub both_le : ℕ → ℕ → ℕ → ℕ → Bool
 both_le a b c d = key_le a c && key_le b d
-
--- The first n numbers of the two lists are keys, and so are a and b.
-pub record Comparable (low high : List ℕ) (n a b : ℕ) : Type 0 where
-  pub room-low : n ≤ length low
-  pub room-high : n ≤ length high
-  pub lows : (i : ℕ) → i < n → CountKey (get_or low i 0)
-  pub highs : (i : ℕ) → i < n → CountKey (get_or high i 0)
-  pub first : CountKey a
-  pub second : CountKey b
 
 -- One of the first n pairs is at most a, b.
 pub record SomeBelow (low high : List ℕ) (n a b : ℕ) : Type 0 where
@@ -41,13 +40,6 @@ pub record Dropped (kept low high kept' low' high' : List ℕ) (n a b r : ℕ) :
   pub left : (f g : ℕ → ℕ) → Keyed f g kept low high n → take r kept' ≡ only (not_above f g a b) (take n kept)
   pub keyed : (f g : ℕ → ℕ) → Keyed f g kept low high n → Keyed f g kept' low' high' r
   pub rest : (j : ℕ) → n ≤ j → get_or kept' j 0 ≡ get_or kept j 0
-
--- What taking in a set asks for: keys, and room for one more set in each list.
-pub record CanTakeIn (kept low high : List ℕ) (n a b : ℕ) : Type 0 where
-  pub comparable : Comparable low high n a b
-  pub room : n < length kept
-  pub room-low : n < length low
-  pub room-high : n < length high
 
 -- Some of the first n sets are at most x, and nothing has changed; or none is, and x stands behind those that it is not at most.
 abbrev pub Either : (ℕ → ℕ) → (ℕ → ℕ) → List ℕ → List ℕ → ℕ → ℕ → ℕ → Type 0

@@ -1,63 +1,49 @@
 // The lowest of a list of sets, by two keys each: the sets are gone through in order, and those kept are
 // at each time the lowest of all that were seen, of equal ones the first. So each set of a long list is
 // compared only with those kept so far, at most twice with each.
+//
+// The keys stand in a list beside that of the sets, and the two go by one index: the sets are numbers in a
+// list that is lent.
 
 #![tactic(auto)]
 
-ghost use Rattle.std.specs.Prelude.{◌≡◌, ◌≤◌, length};
+ghost use Rattle.std.specs.Prelude.{◌<◌, ◌≤◌, length};
 ghost use Rattle.vertex_set.specs.Set.{Decides};
-ghost use Rattle.multiset_keys.specs.Inner.{CountKey};
-ghost use Rattle.multiset_fronts.specs.Inner.{both_le, Comparable, SomeBelow, Dropped, CanTakeIn, SetTakenIn, CanKeep, KeptLowest};
+ghost use Rattle.multiset_fronts.specs.Inner.{firsts, seconds, SomeBelow, Dropped, SetTakenIn, CanKeep, KeptLowest};
 
 use antichains::MOST_SETS;
+use keys::Keys;
 use sums::MaskSums;
 
-// Is the pair of keys a, b at most the pair c, d: at most in each lane of both?
-fn both_at_most(a: u64, b: u64, c: u64, d: u64) -> bool
-    requires { CountKey a × CountKey b × CountKey c × CountKey d }
-    ensures { result ≡ both_le a b c d }
-{
-    multiset_keys::key_at_most(a, c) && multiset_keys::key_at_most(b, d)
-}
+pub mod keys;
 
-// Is one of the first n pairs of keys at most a, b? The keys stand in two lists beside that of the sets, and
-// the three go by one index: the sets are numbers in a list that is lent, and with the keys in a list of pairs
-// there would still be two lists to keep in step.
-fn some_below(low: &[u64], high: &[u64], n: usize, a: u64, b: u64) -> bool
-    requires { Comparable low.now high.now n a b }
-    ensures { Decides (SomeBelow low.now high.now n a b) result }
+// Are one set's keys at most the new ones?
+fn some_below(kept: &[Keys], new: Keys) -> bool
+    ensures { Decides (SomeBelow (firsts kept.now) (seconds kept.now) (length kept.now) new.first new.second) result }
 {
-    for i in 0..n {
-        if both_at_most(low[i], high[i], a, b) {
+    for keys in kept {
+        if keys.at_most(new) {
             return true;
         }
     }
     false
 }
 
-// Of the first n sets drops those whose keys are at or above a, b, and gives the count of those
+// Of the first n sets drops those whose keys are at or above the new ones, and gives the count of those
 // left. A set is written to the next free place before it is known to stay; where it does not, the
-// next one is written there.
-fn drop_above(
-    kept: &mut [u64],
-    low: &mut [u64],
-    high: &mut [u64],
-    n: usize,
-    a: u64,
-    b: u64,
-) -> usize
-    requires comparable { Comparable low.old high.old n a b }
-    requires n_in_bounds { n ≤ length kept.old }
-    ensures { Dropped kept.old low.old high.old kept.new low.new high.new n a b result }
+// next one is written there. The sets, their keys and n are no struct: the sets are lent by the caller,
+// and go on behind the first n.
+fn drop_above(kept: &mut [u64], keys: &mut [Keys], n: usize, new: Keys) -> usize
+    requires { (n ≤ length kept.old) × (n ≤ length keys.old) }
+    ensures { Dropped kept.old (firsts keys.old) (seconds keys.old) kept.new (firsts keys.new) (seconds keys.new) n new.first new.second result }
 {
     let mut left: usize = 0;
+    // By index, since what stays moves within the same lists.
     for i in 0..n {
-        let c = low[i];
-        let d = high[i];
+        let next = keys[i];
         kept[left] = kept[i];
-        low[left] = c;
-        high[left] = d;
-        if both_at_most(a, b, c, d) {
+        keys[left] = next;
+        if new.at_most(next) {
             continue;
         }
         left += 1;
@@ -65,27 +51,18 @@ fn drop_above(
     left
 }
 
-// Takes in the set x with the keys a, b, if none of the first n sets is at most it: those that x is at
+// Takes in the set x with the new keys, if none of the first n sets is at most it: those that x is at
 // most go, and x comes behind the others. Gives the count of the sets that are kept.
-fn take_in(
-    kept: &mut [u64],
-    low: &mut [u64],
-    high: &mut [u64],
-    n: usize,
-    x: u64,
-    a: u64,
-    b: u64,
-) -> usize
-    requires { CanTakeIn kept.old low.old high.old n a b }
-    ensures { SetTakenIn kept.old low.old high.old kept.new low.new high.new n x a b result }
+fn take_in(kept: &mut [u64], keys: &mut [Keys], n: usize, x: u64, new: Keys) -> usize
+    requires { (n < length kept.old) × (n < length keys.old) }
+    ensures { SetTakenIn kept.old (firsts keys.old) (seconds keys.old) kept.new (firsts keys.new) (seconds keys.new) n x new.first new.second result }
 {
-    if some_below(low, high, n, a, b) {
+    if some_below(&keys[..n], new) {
         return n;
     }
-    let left = drop_above(kept, low, high, n, a, b);
+    let left = drop_above(kept, keys, n, new);
     kept[left] = x;
-    low[left] = a;
-    high[left] = b;
+    keys[left] = new;
     left + 1
 }
 
@@ -96,15 +73,22 @@ pub fn keep_lowest(list: &mut [u64], n: usize, firsts: &MaskSums, seconds: &Mask
     requires { CanKeep list.old n firsts.now.low firsts.now.high seconds.now.low seconds.now.high }
     ensures { KeptLowest list.old n firsts.now.low firsts.now.high seconds.now.low seconds.now.high list.new result }
 {
-    let mut first = [0u64; MOST_SETS];
-    let mut second = [0u64; MOST_SETS];
+    let none = Keys {
+        first: 0,
+        second: 0,
+    };
+    let mut keys = [none; MOST_SETS];
     let mut count: usize = 0;
     // By index, since the masks that stay move within the same list.
     for i in 0..n {
         let x = list[i];
         let a = firsts.at(x as usize);
         let b = seconds.at(x as usize);
-        count = take_in(list, &mut first, &mut second, count, x, a, b);
+        let new = Keys {
+            first: a,
+            second: b,
+        };
+        count = take_in(list, &mut keys, count, x, new);
     }
     count
 }

@@ -1,6 +1,7 @@
 -- Inner: keys. A key tells of a set how many of its values are at or above each of seven thresholds; it has 8 bits for each of these counts, so that
 -- two sets are compared at all seven by one subtraction. Nothing of this has to be believed: no contract of an offered call cites it.
 use Rattle.std.specs.Prelude.{◌≡◌, Bool, true, ◌&&◌, List, [], ◌∷◌, map, ℕ, zero, suc, ◌+◌, ◌*◌, ◌/◌, ◌%◌, ◌≤◌, ◌<◌, leb, length, get_or}
+use Rattle.std.specs.Coded.{×_prop, le_prop, Coded-set, coded_ℕ}
 use Rattle.vertex_set.specs.Order.{sum_over}
 use Rattle.families.specs.Inner.Family.{masks}
 use Rattle.family_lists.specs.Inner.Tables.{TablesFit, sum_by}
@@ -30,6 +31,15 @@ guards (suc n) = 128 + 256 * guards n
 -- a is a key: seven lanes, whose highest bits are free.
 unfoldable pub CountKey : ℕ → Type 0
 CountKey a = SmallLanes 7 a
+
+-- That a number is a key has one proof, so that a type can keep it.
+lanes-prop : (n a : ℕ) → IsProp (SmallLanes n a)
+lanes-prop zero a = Coded-set coded_ℕ a 0
+lanes-prop (suc n) a = ×_prop le_prop (lanes-prop n (a / 256))
+
+pub count_key_prop : (a : ℕ) → IsProp (CountKey a)
+unfolding CountKey
+count_key_prop a = lanes-prop 7 a
 
 -- Is each lane of the key a at most that of the key b?
 unfoldable pub key_le : ℕ → ℕ → Bool

@@ -29,6 +29,8 @@ fn column(value: u64, thresholds: &[u64]) -> u64
     ensures { result ≡ packed_counts (high_marks thresholds.now value) }
 {
     let mut key: u64 = 0;
+    // By index: with `iter().rev()` the invariant has no place to speak of, and that the key fits its word
+    // stayed open.
     for k in (0..thresholds.len()).rev() {
         let bit = is_high(thresholds[k], value);
         key = key * 256 + bit;
@@ -36,7 +38,8 @@ fn column(value: u64, thresholds: &[u64]) -> u64
     key
 }
 
-// The keys of all vertices' values.
+// The keys of all vertices' values. `mask_keys` is public and takes fewer thresholds than seven too, so
+// that these come as a slice: an array of seven would ask more of its callers.
 fn columns_of(values: [u64; 64], thresholds: &[u64]) -> [u64; 64]
     requires { length thresholds.now ≤ 7 }
     ensures { Columns values thresholds.now result }

@@ -1,6 +1,6 @@
 -- The multisets, with room for them and without.
 -- Assumes nothing.
-use mathlib.Core.Path.{◌≡◌, ap, subst, ◌∙◌}
+use mathlib.Core.Path.{◌≡◌, subst, ◌∙◌}
 use mathlib.Core.Bool.{false}
 use mathlib.Core.List.{List, [], ◌∷◌, map}
 use mathlib.Core.Logic.{◌⊎◌, ⊎_elim}
@@ -16,7 +16,6 @@ use Rattle.bases.specs.Inner.Readers.{Values}
 use Rattle.bases.specs.Score.{points_at}
 use Rattle.multisets.proofs.Sets.{length_over}
 use Rattle.written.specs.Inner.{Wrote}
-use Rattle.multiset_fronts.proofs.Lists.{listed-take}
 use Rattle.multiset_rows.specs.Inner.{rows_of, RowsHaveRoom}
 use Rattle.written.proofs.Writing.{wrote-front}
 use Rattle.multiset_rows.proofs.Writing.{rows_long}
@@ -32,11 +31,8 @@ module _ (s : Setup) (target : ℕ) (places lengths : List ℕ) where
     inside-kept : n ≤ length kept
     inside-kept = let e = f.long in let m = f.most in omega arith
 
-    count : length (take n kept) ≡ n
+    pub count : length (take n kept) ≡ n
     count = length-take-le n kept inside-kept
-
-    each : (i : ℕ) → i < n → (get_or kept i 0 < 2 ^ 64) × (ones (get_or kept i 0) ≤ 14)
-    each i l = f.few (get_or kept i 0) (listed-take kept n i l (let k = inside-kept in omega arith))
 
     -- the lengths of what is written
     all-long : length (all_places s (take n kept)) ≡ 14 * n
@@ -54,8 +50,8 @@ module _ (s : Setup) (target : ℕ) (places lengths : List ℕ) where
         no_room (bags_call s target places lengths) (take n kept) f.score
         (λ k. let p = all-long in let q = lengths-long in let i = k.0 in let j = k.1.0 in ⊎_elim (λ l. omega arith) (λ l. omega arith) h)
 
-    pub rows_fit : 14 * n ≤ length places → RowsHaveRoom kept n places
-    rows_fit h = record { sets = inside-kept; few = λ i l. (each i l).1; room = h }
+    pub rows_fit : 14 * n ≤ length places → RowsHaveRoom (take n kept) places
+    rows_fit h = let c = count in record { few = λ i l. (f.few (get_or (take n kept) i 0) (listed_at (take n kept) i l)).1; room = omega arith }
 
     module _ (points : List ℕ) (p : Values false s points) (places' : List ℕ) (r : ℕ) (a : Wrote places 0 (rows_of (λ (v : ℕ). get_or points v 0) (take n kept)) places' r)
         (lengths' : List ℕ) (q : ℕ) (b : Wrote lengths 0 (map ones (take n kept)) lengths' q) (h : 14 * n ≤ length places) (k : n ≤ length lengths) where

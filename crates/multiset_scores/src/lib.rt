@@ -63,6 +63,9 @@ fn find_score(
     left
 }
 
+// Setup and target are no struct that has them and `Answerable`, which is asked for once here: the call is
+// offered with both, and `bases::base_family` takes both.
+
 // The score of a target of a well-formed setup. Its number of multisets is known before a place is
 // written, so that lent lists of which one is too short stay as they were.
 fn write_score(
@@ -84,8 +87,9 @@ fn write_score(
     if places.len() < MOST_VALUES * n {
         return Err(Refusal::Short);
     }
-    let _ = multiset_rows::write_rows(&kept, n, points, places);
-    Ok(multiset_rows::write_lengths(&kept, n, lengths))
+    let sets = &kept[..n];
+    let _ = multiset_rows::write_rows(sets, points, places);
+    Ok(multiset_rows::write_lengths(sets, lengths))
 }
 
 // The target's score, each multiset in 14 places of the one lent list, its length in the other.

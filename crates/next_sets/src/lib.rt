@@ -16,7 +16,8 @@ use setup::Setup;
 use vertex_set::VertexSet;
 
 // The first set of the target's base after `last`, a set of initial vertices. It is found on the
-// table of the base's sets: none of them is listed.
+// table of the base's sets: none of them is listed. Setup, target and sets are no struct: the call is
+// offered with them, and `bases::base_family` takes them one by one.
 fn find_next(s: Setup, target: usize, initial: VertexSet, last: VertexSet) -> Option<VertexSet>
     requires well_formed { WellFormed s }
     requires target_bound { target < 64 }

@@ -19,7 +19,7 @@ use std::fs::File;
 use std::io;
 use std::io::Write;
 use std::rt::Files;
-use streams::Input;
+use writing::Pen;
 
 // No pooled sheet has more bytes.
 const ROOM: usize = 11626;
@@ -53,14 +53,16 @@ fn put_refusal(sheet: u64, number: u64, line: u64, out: &mut [u8]) -> usize
     requires { line_bytes ≤ length out.old }
     ensures { RowWritten out.old 0 (refusal_line sheet number line) out.new result }
 {
-    let mut next = writing::put_field(b"pool: refused", SPACE, out, 0);
-    next = writing::put_number(sheet, SPACE, out, next);
-    next = writing::put_number(number, SPACE, out, next);
-    writing::put_number(line, LF, out, next)
+    let mut pen = Pen::new(out);
+    pen.put_field(b"pool: refused", SPACE);
+    pen.put_number(sheet, SPACE);
+    pen.put_number(number, SPACE);
+    pen.put_number(line, LF);
+    pen.at
 }
 
 // Pools two texts: the sheet, or the line of a refusal. The bytes behind what is told stay as they
-// were.
+// were. The parameters are those of `pooling::pool_sheets`, which is offered, and the line's buffer.
 fn tell(first: &[u8], second: &[u8], out: &mut [u8], line: &mut [u8]) -> Told
     requires longest_sheet_in_bounds { longest_sheet ≤ length out.old }
     requires line_bytes_in_bounds { line_bytes ≤ length line.old }
@@ -96,14 +98,12 @@ fn print_pooled<O: Write, E: Write>(first: &[u8], second: &[u8], output: &mut O,
     streams::write_whole(errors, &line[..said]);
 }
 
-// Puts argument i into line from `at` on, and answers where it ends, or why it is not there.
-fn put_argument<R: Env>(rt: &R, i: usize, line: &mut [u8], at: usize) -> io::Result<usize>
-    requires { at ≤ length line.old }
-    ensures lower_bound { IfOk result (λ end. at ≤ end) }
-    ensures prefix_len { IfOk result (λ end. IsPrefixLen end line.new) }
+// Puts argument i to the start of `out`, and answers how many bytes it has, or why it is not there.
+fn put_argument<R: Env>(rt: &R, i: usize, out: &mut [u8]) -> io::Result<usize>
+    ensures { IfOk result (λ n. IsPrefixLen n out.new) }
 {
-    match rt.arg(i, &mut line[at..]) {
-        Ok(n) => Ok(at + n),
+    match rt.arg(i, out) {
+        Ok(n) => Ok(n),
         Err(FillError::NotPresent) => Err(io::Error::from_raw_os_error(EINVAL)),
         Err(FillError::TooLong) => Err(io::Error::from_raw_os_error(ENAMETOOLONG)),
     }
@@ -117,30 +117,12 @@ fn open<R: Files>(rt: &R, name: &[u8]) -> io::Result<R::File> {
     }
 }
 
-// Reads all of the file that is named at the end of `line`, from `at` on, or as much of it as fits;
-// or prints `line` and the reason of the failure to standard error.
-fn read_file<R: Files, E: Write>(
-    rt: &R,
-    line: &[u8],
-    at: usize,
-    sheet: &mut [u8],
-    errors: &mut E,
-) -> Input
-    requires { at ≤ length line.now }
+// Reads all of the file of this name, or as much of it as fits.
+fn read_named<R: Files>(rt: &R, name: &[u8], sheet: &mut [u8]) -> io::Result<usize>
     ensures { ReadInto sheet.new result }
 {
-    let mut file = match open(rt, &line[at..]) {
-        Ok(file) => file,
-        Err(error) => {
-            streams::fail(errors, line, &error);
-            return Input::Failed(error);
-        }
-    };
-    let input = streams::read_whole(&mut file, sheet);
-    if let Input::Failed(error) = &input {
-        streams::fail(errors, line, error);
-    }
-    input
+    let mut file = open(rt, name)?;
+    streams::read_whole(&mut file, sheet)
 }
 
 // Reads the file that argument i names, or says why it cannot.
@@ -149,18 +131,23 @@ fn read_argument<R: Env + Files, E: Write>(
     i: usize,
     sheet: &mut [u8],
     errors: &mut E,
-) -> Input
+) -> io::Result<usize>
     ensures { ReadInto sheet.new result }
 {
     let mut line = [0u8; CANNOT_READ + PATH_MAX];
     written::put(b"pool: cannot read ", &mut line, 0);
-    match put_argument(rt, i, &mut line, CANNOT_READ) {
-        Ok(end) => read_file(rt, &line[..end], CANNOT_READ, sheet, errors),
+    let end = match put_argument(rt, i, &mut line[CANNOT_READ..]) {
+        Ok(n) => CANNOT_READ + n,
         Err(error) => {
             streams::fail(errors, b"pool: cannot read a name", &error);
-            Input::Failed(error)
+            return Err(error);
         }
+    };
+    let read = read_named(rt, &line[CANNOT_READ..end], sheet);
+    if let Err(error) = &read {
+        streams::fail(errors, &line[..end], error);
     }
+    read
 }
 
 // Is there an argument i?
@@ -178,11 +165,11 @@ fn main(rt: HostRuntime) {
     let mut first = [0u8; READ_ROOM];
     let mut second = [0u8; READ_ROOM];
     let one = read_argument(&rt, 1, &mut first, &mut errors);
-    let Input::Read(n) = one else {
+    let Ok(n) = one else {
         return;
     };
     let two = read_argument(&rt, 2, &mut second, &mut errors);
-    let Input::Read(m) = two else {
+    let Ok(m) = two else {
         return;
     };
     print_pooled(&first[..n], &second[..m], &mut output, &mut errors);

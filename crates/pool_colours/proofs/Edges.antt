@@ -10,8 +10,7 @@ use native.Mathlib.Numerals.{add-one}
 use native.Mathlib.Omega.{arith}
 use lib.ListN.{length, get_or, set, take, drop, length-set}
 use lib.Seq.{drop-nil, get_or-set_same, get_or-set_other}
-use borrow.Author.Tests.{lt-ltb, le-ltb}
-use Rattle.vertex_set.proofs.Cases.{same_or, false-true}
+use Rattle.vertex_set.proofs.Cases.{same_or}
 use Rattle.vertex_set.proofs.Sets.{not-empty, some-member}
 use Rattle.setup.specs.declared.Graph.{Graph}
 use Rattle.setup.specs.Setup.{rows_at, row}
@@ -28,14 +27,16 @@ use Rattle.sheet_format.proofs.Question12Lists.{In, of-each}
 use Rattle.sheet_format.proofs.Stated.{stands-in, in-stands, stands-below, number-stands, stated-by-rows}
 use Rattle.sheet_fields.specs.Inner.Parts.{until}
 use Rattle.sheet_fields.proofs.Lines.{line_at, lines-over}
-use Rattle.sheet_rows.specs.declared.TakenEdge.{TakenEdge}
-use Rattle.std.specs.Prelude.{Result, Err}
+use Rattle.sheet_rows.specs.declared.taken.TakenEdge.{TakenEdge}
+use Rattle.std.specs.Prelude.{Option, Some, None, Result, Err}
+use Rattle.std.specs.Option.{MatchOption}
 use Rattle.questions.specs.declared.Refusal.{Refusal}
 use Rattle.questions.specs.Inner.{asked}
 use Rattle.questions.proofs.Refusals.{number_some}
 use Rattle.sheet_rows.specs.Inner.Lines.{EdgeTaken, TakesEdge}
-use Rattle.sheet_rows.proofs.Tables.{known-test}
 use Rattle.pool_format.specs.Rows.{uses_colour, new_colour, recoloured}
+use Rattle.pool_format.specs.Inner.{shared_place}
+use Rattle.pool_items.proofs.Items.{placed-name, unplaced-name}
 use Rattle.pool_format.proofs.Colours.{uses-of, used-by}
 use Rattle.pool_format.proofs.Recolouring.{pooled_colour, re-colour}
 use Rattle.pool_format.proofs.PooledRows.{in_image}
@@ -84,8 +85,8 @@ rows-of-item d v i x h = record { each = λ c. record { to = to c; from = from c
 
 -- ---- one edge row
 
-module _ (d e : Doc) (low high : List ℕ) (count : ℕ) (places : List ℕ) (na : ℕ) (first second : Graph) (x : EdgeRow) (line : List ℕ)
-    (b : Both d e low high count places na first second) (m : In x e.edges) (q : line ≡ edge_line x) where
+module _ (d e : Doc) (low high : List ℕ) (count : ℕ) (places : List (Option ℕ)) (first second : Graph) (x : EdgeRow) (line : List ℕ)
+    (b : Both d e low high count places first second) (m : In x e.edges) (q : line ≡ edge_line x) where
   valid : ValidEdge e.items x
   valid = of-each (ValidEdge e.items) e.edges b.valid_second.edges x m
 
@@ -119,36 +120,38 @@ module _ (d e : Doc) (low high : List ℕ) (count : ℕ) (places : List ℕ) (na
     own : (y : ItemRow) × StandsAt e.items (number_in e.items x.to) y × (x.to ≡ y.name)
     own = number-stands e.items x.to valid.to
 
-    place_is : get_or places r.to 0 ≡ number_in d.items x.to
-    place_is = rw to_is (b.placed.each (number_in e.items x.to) own.0 own.1 ∙ ap (number_in d.items) (sym own.2))
+    place_is : get_or places r.to None ≡ shared_place d.items x.to
+    place_is = rw to_is (b.placed.each (number_in e.items x.to) own.0 own.1 ∙ ap (shared_place d.items) (sym own.2))
 
-    pub colour-kept : na ≤ get_or places r.to 0 → r.colour ≡ (recoloured d e x).colour
+    pub colour-kept : get_or places r.to None ≡ None → r.colour ≡ (recoloured d e x).colour
     unfolding pooled_colour
     colour-kept l =
-        let p = place_is in
-        let s = b.size in
-        let k : is_known d.items x.to ≡ false = known-test d.items x.to ∙ le-ltb _ (length d.items) (omega arith) in
+        let k = unplaced-name d.items x.to (sym place_is ∙ l) in
         colour-is ∙ sym (re-colour d e x ∙ rw k)
 
-    pub colour-renamed : (new : ℕ) → get_or places r.to 0 < na → NewColour (rows_at first (get_or places r.to 0)) (rows_at second r.to) r.colour new
-        → new ≡ (recoloured d e x).colour
+    pub colour-renamed : (i : ℕ) (new : Option ℕ) → get_or places r.to None ≡ Some i → NewColour (rows_at first i) (rows_at second r.to) r.colour new
+        → MatchOption new (7 < (recoloured d e x).colour) (λ k. k ≡ (recoloured d e x).colour)
     unfolding pooled_colour
-    colour-renamed new l w =
-        let p = place_is in
-        let s = b.size in
-        let k : is_known d.items x.to ≡ true = known-test d.items x.to ∙ lt-ltb _ (length d.items) (omega arith) in
+    colour-renamed i new l w =
+        let p = placed-name d.items x.to i (sym place_is ∙ l) in
+        let k = p.0 in
         let there = number-stands d.items x.to ((known-decided d.items x.to).yes k) in
-        let there-rows : rows_at first (get_or places r.to 0) ≡ rows_at (setup_of d).graph (number_in d.items x.to) =
-        ap₂ (λ (g : Graph) (i : ℕ). rows_at g i) b.first_graph place_is in
+        let there-rows : rows_at first i ≡ rows_at (setup_of d).graph (number_in d.items x.to) =
+        ap₂ (λ (g : Graph) (i : ℕ). rows_at g i) b.first_graph p.1 in
         let own-rows : rows_at second r.to ≡ rows_at (setup_of e).graph (number_in e.items x.to) =
         ap₂ (λ (g : Graph) (i : ℕ). rows_at g i) b.second_graph to_is in
-        let one : RowsOfItem d.edges x.to (rows_at first (get_or places r.to 0)) =
-        subst (λ (n : List ℕ). RowsOfItem d.edges n (rows_at first (get_or places r.to 0))) (sym there.2)
+        let one : RowsOfItem d.edges x.to (rows_at first i) =
+        subst (λ (n : List ℕ). RowsOfItem d.edges n (rows_at first i)) (sym there.2)
         (subst (RowsOfItem d.edges there.0.name) (sym there-rows) (rows-of-item d b.valid_first (number_in d.items x.to) there.0 there.1)) in
         let two : RowsOfItem e.edges x.to (rows_at second r.to) =
         subst (λ (n : List ℕ). RowsOfItem e.edges n (rows_at second r.to)) (sym own.2)
         (subst (RowsOfItem e.edges own.0.name) (sym own-rows) (rows-of-item e b.valid_second (number_in e.items x.to) own.0 own.1)) in
-        w.each d.edges e.edges x.to one two ∙ ap (new_colour d.edges e.edges x.to) colour-is ∙ sym (re-colour d e x ∙ rw k)
+        let same : new_colour d.edges e.edges x.to r.colour ≡ (recoloured d e x).colour = ap (new_colour d.edges e.edges x.to) colour-is ∙ sym (re-colour d e x ∙ rw k) in
+        renamed new (new_colour d.edges e.edges x.to r.colour) (recoloured d e x).colour same (w.each d.edges e.edges x.to one two)
+      where
+        renamed : (o : Option ℕ) (m n : ℕ) → m ≡ n → MatchOption o (16 ≤ m) (λ k. k ≡ m) → MatchOption o (7 < n) (λ k. k ≡ n)
+        renamed None m n q h = omega arith
+        renamed (Some k) m n q h = h ∙ q
 
 -- ---- all edge rows
 
@@ -178,78 +181,83 @@ pub record EdgesSoFar (d e : Doc) (s digits : List ℕ) (edges at : ℕ) : Type 
   pub lines : lines_of (drop at s) ≡ map edge_line (drop edges e.edges)
   pub told : (k : ℕ) (x : EdgeRow) → StandsAt e.edges k x → k < edges → DigitAt d e digits k x
 
-pub record ColoursSoFar (s : List ℕ) (start : ℕ) (low high : List ℕ) (count : ℕ) (places : List ℕ) (na : ℕ) (first second : Graph) (digits : List ℕ) (edges at : ℕ) : Type 0 where
+pub record ColoursSoFar (s : List ℕ) (start : ℕ) (low high : List ℕ) (count : ℕ) (places : List (Option ℕ)) (first second : Graph) (digits : List ℕ) (edges at : ℕ) : Type 0 where
   pub long : length digits ≡ 256
-  pub each : (d e : Doc) → Both d e low high count places na first second → lines_of (drop start s) ≡ map edge_line e.edges → EdgesSoFar d e s digits edges at
+  pub each : (d e : Doc) → Both d e low high count places first second → lines_of (drop start s) ≡ map edge_line e.edges → EdgesSoFar d e s digits edges at
 
-module _ (s : List ℕ) (start : ℕ) (low high : List ℕ) (count : ℕ) (places : List ℕ) (na : ℕ) (first second : Graph) (digits : List ℕ) where
-  pub colours-none : length digits ≡ 256 → ColoursSoFar s start low high count places na first second digits 0 start
+module _ (s : List ℕ) (start : ℕ) (low high : List ℕ) (count : ℕ) (places : List (Option ℕ)) (first second : Graph) (digits : List ℕ) where
+  pub colours-none : length digits ≡ 256 → ColoursSoFar s start low high count places first second digits 0 start
   colours-none l = record { long = l; each = λ d e b h. record { lines = h; told = λ k x t z. absurd (not-suc-le-zero z) } }
 
-  module _ (edges at : ℕ) (n : ColoursSoFar s start low high count places na first second digits edges at) where
+  module _ (edges at : ℕ) (n : ColoursSoFar s start low high count places first second digits edges at) where
     -- the row whose line begins at `at`
-    row_here : (d e : Doc) → Both d e low high count places na first second → lines_of (drop start s) ≡ map edge_line e.edges → at < length s
+    row_here : (d e : Doc) → Both d e low high count places first second → lines_of (drop start s) ≡ map edge_line e.edges → at < length s
         → (end : ℕ) → end ≡ at + until 10 (drop at s) → NextEdge e.edges edges (take (end - at) (drop at s)) (lines_of (drop (end + 1) s))
     row_here d e b h l end q =
         next_edge e.edges edges (take (end - at) (drop at s)) (lines_of (drop (end + 1) s)) (sym (line_at s at end l q) ∙ (n.each d e b h).lines)
 
-    pub colours-full : at < length s → 256 ≤ edges → ColoursOf s start low high count places na first second (record { fits = false; digits = digits })
+    pub colours-full : at < length s → 256 ≤ edges → ColoursOf s start low high count places first second None
     colours-full l f =
         record {
-          yes = λ d e b h z. absurd (false-true z);
-          no = λ d e b h z small.
+          each = λ d e b h small.
               let r = row_here d e b h l (at + until 10 (drop at s)) refl in
               let i = stands-below e.edges edges r.row r.stands in
               let m = b.valid_second.many in
               omega arith;
         }
 
-    module _ (l : at < length s) (end : ℕ) (q : end ≡ at + until 10 (drop at s)) (colour : ℕ)
-        (c : EdgeColour (take (end - at) (drop at s)) low high count places na first second colour) where
-      colour-of : (d e : Doc) → (b : Both d e low high count places na first second) → (h : lines_of (drop start s) ≡ map edge_line e.edges)
-          → colour ≡ (recoloured d e (row_here d e b h l end q).row).colour
+    module _ (l : at < length s) (end : ℕ) (q : end ≡ at + until 10 (drop at s)) (colour : Option ℕ)
+        (c : EdgeColour (take (end - at) (drop at s)) low high count places first second colour) where
+      colour-of : (d e : Doc) → (b : Both d e low high count places first second) → (h : lines_of (drop start s) ≡ map edge_line e.edges)
+          → MatchOption colour (7 < (recoloured d e (row_here d e b h l end q).row).colour) (λ k. k ≡ (recoloured d e (row_here d e b h l end q).row).colour)
       colour-of d e b h =
           let r = row_here d e b h l end q in
           c.each d e r.row b (stands-in e.edges edges r.row r.stands) r.is
 
-      pub colours-ninth : 7 < colour → ColoursOf s start low high count places na first second (record { fits = false; digits = digits })
-      colours-ninth f =
+      beyond : ((d e : Doc) → (b : Both d e low high count places first second) → (h : lines_of (drop start s) ≡ map edge_line e.edges) → 7 < (recoloured d e (row_here d e b h l end q).row).colour)
+          → ColoursOf s start low high count places first second None
+      beyond f =
           record {
-            yes = λ d e b h z. absurd (false-true z);
-            no = λ d e b h z small.
+            each = λ d e b h small.
                 let r = row_here d e b h l end q in
                 let i = of-each (λ (x : EdgeRow). x.colour ≤ 7) (map (recoloured d e) e.edges) small (recoloured d e r.row)
                 (in_image (recoloured d e) e.edges r.row (stands-in e.edges edges r.row r.stands)) in
-                let w = colour-of d e b h in
+                let w = f d e b h in
                 omega arith;
           }
 
-      pub colours-more : colour ≤ 7 → edges < 256 → ColoursSoFar s start low high count places na first second (set digits edges (48 + colour)) (edges + 1) (end + 1)
-      colours-more f k =
-          record {
-            long = length-set digits edges (48 + colour) ∙ n.long;
-            each = λ d e b h.
-                let r = row_here d e b h l end q in
-                let w = colour-of d e b h in
-                let a = n.long in
-                rw (add-one edges)
-                (record {
-                  lines = r.later;
-                  told = λ i x t z. ⊎_elim
-                      (λ p.
-                      let same : x ≡ r.row = stands_same e.edges edges x r.row (subst (λ (j : ℕ). StandsAt e.edges j x) p t) r.stands in
-                      rw (p, same) (record { small = omega arith; digit = get_or-set_same digits edges (48 + colour) 0 (omega arith) ∙ ap (λ (j : ℕ). 48 + j) w }))
-                      (λ p. let o = (n.each d e b h).told i x t (omega (arith, p)) in
-                      record { small = o.small; digit = get_or-set_other digits edges i (48 + colour) 0 p ∙ o.digit })
-                      (same_or i edges);
-                });
-          }
+      pub colours-none-left : colour ≡ None → ColoursOf s start low high count places first second None
+      colours-none-left z = beyond (λ d e b h. rw z at (colour-of d e b h))
 
-    pub colours-all : length s ≤ at → ColoursOf s start low high count places na first second (record { fits = true; digits = digits })
+      module _ (k : ℕ) (z : colour ≡ Some k) where
+        pub colours-ninth : 7 < k → ColoursOf s start low high count places first second None
+        colours-ninth f = beyond (λ d e b h. let w = rw z at (colour-of d e b h) in omega arith)
+
+        pub colours-more : k ≤ 7 → edges < 256 → ColoursSoFar s start low high count places first second (set digits edges (48 + k)) (edges + 1) (end + 1)
+        colours-more f m =
+            record {
+              long = length-set digits edges (48 + k) ∙ n.long;
+              each = λ d e b h.
+                  let r = row_here d e b h l end q in
+                  let w = rw z at (colour-of d e b h) in
+                  let a = n.long in
+                  rw (add-one edges)
+                  (record {
+                    lines = r.later;
+                    told = λ i x t y. ⊎_elim
+                        (λ p.
+                        let same : x ≡ r.row = stands_same e.edges edges x r.row (subst (λ (j : ℕ). StandsAt e.edges j x) p t) r.stands in
+                        rw (p, same) (record { small = omega arith; digit = get_or-set_same digits edges (48 + k) 0 (omega arith) ∙ ap (λ (j : ℕ). 48 + j) w }))
+                        (λ p. let o = (n.each d e b h).told i x t (omega (arith, p)) in
+                        record { small = o.small; digit = get_or-set_other digits edges i (48 + k) 0 p ∙ o.digit })
+                        (same_or i edges);
+                  });
+            }
+
+    pub colours-all : length s ≤ at → ColoursOf s start low high count places first second (Some digits)
     colours-all l =
         record {
-          yes = λ d e b h z k x t.
+          each = λ d e b h k x t.
               let o = n.each d e b h in
               o.told k x t (none_left e.edges edges (sym (lines-over s at l) ∙ o.lines) k x t);
-          no = λ d e b h z. absurd (false-true (sym z));
         }

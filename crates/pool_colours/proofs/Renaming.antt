@@ -1,10 +1,10 @@
 -- The lowest free colour, colour by colour, is the new colour of document 02.
 -- Assumes nothing.
-use mathlib.Core.Path.{◌≡◌, sym, ◌∙◌}
+use mathlib.Core.Path.{◌≡◌, refl, sym, ◌∙◌}
 use mathlib.Core.List.{List}
 use mathlib.Core.Bool.{Bool, true, ◌&&◌}
 use mathlib.Core.Logic.{inl, inr, ⊎_elim}
-use Prim.Native.Nat.{ℕ, ◌+◌, ◌≤◌, ◌<◌}
+use Prim.Native.Nat.{ℕ, zero, suc, ◌+◌, ◌-◌, ◌≤◌, ◌<◌}
 use native.Mathlib.Nat.{not-suc-le-zero}
 use native.Mathlib.Numerals.{add-one}
 use native.Mathlib.Omega.{arith}
@@ -14,6 +14,7 @@ use borrow.Author.Tests.{eqb-true, eq-eqb}
 use Rattle.vertex_set.specs.Set.{Member, Iff, Inserted}
 use Rattle.vertex_set.specs.Inner.{TakenBelow}
 use Rattle.vertex_set.proofs.Cases.{less-or, same_or, false-true}
+use Rattle.std.specs.Prelude.{Option, Some, None}
 use Rattle.setup.specs.declared.Rows.{Rows}
 use Rattle.setup.specs.Setup.{row_of}
 use Rattle.setup.proofs.Graphs.{colour-below}
@@ -26,17 +27,18 @@ use Rattle.pool_colours.specs.Inner.Colours.{LowestFree, Used, RowsOfItem, NewCo
 
 -- ---- the lowest free one
 
-lowest-is : (t : ℕ → Bool) (s r : ℕ) → ((k : ℕ) → Iff (t k ≡ true) (Member s k)) → LowestFree s r → r ≡ lowest_free t 0 16
-lowest-is t s r iff l =
+lowest-is : (t : ℕ → Bool) (s k : ℕ) (r : Option ℕ) → ((j : ℕ) → Iff (t j ≡ true) (Member s j)) → LowestFree s r → r ≡ Some k → k ≡ lowest_free t 0 16
+lowest-is t s k r iff l e =
     let most = lowest-most t 0 16 in
-    let top = l.most in
+    let f = l.some k e in
+    let top = f.0 in
     ⊎_elim
-    (λ a. absurd (l.free (omega arith) ((iff r).to (lowest-taken t 0 16 r (omega arith) a))))
+    (λ a. absurd (f.2 ((iff k).to (lowest-taken t 0 16 k (omega arith) a))))
     (λ a. ⊎_elim
-    (λ b. absurd (false-true (sym (lowest-free t 0 16 (omega arith)) ∙ (iff (lowest_free t 0 16)).from (l.below (lowest_free t 0 16) b))))
+    (λ b. absurd (false-true (sym (lowest-free t 0 16 (omega arith)) ∙ (iff (lowest_free t 0 16)).from (f.1 (lowest_free t 0 16) b))))
     (λ b. omega arith)
-    (less-or (lowest_free t 0 16) r))
-    (less-or r (lowest_free t 0 16))
+    (less-or (lowest_free t 0 16) k))
+    (less-or k (lowest_free t 0 16))
 
 -- The numbers below k are members.
 pub record MembersBelow (s k : ℕ) : Type 0 where
@@ -48,11 +50,16 @@ below_none s = record { each = λ j l. absurd (not-suc-le-zero l) }
 pub below_more : (s k : ℕ) → MembersBelow s k → Member s k → MembersBelow s (k + 1)
 below_more s k b m = record { each = λ j l. ⊎_elim (λ e. rw e m) (λ d. b.each j (omega (arith, d))) (same_or j k) }
 
-pub lowest-found : (s k : ℕ) → k ≤ 16 → MembersBelow s k → (Member s k → ⊥) → LowestFree s k
-lowest-found s k l b n = record { most = l; below = b.each; free = λ t. n }
+pub lowest-found : (s k : ℕ) → k < 16 → MembersBelow s k → (Member s k → ⊥) → LowestFree s (Some k)
+lowest-found s k l b n = record { some = λ i e. let q : k ≡ i = cc in rw (← q) (l, b.each, n); none = λ e. absurd (cc) }
 
-pub lowest-none : (s k : ℕ) → k ≤ 16 → 16 ≤ k → MembersBelow s k → LowestFree s k
-lowest-none s k l h b = record { most = l; below = b.each; free = λ t. absurd (omega arith) }
+pub lowest-none : (s k : ℕ) → k ≡ 16 → MembersBelow s k → LowestFree s None
+lowest-none s k e b = record { some = λ i q. absurd (cc); none = λ q j l. b.each j (omega arith) }
+
+-- where all of 16 are taken
+all-taken : (t : ℕ → Bool) → ((j : ℕ) → j < 16 → t j ≡ true) → 16 ≤ lowest_free t 0 16
+all-taken t h =
+    ⊎_elim (λ a. absurd (false-true (sym (lowest-free t 0 16 (omega arith)) ∙ h (lowest_free t 0 16) a))) (λ a. a) (less-or (lowest_free t 0 16) 16)
 
 -- ---- the colours whose rows are not empty
 
@@ -96,9 +103,24 @@ pub taken_none : (second : Rows) (s : ℕ) → NewSoFar s second 0 s
 unfolding is_taken
 taken_none second s = record { each = λ es fs n a b. record { each = a.each } }
 
-new-of : (es fs : List EdgeRow) (n : List ℕ) (c s r : ℕ) → TakenBy es fs n c s → LowestFree s r → r ≡ new_colour es fs n c
+new-of : (es fs : List EdgeRow) (n : List ℕ) (c s k : ℕ) (r : Option ℕ) → TakenBy es fs n c s → LowestFree s r → r ≡ Some k → k ≡ new_colour es fs n c
 unfolding new_colour
-new-of es fs n c s r t l = lowest-is (is_taken es fs n c) s r t.each l
+new-of es fs n c s k r t l e = lowest-is (is_taken es fs n c) s k r t.each l e
+
+-- what is taken stays so
+stays-taken : (es fs : List EdgeRow) (n : List ℕ) (c m k : ℕ) → is_taken es fs n c k ≡ true → is_taken es fs n (m + c) k ≡ true
+unfolding is_taken
+stays-taken es fs n c zero k h = let e : 0 + c ≡ c = omega arith in rw e h
+stays-taken es fs n c (suc m) k h =
+    let e : suc m + c ≡ suc (m + c) = omega arith in
+    rw e (or_left (is_taken es fs n (m + c) k) (uses_colour fs n (m + c) && eqb (lowest_free (is_taken es fs n (m + c)) 0 16) k) (stays-taken es fs n c m k h))
+
+-- so there is no new colour once all are taken
+none-new : (es fs : List EdgeRow) (n : List ℕ) (c s colour : ℕ) (r : Option ℕ) → TakenBy es fs n c s → LowestFree s r → r ≡ None → c ≤ colour → 16 ≤ new_colour es fs n colour
+unfolding new_colour
+none-new es fs n c s colour r t l e h =
+    let q : colour - c + c ≡ colour = omega arith in
+    all-taken (is_taken es fs n colour) (λ j b. rw q at (stays-taken es fs n c (colour - c) j ((t.each j).from (l.none e j b))))
 
 module _ (start : ℕ) (second : Rows) (c s : ℕ) (u : NewSoFar start second c s) where
   pub taken-same : row_of second c ≡ 0 → NewSoFar start second (c + 1) s
@@ -116,16 +138,16 @@ module _ (start : ℕ) (second : Rows) (c s : ℕ) (u : NewSoFar start second c 
         };
       })
 
-  pub taken_more : (new s' : ℕ) → (row_of second c ≡ 0 → ⊥) → LowestFree s new → Inserted s new s' → NewSoFar start second (c + 1) s'
+  pub taken_more : (new s' : ℕ) (r : Option ℕ) → (row_of second c ≡ 0 → ⊥) → LowestFree s r → r ≡ Some new → Inserted s new s' → NewSoFar start second (c + 1) s'
   unfolding is_taken new_colour
-  taken_more new s' z l w =
+  taken_more new s' r z l i w =
       rw (add-one c)
       (record {
         each = λ es fs n a b.
-            let e = new-of es fs n c s new (u.each es fs n a b) l in
+            let e = new-of es fs n c s new r (u.each es fs n a b) l i in
             record {
               each = λ k.
-                  let t = w.taken (let m = l.most in omega arith) k in
+                  let t = w.taken (let m = (l.some new i).0 in omega arith) k in
                   record {
                     to = λ h. t.from (⊎_elim (λ p. inl (((u.each es fs n a b).each k).to p))
                         (λ p. inr (sym (e ∙ eqb-true (new_colour es fs n c) k (and_parts (uses_colour fs n c) (eqb (new_colour es fs n c) k) p).1)))
@@ -139,10 +161,14 @@ module _ (start : ℕ) (second : Rows) (c s : ℕ) (u : NewSoFar start second c 
             };
       })
 
-  pub new_is : (first : Rows) (r : ℕ) → Used first start → LowestFree s r → NewColour first second c r
-  new_is first r w l =
-      record {
-        each = λ es fs n a b.
-            let own : ColoursOfItem es n start = record { each = λ k. record { to = λ t. (w.each k).from ((a.each k).to t); from = λ m. (a.each k).from ((w.each k).to m) } } in
-            new-of es fs n c s r (u.each es fs n own b) l;
-      }
+  module _ (first : Rows) (w : Used first start) where
+    own : (es : List EdgeRow) (n : List ℕ) → RowsOfItem es n first → ColoursOfItem es n start
+    own es n a = record { each = λ k. record { to = λ t. (w.each k).from ((a.each k).to t); from = λ m. (a.each k).from ((w.each k).to m) } }
+
+    -- no colour is left, for c or a later one
+    pub new_none : (r : Option ℕ) (colour : ℕ) → c ≤ colour → LowestFree s r → r ≡ None → NewColour first second colour None
+    new_none r colour h l e = record { each = λ es fs n a b. none-new es fs n c s colour r (u.each es fs n (own es n a) b) l e h }
+
+    pub new_is : (r : Option ℕ) → LowestFree s r → NewColour first second c r
+    new_is None l = new_none None c (omega arith) l refl
+    new_is (Some k) l = record { each = λ es fs n a b. new-of es fs n c s k (Some k) (u.each es fs n (own es n a) b) l refl }

@@ -3,9 +3,9 @@
 
 #![tactic(auto)]
 
-ghost use Rattle.std.specs.Prelude.{◌≤◌};
+ghost use Rattle.std.specs.Prelude.{◌≡◌, None, ◌≤◌, replicate};
 ghost use Rattle.vertex_set.specs.Set.{Decides};
-ghost use Rattle.pool_items.specs.Inner.Keys.{KeyPlaces};
+ghost use Rattle.pool_items.specs.Inner.Keys.{PlacesInside, KeyPlaces};
 ghost use Rattle.pool_items.specs.Inner.Items.{AllAgree, Small, WithItem, PlacesRise, CountsRemaining};
 
 use setup::Vertex;
@@ -14,7 +14,7 @@ use sheet_rows::ItemKeys;
 
 // Of the items that remain: how many there are, how many of them are starting and losable ones, and
 // how many bytes their rows have.
-#[derive(Drop)]
+#[derive(Clone, Copy)]
 pub struct Remaining {
     pub items: usize,
     pub starts: usize,
@@ -22,80 +22,93 @@ pub struct Remaining {
     pub bytes: usize,
 }
 
-// For each of the second sheet's items its number in the first sheet, or the first sheet's number of
-// items where it is not there.
-pub fn places_of(first: &ItemKeys, second: &ItemKeys) -> [usize; 64]
-    ensures { KeyPlaces first.now second.now result }
-{
-    let mut places = [0usize; 64];
-    for j in 0..second.count {
-        let key = Key {
-            low: second.low[j],
-            high: second.high[j],
-        };
-        places[j] = first.find(key).unwrap_or(first.count);
+impl Remaining {
+    // The counts with one item more, whose row has `size` bytes.
+    fn with(self, x: Vertex, size: usize) -> Remaining
+        requires { Small self size }
+        ensures { WithItem self x size result }
+    {
+        Remaining {
+            items: self.items + 1,
+            starts: self.starts + setup::count_given(x.start),
+            losses: self.losses + setup::count_given(x.loss),
+            bytes: self.bytes + size,
+        }
     }
-    places
 }
 
-// Does each of the second sheet's `count` items that is in the first sheet agree with the one there?
-pub fn all_agree(
-    first: [Vertex; 64],
-    known: usize,
-    second: [Vertex; 64],
-    count: usize,
-    places: [usize; 64],
-) -> bool
-    requires { (known ≤ 64) × (count ≤ 64) }
-    ensures { Decides (AllAgree first known second count places) result }
-{
-    for j in 0..count {
-        let place = places[j];
-        if place < known {
-            if first[place] != second[j] {
-                return false;
+// The second sheet's items, each with its number in the first sheet, if it is there.
+#[derive(Clone, Copy)]
+pub struct Shared {
+    pub count: usize,
+    pub places: [Option<usize>; 64],
+    pub ghost few: { count ≤ 64 },
+    pub ghost inside: { PlacesInside places },
+}
+
+impl Shared {
+    // The second sheet's items are looked up in the first sheet.
+    pub fn of(first: &ItemKeys, second: &ItemKeys) -> Shared
+        ensures count { result.count ≡ second.now.count }
+        ensures places { KeyPlaces first.now second.now result.places }
+    {
+        let mut places = [None; 64];
+        // By number, since the two halves of a key stand in two lists.
+        for j in 0..second.count {
+            let key = Key {
+                low: second.low[j],
+                high: second.high[j],
+            };
+            places[j] = first.find(key);
+        }
+        Shared {
+            count: second.count,
+            places,
+        }
+    }
+
+    // None of `count` items is in the first sheet.
+    pub fn none(count: usize) -> Shared
+        requires { count ≤ 64 }
+        ensures count { result.count ≡ count }
+        ensures places { result.places ≡ replicate 64 None }
+    {
+        Shared {
+            count,
+            places: [None; 64],
+        }
+    }
+
+    // Does each item that is in both sheets agree with the one there?
+    pub fn all_agree(&self, first: &[Vertex; 64], second: &[Vertex; 64]) -> bool
+        ensures { Decides (AllAgree first.now second.now self.now.count self.now.places) result }
+    {
+        for (j, place) in self.places[..self.count].iter().enumerate() {
+            if let Some(i) = *place {
+                if first[i] != second[j] {
+                    return false;
+                }
             }
         }
+        true
     }
-    true
-}
 
-// The counts with one item more, whose row has `size` bytes.
-fn with_item(r: Remaining, x: Vertex, size: usize) -> Remaining
-    requires { Small r size }
-    ensures { WithItem r x size result }
-{
-    Remaining {
-        items: r.items + 1,
-        starts: r.starts + setup::count_given(x.start),
-        losses: r.losses + setup::count_given(x.loss),
-        bytes: r.bytes + size,
-    }
-}
-
-// Counts the items that are not among the first sheet's `known`.
-pub fn count_remaining(
-    vertices: [Vertex; 64],
-    count: usize,
-    places: [usize; 64],
-    known: usize,
-    from: [usize; 65],
-) -> Remaining
-    requires { PlacesRise from count }
-    ensures { CountsRemaining vertices count places known from result }
-{
-    let mut r = Remaining {
-        items: 0,
-        starts: 0,
-        losses: 0,
-        bytes: 0,
-    };
-    for j in 0..count {
-        if known <= places[j] {
-            let x = vertices[j];
-            let size = from[j + 1] - from[j];
-            r = with_item(r, x, size);
+    // Counts the items that are not in the first sheet.
+    pub fn count_remaining(&self, vertices: &[Vertex; 64], from: &[usize; 65]) -> Remaining
+        requires { PlacesRise from.now self.now.count }
+        ensures { CountsRemaining vertices.now self.now.count self.now.places from.now result }
+    {
+        let mut r = Remaining {
+            items: 0,
+            starts: 0,
+            losses: 0,
+            bytes: 0,
+        };
+        for (j, place) in self.places[..self.count].iter().enumerate() {
+            if place.is_none() {
+                r = r.with(vertices[j], from[j + 1] - from[j]);
+            }
         }
+        r
     }
-    r
 }

@@ -2,116 +2,128 @@
 -- Assumes nothing.
 use mathlib.Core.Path.{◌≡◌, refl, sym, ap, ◌∙◌}
 use mathlib.Core.List.{List, [], ◌∷◌, ◌++◌}
-use mathlib.Core.Bool.{Bool, true, false, cond}
+use mathlib.Core.Bool.{Bool, true, false, not, cond}
 use Prim.Native.Nat.{ℕ, zero, suc, ◌+◌, ◌-◌, ◌≤◌, ◌<◌}
 use native.Mathlib.Numerals.{add-one}
 use native.Mathlib.Omega.{arith}
 use lib.ListN.{length, get_or, take, drop, length-append, length-drop}
 use lib.Seq.{length-take-le}
-use lib.Dec.{leb}
-use Rattle.written.specs.Inner.{Wrote}
-use Rattle.written.proofs.Writing.{Writing, writing-none, writing-part, writing-room, wrote_none, wrote_then, room-then}
+use Rattle.std.specs.Prelude.{Option, Some, None}
+use Rattle.std.specs.Option.{is_some}
+use Rattle.writing.specs.declared.Pen.{Pen}
+use Rattle.writing.specs.Inner.{RoomFor, Penned}
+use Rattle.writing.proofs.Pens.{penned_none, penned_then, room_then, PenWriting, pen_none, pen_part, pen_room}
 use Rattle.sheet_format.specs.Text.{lines_of}
 use Rattle.sheet_format.specs.Rows.{Each}
 use Rattle.sheet_fields.specs.Inner.Parts.{until}
 use Rattle.sheet_fields.proofs.Lines.{line_at, lines-over}
 use Rattle.sheet_fields.proofs.Slices.{rest_part}
-use Rattle.pool_text.specs.Inner.{row_at, fresh_rows, with_digit, with_digits, CanPut}
+use Rattle.pool_text.specs.Inner.{row_at, row_unless, fresh_rows, with_digit, with_digits, CanPut}
 
 -- ---- a text that is asked for
 
-pub room-asked : (asked : Bool) (at : ℕ) (text : List ℕ) (n : ℕ) → asked ≡ true → at + length (cond asked text []) ≤ n → at + length text ≤ n
-room-asked asked at text n e h = rw e at h
+pub room-asked : (asked : Bool) (p : Pen) (text : List ℕ) → asked ≡ true → RoomFor p (cond asked text []) → RoomFor p text
+room-asked asked p text e h = rw e at h
 
-pub wrote-asked : (asked : Bool) (entry : List ℕ) (at : ℕ) (text exit : List ℕ) (r : ℕ) → asked ≡ true → Wrote entry at text exit r → Wrote entry at (cond asked text []) exit r
-wrote-asked asked entry at text exit r e w = rw e w
+pub penned-asked : (asked : Bool) (p : Pen) (text : List ℕ) (q : Pen) → asked ≡ true → Penned p text q → Penned p (cond asked text []) q
+penned-asked asked p text q e w = rw e w
 
-pub wrote-not : (asked : Bool) (entry : List ℕ) (at : ℕ) (text : List ℕ) → asked ≡ false → Wrote entry at (cond asked text []) entry at
-wrote-not asked entry at text e = rw e (wrote_none entry at)
+pub penned-not : (asked : Bool) (p : Pen) (text : List ℕ) → asked ≡ false → Penned p (cond asked text []) p
+penned-not asked p text e = rw e (penned_none p)
 
 -- ---- one edge row
 
-pub digit-first : (l : List ℕ) (b at n : ℕ) → at + length (with_digit l b) ≤ n → at + length (take (length l - 3) l ++ (b ∷ [])) ≤ n
+pub digit-first : (l : List ℕ) (b : ℕ) (p : Pen) → RoomFor p (with_digit l b) → RoomFor p (take (length l - 3) l ++ (b ∷ []))
 unfolding with_digit
-digit-first l b at n h = omega (arith, length-append (take (length l - 3) l ++ (b ∷ [])) (drop (length l - 3 + 1) l ++ (10 ∷ [])))
+digit-first l b p h = omega (arith, h, length-append (take (length l - 3) l ++ (b ∷ [])) (drop (length l - 3 + 1) l ++ (10 ∷ [])))
 
-module _ (l : List ℕ) (b : ℕ) (entry : List ℕ) (at : ℕ) (out : List ℕ) (next : ℕ) (w : Wrote entry at (take (length l - 3) l ++ (b ∷ [])) out next) where
-  pub digit_room : at + length (with_digit l b) ≤ length entry → next + length (take (length l - (length l - 3 + 1)) (drop (length l - 3 + 1) l) ++ (10 ∷ [])) ≤ length out
+module _ (l : List ℕ) (b : ℕ) (p q : Pen) (w : Penned p (take (length l - 3) l ++ (b ∷ [])) q) where
+  pub digit_room : RoomFor p (with_digit l b) → RoomFor q (take (length l - (length l - 3 + 1)) (drop (length l - 3 + 1) l) ++ (10 ∷ []))
   unfolding with_digit
-  digit_room h = rw (rest_part l (length l - 3 + 1)) (room-then entry at (take (length l - 3) l ++ (b ∷ [])) out next w (drop (length l - 3 + 1) l ++ (10 ∷ [])) h)
+  digit_room h = rw (rest_part l (length l - 3 + 1)) (room_then p (take (length l - 3) l ++ (b ∷ [])) q w (drop (length l - 3 + 1) l ++ (10 ∷ [])) h)
 
-  pub digit-wrote : (exit : List ℕ) (r : ℕ) → Wrote out next (take (length l - (length l - 3 + 1)) (drop (length l - 3 + 1) l) ++ (10 ∷ [])) exit r → Wrote entry at (with_digit l b) exit r
+  pub digit-penned : (r : Pen) → Penned q (take (length l - (length l - 3 + 1)) (drop (length l - 3 + 1) l) ++ (10 ∷ [])) r → Penned p (with_digit l b) r
   unfolding with_digit
-  digit-wrote exit r v =
-      wrote_then entry at (take (length l - 3) l ++ (b ∷ [])) out next w (drop (length l - 3 + 1) l ++ (10 ∷ [])) exit r (rw (rest_part l (length l - 3 + 1)) at v)
+  digit-penned r v = penned_then p (take (length l - 3) l ++ (b ∷ [])) q w (drop (length l - 3 + 1) l ++ (10 ∷ [])) r (rw (rest_part l (length l - 3 + 1)) at v)
 
 -- ---- remaining rows
 
-module _ (s from places : List ℕ) (na : ℕ) where
-  pub fresh-none : (entry : List ℕ) (at : ℕ) → Wrote entry at (fresh_rows s from places na 0) entry at
-  unfolding fresh_rows
-  fresh-none entry at = wrote_none entry at
+-- a row is asked for where its item has no place
+pub asked-row : (o : Option ℕ) (fresh : Bool) (row : List ℕ) → is_some o ≡ not fresh → cond fresh row [] ≡ row_unless o row
+asked-row None true row e = refl
+asked-row None false row e = absurd (cc)
+asked-row (Some i) true row e = absurd (cc)
+asked-row (Some i) false row e = refl
 
-  pub fresh-more : (entry : List ℕ) (at : ℕ) (out : List ℕ) (next j : ℕ) (after : List ℕ) (r : ℕ) → Wrote entry at (fresh_rows s from places na j) out next
-      → Wrote out next (cond (leb na (get_or places j 0)) (row_at s from j) []) after r → Wrote entry at (fresh_rows s from places na (suc j)) after r
+module _ (s from : List ℕ) (places : List (Option ℕ)) where
+  pub fresh-none : (p : Pen) → Penned p (fresh_rows s from places 0) p
   unfolding fresh_rows
-  fresh-more entry at out next j after r w v = wrote_then entry at (fresh_rows s from places na j) out next w (cond (leb na (get_or places j 0)) (row_at s from j) []) after r v
+  fresh-none p = penned_none p
+
+  pub fresh-more : (p q : Pen) (j : ℕ) (r : Pen) → Penned p (fresh_rows s from places j) q → Penned q (row_unless (get_or places j None) (row_at s from j)) r
+      → Penned p (fresh_rows s from places (suc j)) r
+  unfolding fresh_rows
+  fresh-more p q j r w v = penned_then p (fresh_rows s from places j) q w (row_unless (get_or places j None) (row_at s from j)) r v
 
   -- the first rows are no longer than all
-  fresh-grows : (j k : ℕ) → length (fresh_rows s from places na j) ≤ length (fresh_rows s from places na (k + j))
+  fresh-grows : (j k : ℕ) → length (fresh_rows s from places j) ≤ length (fresh_rows s from places (k + j))
   unfolding fresh_rows
   fresh-grows j zero = let e : 0 + j ≡ j = omega arith in rw e (omega arith)
   fresh-grows j (suc k) =
       let e : suc k + j ≡ suc (k + j) = omega arith in
       let i = fresh-grows j k in
-      rw e (let l = length-append (fresh_rows s from places na (k + j)) (cond (leb na (get_or places (k + j) 0)) (row_at s from (k + j)) []) in omega arith)
+      rw e (let l = length-append (fresh_rows s from places (k + j)) (row_unless (get_or places (k + j) None) (row_at s from (k + j))) in omega arith)
 
   -- there is room for the next row where there is for all
-  pub fresh-room : (entry : List ℕ) (at : ℕ) (out : List ℕ) (next j n : ℕ) → j < n → Wrote entry at (fresh_rows s from places na j) out next → length out ≡ length entry
-      → at + length (fresh_rows s from places na n) ≤ length entry → next + length (cond (leb na (get_or places j 0)) (row_at s from j) []) ≤ length out
+  pub fresh-room : (p q : Pen) (j n : ℕ) → j < n → Penned p (fresh_rows s from places j) q → RoomFor p (fresh_rows s from places n)
+      → RoomFor q (row_unless (get_or places j None) (row_at s from j))
   unfolding fresh_rows
-  fresh-room entry at out next j n h w long room =
+  fresh-room p q j n h w room =
       let e : n - suc j + suc j ≡ n = omega arith in
       let g = rw e at (fresh-grows (suc j) (n - suc j)) in
-      let l = length-append (fresh_rows s from places na j) (cond (leb na (get_or places j 0)) (row_at s from j) []) in
-      let q = w.next in
-      omega arith
+      let l = length-append (fresh_rows s from places j) (row_unless (get_or places j None) (row_at s from j)) in
+      room_then p (fresh_rows s from places j) q w (row_unless (get_or places j None) (row_at s from j)) (omega arith)
 
 -- ---- edge rows
 
--- The lines from `from` on, with the digits from the place k on, are still to be written.
-pub record EdgesLeft (s digits entry : List ℕ) (at : ℕ) (all out : List ℕ) (next from k : ℕ) : Type 0 where
+-- The pen p is to write all, and came to q: the lines from `from` on, with the digits from the place k on, are still to be written.
+pub record EdgesLeft (s digits : List ℕ) (p : Pen) (all : List ℕ) (q : Pen) (from k : ℕ) : Type 0 where
   pub can : CanPut (lines_of (drop from s)) k
-  pub left : Writing entry at all (with_digits (lines_of (drop from s)) digits k) out next
+  pub left : PenWriting p all (with_digits (lines_of (drop from s)) digits k) q
 
-pub edges-first : (s digits entry : List ℕ) (at start : ℕ) → CanPut (lines_of (drop start s)) 0
-    → EdgesLeft s digits entry at (with_digits (lines_of (drop start s)) digits 0) entry at start 0
-edges-first s digits entry at start c = record { can = c; left = writing-none entry at (with_digits (lines_of (drop start s)) digits 0) }
+pub edges-first : (s digits : List ℕ) (p : Pen) (start : ℕ) → CanPut (lines_of (drop start s)) 0
+    → EdgesLeft s digits p (with_digits (lines_of (drop start s)) digits 0) p start 0
+edges-first s digits p start c = record { can = c; left = pen_none p (with_digits (lines_of (drop start s)) digits 0) }
 
-module _ (s digits entry : List ℕ) (at : ℕ) (all out : List ℕ) (next from k : ℕ) (n : EdgesLeft s digits entry at all out next from k)
-    (h : from < length s) (end : ℕ) (q : end ≡ from + until 10 (drop from s)) where
+module _ (s digits : List ℕ) (p : Pen) (all : List ℕ) (q : Pen) (from k : ℕ) (n : EdgesLeft s digits p all q from k)
+    (h : from < length s) (end : ℕ) (e : end ≡ from + until 10 (drop from s)) where
+  abbrev first : List ℕ
+  first = with_digit (take (end - from) (drop from s)) (get_or digits k 0)
+
+  abbrev behind : List ℕ
+  behind = with_digits (lines_of (drop (end + 1) s)) digits (suc k)
+
   lines : lines_of (drop from s) ≡ take (end - from) (drop from s) ∷ lines_of (drop (end + 1) s)
-  lines = line_at s from end h q
+  lines = line_at s from end h e
 
   pub edge-can : (3 ≤ length (take (end - from) (drop from s))) × (k < 256)
   edge-can = let c = rw lines at n.can in let f = c.few in (c.long.0, omega arith)
 
-  left_is : Writing entry at all (with_digit (take (end - from) (drop from s)) (get_or digits k 0) ++ with_digits (lines_of (drop (end + 1) s)) digits (suc k)) out next
+  left_is : PenWriting p all (first ++ behind) q
   unfolding with_digits
   left_is = rw lines at n.left
 
-  pub edge-room : at + length all ≤ length entry → next + length (with_digit (take (end - from) (drop from s)) (get_or digits k 0)) ≤ length out
-  edge-room room = writing-room entry at all (with_digit (take (end - from) (drop from s)) (get_or digits k 0)) (with_digits (lines_of (drop (end + 1) s)) digits (suc k)) out next left_is room
+  pub edge-room : RoomFor p all → RoomFor q first
+  edge-room room = pen_room p all first behind q left_is room
 
-  pub edges-next : (after : List ℕ) (r : ℕ) → Wrote out next (with_digit (take (end - from) (drop from s)) (get_or digits k 0)) after r
-      → EdgesLeft s digits entry at all after r (end + 1) (k + 1)
-  edges-next after r w =
+  pub edges-next : (r : Pen) → Penned q first r → EdgesLeft s digits p all r (end + 1) (k + 1)
+  edges-next r w =
       let c = rw lines at n.can in
       let f = c.few in
       rw (add-one k)
       (record {
         can = record { long = c.long.1; few = omega arith };
-        left = writing-part entry at all (with_digit (take (end - from) (drop from s)) (get_or digits k 0)) (with_digits (lines_of (drop (end + 1) s)) digits (suc k)) out next after r left_is w;
+        left = pen_part p all first behind q r left_is w;
       })
 
 pub edges-over : (s digits : List ℕ) (from k : ℕ) → length s ≤ from → with_digits (lines_of (drop from s)) digits k ≡ []

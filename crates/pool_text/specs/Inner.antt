@@ -1,5 +1,5 @@
 -- Inner: what is written of the second sheet's rows.
-use Rattle.std.specs.Prelude.{List, [], ◌∷◌, ◌++◌, cond, ℕ, zero, suc, ◌+◌, ◌-◌, ◌≤◌, ◌<◌, length, get_or, take, drop, leb}
+use Rattle.std.specs.Prelude.{Option, Some, None, List, [], ◌∷◌, ◌++◌, ℕ, zero, suc, ◌+◌, ◌-◌, ◌≤◌, ◌<◌, length, get_or, take, drop}
 use Rattle.setup.specs.Bounds.{most_items, most_edges}
 use Rattle.sheet_format.specs.Rows.{Each}
 
@@ -13,10 +13,15 @@ pub record RowsWithin (s from : List ℕ) (count : ℕ) : Type 0 where
 abbrev pub row_at : List ℕ → List ℕ → ℕ → List ℕ
 row_at s from j = take (get_or from (suc j) 0 - get_or from j 0) (drop (get_or from j 0) s)
 
--- Of the first n rows, those whose item is not one of the first na.
-unfoldable pub fresh_rows : List ℕ → List ℕ → List ℕ → ℕ → ℕ → List ℕ
-fresh_rows s from places na zero = []
-fresh_rows s from places na (suc n) = fresh_rows s from places na n ++ cond (leb na (get_or places n 0)) (row_at s from n) []
+-- The row of an item that has no place in the first sheet.
+abbrev pub row_unless : Option ℕ → List ℕ → List ℕ
+row_unless None row = row
+row_unless (Some i) row = []
+
+-- Of the first n rows, those whose item is not in the first sheet.
+unfoldable pub fresh_rows : List ℕ → List ℕ → List (Option ℕ) → ℕ → List ℕ
+fresh_rows s from places zero = []
+fresh_rows s from places (suc n) = fresh_rows s from places n ++ row_unless (get_or places n None) (row_at s from n)
 
 -- An edge row's line with another digit for its colour, and LF.
 unfoldable pub with_digit : List ℕ → ℕ → List ℕ

@@ -1,19 +1,23 @@
 -- From what the parts of pooling promise to what the call does.
 -- Assumes nothing.
 use mathlib.Core.Path.{◌≡◌, sym, ap, ◌∙◌, subst}
-use mathlib.Core.Bool.{false}
+use mathlib.Core.Bool.{Bool, true, false}
 use mathlib.Core.List.{List, [], ◌∷◌, ◌++◌}
 use mathlib.Core.Logic.{inl, inr}
 use Prim.Native.Nat.{ℕ, ◌+◌, ◌-◌, ◌≤◌, ◌<◌}
 use native.Mathlib.Omega.{arith}
 use lib.ListN.{length, get_or, take, drop, length-append}
 use lib.Dec.{leb}
-use Rattle.std.specs.Prelude.{Result, Ok, Err}
+use Rattle.std.specs.Prelude.{Option, Some, None, Result, Ok, Err, replicate}
 use Rattle.questions.specs.declared.Refusal.{Refusal}
 use Rattle.questions.specs.declared.Refusal.TheVariants.{Disagree, PoolBound}
 use Rattle.questions.specs.Refusals.{number}
+use Rattle.std.specs.Borrow.{MutBor}
 use Rattle.written.specs.Inner.{Wrote}
-use Rattle.written.proofs.Writing.{wrote_then, room-then, wrote-front}
+use Rattle.written.proofs.Writing.{wrote-front}
+use Rattle.writing.specs.declared.Pen.{Pen}
+use Rattle.writing.specs.Inner.{AtStart, RoomFor, Penned}
+use Rattle.writing.proofs.Pens.{penned_then, room_then, start_room, start_wrote}
 use Rattle.vertex_set.specs.Set.{Decides}
 use Rattle.vertex_set.proofs.Cases.{by_test}
 use Rattle.vertex_set.proofs.Decisions.{decide-no, decide-leb}
@@ -22,7 +26,7 @@ use Rattle.setup.specs.Setup.{given, total}
 use Rattle.questions.specs.Asks.{Asks}
 use Rattle.sheet_format.specs.Read.{Reading}
 use Rattle.sheet_format.specs.Text.{lines_of}
-use Rattle.sheet_format.specs.Rows.{ItemRow, Doc, start_count, loss_count, line_text, first_header, second_header, item_fields, item_lines, edge_lines, render}
+use Rattle.sheet_format.specs.Rows.{ItemRow, Doc, Valid, start_count, loss_count, line_text, first_header, second_header, item_fields, item_lines, edge_lines, render}
 use Rattle.sheet_format.specs.Questions.{is_known}
 use Rattle.sheet_format.specs.Read.{read_sheet}
 use Rattle.sheet_fields.specs.Inner.Parts.{until}
@@ -30,6 +34,7 @@ use Rattle.sheet_fields.proofs.Lines.{line_at, lines-over}
 use Rattle.sheet_fields.proofs.Slices.{rest_part}
 use Rattle.pool_format.specs.Call.{Pooled}
 use Rattle.pool_format.specs.Rows.{remaining, pooled}
+use Rattle.pool_format.specs.Inner.{PlacesAmong}
 use Rattle.pool_format.specs.Call.{asks22, asks23, asks24, with_buffer, pool_refusal, pools_text, PoolsRows, PoolCall}
 use Rattle.sheet_lines.specs.declared.item_keys.Keys.{Keys}
 use Rattle.sheet_lines.specs.Inner.Keys.{Accepts, SheetKeys}
@@ -38,11 +43,10 @@ use Rattle.pool_items.specs.declared.Remaining.{Remaining}
 use Rattle.pool_items.specs.Inner.Keys.{KeyPlaces}
 use Rattle.pool_items.specs.Inner.Items.{PlacesRise, CountsRemaining}
 use Rattle.pool_text.specs.Inner.{fresh_rows, with_digits}
-use Rattle.pooling.specs.declared.Bounds.{Bounds}
 use Rattle.pooling.specs.declared.Plan.{Plan}
-use Rattle.pooling.specs.Inner.{Starts, BothRead, CountsInBounds, BoundsOf, pooled_text, CanWrite, PlanFor, PlanOf, disagrees, beyond, ready}
+use Rattle.pooling.specs.Inner.{Starts, BothRead, CountsInBounds, BoundsHold, BoundsOf, pooled_text, CanWrite, PlanFor, PlanOf, disagrees, beyond, ready}
 use Rattle.pooling.proofs.Sheets.{rising, start-inside}
-use Rattle.pooling.proofs.Plans.{Sheets, Counted, counted, bounds-for}
+use Rattle.pooling.proofs.Plans.{Sheets, Counted, counted, bounds-are}
 
 -- ---- lines
 
@@ -114,12 +118,11 @@ remaining-bytes xs (y ∷ ys) =
 
 -- ---- asking the bounds
 
-module _ (first second : List ℕ) (a b : Setup) (begins from places zeros : List ℕ) (p : BothRead first second a b begins from places) (own more : Remaining)
-    (z : (j : ℕ) → get_or zeros j 0 ≡ 0) (x : CountsRemaining a.vertices a.count zeros 0 begins own)
-    (y : CountsRemaining b.vertices b.count places a.count from more) where
+module _ (first second : List ℕ) (a b : Setup) (begins from : List ℕ) (places : List (Option ℕ)) (p : BothRead first second a b begins from places) (own more : Remaining)
+    (x : CountsRemaining a.vertices a.count (replicate 64 None) begins own) (y : CountsRemaining b.vertices b.count places from more) where
   both-counted : Counted p.one p.two own more
   both-counted =
-      counted first second a b p.one p.two begins from places zeros own more
+      counted first second a b p.one p.two begins from places own more
       (record {
         accepts_first = p.accepts_first;
         accepts_second = p.accepts_second;
@@ -127,7 +130,7 @@ module _ (first second : List ℕ) (a b : Setup) (begins from places zeros : Lis
         valid_second = p.valid_two;
         is_first = p.is_first;
         is_second = p.is_second;
-      }) p.starts_first p.starts_second p.placed z x y
+      }) p.starts_first p.starts_second p.placed x y
 
   -- the sums are small
   pub sums-small : (own.items + more.items ≤ 128) × (own.starts + more.starts ≤ 28) × (own.losses + more.losses ≤ 28)
@@ -152,19 +155,22 @@ module _ (first second : List ℕ) (a b : Setup) (begins from places zeros : Lis
       let n3 : total (λ w. given w.loss) p.two.items ≤ 14 = p.valid_two.losses in
       (omega arith, omega arith, omega arith)
 
-  pub bounds_of : (lines others : ℕ) (r : Bounds) → lines ≡ length (lines_of first) → others ≡ length (lines_of second)
-      → Decides (CountsInBounds (own.items + more.items) (own.starts + more.starts) (own.losses + more.losses) (lines - 3 - a.count + (others - 3 - b.count))) r.ok
-      → r.bytes ≡ more.bytes → BoundsOf first second places r
-  bounds_of lines others r l o h k =
-      record {
-        each = λ d e v w t u q.
-            let m : Sheets first second a b d e =
-            record { accepts_first = p.accepts_first; accepts_second = p.accepts_second; valid_first = v; valid_second = w; is_first = t; is_second = u } in
-            let c = counted first second a b d e begins from places zeros own more m p.starts_first p.starts_second q z x y in
-            let i = edges-many first a d p.accepts_first v t in
-            let j = edges-many second b e p.accepts_second w u in
-            bounds-for d e own more (lines - 3 - a.count + (others - 3 - b.count)) r c (omega arith) h k;
-      }
+  module _ (lines others : ℕ) (l : lines ≡ length (lines_of first)) (o : others ≡ length (lines_of second)) (ok : Bool)
+      (h : Decides (CountsInBounds (own.items + more.items) (own.starts + more.starts) (own.losses + more.losses) (lines - 3 - a.count + (others - 3 - b.count))) ok) where
+    asked-of : (d e : Doc) → Valid d → Valid e → first ≡ render d → second ≡ render e → PlacesAmong d.items e.items places → Counted d e own more × Decides (BoundsHold (pooled d e)) ok
+    asked-of d e v w t u q =
+        let m : Sheets first second a b d e =
+        record { accepts_first = p.accepts_first; accepts_second = p.accepts_second; valid_first = v; valid_second = w; is_first = t; is_second = u } in
+        let c = counted first second a b d e begins from places own more m p.starts_first p.starts_second q x y in
+        let i = edges-many first a d p.accepts_first v t in
+        let j = edges-many second b e p.accepts_second w u in
+        (c, bounds-are d e own more (lines - 3 - a.count + (others - 3 - b.count)) c (omega arith) ok h)
+
+    pub bounds-held : ok ≡ true → BoundsOf first second places (Some more.bytes)
+    bounds-held e = record { each = λ d f v w t u q. let k = asked-of d f v w t u q in (k.1.yes e, k.0.second.bytes) }
+
+    pub bounds-broken : ok ≡ false → BoundsOf first second places None
+    bounds-broken e = record { each = λ d f v w t u q. (asked-of d f v w t u q).1.no e }
 
 -- the edge rows are few
 pub edges-small : (s : List ℕ) (a : Setup) (lines : ℕ) → Accepts s a → lines ≡ length (lines_of s) → lines - 3 - a.count ≤ 256
@@ -176,7 +182,7 @@ edges-small s a lines h q =
 
 -- ---- what is known before the bounds are asked
 
-pub both_read : (first second : List ℕ) (a b : Setup) (own keys : Keys) (places : List ℕ) → Accepts first a × Accepts second b
+pub both_read : (first second : List ℕ) (a b : Setup) (own keys : Keys) (places : List (Option ℕ)) → Accepts first a × Accepts second b
     → SheetKeys first a.count own → SheetKeys second b.count keys → KeyPlaces own.keys keys.keys places
     → BothRead first second a b own.from keys.from places
 both_read first second a b own keys places h f g p =
@@ -199,11 +205,11 @@ both_read first second a b own keys places h f g p =
     }
 
 -- the bytes of the remaining rows
-pub bytes_small : (first second : List ℕ) (a b : Setup) (begins from places : List ℕ) (s : Bounds) → BothRead first second a b begins from places → BoundsOf first second places s
-    → s.bytes ≤ 16384
+pub bytes_small : (first second : List ℕ) (a b : Setup) (begins from : List ℕ) (places : List (Option ℕ)) (s : Option ℕ) (bytes : ℕ) → BothRead first second a b begins from places
+    → BoundsOf first second places s → s ≡ Some bytes → bytes ≤ 16384
 unfolding render
-bytes_small first second a b begins from places s p h =
-    let c = (h.each p.one p.two p.valid_one p.valid_two p.is_first p.is_second p.placed).bytes in
+bytes_small first second a b begins from places s bytes p h z =
+    let c = (rw z at (h.each p.one p.two p.valid_one p.valid_two p.is_first p.is_second p.placed)).1 in
     let r = remaining-bytes p.one.items p.two.items in
     let t : length (render p.two) ≤ 16384 = p.valid_two.text in
     let rest : List ℕ = 10 ∷ (second_header ++ (10 ∷ edge_lines p.two.edges)) in
@@ -223,7 +229,7 @@ module _ (first second : List ℕ) (p : Plan) where
   one = take p.split first
 
   abbrev pub two : List ℕ
-  two = fresh_rows second p.from p.places p.known p.count
+  two = fresh_rows second p.from p.shared.places p.shared.count
 
   abbrev pub three : List ℕ
   three = drop p.split first
@@ -231,41 +237,42 @@ module _ (first second : List ℕ) (p : Plan) where
   abbrev pub four : List ℕ
   four = with_digits (lines_of (drop p.start second)) p.digits 0
 
-  module _ (entry : List ℕ) (c : CanWrite first second p entry) where
-    room-four : 0 + length (one ++ two ++ three ++ four) ≤ length entry
-    unfolding pooled_text
-    room-four = let r = c.room in omega arith
+  module _ (out : MutBor (List ℕ)) (c : CanWrite first second p out.now) where
+    module _ (p0 : Pen) (starts : AtStart out p0) where
+      room-four : RoomFor p0 (one ++ two ++ three ++ four)
+      unfolding pooled_text
+      room-four = start_room out p0 starts _ c.room
 
-    room-three : 0 + length (one ++ two ++ three) ≤ length entry
-    room-three = room-front (one ++ two ++ three) four 0 (length entry) room-four
+      room-three : RoomFor p0 (one ++ two ++ three)
+      room-three = room-front (one ++ two ++ three) four p0.at (length p0.out.now) room-four
 
-    room-two : 0 + length (one ++ two) ≤ length entry
-    room-two = room-front (one ++ two) three 0 (length entry) room-three
+      room-two : RoomFor p0 (one ++ two)
+      room-two = room-front (one ++ two) three p0.at (length p0.out.now) room-three
 
-    pub room-one : 0 + length one ≤ length entry
-    room-one = room-front one two 0 (length entry) room-two
+      pub room-one : RoomFor p0 one
+      room-one = room-front one two p0.at (length p0.out.now) room-two
 
-    module _ (o1 : List ℕ) (n1 : ℕ) (w1 : Wrote entry 0 one o1 n1) where
-      pub room-second : n1 + length two ≤ length o1
-      room-second = room-then entry 0 one o1 n1 w1 two room-two
+      module _ (p1 : Pen) (w1 : Penned p0 one p1) where
+        pub room-second : RoomFor p1 two
+        room-second = room_then p0 one p1 w1 two room-two
 
-      module _ (o2 : List ℕ) (n2 : ℕ) (w2 : Wrote o1 n1 two o2 n2) where
-        wrote-two : Wrote entry 0 (one ++ two) o2 n2
-        wrote-two = wrote_then entry 0 one o1 n1 w1 two o2 n2 w2
+        module _ (p2 : Pen) (w2 : Penned p1 two p2) where
+          penned-two : Penned p0 (one ++ two) p2
+          penned-two = penned_then p0 one p1 w1 two p2 w2
 
-        pub room-third : n2 + length (take (length first - p.split) (drop p.split first)) ≤ length o2
-        room-third = rw (rest_part first p.split) (room-then entry 0 (one ++ two) o2 n2 wrote-two three room-three)
+          pub room-third : RoomFor p2 (take (length first - p.split) (drop p.split first))
+          room-third = rw (rest_part first p.split) (room_then p0 (one ++ two) p2 penned-two three room-three)
 
-        module _ (o3 : List ℕ) (n3 : ℕ) (w3 : Wrote o2 n2 (take (length first - p.split) (drop p.split first)) o3 n3) where
-          wrote-three : Wrote entry 0 (one ++ two ++ three) o3 n3
-          wrote-three = wrote_then entry 0 (one ++ two) o2 n2 wrote-two three o3 n3 (rw (rest_part first p.split) at w3)
+          module _ (p3 : Pen) (w3 : Penned p2 (take (length first - p.split) (drop p.split first)) p3) where
+            penned-three : Penned p0 (one ++ two ++ three) p3
+            penned-three = penned_then p0 (one ++ two) p2 penned-two three p3 (rw (rest_part first p.split) at w3)
 
-          pub room-fourth : n3 + length four ≤ length o3
-          room-fourth = room-then entry 0 (one ++ two ++ three) o3 n3 wrote-three four room-four
+            pub room-fourth : RoomFor p3 four
+            room-fourth = room_then p0 (one ++ two ++ three) p3 penned-three four room-four
 
-          pub wrote-four : (o4 : List ℕ) (n4 : ℕ) → Wrote o3 n3 four o4 n4 → Wrote entry 0 (pooled_text first second p) o4 n4
-          unfolding pooled_text
-          wrote-four o4 n4 w4 = wrote_then entry 0 (one ++ two ++ three) o3 n3 wrote-three four o4 n4 w4
+            pub wrote-four : (p4 : Pen) → Penned p3 four p4 → Wrote out.now 0 (pooled_text first second p) p4.out.now p4.at
+            unfolding pooled_text
+            wrote-four p4 w4 = start_wrote out p0 starts _ p4 (penned_then p0 (one ++ two ++ three) p3 penned-three four p4 w4)
 
 pub can_write : (first second : List ℕ) (a b : Setup) (p : Plan) (out : List ℕ) → Accepts first a × Accepts second b → (o : Result Plan Refusal) → PlanOf first second o → o ≡ Ok p
     → p.size ≤ length out → CanWrite first second p out

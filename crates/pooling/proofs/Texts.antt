@@ -3,14 +3,12 @@
 use mathlib.Core.Path.{◌≡◌, refl, sym, ap, ap₂, ◌∙◌}
 use mathlib.Core.Bool.{Bool, true, false, cond}
 use mathlib.Core.List.{List, [], ◌∷◌, ◌++◌, map, append_assoc, append-nil}
-use mathlib.Core.Logic.{⊎_elim}
 use Prim.Native.Nat.{ℕ, zero, suc, ◌+◌, ◌-◌, ◌≤◌}
 use native.Mathlib.Omega.{arith}
 use lib.ListN.{length, get_or, take, length-append, length-map}
 use lib.Seq.{take_at, drop-append-add, take-length}
-use lib.Dec.{leb}
-use borrow.Author.Tests.{lt-ltb, le-leb, lt-leb}
-use Rattle.vertex_set.proofs.Cases.{less-or}
+use borrow.Author.Tests.{lt-ltb}
+use Rattle.std.specs.Prelude.{Option, Some, None}
 use Rattle.sheet_format.specs.Fields.{decimal, digits_in}
 use Rattle.sheet_format.specs.Rows.{ItemRow, EdgeRow, Doc, Each, ValidEdge, line_text, first_header, second_header, item_fields, edge_fields, item_lines, edge_lines, render}
 use Rattle.sheet_format.specs.Stated.{StandsAt}
@@ -22,7 +20,7 @@ use Rattle.pool_format.specs.Inner.{PlacesAmong}
 use Rattle.pool_format.proofs.Recolouring.{re-from, re-to}
 use Rattle.pool_items.proofs.Items.{remains-not, remains, known-place, unknown-place, lines-append}
 use Rattle.pool_colours.specs.Inner.Colours.{DigitAt}
-use Rattle.pool_text.specs.Inner.{row_at, fresh_rows, with_digit, with_digits, CanPut}
+use Rattle.pool_text.specs.Inner.{row_at, row_unless, fresh_rows, with_digit, with_digits, CanPut}
 use Rattle.pooling.proofs.Sheets.{tail, front}
 
 -- a recoloured row keeps its mark
@@ -33,27 +31,24 @@ re-mark d e x = refl
 -- ---- the remaining item rows
 
 -- one row, where it is asked for
-fresh-row : (xs ys : List ItemRow) (places : List ℕ) (na j : ℕ) (y : ItemRow) (text : List ℕ) → PlacesAmong xs ys places → na ≡ length xs → StandsAt ys j y
-    → text ≡ line_text (item_fields y) → item_lines (remaining xs (take j ys)) ++ cond (leb na (get_or places j 0)) text [] ≡ item_lines (remaining xs (take (suc j) ys))
+fresh-row : (xs ys : List ItemRow) (places : List (Option ℕ)) (j : ℕ) (y : ItemRow) (text : List ℕ) → PlacesAmong xs ys places → StandsAt ys j y
+    → text ≡ line_text (item_fields y) → (o : Option ℕ) → get_or places j None ≡ o → item_lines (remaining xs (take j ys)) ++ row_unless o text ≡ item_lines (remaining xs (take (suc j) ys))
 unfolding item_lines
-fresh-row xs ys places na j y text p q h t =
-    ⊎_elim
-    (λ l. rw (lt-leb na (get_or places j 0) l)
-    (append-nil (item_lines (remaining xs (take j ys))) ∙ ap item_lines (sym (remains-not xs ys j y h (known-place xs ys places na j y p q h l)))))
-    (λ l. rw (le-leb na (get_or places j 0) l)
-    (sym (ap item_lines (remains xs ys j y h (unknown-place xs ys places na j y p q h l)) ∙ lines-append (remaining xs (take j ys)) (y ∷ []) ∙
-    ap (λ (s : List ℕ). item_lines (remaining xs (take j ys)) ++ s) (append-nil (line_text (item_fields y)) ∙ sym t))))
-    (less-or (get_or places j 0) na)
+fresh-row xs ys places j y text p h t (Some i) e =
+    append-nil (item_lines (remaining xs (take j ys))) ∙ ap item_lines (sym (remains-not xs ys j y h (known-place xs ys places j i y p h e).0))
+fresh-row xs ys places j y text p h t None e =
+    sym (ap item_lines (remains xs ys j y h (unknown-place xs ys places j y p h e)) ∙ lines-append (remaining xs (take j ys)) (y ∷ []) ∙
+    ap (λ (s : List ℕ). item_lines (remaining xs (take j ys)) ++ s) (append-nil (line_text (item_fields y)) ∙ sym t))
 
-pub fresh-rows : (s from : List ℕ) (xs ys : List ItemRow) (places : List ℕ) (na : ℕ) → PlacesAmong xs ys places → na ≡ length xs
+pub fresh-rows : (s from : List ℕ) (xs ys : List ItemRow) (places : List (Option ℕ)) → PlacesAmong xs ys places
     → ((j : ℕ) (y : ItemRow) → StandsAt ys j y → row_at s from j ≡ line_text (item_fields y)) → (n : ℕ) → n ≤ length ys
-    → fresh_rows s from places na n ≡ item_lines (remaining xs (take n ys))
+    → fresh_rows s from places n ≡ item_lines (remaining xs (take n ys))
 unfolding fresh_rows remaining item_lines
-fresh-rows s from xs ys places na p q r zero h = refl
-fresh-rows s from xs ys places na p q r (suc n) h =
+fresh-rows s from xs ys places p r zero h = refl
+fresh-rows s from xs ys places p r (suc n) h =
     let y = at_place ys n (omega arith) in
-    ap (λ (l : List ℕ). l ++ cond (leb na (get_or places n 0)) (row_at s from n) []) (fresh-rows s from xs ys places na p q r n (omega arith)) ∙
-    fresh-row xs ys places na n y.0 (row_at s from n) p q y.1 (r n y.0 y.1)
+    ap (λ (l : List ℕ). l ++ row_unless (get_or places n None) (row_at s from n)) (fresh-rows s from xs ys places p r n (omega arith)) ∙
+    fresh-row xs ys places n y.0 (row_at s from n) p y.1 (r n y.0 y.1) (get_or places n None) refl
 
 -- ---- the edge rows
 

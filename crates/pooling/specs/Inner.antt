@@ -1,6 +1,6 @@
 -- Inner: what is known of two accepted sheets before the pooled one is written, and what is written.
-use Rattle.std.specs.Prelude.{◌≡◌, Result, Ok, Err, List, ◌++◌, ℕ, suc, ◌≤◌, length, get_or, take, drop}
-use Rattle.vertex_set.specs.Set.{Decides}
+use Rattle.std.specs.Prelude.{◌≡◌, Option, Result, Ok, Err, List, ◌++◌, ℕ, suc, ◌≤◌, length, get_or, take, drop}
+use Rattle.std.specs.Option.{MatchOption}
 use Rattle.setup.specs.Bounds.{most_edges, most_chosen}
 use Rattle.setup.specs.declared.Setup.{Setup}
 use Rattle.sheet_format.specs.Text.{lines_of}
@@ -12,7 +12,6 @@ use Rattle.pool_format.specs.Inner.{PlacesAmong}
 use Rattle.pool_text.specs.Inner.{RowsWithin, fresh_rows, with_digits, CanPut}
 use Rattle.questions.specs.declared.Refusal.{Refusal}
 use Rattle.questions.specs.declared.Refusal.TheVariants.{Disagree, PoolBound}
-use Rattle.pooling.specs.declared.Bounds.{Bounds}
 use Rattle.pooling.specs.declared.Plan.{Plan}
 
 -- Where the item rows begin, and behind them the empty line.
@@ -21,7 +20,7 @@ pub record Starts (s : List ℕ) (a : Setup) (from : List ℕ) : Type 0 where
 
 -- What is known of two accepted sheets: their setups, where their item rows begin, rows that they are the written form of, and the places of the
 -- second sheet's items in the first.
-pub record BothRead (first second : List ℕ) (a b : Setup) (begins from places : List ℕ) : Type 0 where
+pub record BothRead (first second : List ℕ) (a b : Setup) (begins from : List ℕ) (places : List (Option ℕ)) : Type 0 where
   pub accepts_first : Accepts first a
   pub accepts_second : Accepts second b
   pub starts_first : Starts first a begins
@@ -45,23 +44,23 @@ pub record CountsInBounds (items initial losable edges : ℕ) : Type 0 where
 abbrev pub BoundsHold : Doc → Type 0
 BoundsHold p = CountsInBounds (length p.items) (start_count p.items) (loss_count p.items) (length p.edges)
 
-pub record BoundsFor (d e : Doc) (r : Bounds) : Type 0 where
-  pub answer : Decides (BoundsHold (pooled d e)) r.ok
-  pub bytes : r.bytes ≡ length (item_lines (remaining d.items e.items))
+-- r are the bytes of the remaining item rows, where the bounds hold.
+abbrev pub BoundsFor : Doc → Doc → Option ℕ → Type 0
+BoundsFor d e r = MatchOption r (BoundsHold (pooled d e) → ⊥) (λ bytes. BoundsHold (pooled d e) × (bytes ≡ length (item_lines (remaining d.items e.items))))
 
-pub record BoundsOf (first second places : List ℕ) (r : Bounds) : Type 0 where
+pub record BoundsOf (first second : List ℕ) (places : List (Option ℕ)) (r : Option ℕ) : Type 0 where
   pub each : (d e : Doc) → Valid d → Valid e → first ≡ render d → second ≡ render e → PlacesAmong d.items e.items places → BoundsFor d e r
 
 -- The first sheet up to its empty line, the second's remaining item rows, the rest of the first sheet, the second's edge rows.
 unfoldable pub pooled_text : List ℕ → List ℕ → Plan → List ℕ
 pooled_text first second p =
-    take p.split first ++ fresh_rows second p.from p.places p.known p.count ++ drop p.split first ++
+    take p.split first ++ fresh_rows second p.from p.shared.places p.shared.count ++ drop p.split first ++
     with_digits (lines_of (drop p.start second)) p.digits 0
 
 -- These parts are there.
 pub record Parts (first second : List ℕ) (p : Plan) : Type 0 where
   pub split : p.split ≤ length first
-  pub rows : RowsWithin second p.from p.count
+  pub rows : RowsWithin second p.from p.shared.count
   pub edges : CanPut (lines_of (drop p.start second)) 0
 
 -- And there is room for them.

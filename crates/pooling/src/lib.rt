@@ -13,22 +13,17 @@ ghost use Rattle.pool_format.specs.Call.{with_buffer, pool_answer, PoolsRows, Po
 ghost use Rattle.pooling.specs.Inner.{CountsInBounds, BothRead, BoundsOf, PlanOf, pooled_text, CanWrite};
 
 use pool_format::PoolRefusal;
+use pool_items::Shared;
 use questions::Refusal;
 use setup::{MAX_EDGES, Setup};
 use sheet_lines::item_keys;
+use writing::Pen;
 
 // The lines of a sheet that are no rows: two headers and the empty line.
 const OTHER_LINES: usize = 3;
 
 // The bytes from the empty line up to the first edge row: its LF, and the second header with its own.
 const SECOND_HEADER: usize = 20;
-
-// Whether the pooled rows are within the bounds, and how many bytes the remaining item rows have.
-#[derive(Drop)]
-struct Bounds {
-    ok: bool,
-    bytes: usize,
-}
 
 // What is known of the pooled sheet before a byte of it is written: its bytes, where the
 // first sheet's empty line is, the second sheet's item rows with their places in the first sheet, and
@@ -37,10 +32,8 @@ struct Bounds {
 struct Plan {
     size: usize,
     split: usize,
-    known: usize,
-    count: usize,
     from: [usize; 65],
-    places: [usize; 64],
+    shared: Shared,
     start: usize,
     digits: [u8; MAX_EDGES],
 }
@@ -50,6 +43,7 @@ fn count_lines(s: &[u8]) -> usize
 {
     let mut lines: usize = 0;
     let mut at: usize = 0;
+    // By place: `split` would also give the empty part behind the last LF, which is no line.
     while at < s.len() {
         let end = sheet_fields::find(s, at, sheet_fields::LF);
         lines += 1;
@@ -73,83 +67,70 @@ fn in_bounds(items: usize, starts: usize, losses: usize, edges: usize) -> bool
     edges <= MAX_EDGES
 }
 
-// Asks the bounds of the pooled rows. A shared item counts once, and an edge that is in both sheets
-// twice.
+// Asks the bounds of the pooled rows, and tells how many bytes the remaining item rows have. A shared
+// item counts once, and an edge that is in both sheets twice. Here and below the sheets and their setups are no
+// struct, and `Accepts` stays a clause: `pool_sheets` is offered with two texts, and each function takes its parts.
 fn bounds_of(
     first: &[u8],
     second: &[u8],
-    a: Setup,
-    b: Setup,
-    begins: [usize; 65],
-    from: [usize; 65],
-    places: [usize; 64],
-) -> Bounds
-    requires { BothRead first.now second.now a b begins from places }
-    ensures { BoundsOf first.now second.now places result }
+    a: &Setup,
+    b: &Setup,
+    begins: &[usize; 65],
+    from: &[usize; 65],
+    shared: &Shared,
+) -> Option<usize>
+    requires both { BothRead first.now second.now a.now b.now begins.now from.now shared.now.places }
+    requires count { shared.now.count ≡ b.now.count }
+    ensures { BoundsOf first.now second.now shared.now.places result }
 {
-    let known = a.count;
-    let count = b.count;
-    let own_vertices = a.vertices;
-    let vertices = b.vertices;
-    // With none known all items remain: so the first sheet's own are counted.
-    let none = [0usize; 64];
-    let own = pool_items::count_remaining(own_vertices, known, none, 0, begins);
-    let more = pool_items::count_remaining(vertices, count, places, known, from);
-    let rows = count_lines(first) - OTHER_LINES - known;
-    let other_rows = count_lines(second) - OTHER_LINES - count;
+    // With none in both all items remain: so the first sheet's own are counted.
+    let own = Shared::none(a.count).count_remaining(&a.vertices, begins);
+    let more = shared.count_remaining(&b.vertices, from);
+    let rows = count_lines(first) - OTHER_LINES - a.count;
+    let other_rows = count_lines(second) - OTHER_LINES - b.count;
     let ok = in_bounds(
         own.items + more.items,
         own.starts + more.starts,
         own.losses + more.losses,
         rows + other_rows,
     );
-    Bounds {
-        ok,
-        bytes: more.bytes,
+    if ok {
+        return Some(more.bytes);
     }
+    None
 }
 
 // Asks whether shared items agree, and then whether the pooled rows are within the bounds and need no
 // ninth colour. Both sheets are accepted, and state these setups.
-fn plan_of(first: &[u8], second: &[u8], a: Setup, b: Setup) -> Result<Plan, Refusal>
-    requires { Accepts first.now a × Accepts second.now b }
+fn plan_of(first: &[u8], second: &[u8], a: &Setup, b: &Setup) -> Result<Plan, Refusal>
+    requires { Accepts first.now a.now × Accepts second.now b.now }
     ensures { PlanOf first.now second.now result }
 {
-    let known = a.count;
-    let count = b.count;
-    let own = item_keys::keys_of(first, known);
-    let keys = item_keys::keys_of(second, count);
-    let places = pool_items::places_of(&own.keys, &keys.keys);
-    // An array goes from a struct to a call or a literal by a variable: else there is no proof yet.
-    let own_vertices = a.vertices;
-    let vertices = b.vertices;
-    if !pool_items::all_agree(own_vertices, known, vertices, count, places) {
+    let own = item_keys::keys_of(first, a.count);
+    let keys = item_keys::keys_of(second, b.count);
+    let shared = Shared::of(&own.keys, &keys.keys);
+    if !shared.all_agree(&a.vertices, &b.vertices) {
         return Err(Refusal::Disagree);
     }
-    let begins = own.from;
-    let from = keys.from;
-    let bounds = bounds_of(first, second, a, b, begins, from, places);
-    if !bounds.ok {
+    let Some(bytes) = bounds_of(first, second, a, b, &own.from, &keys.from, &shared) else {
         return Err(Refusal::PoolBound);
-    }
-    let start = from[count] + SECOND_HEADER;
-    let colours = pool_colours::colours_of(
-        second, start, &keys.keys, places, known, a.graph, b.graph,
-    );
-    if !colours.fits {
+    };
+    let start = keys.from[b.count] + SECOND_HEADER;
+    let Some(digits) = pool_colours::colours_of(
+        second, start, &keys.keys, &shared, &a.graph, &b.graph,
+    ) else {
         return Err(Refusal::PoolBound);
-    }
-    let digits = colours.digits;
-    let parts = first.len() + bounds.bytes;
+    };
+    let parts = first.len() + bytes;
     let rows = second.len() - start;
     let size = parts + rows;
+    // An array goes from a struct to a literal by a variable: else there is no proof yet.
+    let from = keys.from;
     Ok(Plan {
         size,
-        split: begins[known],
-        known,
-        count,
+        split: own.from[a.count],
         from,
-        places,
+        shared,
         start,
         digits,
     })
@@ -157,21 +138,16 @@ fn plan_of(first: &[u8], second: &[u8], a: Setup, b: Setup) -> Result<Plan, Refu
 
 // The first sheet up to its empty line, the second's remaining item rows, the rest of the first sheet,
 // the second's edge rows.
-fn write_pooled(first: &[u8], second: &[u8], plan: Plan, out: &mut [u8]) -> usize
-    requires { CanWrite first.now second.now plan out.old }
-    ensures { Wrote out.old 0 (pooled_text first.now second.now plan) out.new result }
+fn write_pooled(first: &[u8], second: &[u8], plan: &Plan, out: &mut [u8]) -> usize
+    requires { CanWrite first.now second.now plan.now out.old }
+    ensures { Wrote out.old 0 (pooled_text first.now second.now plan.now) out.new result }
 {
-    let split = plan.split;
-    let start = plan.start;
-    let from = plan.from;
-    let places = plan.places;
-    let digits = plan.digits;
-    let count = plan.count;
-    let known = plan.known;
-    let next = written::put(&first[..split], out, 0);
-    let next = pool_text::put_remaining(second, from, count, places, known, out, next);
-    let next = written::put(&first[split..], out, next);
-    pool_text::put_edges(second, start, digits, out, next)
+    let mut pen = Pen::new(out);
+    pen.put(&first[..plan.split]);
+    pool_text::put_remaining(second, &plan.from, &plan.shared, &mut pen);
+    pen.put(&first[plan.split..]);
+    pool_text::put_edges(second, plan.start, &plan.digits, &mut pen);
+    pen.at
 }
 
 // Pools two accepted sheets that state these setups. Nothing is written before every question is
@@ -179,11 +155,11 @@ fn write_pooled(first: &[u8], second: &[u8], plan: Plan, out: &mut [u8]) -> usiz
 fn pool_read(
     first: &[u8],
     second: &[u8],
-    a: Setup,
-    b: Setup,
+    a: &Setup,
+    b: &Setup,
     out: &mut [u8],
 ) -> Result<usize, PoolRefusal>
-    requires { Accepts first.now a × Accepts second.now b }
+    requires { Accepts first.now a.now × Accepts second.now b.now }
     ensures { PoolsRows first.now second.now out.old (with_buffer (pool_answer result) out.new) }
 {
     let plan = plan_of(first, second, a, b).map_err(|refusal| PoolRefusal {
@@ -199,7 +175,7 @@ fn pool_read(
             line: 0,
         });
     }
-    write_pooled(first, second, plan, out);
+    write_pooled(first, second, &plan, out);
     Ok(size)
 }
 
@@ -220,5 +196,5 @@ pub fn pool_sheets(first: &[u8], second: &[u8], out: &mut [u8]) -> Result<usize,
         sheet: 2,
         line: no.line,
     })?;
-    pool_read(first, second, a, b, out)
+    pool_read(first, second, &a, &b, out)
 }

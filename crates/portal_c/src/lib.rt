@@ -1,5 +1,5 @@
 // The calls for C, exported: each hands on to the call of its name in the libraries, and has its contract.
-// include/portal.h is made from these. A crate is a library or a static library, and no crate can stand on a
+// include/portal.h is made from these; their parameters are what C hands over. A crate is a library or a static library, and no crate can stand on a
 // static library, so the calls themselves are in the libraries, where other crates reach them.
 
 #![tactic(auto)]

@@ -1,4 +1,5 @@
-// The portal's calls on a setup that lives, for C: they change the setup in its buffer.
+// The portal's calls on a setup that lives, for C: they change the setup in its buffer. Their
+// parameters are what C hands over.
 
 #![tactic(auto)]
 

@@ -5,7 +5,7 @@ use mathlib.Core.List.{List}
 use mathlib.Core.Logic.{inl, inr, ⊎_elim}
 use Prim.Native.Nat.{ℕ}
 use Rattle.questions.specs.Asks.{Asks}
-use Rattle.handin_format.specs.declared.LineAnswer.{LineAnswer}
+use Rattle.handin_format.specs.Calls.{LineAnswer}
 use Rattle.handin_format.specs.Calls.{with_sets, ReadLineCall}
 use Rattle.portal_register.specs.declared.ReadLineResult.{ReadLineResult}
 use Rattle.portal_register.specs.Lines.{in_numbers, told_in_numbers, TellLineCall}

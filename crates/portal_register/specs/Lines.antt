@@ -2,7 +2,7 @@
 use Rattle.std.specs.Prelude.{◌≡◌, cond, List, [], ◌∷◌, ℕ}
 use Rattle.questions.specs.Asks.{Asks}
 use Rattle.sheet_format.specs.Read.{read_sheet, asks_sheet}
-use Rattle.handin_format.specs.declared.LineAnswer.{LineAnswer}
+use Rattle.handin_format.specs.Calls.{LineAnswer}
 use Rattle.handin_format.specs.Calls.{LineOutcome, line_refused, ReadsLine}
 use Rattle.portal_register.specs.declared.ReadLineResult.{ReadLineResult}
 

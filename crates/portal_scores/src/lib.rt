@@ -1,5 +1,6 @@
 // The portal's calls for scores, for C: score and risk, marks of a handed-in list, findings on recovery
-// and ranks, kinds of intruder, and bags of values. `results` has the structs.
+// and ranks, kinds of intruder, and bags of values. `results` has the structs. Their
+// parameters are what C hands over.
 
 #![tactic(auto)]
 

@@ -1,6 +1,6 @@
 // The portal's calls on a setup and its sets, for C: question 12, what a set opens, what a loss takes
 // away, the way in, a quick yes, both lists, their forecast, the next set, and the cut sets.
-// `results` has the structs.
+// `results` has the structs. Their parameters are what C hands over.
 
 #![tactic(auto)]
 

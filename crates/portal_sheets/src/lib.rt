@@ -1,5 +1,5 @@
 // The portal's calls on sheets, for C: reading a sheet into a buffer, an item's name, pooling, and
-// the sheet of a setup. Beside them the version of the portal's calls.
+// the sheet of a setup. Beside them the version of the portal's calls. Their parameters are what C hands over.
 
 #![tactic(auto)]
 

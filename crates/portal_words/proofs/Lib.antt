@@ -1,4 +1,5 @@
 pub mod Filling
+pub mod Front
 pub mod Saying
 pub mod Strict
 pub mod Writing

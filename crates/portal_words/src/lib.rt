@@ -30,25 +30,16 @@ const OPENED: usize = 1282;
 pub const SETUP_WORDS: usize = OPENED + 1;
 
 // Is the kind of each place 0 or 1?
-fn kinds_said(words: &[u64]) -> bool
-    requires { setup_words ≤ length words.now }
+fn kinds_said(words: &[u64; SETUP_WORDS]) -> bool
     ensures { Decides (SaysSetup words.now) result }
 {
+    // By number, as the definitions count: parts of four words would hide the place 1 + 4 v in a range.
     for v in 0..64usize {
         if 1 < words[1 + 4 * v] {
             return false;
         }
     }
     true
-}
-
-fn says_setup(words: &[u64]) -> bool
-    ensures { Decides (SaysSetup words.now) result }
-{
-    if words.len() < SETUP_WORDS {
-        return false;
-    }
-    kinds_said(words)
 }
 
 fn kind_in(n: u64) -> Kind
@@ -69,8 +60,9 @@ fn value_in(n: u64) -> Option<u64>
     Some(n)
 }
 
-fn vertex_in(words: &[u64], v: usize) -> Vertex
-    requires { (v < 64) × (setup_words ≤ length words.now) }
+// The bound of v stays a clause: it is an index at once.
+fn vertex_in(words: &[u64; SETUP_WORDS], v: usize) -> Vertex
+    requires { v < 64 }
     ensures { result ≡ vertex_in words.now v }
 {
     let at = 1 + 4 * v;
@@ -82,8 +74,8 @@ fn vertex_in(words: &[u64], v: usize) -> Vertex
     }
 }
 
-fn rows_in(words: &[u64], at: usize) -> Rows
-    requires { at + 8 ≤ length words.now }
+fn rows_in(words: &[u64; SETUP_WORDS], at: usize) -> Rows
+    requires { at + 8 ≤ setup_words }
     ensures { result ≡ rows_in words.now at }
 {
     let mut needs = [0; 8];
@@ -91,8 +83,8 @@ fn rows_in(words: &[u64], at: usize) -> Rows
     Rows { needs }
 }
 
-fn graph_in(words: &[u64], at: usize) -> Graph
-    requires { at + 512 ≤ length words.now }
+fn graph_in(words: &[u64; SETUP_WORDS], at: usize) -> Graph
+    requires { at + 512 ≤ setup_words }
     ensures { result ≡ graph_in words.now at }
 {
     // By number, for the same reason as the vertices.
@@ -103,11 +95,11 @@ fn graph_in(words: &[u64], at: usize) -> Graph
     r
 }
 
-fn vertices_in(words: &[u64]) -> [Vertex; 64]
-    requires { setup_words ≤ length words.now }
+fn vertices_in(words: &[u64; SETUP_WORDS]) -> [Vertex; 64]
     ensures { result ≡ tabulate 64 (vertex_in words.now) }
 {
-    // By number and not by `array::from_fn`: of what a closure gets from a call its clause says nothing.
+    // By number: with `array::from_fn` the proof did not close, since its clause does not tie the words that
+    // each call of the closure reads to these.
     let mut r = [setup::UNUSED; 64];
     for v in 0..64usize {
         r[v] = vertex_in(words, v);
@@ -117,8 +109,7 @@ fn vertices_in(words: &[u64]) -> [Vertex; 64]
 
 // What the words say, place by place. The setup is put together at the end alone: one that is made
 // first and filled later would be copied whole once more.
-fn spell_out(words: &[u64]) -> Setup
-    requires { setup_words ≤ length words.now }
+fn spell_out(words: &[u64; SETUP_WORDS]) -> Setup
     ensures { result ≡ spelt words.now }
 {
     Setup {
@@ -145,16 +136,21 @@ pub fn no_items() -> Setup
     }
 }
 
-// The setup that the words say.
+// The setup that the words say. Words behind those that say a setup are not looked at.
 pub fn setup_in(words: &[u64]) -> Setup
     ensures { result ≡ setup_in words.now }
 {
-    if says_setup(words) {
-        return spell_out(words);
+    let Some(front) = words.first_chunk::<SETUP_WORDS>() else {
+        return no_items();
+    };
+    if kinds_said(front) {
+        return spell_out(front);
     }
     no_items()
 }
 
+// A match, and not `kind as u64`: that is the tag of a variant, and at a variant that is not known the proof
+// did not close.
 fn kind_word(kind: Kind) -> u64
     ensures { result ≡ kind_word kind }
 {
@@ -170,6 +166,7 @@ fn value_word(value: Option<u64>) -> u64
     value.unwrap_or(BLANK)
 }
 
+// `out` and `at` go side by side, as `written::put` takes them: a struct of the two would be taken apart there.
 fn put_vertex(x: Vertex, out: &mut [u64], at: usize) -> usize
     requires { at + 4 ≤ length out.old }
     ensures { Wrote out.old at (vertex_words x) out.new result }

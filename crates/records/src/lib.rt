@@ -59,7 +59,8 @@ fn same(r: &Record, n: &Record) -> bool
 }
 
 // The new record takes the place of the first one with the same student, target and way or, where there
-// is none, the place behind the used ones. How many are used then.
+// is none, the place behind the used ones. How many are used then. The slice and the count are no struct:
+// C hands them over one by one, and the record may go behind the part that is used.
 fn lay(records: &mut [Record], used: usize, new: Record) -> Result<usize, Refusal>
     requires { used ≤ length records.old }
     ensures { Leaves (registered used result) records.new (hand_in records.old used new) }
@@ -123,7 +124,8 @@ pub fn apply(records: &mut [Record], used: usize, task: Task) -> Registered
     }
 }
 
-// The marks of sets that are handed in for one way of the target.
+// The marks of sets that are handed in for one way of the target. `attempt`, which is offered, has these
+// parameters, and `mark` alone takes them from it.
 fn mark(s: Setup, target: usize, loss: bool, handed: &[u64]) -> Result<Marks, Refusal>
     ensures { Fulfils (marks_call loss s target handed.now) (ends (marks_reply result) []) }
 {

@@ -9,7 +9,7 @@ use records::{Record, Registered, Task};
 use setup::Setup;
 
 // Hands in sets as a student's attempt at one way of the target: `loss` is false for its opening
-// sets, and true for its lockout sets.
+// sets, and true for its lockout sets. Its parameters are those of `portal_hand_in`, which C calls.
 pub fn hand_in(
     records: &mut [Record],
     used: usize,
@@ -25,7 +25,7 @@ pub fn hand_in(
     records::apply(records, used, task)
 }
 
-// Withdraws a student.
+// Withdraws a student. Its parameters are those of `portal_withdraw`.
 pub fn withdraw(records: &mut [Record], used: usize, student: u64) -> Registered
     ensures { WithdrawCall used student result records.old records.new }
 {

@@ -8,7 +8,6 @@ use report_scores::LIST_ROOM;
 use report_writer::{start, steps};
 use sheet::READ_ROOM;
 use std::io::Write;
-use streams::Input;
 use tables::TABLE;
 
 // The bytes of a large part of the report.
@@ -28,6 +27,7 @@ fn print_report<O: Write, E: Write>(sheet: &[u8], output: &mut O, errors: &mut E
         lockout: &lockout,
     };
     let mut cursor = report.cursor;
+    // No index: a cursor tells where the report goes on.
     while steps::unfinished(cursor) {
         let next = steps::fill(source, cursor, &mut list, &mut out);
         let told = streams::write_whole(output, &out[..next.at]);
@@ -45,11 +45,7 @@ fn main(rt: HostRuntime) {
     let mut errors = rt.stderr();
     let mut sheet = [0u8; READ_ROOM];
     match streams::read_whole(&mut input, &mut sheet) {
-        Input::Read(n) => print_report(&sheet[..n], &mut output, &mut errors),
-        Input::Failed(error) => streams::fail(
-            &mut errors,
-            b"report: cannot read standard input",
-            &error,
-        ),
+        Ok(n) => print_report(&sheet[..n], &mut output, &mut errors),
+        Err(error) => streams::fail(&mut errors, b"report: cannot read standard input", &error),
     }
 }

@@ -30,21 +30,28 @@ pub record NamesSoFar (sheet from to : List ℕ) (v at : ℕ) : Type 0 where
 -- a place that is not stored to
 place_kept : (sheet from to : List ℕ) (v a e u : ℕ) → (u ≡ v → ⊥) → NamePlace sheet from to u → NamePlace sheet (set from v a) (set to v e) u
 place_kept sheet from to v a e u n p =
+    let lf = length-set from v a in
+    let lt = length-set to v e in
+    let hf = p.has_from in
+    let ht = p.has_to in
     let x : get_or (set from v a) u 0 ≡ get_or from u 0 = get_or-set_other from v u a 0 n in
     let y : get_or (set to v e) u 0 ≡ get_or to u 0 = get_or-set_other to v u e 0 n in
     record {
-      below = p.below;
+      has_from = omega arith;
+      has_to = omega arith;
       order = rw (x, y) p.order;
       inside = rw y p.inside;
       is = rw (x, y) p.is;
     }
 
-place-new : (sheet from to : List ℕ) (v a e : ℕ) → v < 64 → v < length from → v < length to → a ≤ e → e ≤ length sheet
+place-new : (sheet from to : List ℕ) (v a e : ℕ) → v < length from → v < length to → a ≤ e → e ≤ length sheet
     → take (e - a) (drop a sheet) ≡ name_of sheet v → NamePlace sheet (set from v a) (set to v e) v
-place-new sheet from to v a e b hf ht o i q =
+place-new sheet from to v a e hf ht o i q =
+    let lf = length-set from v a in
+    let lt = length-set to v e in
     let x : get_or (set from v a) v 0 ≡ a = get_or-set_same from v a 0 hf in
     let y : get_or (set to v e) v 0 ≡ e = get_or-set_same to v e 0 ht in
-    record { below = b; order = rw (x, y) o; inside = rw y i; is = rw (x, y) q }
+    record { has_from = omega arith; has_to = omega arith; order = rw (x, y) o; inside = rw y i; is = rw (x, y) q }
 
 -- the first lines
 pub names-none : (sheet from to : List ℕ) (e : ℕ) → length from ≡ 64 → length to ≡ 64 → 0 < length (lines_of sheet) → e ≡ 0 + until 10 (drop 0 sheet)
@@ -92,7 +99,7 @@ module _ (sheet from to : List ℕ) (v at : ℕ) (n : NamesSoFar sheet from to v
         long_to = length-set to v (at + k) ∙ n.long_to;
         each = λ w l. ⊎_elim
             (λ x. subst (NamePlace sheet (set from v at) (set to v (at + k))) (sym x)
-            (place-new sheet from to v at (at + k) (omega arith) (let a = n.long_from in omega arith) (let a = n.long_to in omega arith) (omega arith) (omega arith) is))
+            (place-new sheet from to v at (at + k) (let a = n.long_from in omega arith) (let a = n.long_to in omega arith) (omega arith) (omega arith) is))
             (λ x. place_kept sheet from to v at (at + k) w x (n.each w (omega (arith, x))))
             (same_or w v);
         lines = rw (add-one v) (tail-eq_of_cons-eq i);

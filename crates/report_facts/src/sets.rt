@@ -45,7 +45,7 @@ pub fn idle_places(
 }
 
 // The accounts that are out of rank with v above: their rank is below that of v, and their score is
-// not below that of v.
+// not below that of v. The bound of v stays a clause: it is an index at once.
 fn below_one(s: &Setup, accounts: VertexSet, scores: &[SecurityScore; 64], v: usize) -> u64
     requires { v < 64 }
     ensures { BelowOne accounts.0 s.now scores.now v result }

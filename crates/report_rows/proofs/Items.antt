@@ -4,18 +4,18 @@ use mathlib.Core.Path.{◌≡◌, ap}
 use mathlib.Core.Bool.{not}
 use mathlib.Core.List.{List, [], ◌∷◌, ◌++◌, append-nil, append_assoc}
 use mathlib.Core.Logic.{⊎_elim}
-use Prim.Native.Nat.{ℕ, ◌+◌, ◌-◌, ◌^◌, ◌≤◌, ◌<◌}
+use Prim.Native.Nat.{ℕ, ◌-◌, ◌^◌, ◌<◌}
 use native.Mathlib.Omega.{arith}
 use lib.Count.{count_trailing_zeros}
 use lib.Dec.{eqb}
-use lib.ListN.{length}
 use borrow.Author.Tests.{eq-eqb, ne_eqb}
 use Rattle.vertex_set.specs.Set.{Within}
 use Rattle.vertex_set.proofs.Cases.{same_or}
 use Rattle.vertex_set.proofs.Sets.{within-refl, within-trans}
 use Rattle.vertex_set.proofs.Places.{places, places-none, lowest, removed-within}
-use Rattle.written.specs.Inner.{Wrote}
-use Rattle.written.proofs.Writing.{Writing, writing-none, writing-part, writing-room, writing-end}
+use Rattle.writing.specs.declared.Pen.{Pen}
+use Rattle.writing.specs.Inner.{RoomFor, Penned}
+use Rattle.writing.proofs.Pens.{PenWriting, pen_none, pen_part, pen_room, pen_end}
 use Rattle.report_text.specs.Rows.{joined, set_text}
 use Rattle.report_text.proofs.Items.{names_of, set-text}
 use Rattle.report_rows.specs.Inner.Writing.{plus}
@@ -38,35 +38,34 @@ names-lowest : (name : ℕ → List ℕ) (s : ℕ) → s < 2 ^ 64 → (s ≡ 0 �
     → names_of name s ≡ lowest_text name s (s - 2 ^ count_trailing_zeros 64 s) ++ names_of name (s - 2 ^ count_trailing_zeros 64 s)
 names-lowest name s h n = rw (lowest s h n).list (joined-first name (count_trailing_zeros 64 s) (s - 2 ^ count_trailing_zeros 64 s) (omega arith))
 
--- The names of the vertices in rest are still to be written.
-pub record ItemsWriting (name : ℕ → List ℕ) (x : ℕ) (entry : List ℕ) (at : ℕ) (out : List ℕ) (rest next : ℕ) : Type 0 where
+-- The pen p is to write the names of x, and came to q: those of the vertices in rest are still to be written.
+pub record ItemsWriting (name : ℕ → List ℕ) (x : ℕ) (p : Pen) (rest : ℕ) (q : Pen) : Type 0 where
   pub small : rest < 2 ^ 64
   pub within : Within rest x
-  pub writing : Writing entry at (set_text name x) (names_of name rest) out next
+  pub writing : PenWriting p (set_text name x) (names_of name rest) q
 
-pub items-none : (name : ℕ → List ℕ) (x : ℕ) (entry : List ℕ) (at : ℕ) → x < 2 ^ 64 → ItemsWriting name x entry at entry x at
-items-none name x entry at h = record { small = h; within = within-refl x; writing = rw (← set-text name x) (writing-none entry at (set_text name x)) }
+pub items-none : (name : ℕ → List ℕ) (x : ℕ) (p : Pen) → x < 2 ^ 64 → ItemsWriting name x p x p
+items-none name x p h = record { small = h; within = within-refl x; writing = rw (← set-text name x) (pen_none p (set_text name x)) }
 
-module _ (name : ℕ → List ℕ) (x : ℕ) (entry : List ℕ) (at : ℕ) (out : List ℕ) (rest next : ℕ) (w : ItemsWriting name x entry at out rest next) where
+module _ (name : ℕ → List ℕ) (x : ℕ) (p : Pen) (rest : ℕ) (q : Pen) (w : ItemsWriting name x p rest q) where
   -- what stays to be written, with the lowest vertex apart
   first-apart : (less : ℕ) → less ≡ rest - 2 ^ count_trailing_zeros 64 rest → (rest ≡ 0 → ⊥)
-      → Writing entry at (set_text name x) (lowest_text name rest less ++ names_of name less) out next
+      → PenWriting p (set_text name x) (lowest_text name rest less ++ names_of name less) q
   first-apart less e n = rw (e, ← (names-lowest name rest w.small n)) w.writing
 
-  pub items-room : (less : ℕ) → less ≡ rest - 2 ^ count_trailing_zeros 64 rest → (rest ≡ 0 → ⊥) → at + length (set_text name x) ≤ length entry
-      → next + length (lowest_text name rest less) ≤ length out
-  items-room less e n room =
-      writing-room entry at (set_text name x) (lowest_text name rest less) (names_of name less) out next (first-apart less e n) room
+  pub items-room : (less : ℕ) → less ≡ rest - 2 ^ count_trailing_zeros 64 rest → (rest ≡ 0 → ⊥) → RoomFor p (set_text name x)
+      → RoomFor q (lowest_text name rest less)
+  items-room less e n room = pen_room p (set_text name x) (lowest_text name rest less) (names_of name less) q (first-apart less e n) room
 
-  pub items_more : (less : ℕ) → less ≡ rest - 2 ^ count_trailing_zeros 64 rest → (rest ≡ 0 → ⊥) → (after : List ℕ) (r : ℕ)
-      → Wrote out next (lowest_text name rest less) after r → ItemsWriting name x entry at after less r
-  items_more less e n after r v =
+  pub items_more : (less : ℕ) → less ≡ rest - 2 ^ count_trailing_zeros 64 rest → (rest ≡ 0 → ⊥) → (r : Pen) → Penned q (lowest_text name rest less) r
+      → ItemsWriting name x p less r
+  items_more less e n r v =
       record {
         small = let h = w.small in omega arith;
         within = rw e (within-trans (removed-within rest (count_trailing_zeros 64 rest) (lowest rest w.small n).member) w.within);
-        writing = writing-part entry at (set_text name x) (lowest_text name rest less) (names_of name less) out next after r (first-apart less e n) v;
+        writing = pen_part p (set_text name x) (lowest_text name rest less) (names_of name less) q r (first-apart less e n) v;
       }
 
-  pub items-end : rest ≡ 0 → Wrote entry at (set_text name x) out next
+  pub items-end : rest ≡ 0 → Penned p (set_text name x) q
   unfolding joined
-  items-end z = writing-end entry at (set_text name x) (names_of name rest) out next (ap (joined name) (places-none 64 rest z)) w.writing
+  items-end z = pen_end p (set_text name x) (names_of name rest) q (ap (joined name) (places-none 64 rest z)) w.writing

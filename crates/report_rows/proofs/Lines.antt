@@ -2,34 +2,30 @@
 -- Assumes nothing.
 use mathlib.Core.Path.{◌≡◌, refl, sym}
 use mathlib.Core.List.{List, [], ◌∷◌, ◌++◌, append-nil, append_assoc}
-use Prim.Native.Nat.{ℕ, suc, ◌+◌, ◌≤◌, ◌<◌}
+use Prim.Native.Nat.{ℕ, suc, ◌<◌}
 use native.Mathlib.Omega.{arith}
 use lib.ListN.{length, get_or, drop}
 use lib.Seq.{drop-cons, drop-length}
-use Rattle.written.specs.Inner.{Wrote}
-use Rattle.written.specs.Rows.{RowWritten}
-use Rattle.written.proofs.Writing.{Writing, writing-none, writing-part, writing-end}
-use Rattle.written.proofs.Rows.{row_written}
 use Rattle.sheet_format.specs.Rows.{line_text}
-use Rattle.writing.specs.Inner.{ended}
+use Rattle.writing.specs.declared.Pen.{Pen}
+use Rattle.writing.specs.Inner.{ended, RoomFor, Penned}
+use Rattle.writing.proofs.Pens.{RowPenned, PenWriting, pen_none, pen_part, pen_end, row_of_penned}
 
--- i fields of the line stand, each with the byte behind it.
-abbrev pub LineWriting : List (List ℕ) → List ℕ → ℕ → ℕ → List ℕ → ℕ → Type 0
-LineWriting fields entry at i out next = Writing entry at (line_text fields) (line_text (drop i fields)) out next
+-- The pen p is to write the line, and came to q: i fields stand, each with the byte behind it.
+abbrev pub LineWriting : List (List ℕ) → Pen → ℕ → Pen → Type 0
+LineWriting fields p i q = PenWriting p (line_text fields) (line_text (drop i fields)) q
 
 line_first : (f g : List ℕ) (fs : List (List ℕ)) → line_text (f ∷ g ∷ fs) ≡ ended f 32 ++ line_text (g ∷ fs)
 line_first f g fs = sym (append_assoc f (32 ∷ []) (line_text (g ∷ fs)))
 
-module _ (fields : List (List ℕ)) (entry : List ℕ) (at i : ℕ) (out : List ℕ) (next : ℕ) (w : LineWriting fields entry at i out next) where
+module _ (fields : List (List ℕ)) (p : Pen) (i : ℕ) (q : Pen) (w : LineWriting fields p i q) where
   -- a field, and a space
   field_apart : suc i < length fields → line_text (drop i fields) ≡ ended (get_or fields i []) 32 ++ line_text (drop (suc i) fields)
   field_apart h =
       rw (drop-cons fields i [] (omega arith), drop-cons fields (suc i) [] h) (line_first (get_or fields i []) (get_or fields (suc i) []) (drop (suc (suc i)) fields))
 
-  pub field-more : suc i < length fields → (after : List ℕ) (r : ℕ) → Wrote out next (ended (get_or fields i []) 32) after r
-      → LineWriting fields entry at (suc i) after r
-  field-more h after r v =
-      writing-part entry at (line_text fields) (ended (get_or fields i []) 32) (line_text (drop (suc i) fields)) out next after r (rw (field_apart h) at w) v
+  pub field-more : suc i < length fields → (r : Pen) → Penned q (ended (get_or fields i []) 32) r → LineWriting fields p (suc i) r
+  field-more h r v = pen_part p (line_text fields) (ended (get_or fields i []) 32) (line_text (drop (suc i) fields)) q r (rw (field_apart h) at w) v
 
   -- the last field, and LF
   last-field : suc i ≡ length fields → line_text (drop i fields) ≡ ended (get_or fields i []) 10 ++ []
@@ -40,14 +36,13 @@ module _ (fields : List (List ℕ)) (entry : List ℕ) (at i : ℕ) (out : List 
       drop-none : drop (suc i) fields ≡ []
       drop-none = rw e (drop-length fields)
 
-  pub last-wrote : suc i ≡ length fields → (after : List ℕ) (r : ℕ) → Wrote out next (ended (get_or fields i []) 10) after r → Wrote entry at (line_text fields) after r
-  last-wrote e after r v =
-      writing-end entry at (line_text fields) [] after r refl
-      (writing-part entry at (line_text fields) (ended (get_or fields i []) 10) [] out next after r (rw (last-field e) at w) v)
+  pub last-wrote : suc i ≡ length fields → (r : Pen) → Penned q (ended (get_or fields i []) 10) r → Penned p (line_text fields) r
+  last-wrote e r v =
+      pen_end p (line_text fields) [] r refl
+      (pen_part p (line_text fields) (ended (get_or fields i []) 10) [] q r (rw (last-field e) at w) v)
 
-  pub last_end : suc i ≡ length fields → at + length (line_text fields) ≤ length entry → (after : List ℕ) (r : ℕ) → Wrote out next (ended (get_or fields i []) 10) after r
-      → RowWritten entry at (line_text fields) after r
-  last_end e room after r v = row_written entry at (line_text fields) after r (last-wrote e after r v) room
+  pub last_end : suc i ≡ length fields → RoomFor p (line_text fields) → (r : Pen) → Penned q (ended (get_or fields i []) 10) r → RowPenned p (line_text fields) r
+  last_end e room r v = row_of_penned p (line_text fields) r (last-wrote e r v) room
 
-pub line-none : (fields : List (List ℕ)) (entry : List ℕ) (at : ℕ) → LineWriting fields entry at 0 entry at
-line-none fields entry at = writing-none entry at (line_text fields)
+pub line-none : (fields : List (List ℕ)) (p : Pen) → LineWriting fields p 0 p
+line-none fields p = pen_none p (line_text fields)

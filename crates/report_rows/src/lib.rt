@@ -1,18 +1,19 @@
-// The rows of the report, written straight into the bytes that go out. Each function writes from `at`
-// on and gives the next place; every other byte stays as it was.
+// The rows of the report, written straight into the bytes that go out. Each function writes from the
+// pen's place on; every other byte stays as it was.
 
 #![tactic(auto)]
 
 pub mod fields;
 
-ghost use Rattle.std.specs.Prelude.{◌+◌, ◌≤◌, length};
-ghost use Rattle.written.specs.Rows.{RowWritten};
 ghost use Rattle.report_text.specs.Rows.{set_row, score_row, pair_row, refused_row};
 ghost use Rattle.sheet_format.specs.Names.{name_of};
-ghost use Rattle.report_rows.specs.Inner.Writing.{NamePlace, SetNamePlaces};
+ghost use Rattle.written.specs.Rows.{RowWritten};
+ghost use Rattle.writing.specs.Inner.{RoomFor, SameBuffer};
+ghost use Rattle.report_rows.specs.Inner.Writing.{NameAtHand, NamesAtHand};
 
 use fields::ItemNames;
 use sheet_fields::{LF, SPACE};
+use writing::Pen;
 
 // A set of a target's opening list or, with loss, of its lockout list, and the sum of its values.
 #[derive(Drop)]
@@ -26,18 +27,19 @@ pub struct SetRow {
 impl SetRow {
     // `order open 2 4 ordpw+token`
     #[tactic(auto, unfolding(report_text::specs::Rows::set_row))]
-    pub fn put(self, names: ItemNames, out: &mut [u8], at: usize) -> usize
-        requires name_place { NamePlace names.sheet.now names.from.now names.to.now self.target }
-        requires set_name_places { SetNamePlaces names.sheet.now names.from.now names.to.now self.set }
-        requires sum_in_bounds { at + length (set_row (name_of names.sheet.now) self.loss self.target self.set self.sum) ≤ length out.old }
-        ensures row_written { RowWritten out.old at (set_row (name_of names.entry.sheet.now) self.loss self.target self.set self.sum) out.new result }
+    pub fn put(self, names: ItemNames, pen: &mut Pen)
+        requires target { NameAtHand names self.target }
+        requires items { NamesAtHand names self.set }
+        requires room { RoomFor pen.old (set_row (name_of names.sheet.now) self.loss self.target self.set self.sum) }
+        ensures same { SameBuffer pen.old pen.new }
+        ensures row_written { RowWritten pen.old.out.now pen.old.at (set_row (name_of names.entry.sheet.now) self.loss self.target self.set self.sum) pen.new.out.now pen.new.at }
     {
         let size = self.set.count_ones() as u64;
-        let mut next = names.put_name_field(self.target, SPACE, out, at);
-        next = fields::put_way(self.loss, SPACE, out, next);
-        next = writing::put_number(size, SPACE, out, next);
-        next = writing::put_number(self.sum, SPACE, out, next);
-        names.put_set_field(self.set, LF, out, next)
+        names.put_name_field(self.target, SPACE, pen);
+        fields::put_way(self.loss, SPACE, pen);
+        pen.put_number(size, SPACE);
+        pen.put_number(self.sum, SPACE);
+        names.put_set_field(self.set, LF, pen);
     }
 }
 
@@ -54,38 +56,41 @@ pub struct ScoreRow {
 impl ScoreRow {
     // `order 1 3 yes no`
     #[tactic(auto, unfolding(report_text::specs::Rows::score_row))]
-    pub fn put(self, names: ItemNames, out: &mut [u8], at: usize) -> usize
-        requires name_place { NamePlace names.sheet.now names.from.now names.to.now self.target }
-        requires idle_in_bounds { at + length (score_row (name_of names.sheet.now) self.target self.score self.risk self.back self.idle) ≤ length out.old }
-        ensures row_written { RowWritten out.old at (score_row (name_of names.entry.sheet.now) self.target self.score self.risk self.back self.idle) out.new result }
+    pub fn put(self, names: ItemNames, pen: &mut Pen)
+        requires target { NameAtHand names self.target }
+        requires room { RoomFor pen.old (score_row (name_of names.sheet.now) self.target self.score self.risk self.back self.idle) }
+        ensures same { SameBuffer pen.old pen.new }
+        ensures row_written { RowWritten pen.old.out.now pen.old.at (score_row (name_of names.entry.sheet.now) self.target self.score self.risk self.back self.idle) pen.new.out.now pen.new.at }
     {
-        let mut next = names.put_name_field(self.target, SPACE, out, at);
-        next = fields::put_score(self.score, SPACE, out, next);
-        next = fields::put_score(self.risk, SPACE, out, next);
-        next = fields::put_answer(self.back, SPACE, out, next);
-        fields::put_answer(self.idle, LF, out, next)
+        names.put_name_field(self.target, SPACE, pen);
+        fields::put_score(self.score, SPACE, pen);
+        fields::put_score(self.risk, SPACE, pen);
+        fields::put_answer(self.back, SPACE, pen);
+        fields::put_answer(self.idle, LF, pen);
     }
 }
 
 // `order mail`
 #[tactic(auto, unfolding(report_text::specs::Rows::pair_row))]
-pub fn put_pair_row(v: usize, w: usize, names: ItemNames, out: &mut [u8], at: usize) -> usize
-    requires name_place { NamePlace names.sheet.now names.from.now names.to.now v }
-    requires name_place_2 { NamePlace names.sheet.now names.from.now names.to.now w }
-    requires w_in_bounds { at + length (pair_row (name_of names.sheet.now) v w) ≤ length out.old }
-    ensures row_written { RowWritten out.old at (pair_row (name_of names.entry.sheet.now) v w) out.new result }
+pub fn put_pair_row(v: usize, w: usize, names: ItemNames, pen: &mut Pen)
+    requires above { NameAtHand names v }
+    requires below { NameAtHand names w }
+    requires room { RoomFor pen.old (pair_row (name_of names.sheet.now) v w) }
+    ensures same { SameBuffer pen.old pen.new }
+    ensures row_written { RowWritten pen.old.out.now pen.old.at (pair_row (name_of names.entry.sheet.now) v w) pen.new.out.now pen.new.at }
 {
-    let next = names.put_name_field(v, SPACE, out, at);
-    names.put_name_field(w, LF, out, next)
+    names.put_name_field(v, SPACE, pen);
+    names.put_name_field(w, LF, pen);
 }
 
 // `refused 5 2`
 #[tactic(auto, unfolding(report_text::specs::Rows::refused_row))]
-pub fn put_refused_row(number: u64, line: u64, out: &mut [u8], at: usize) -> usize
-    requires { at + length (refused_row number line) ≤ length out.old }
-    ensures row_written { RowWritten out.old at (refused_row number line) out.new result }
+pub fn put_refused_row(number: u64, line: u64, pen: &mut Pen)
+    requires { RoomFor pen.old (refused_row number line) }
+    ensures same { SameBuffer pen.old pen.new }
+    ensures row_written { RowWritten pen.old.out.now pen.old.at (refused_row number line) pen.new.out.now pen.new.at }
 {
-    let mut next = writing::put_field(b"refused", SPACE, out, at);
-    next = writing::put_number(number, SPACE, out, next);
-    writing::put_number(line, LF, out, next)
+    pen.put_field(b"refused", SPACE);
+    pen.put_number(number, SPACE);
+    pen.put_number(line, LF);
 }

@@ -17,7 +17,7 @@ use Rattle.setup.specs.declared.Setup.{Setup}
 use Rattle.setup.specs.Setup.{ChosenSet, Chosen}
 use Rattle.formed.specs.WellFormed.{WellFormed}
 use Rattle.derivations.specs.Both.{rule_of}
-use Rattle.families.specs.Inner.Family.{size, MinimalMembers}
+use Rattle.families.specs.Inner.Family.{size, MinimalMembers, LeastBelow}
 use Rattle.family_lists.specs.Inner.Lists.{ListOf, Writable, WroteSets, Summable, SumTables, LeastBy}
 use Rattle.family_lists.proofs.Order.{Words, size-bound}
 use Rattle.family_lists.proofs.MinimalSets.{least-of-minimal}
@@ -49,40 +49,43 @@ members-most w v e h words =
     omega arith
 
 -- the words that are put at a vertex are its words then, and those of other vertices are kept
-module _ (w d : List ℕ) (v k : ℕ) (hw : length w ≡ 16384) (hv : v < 64) (hk : k ≡ 256) (hd : length d ≡ 256) where
-  fit : v * 256 + k ≤ length w
+module _ (w d : List ℕ) (v : ℕ) (hw : length w ≡ 16384) (hv : v < 64) (hd : length d ≡ 256) where
+  fit : v * 256 + 256 ≤ length w
   fit = omega arith
 
-  own-long : length d ≡ k
-  own-long = omega arith
+  table-long : length (put_mid (v * 256) 256 w d) ≡ 16384
+  table-long = put-length w d (v * 256) 256 fit hd ∙ hw
 
-  table-long : length (put_mid (v * 256) k w d) ≡ 16384
-  table-long = put-length w d (v * 256) k fit own-long ∙ hw
-
-  words-put : words_at (put_mid (v * 256) k w d) v ≡ d
+  words-put : words_at (put_mid (v * 256) 256 w d) v ≡ d
   words-put =
-      ap (take 256) (drop_at (take (v * 256) w) (d ++ drop k (drop (v * 256) w)) (v * 256) (length-take-le (v * 256) w (omega arith)))
-      ∙ take_at d (drop k (drop (v * 256) w)) 256 hd
+      ap (take 256) (drop_at (take (v * 256) w) (d ++ drop 256 (drop (v * 256) w)) (v * 256) (length-take-le (v * 256) w (omega arith)))
+      ∙ take_at d (drop 256 (drop (v * 256) w)) 256 hd
 
-  words-kept : (u : ℕ) → u < 64 → (u ≡ v → ⊥) → words_at (put_mid (v * 256) k w d) u ≡ words_at w u
+  words-kept : (u : ℕ) → u < 64 → (u ≡ v → ⊥) → words_at (put_mid (v * 256) 256 w d) u ≡ words_at w u
   words-kept u hu n =
-      let long = words_long (put_mid (v * 256) k w d) u table-long hu in
-      ext_get_or 0 (words_at (put_mid (v * 256) k w d) u) (words_at w u) (long ∙ sym (words_long w u hw hu))
+      let long = words_long (put_mid (v * 256) 256 w d) u table-long hu in
+      ext_get_or 0 (words_at (put_mid (v * 256) 256 w d) u) (words_at w u) (long ∙ sym (words_long w u hw hu))
       (λ i l. let h : i < 256 = omega arith in
-      word_at (put_mid (v * 256) k w d) u i h ∙ put_other w d (v * 256) k fit own-long (u * 256 + i) (⊎_elim (λ s. inl (omega arith)) (λ s. inr (omega (arith, n))) (less-or u v)) ∙ sym (word_at w u i h))
+      word_at (put_mid (v * 256) 256 w d) u i h ∙ put_other w d (v * 256) 256 fit hd (u * 256 + i) (⊎_elim (λ s. inl (omega arith)) (λ s. inr (omega (arith, n))) (less-or u v)) ∙ sym (word_at w u i h))
 
-  -- the minimal members are put in the family's place, and their least sum is r
-  pub kept_at : (low high : List ℕ) (r : ℕ) → MinimalMembers (take k (drop (v * 256) w)) d
-      → LeastBy (take k (drop (v * 256) (put_mid (v * 256) k w d))) low high r → KeptAt w low high v r (put_mid (v * 256) k w d)
-  kept_at low high r min least =
-      record {
-        words = table-long;
-        own = record {
-          minimal = subst (MinimalMembers (words_at w v)) (sym words-put) (subst (λ (n : ℕ). MinimalMembers (take n (drop (v * 256) w)) d) hk min);
-          least = subst (λ (n : ℕ). LeastBy (take n (drop (v * 256) (put_mid (v * 256) k w d))) low high r) hk least;
-        };
-        other = words-kept;
-      }
+-- the minimal members are put in the family's place, and their least sum is r
+pub kept_at : (w d base family low high : List ℕ) (v k r : ℕ) → length w ≡ 16384 → v < 64 → length base ≡ 256 → k ≡ 256 → d ≡ base → family ≡ words_at w v
+    → MinimalMembers family base → LeastBy base low high r → KeptAt w low high v r (put_mid (v * 256) k w d)
+kept_at w d base family low high v k r hw hv hb hk q e min least =
+    subst (λ (j : ℕ). KeptAt w low high v r (put_mid (v * 256) j w d)) (sym hk)
+    (subst (λ (x : List ℕ). KeptAt w low high v r (put_mid (v * 256) 256 w x)) (sym q)
+    (record {
+      words = table-long w base v hw hv hb;
+      own = record {
+        minimal = subst (MinimalMembers (words_at w v)) (sym (words-put w base v hw hv hb)) (subst (λ (f : List ℕ). MinimalMembers f base) e min);
+        least = subst (λ (f : List ℕ). LeastBy f low high r) (sym (words-put w base v hw hv hb)) least;
+      };
+      other = words-kept w base v hw hv hb;
+    }))
+
+-- all words of a family have all its masks
+pub all-below : (f : List ℕ) → LeastBelow 256 f
+all-below f = record { place = omega arith; below = λ m h l. h }
 
 -- ---- all vertices
 
@@ -113,22 +116,21 @@ kept_more entry low high w out next n r l p k =
 -- ---- what is read from a table of bases
 
 -- a target's words can be written as a list,
-pub writable : (w : List ℕ) (chosen target k : ℕ) (out : List ℕ) → k ≡ 256 → Words w → CanRead w chosen target out
-    → Writable chosen (take k (drop (target * 256) w)) (length out)
-writable w chosen target k out e words c =
+pub writable : (w : List ℕ) (chosen target : ℕ) (family out : List ℕ) → family ≡ words_at w target → Words w → CanRead w chosen target out
+    → Writable chosen family (length out)
+writable w chosen target family out e words c =
     let b = c.table.each target c.vertex in
-    subst (λ (n : ℕ). Writable chosen (take n (drop (target * 256) w)) (length out)) (sym e)
+    subst (λ (f : List ℕ). Writable chosen f (length out)) (sym e)
     (record {
-      words = words_long w target c.table.words c.vertex;
       few = c.few;
       exact = on-chosen c.loss c.graph target chosen b.family (words_at w target) b.is_family b.is_minimal;
       room = let m = members-most w target c.table.words c.vertex words in let l = c.room in omega arith;
     })
 
 -- and what is written is the base
-pub listing : (w : List ℕ) (chosen target k : ℕ) (entry exit : List ℕ) (r : ℕ) → k ≡ 256 → chosen < 2 ^ 64 → CanRead w chosen target entry
-    → length exit ≡ length entry → WroteSets chosen (take k (drop (target * 256) w)) entry r exit → Listing w chosen target entry r exit
-listing w chosen target k entry exit r e fits c kept h =
+pub listing : (w : List ℕ) (chosen target : ℕ) (family entry exit : List ℕ) (r : ℕ) → family ≡ words_at w target → chosen < 2 ^ 64
+    → CanRead w chosen target entry → length exit ≡ length entry → WroteSets chosen family entry r exit → Listing w chosen target entry r exit
+listing w chosen target family entry exit r e fits c kept h =
     record {
       room = kept ∙ c.room;
       count = let l = ap length h.wrote ∙ length-append h.list (drop (length h.list) entry) in omega (arith, h.count, kept, c.room);
@@ -138,7 +140,7 @@ listing w chosen target k entry exit r e fits c kept h =
           let b = t.each target c.vertex in
           subst (Base loss s g target) (sym front)
           (base-of loss s g target chosen ch b.family fits c.few b.is_family (words_at w target) b.is_minimal h.list
-          (subst (λ (n : ℕ). ListOf chosen (take n (drop (target * 256) w)) h.list) e h.is));
+          (subst (λ (f : List ℕ). ListOf chosen f h.list) e h.is));
     }
   where
     front : take r exit ≡ h.list

@@ -3,20 +3,30 @@
 
 #![tactic(auto)]
 
-ghost use Rattle.std.specs.Prelude.{true, false, ◌≡◌, ℕ, ◌<◌, length, get_or};
+ghost use Rattle.std.specs.Prelude.{true, false, ◌≡◌, ℕ, ◌+◌, ◌*◌, ◌≤◌, ◌<◌, length, get_or, take, drop};
 ghost use Rattle.vertex_set.specs.Order.{sum_over};
+ghost use Rattle.formed.specs.WellFormed.{WellFormed};
 ghost use Rattle.scores.specs.Inner.Lists.{security_at, recoverability_at};
-ghost use Rattle.tables.specs.Inner.Table.{table_words};
-ghost use Rattle.report_scores.specs.Inner.Scores.{CanScore, Scored, Numbers, CanRead, Listing, Summands, KeptAt, KeptAll};
+ghost use Rattle.families.specs.Inner.Family.{family_words};
+ghost use Rattle.report_scores.specs.Inner.Scores.{Scored, Numbers, CanRead, Listing, Summands, KeptAt, KeptAll};
 
 use families::WORDS;
 use scores::{RecoverabilityScore, SecurityScore};
 use setup::{Graph, Setup};
 use sums::MaskSums;
-use vertex_set::{VERTICES, VertexSet};
+use tables::TABLE;
+use vertex_set::VertexSet;
 
 // Room for any list: a family has no more members than there are masks.
 pub const LIST_ROOM: usize = families::MASKS;
+
+// The words of the vertex v in a table.
+fn words_of(w: &[u64], v: usize) -> &[u64; WORDS]
+    requires { v * family_words + family_words ≤ length w.now }
+    ensures { result.now ≡ take family_words (drop (v * family_words) w.now) }
+{
+    w[v * WORDS..].first_chunk().unwrap()
+}
 
 // The target's base, read from the table: its sets stand at the front of out, and their number is
 // the answer.
@@ -24,8 +34,7 @@ pub fn list_from(w: &[u64], chosen: VertexSet, target: usize, out: &mut [u64]) -
     requires { CanRead w.now chosen.0 target out.old }
     ensures { Listing w.now chosen.0 target out.old result out.new }
 {
-    let from = target * WORDS;
-    family_lists::write_sets(&w[from..from + WORDS], chosen, out)
+    family_lists::write_sets(words_of(w, target), chosen, out)
 }
 
 // The sum of the values of the vertices of x.
@@ -40,33 +49,36 @@ pub fn set_sum(x: u64, values: &[u64]) -> u64
     sum
 }
 
-// Keeps the minimal members of the target's family in the table, and gives the least sum over them.
-fn keep_base(w: &mut [u64], target: usize, sums: &MaskSums) -> u64
-    requires w_len { length w.old ≡ table_words }
-    requires target_bound { target < 64 }
+// Keeps the minimal members of the target's family in the table, and gives the least sum over them. They are
+// gathered in a family of their own: a part of a table is a slice, and `families` takes whole families. The
+// target's bound stays a clause: it is an index at once.
+fn keep_base(w: &mut [u64; TABLE], target: usize, sums: &MaskSums) -> u64
+    requires { target < 64 }
     ensures { KeptAt w.old sums.now.low sums.now.high target result w.new }
 {
+    let mut base = [0u64; WORDS];
+    families::minimal_members(words_of(w, target), WORDS, &mut base);
     let from = target * WORDS;
-    families::keep_minimal(&mut w[from..from + WORDS]);
-    least_sums::least_by(&w[from..from + WORDS], sums)
+    w[from..from + WORDS].copy_from_slice(&base);
+    least_sums::least_by(&base, sums)
 }
 
 // Keeps the minimal members of every vertex's family in the table, and writes the least sums, which
 // are the scores, to `out`.
-fn keep_bases(w: &mut [u64], sums: &MaskSums, out: &mut [u64; 64])
-    requires { length w.old ≡ table_words }
+fn keep_bases(w: &mut [u64; TABLE], sums: &MaskSums, out: &mut [u64; 64])
     ensures { KeptAll w.old sums.now.low sums.now.high w.new out.new }
 {
-    for v in 0..VERTICES {
-        out[v] = keep_base(w, v, sums);
+    for (v, score) in out.iter_mut().enumerate() {
+        *score = keep_base(w, v, sums);
     }
 }
 
 // Fills the table of the graph and the initial vertices or, with loss, the losable ones, and makes
 // it the table of their bases; out gets the scores of all vertices. The graph is the setup's, or
-// that without recovery.
-fn scores_in(s: Setup, graph: Graph, loss: bool, w: &mut [u64], out: &mut [u64; 64])
-    requires { CanScore s w.old }
+// that without recovery. Here and below setup, graph and table are no struct, and `WellFormed` stays a clause: a
+// setup comes with either of two graphs, and with a table that is lent.
+fn scores_in(s: Setup, graph: Graph, loss: bool, w: &mut [u64; TABLE], out: &mut [u64; 64])
+    requires { WellFormed s }
     ensures { Scored loss s graph w.new (λ (v : ℕ). get_or out.new v 0) }
 {
     let chosen = setup::chosen(s, loss);
@@ -77,8 +89,8 @@ fn scores_in(s: Setup, graph: Graph, loss: bool, w: &mut [u64], out: &mut [u64; 
 }
 
 // The security scores of all vertices in the graph; w becomes the table of their opening sets.
-pub fn security_in(s: Setup, graph: Graph, w: &mut [u64]) -> [SecurityScore; 64]
-    requires { CanScore s w.old }
+pub fn security_in(s: Setup, graph: Graph, w: &mut [u64; TABLE]) -> [SecurityScore; 64]
+    requires { WellFormed s }
     ensures { Scored false s graph w.new (λ (v : ℕ). security_at result v) }
 {
     let mut numbers = [0u64; 64];
@@ -88,8 +100,8 @@ pub fn security_in(s: Setup, graph: Graph, w: &mut [u64]) -> [SecurityScore; 64]
 
 // The recoverability scores of all vertices in the graph; w becomes the table of their lockout
 // sets.
-pub fn recoverability_in(s: Setup, graph: Graph, w: &mut [u64]) -> [RecoverabilityScore; 64]
-    requires { CanScore s w.old }
+pub fn recoverability_in(s: Setup, graph: Graph, w: &mut [u64; TABLE]) -> [RecoverabilityScore; 64]
+    requires { WellFormed s }
     ensures { Scored true s graph w.new (λ (v : ℕ). recoverability_at result v) }
 {
     let mut numbers = [0u64; 64];

@@ -3,7 +3,7 @@
 use mathlib.Core.Path.{◌≡◌, refl, ap}
 use mathlib.Core.List.{List, [], ◌∷◌, ◌++◌}
 use mathlib.Core.Logic.{inl, inr}
-use Prim.Native.Nat.{ℕ, ◌+◌, ◌-◌, ◌*◌, ◌^◌, ◌≤◌, ◌<◌}
+use Prim.Native.Nat.{ℕ, ◌-◌, ◌*◌, ◌^◌, ◌≤◌, ◌<◌}
 use native.Mathlib.Omega.{arith}
 use lib.Count.{ones-le, count_trailing_zeros}
 use lib.ListN.{length, length-append}
@@ -11,9 +11,9 @@ use Rattle.vertex_set.specs.Set.{Member, Within}
 use Rattle.vertex_set.specs.Order.{Listed}
 use Rattle.vertex_set.proofs.Sets.{within-refl, within-trans}
 use Rattle.vertex_set.proofs.Places.{places, places-none, lowest, removed-within, length-places, listed-places}
-use Rattle.written.specs.Rows.{RowWritten}
-use Rattle.written.proofs.Writing.{Writing, writing-none, writing-part, writing-room, writing-end}
-use Rattle.written.proofs.Rows.{row_written, row_wrote}
+use Rattle.writing.specs.declared.Pen.{Pen}
+use Rattle.writing.specs.Inner.{RoomFor}
+use Rattle.writing.proofs.Pens.{RowPenned, PenWriting, pen_none, pen_part, pen_room, pen_end, row_of_penned, penned_of_row}
 use Rattle.report_text.specs.Rows.{texts_of, pair_row}
 use Rattle.report_text.proofs.Items.{items-places}
 use Rattle.report_text.proofs.Lengths.{pair-row-short}
@@ -51,40 +51,37 @@ rows-lowest : (name : ℕ → List ℕ) (v s : ℕ) → s < 2 ^ 64 → (s ≡ 0 
 unfolding texts_of
 rows-lowest name v s h n = rw (lowest s h n).list
 
--- The pairs with the vertices in rest are still to be written.
-pub record PairsWriting (name : ℕ → List ℕ) (v x : ℕ) (entry : List ℕ) (at : ℕ) (out : List ℕ) (rest next : ℕ) : Type 0 where
+-- The pen p is to write the pairs of v with the vertices of x, and came to q: those with the vertices in rest are still to be written.
+pub record PairsWriting (name : ℕ → List ℕ) (v x : ℕ) (p : Pen) (rest : ℕ) (q : Pen) : Type 0 where
   pub small : rest < 2 ^ 64
   pub within : Within rest x
-  pub writing : Writing entry at (pairs_with name v x) (rows_of name v rest) out next
+  pub writing : PenWriting p (pairs_with name v x) (rows_of name v rest) q
 
-pub pairs-none : (name : ℕ → List ℕ) (v x : ℕ) (entry : List ℕ) (at : ℕ) → x < 2 ^ 64 → PairsWriting name v x entry at entry x at
-pairs-none name v x entry at h =
-    record { small = h; within = within-refl x; writing = rw (← pairs-rows name v x) (writing-none entry at (pairs_with name v x)) }
+pub pairs-none : (name : ℕ → List ℕ) (v x : ℕ) (p : Pen) → x < 2 ^ 64 → PairsWriting name v x p x p
+pairs-none name v x p h = record { small = h; within = within-refl x; writing = rw (← pairs-rows name v x) (pen_none p (pairs_with name v x)) }
 
-module _ (name : ℕ → List ℕ) (v x : ℕ) (entry : List ℕ) (at : ℕ) (out : List ℕ) (rest next : ℕ) (w : PairsWriting name v x entry at out rest next) where
+module _ (name : ℕ → List ℕ) (v x : ℕ) (p : Pen) (rest : ℕ) (q : Pen) (w : PairsWriting name v x p rest q) where
   -- what stays to be written, with the lowest vertex apart
   first-apart : (less : ℕ) → less ≡ rest - 2 ^ count_trailing_zeros 64 rest → (rest ≡ 0 → ⊥)
-      → Writing entry at (pairs_with name v x) (pair_row name v (count_trailing_zeros 64 rest) ++ rows_of name v less) out next
+      → PenWriting p (pairs_with name v x) (pair_row name v (count_trailing_zeros 64 rest) ++ rows_of name v less) q
   first-apart less e n = rw (e, ← (rows-lowest name v rest w.small n)) w.writing
 
-  pub pairs-room : (rest ≡ 0 → ⊥) → at + length (pairs_with name v x) ≤ length entry → next + length (pair_row name v (count_trailing_zeros 64 rest)) ≤ length out
+  pub pairs-room : (rest ≡ 0 → ⊥) → RoomFor p (pairs_with name v x) → RoomFor q (pair_row name v (count_trailing_zeros 64 rest))
   pairs-room n room =
       let less : ℕ = rest - 2 ^ count_trailing_zeros 64 rest in
-      writing-room entry at (pairs_with name v x) (pair_row name v (count_trailing_zeros 64 rest)) (rows_of name v less) out next (first-apart less refl n) room
+      pen_room p (pairs_with name v x) (pair_row name v (count_trailing_zeros 64 rest)) (rows_of name v less) q (first-apart less refl n) room
 
-  pub pairs-more : (less : ℕ) → less ≡ rest - 2 ^ count_trailing_zeros 64 rest → (rest ≡ 0 → ⊥) → (after : List ℕ) (r : ℕ)
-      → RowWritten out next (pair_row name v (count_trailing_zeros 64 rest)) after r → PairsWriting name v x entry at after less r
-  pairs-more less e n after r p =
+  pub pairs-more : (less : ℕ) → less ≡ rest - 2 ^ count_trailing_zeros 64 rest → (rest ≡ 0 → ⊥) → (r : Pen)
+      → RowPenned q (pair_row name v (count_trailing_zeros 64 rest)) r → PairsWriting name v x p less r
+  pairs-more less e n r u =
+      let row = pair_row name v (count_trailing_zeros 64 rest) in
       record {
         small = let h = w.small in omega arith;
         within = rw e (within-trans (removed-within rest (count_trailing_zeros 64 rest) (lowest rest w.small n).member) w.within);
-        writing = writing-part entry at (pairs_with name v x) (pair_row name v (count_trailing_zeros 64 rest)) (rows_of name v less) out next after r (first-apart less e n)
-            (row_wrote out next (pair_row name v (count_trailing_zeros 64 rest)) after r p);
+        writing = pen_part p (pairs_with name v x) row (rows_of name v less) q r (first-apart less e n) (penned_of_row q row r u);
       }
 
-  pub pairs_end : rest ≡ 0 → at + length (pairs_with name v x) ≤ length entry → RowWritten entry at (pairs_with name v x) out next
+  pub pairs_end : rest ≡ 0 → RoomFor p (pairs_with name v x) → RowPenned p (pairs_with name v x) q
   unfolding texts_of
   pairs_end z room =
-      row_written entry at (pairs_with name v x) out next
-      (writing-end entry at (pairs_with name v x) (rows_of name v rest) out next (ap (texts_of (pair_row name v)) (places-none 64 rest z)) w.writing)
-      room
+      row_of_penned p (pairs_with name v x) q (pen_end p (pairs_with name v x) (rows_of name v rest) q (ap (texts_of (pair_row name v)) (places-none 64 rest z)) w.writing) room

@@ -1,23 +1,20 @@
 // The report's first section, list by list.
 ghost use Rattle.std.specs.Prelude.{◌≤◌, length};
+ghost use Rattle.writing.specs.Inner.{SameBuffer};
 ghost use Rattle.sheet_format.specs.Names.{name_of};
 ghost use Rattle.report_sections.specs.Inner.Lists.{RowsReady, RowsPut, CanLoad, Loaded};
 
 use report_facts::Source;
 use report_rows::SetRow;
 use report_rows::fields::ItemNames;
+use writing::Pen;
 
 // No row of a list has more bytes.
 const LONGEST: usize = 275;
 
-// The next row to write, and the place of its first byte.
-#[derive(Drop)]
-pub struct RowsStep {
-    pub row: usize,
-    pub at: usize,
-}
-
-// Writes the rows of a list from row i on, as long as there is room for the longest row.
+// Writes the rows of a list from row i on, as long as there is room for the longest row, and gives the
+// number of the next row. The list and the numbers i and n are no struct: the caller keeps the numbers in its
+// cursor, and the list is lent from without.
 pub fn put_rows(
     loss: bool,
     target: usize,
@@ -26,18 +23,17 @@ pub fn put_rows(
     n: usize,
     values: &[u64],
     names: ItemNames,
-    out: &mut [u8],
-    at: usize,
-) -> RowsStep
+    pen: &mut Pen,
+) -> usize
     requires rows_ready { RowsReady names.sheet.now names.from.now names.to.now values.now list.now target i n }
-    requires at_in_bounds { at ≤ length out.old }
-    ensures { RowsPut (name_of names.entry.sheet.now) loss target values.now list.now i n out.old at out.new result.row result.at }
+    requires inside { pen.old.at ≤ length pen.old.out.now }
+    ensures same { SameBuffer pen.old pen.new }
+    ensures rows { RowsPut (name_of names.entry.sheet.now) loss target values.now list.now i n pen.old.out.now pen.old.at pen.new.out.now result pen.new.at }
 {
-    let mut next = at;
     // By index, since the number of the row that has no room is handed back.
     for row in i..n {
-        if out.len() - next < LONGEST {
-            return RowsStep { row, at: next };
+        if pen.left() < LONGEST {
+            return row;
         }
         let set = list[row];
         let line = SetRow {
@@ -46,9 +42,9 @@ pub fn put_rows(
             set,
             sum: report_scores::set_sum(set, values),
         };
-        next = line.put(names, out, next);
+        line.put(names, pen);
     }
-    RowsStep { row: n, at: next }
+    n
 }
 
 // Writes the list with number k to the front of `list`, and gives its length. A vertex that is no

@@ -29,7 +29,6 @@ use Rattle.report_text.proofs.Meaning.{report-meaning}
 use Rattle.report_facts.specs.declared.Facts.{Facts}
 use Rattle.report_facts.specs.Inner.Facts.{FactsOf}
 use Rattle.report_facts.specs.Texts.{slot_loss, slot_list, slot_row}
-use Rattle.report_sections.specs.declared.lists.RowsStep.{RowsStep}
 use Rattle.report_sections.specs.Inner.Lists.{SetReady, RowsReady, row_of_set, RowsPut, set_rows_from}
 use Rattle.report_writer.specs.Inner.Steps.{ValuesBy, CanPutList, ListPut}
 use Rattle.report_writer.proofs.Rest.{rows_next}
@@ -121,9 +120,9 @@ unfolding set_rows_from slot_row
 rows_same name s k values list n i v e = rw e (texts-same _ _ (row_same name s (slot_loss k) (k / 2) values v) (drop i (slot_list s k)))
 
 module _ (sheet : List ℕ) (f : Facts) (list : List ℕ) (k i n : ℕ) (values : List ℕ) (v : ValuesBy (slot_loss k) f values)
-    (entry : List ℕ) (at : ℕ) (exit : List ℕ) (r : RowsStep) where
-  pub list-went : at + 4096 ≤ length entry → RowsPut (name_of sheet) (slot_loss k) (k / 2) values list i n entry at exit r.row r.at
-      → ListPut sheet f list k i n entry at exit r
+    (entry : List ℕ) (at : ℕ) (exit : List ℕ) (row r : ℕ) where
+  pub list-went : at + 4096 ≤ length entry → RowsPut (name_of sheet) (slot_loss k) (k / 2) values list i n entry at exit row r
+      → ListPut sheet f list k i n entry at exit row r
   list-went room w =
       record {
         each = λ s h.
@@ -131,9 +130,9 @@ module _ (sheet : List ℕ) (f : Facts) (list : List ℕ) (k i n : ℕ) (values 
             let p = w.part in
             record {
               part = p.part;
-              split = rows_next (name_of sheet) s k i r.row p.part
+              split = rows_next (name_of sheet) s k i row p.part
                   (sym (rows_same (name_of sheet) s k values list n i vs h.here) ∙ p.split ∙
-                  ap (λ t. p.part ++ t) (rows_same (name_of sheet) s k values list n r.row vs h.here));
+                  ap (λ t. p.part ++ t) (rows_same (name_of sheet) s k values list n row vs h.here));
               wrote = p.wrote;
               inside = p.inside;
             };

@@ -26,7 +26,6 @@ use Rattle.report_facts.specs.Inner.Facts.{FactsOf, TablesOf}
 use Rattle.report_facts.specs.Texts.{slot_list, score_at, pairs_at}
 use Rattle.report_facts.proofs.Parts.{part_none, part-one}
 use Rattle.report_sections.specs.Inner.Parts.{PartReady, WrotePart}
-use Rattle.report_sections.specs.declared.lists.RowsStep.{RowsStep}
 use Rattle.report_sections.specs.Inner.Lists.{CanLoad, Loaded}
 use Rattle.report_writer.specs.declared.steps.Cursor.{Cursor}
 use Rattle.report_writer.specs.declared.steps.Cursor.TheVariants as cursor
@@ -95,9 +94,9 @@ list_done : (name : ℕ → List ℕ) (s : Setup) (list : List ℕ) (k i n : ℕ
 list_done name s list k i n a b m room e = rows_end name s k i (ap length (sym e) ∙ length-take n list ∙ omega arith)
 
 module _ (sheet : List ℕ) (f : Facts) (opening lockout list : List ℕ) (k i n : ℕ) (entry : List ℕ) (at : ℕ) where
-  pub rows_step : (exit : List ℕ) (r : RowsStep) → i < n → ListPut sheet f list k i n entry at exit r
-      → StepTaken sheet f opening lockout list (cursor.Lists k i n) entry at list exit (record { cursor = cursor.Lists k r.row n; at = r.at })
-  rows_step exit r l w =
+  pub rows_step : (exit : List ℕ) (row r : ℕ) → i < n → ListPut sheet f list k i n entry at exit row r
+      → StepTaken sheet f opening lockout list (cursor.Lists k i n) entry at list exit (record { cursor = cursor.Lists k row n; at = r })
+  rows_step exit row r l w =
       record {
         part = λ s a. w.each s a.0;
         here = λ s a.

@@ -5,10 +5,7 @@ use mathlib.Core.List.{List, [], ◌∷◌, map}
 use mathlib.Core.Logic.{◌⊎◌, inl, inr, ⊎_elim}
 use Prim.Native.Nat.{ℕ, ◌≤◌, ◌<◌}
 use native.Mathlib.Omega.{arith}
-use lib.ListN.{length, take, drop, length-append, length-map}
-use lib.Seq.{length-take-le, take-append_seam}
-use Rattle.written.specs.Inner.{Wrote}
-use Rattle.written.proofs.Writing.{wrote-front}
+use lib.ListN.{length, length-append, length-map}
 use Rattle.setup.specs.declared.Setup.{Setup}
 use Rattle.setup.specs.Calls.{written}
 use Rattle.formed.specs.WellFormed.{WellFormed}
@@ -27,46 +24,32 @@ use Rattle.sheet.proofs.Names.{item-there}
 use Rattle.report_facts.specs.declared.names.Names.{Names}
 use Rattle.report_facts.specs.Inner.Places.{NamesPlaced}
 use Rattle.sheet_format.specs.Meaning.{longest_sheet}
-use Rattle.save_format.specs.Call.{Saved}
+use Rattle.std.specs.Prelude.{Option}
+use Rattle.std.specs.Option.{ok_or}
+use Rattle.questions.specs.declared.Refusal.TheVariants.{Short}
+use Rattle.save_format.specs.Call.{Saved, saved}
 use Rattle.save_format.specs.Call.{save_call}
 use Rattle.save_format.specs.Inner.{saved_text}
 use Rattle.sheet_format.proofs.SetupRows.{doc_of}
 use Rattle.save_format.proofs.Texts.{text-is}
 use Rattle.save_format.proofs.Meaning.{rows_of, saved-doc, saved-reads}
+use Rattle.report_rows.specs.declared.fields.ItemNames.{ItemNames}
+use Rattle.report_rows.specs.Inner.Writing.{NameAtHand}
 use Rattle.save_text.specs.Inner.{SetupNamed}
-use Rattle.saving.specs.Inner.{CanSave, HandsOut}
-
--- ---- the first bytes of a text
-
-module _ (text : List ℕ) (size : ℕ) (entry : List ℕ) (few : size ≤ length text) where
-  long : length (take size text) ≡ size
-  long = length-take-le size text few
-
-  pub written-short : (r : Saved) (exit : List ℕ) → length entry < size → r ≡ record { number = 15; length = 0 } → exit ≡ entry → HandsOut (take size text) r entry exit
-  written-short r exit h e u = inl (let n = long in omega arith, e, u)
-
-  pub written-room : (exit : List ℕ) (n : ℕ) → size ≤ length entry → Wrote entry 0 (take size text) exit n → HandsOut (take size text) (record { number = 0; length = size }) entry exit
-  written-room exit n h w =
-      let k = long in
-      let l : length (take size text) ≤ length entry = omega arith in
-      inr (l, ap (λ (i : ℕ). record { number = 0; length = i }) (sym k), wrote-front entry (take size text) exit n l w)
-
--- ---- a text that was written to a buffer of its own
-
-pub text-there : (zeros text out : List ℕ) (n : ℕ) → length text ≤ length zeros → Wrote zeros 0 text out n → take n out ≡ text
-text-there zeros text out n h w =
-    let e : n ≡ length text = let k = w.next in omega arith in
-    ap (λ (i : ℕ). take i out) e ∙ ap (take (length text)) (wrote-front zeros text out n h w) ∙ take-append_seam text (drop (length text) zeros)
+use Rattle.writing.specs.Inner.HandOut.{HandsOut}
+use Rattle.saving.specs.Inner.{CanSave}
 
 -- ---- names
 
--- the places of all names of a setup
-pub setup-named : (sheet : List ℕ) (s : Setup) (r : Names) → CanSave sheet s → NamesPlaced sheet s.count r → SetupNamed sheet r.from r.to s
-setup-named sheet s r c n =
+-- all names of a setup are there
+pub setup-named : (sheet : List ℕ) (s : Setup) (r : Names) (names : ItemNames) → CanSave sheet s → NamesPlaced sheet s.count r
+    → names.sheet.now ≡ sheet → names.from.now ≡ r.from → names.to.now ≡ r.to → SetupNamed names s
+setup-named sheet s r names c n a b d =
+    let each : (v : ℕ) → v < s.count → NameAtHand names v = λ v h. rw (a, b, d) (n.each v h) in
     record {
-      items = record { few = c.items.few; each = n.each };
+      items = record { few = c.items.few; each = each };
       edges = record {
-        each = λ v. record { each = λ k. record { each = λ f m. let e = c.ends f v k m in (n.each f e.0, n.each v e.1) } };
+        each = λ v. record { each = λ k. record { each = λ f m. let e = c.ends f v k m in (each f e.0, each v e.1) } };
       };
     }
 
@@ -162,10 +145,10 @@ module _ (sheet : List ℕ) (s : Setup) (r : Saved) (entry exit : List ℕ) wher
               ),
             )
 
-        pub call-saves : HandsOut (saved_text (name_of sheet) s) r entry exit → Tells
-        call-saves t =
+        pub call-saves : (o : Option ℕ) → r ≡ saved (ok_or o Short) → HandsOut (saved_text (name_of sheet) s) o entry exit → Tells
+        call-saves o e t =
             ⊎_elim
-            (λ l. let k = l.0 in turned 15 (rows_told (turns_away (entry ∷ []) 15) (inl (λ m. let n = m.0 in omega arith, refl))) l.1 l.2)
+            (λ l. let k = l.0 in turned 15 (rows_told (turns_away (entry ∷ []) 15) (inl (λ m. let n = m.0 in omega arith, refl))) (e ∙ ap (λ (x : Option ℕ). saved (ok_or x Short)) l.1) l.2)
             (λ l. answered (saved_text (name_of sheet) s)
-            (rows_told (ends (gives (length (saved_text (name_of sheet) s) ∷ [])) (written (saved_text (name_of sheet) s) entry ∷ [])) (inr ((l.0, tt), refl))) l.1 l.2)
+            (rows_told (ends (gives (length (saved_text (name_of sheet) s) ∷ [])) (written (saved_text (name_of sheet) s) entry ∷ [])) (inr ((l.0, tt), refl))) (e ∙ ap (λ (x : Option ℕ). saved (ok_or x Short)) l.1) l.2)
             t

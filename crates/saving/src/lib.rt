@@ -2,13 +2,14 @@
 
 #![tactic(auto)]
 
-ghost use Rattle.std.specs.Prelude.{[], ◌∷◌, ◌≤◌, length, take};
+ghost use Rattle.std.specs.Prelude.{[], ◌∷◌};
 ghost use Rattle.questions.specs.Told.{Told};
 ghost use Rattle.sheet_format.specs.Names.{name_of};
 ghost use Rattle.save_format.specs.Call.{save_call};
 ghost use Rattle.save_format.specs.Inner.{saved_text};
 ghost use Rattle.save_format.specs.Call.{saved};
-ghost use Rattle.saving.specs.Inner.{CanSave, HandsOut};
+ghost use Rattle.writing.specs.Inner.HandOut.{HandsOut};
+ghost use Rattle.saving.specs.Inner.{CanSave};
 
 use questions::Refusal;
 use report_facts::names;
@@ -18,25 +19,13 @@ use setup::Setup;
 // No sheet is longer.
 pub const SAVE_BYTES: usize = 11626;
 
-// The first `size` bytes of the text, to the start of the buffer where they have room.
-fn hand_out(text: &[u8], size: usize, out: &mut [u8]) -> Result<usize, Refusal>
-    requires { size ≤ length text.now }
-    ensures { HandsOut (take size text.now) (saved result) out.old out.new }
-{
-    if out.len() < size {
-        return Err(Refusal::Short);
-    }
-    written::put(&text[..size], out, 0);
-    Ok(size)
-}
-
 // Saves a setup all of whose items have names. How long the text is, is known when it stands; so it
 // is written elsewhere first, and the lent buffer is not touched where it is too short.
-// It is not inlined: reading a sheet and writing one do not need their places on the stack at once.
+// Its parameters are those of `write_sheet`, which is offered. It is not inlined: reading a sheet and writing one do not need their places on the stack at once.
 #[inline(never)]
-fn save_named(sheet: &[u8], s: Setup, out: &mut [u8]) -> Result<usize, Refusal>
+fn save_named(sheet: &[u8], s: Setup, out: &mut [u8]) -> Option<usize>
     requires { CanSave sheet.now s }
-    ensures { HandsOut (saved_text (name_of sheet.now) s) (saved result) out.old out.new }
+    ensures { HandsOut (saved_text (name_of sheet.now) s) result out.old out.new }
 {
     let places = names::name_places(sheet, s.count);
     let names = ItemNames {
@@ -46,7 +35,7 @@ fn save_named(sheet: &[u8], s: Setup, out: &mut [u8]) -> Result<usize, Refusal>
     };
     let mut text = [0u8; SAVE_BYTES];
     let size = save_text::put_sheet(names, &s, &mut text);
-    hand_out(&text, size, out)
+    writing::hand_out(&text[..size], out)
 }
 
 // Writes the sheet of the setup to the start of the lent buffer, and tells how many bytes it has. Held
@@ -66,5 +55,5 @@ pub fn write_sheet(sheet: &[u8], s: Setup, out: &mut [u8]) -> Result<usize, Refu
     if names < count {
         return Err(Refusal::NoItem);
     }
-    save_named(sheet, s, out)
+    save_named(sheet, s, out).ok_or(Refusal::Short)
 }

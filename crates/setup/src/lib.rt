@@ -87,14 +87,14 @@ pub fn value_of(loss: bool, x: Vertex) -> Option<u64>
     if loss { x.loss } else { x.start }
 }
 
-// The number of a value, and 0 for a blank.
+// The number of a value, and 0 for a blank: the definitions' word for it, which docs/INDEX.md names.
 pub fn points_of(x: Option<u64>) -> u64
     ensures { result ≡ points x }
 {
     x.unwrap_or(0)
 }
 
-// 1 for a value, 0 for a blank.
+// 1 for a value, 0 for a blank: the definitions' word for it, which docs/INDEX.md names.
 pub fn count_given(x: Option<u64>) -> usize
     ensures { (result ≡ given x) × (result ≤ 1) }
 {

@@ -27,7 +27,7 @@ use Rattle.setup.proofs.Graphs.{empty-shaped}
 use Rattle.sheet_format.proofs.Question12Edges.{empty-edges, StatedEdge, Placed, edges_more}
 use Rattle.sheet_format.proofs.Question12Yielded.{recovery-yes, recovery-no}
 use Rattle.sheet_fields.specs.Inner.Parts.{until}
-use Rattle.sheet_rows.specs.declared.TakenEdge.{TakenEdge}
+use Rattle.sheet_rows.specs.declared.taken.TakenEdge.{TakenEdge}
 use Rattle.sheet_rows.specs.Inner.NameKeys.{NameKeys}
 use Rattle.sheet_rows.specs.Inner.Lines.{EdgeTaken, TakesEdge}
 use Rattle.sheet_rows.proofs.Asks.{answer-yes, answer-no, all_yes, one-yes, no-first, yes-first}

@@ -11,6 +11,7 @@ use setup::{Graph, Rows};
 use sheet_fields::LF;
 use sheet_format::SheetRefusal;
 use sheet_rows::ItemKeys;
+use sheet_rows::taken::TakenEdge;
 
 #[derive(Clone, Copy)]
 pub struct Edges {
@@ -18,33 +19,26 @@ pub struct Edges {
     pub recovery: Graph,
 }
 
-// Is there an edge of this colour from `from` into the vertex with these rows?
-fn has_need(row: Rows, colour: usize, from: usize) -> bool
-    requires { (colour < 8) × (from < 64) }
-    ensures { result ≡ eqb (row_of row colour / 2 ^ from % 2) 1 }
+// Does a vertex with these rows need the edge's source in its colour?
+fn has_need(row: Rows, edge: TakenEdge) -> bool
+    ensures { result ≡ eqb (row_of row edge.colour / 2 ^ edge.from % 2) 1 }
 {
-    (row.needs[colour] >> from) % 2 == 1
+    (row.needs[edge.colour] >> edge.from) % 2 == 1
 }
 
-fn with_need(row: Rows, colour: usize, from: usize) -> Rows
-    requires { (colour < 8) × (from < 64) }
-    ensures { result ≡ with_need row colour from }
+fn with_need(row: Rows, edge: TakenEdge) -> Rows
+    ensures { result ≡ with_need row edge.colour edge.from }
 {
     let mut next = row;
-    next.needs[colour] |= 1 << from;
+    next.needs[edge.colour] |= 1 << edge.from;
     next
 }
 
 // The row of recovery edges: only an edge marked 1 is taken in.
-fn with_mark(row: Rows, colour: usize, from: usize, rec: bool) -> Rows
-    requires { (colour < 8) × (from < 64) }
-    ensures { result ≡ cond rec (with_need row colour from) row }
+fn with_mark(row: Rows, edge: TakenEdge) -> Rows
+    ensures { result ≡ cond edge.rec (with_need row edge.colour edge.from) row }
 {
-    if rec {
-        with_need(row, colour, from)
-    } else {
-        row
-    }
+    if edge.rec { with_need(row, edge) } else { row }
 }
 
 // Reads the edge rows below the item rows with these keys, from `start`, where the line `first`
@@ -75,7 +69,7 @@ pub fn read_edges(
             line,
         })?;
         let row = edges.graph.rows[edge.to];
-        if has_need(row, edge.colour, edge.from) {
+        if has_need(row, edge) {
             let refusal = Refusal::EdgeTwice;
             return Err(SheetRefusal { refusal, line });
         }
@@ -83,9 +77,9 @@ pub fn read_edges(
             let refusal = Refusal::Bound;
             return Err(SheetRefusal { refusal, line });
         }
-        edges.graph.rows[edge.to] = with_need(row, edge.colour, edge.from);
+        edges.graph.rows[edge.to] = with_need(row, edge);
         let marked = edges.recovery.rows[edge.to];
-        edges.recovery.rows[edge.to] = with_mark(marked, edge.colour, edge.from, edge.rec);
+        edges.recovery.rows[edge.to] = with_mark(marked, edge);
         count += 1;
         at = end + 1;
     }

@@ -36,6 +36,7 @@ pub fn keys_of(s: &[u8], count: usize) -> Keys
     let mut keys = NO_KEYS;
     let mut from = [0usize; 65];
     let mut at = sheet_fields::find(s, 0, LF) + 1;
+    // By place: where each row begins is handed out too.
     for v in 0..count {
         let end = sheet_fields::find(s, at, LF);
         let key = row_key(&s[at..end]);

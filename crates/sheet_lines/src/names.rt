@@ -29,7 +29,7 @@ fn line_start(s: &[u8], k: usize) -> usize
     at
 }
 
-// The first field of the item's row.
+// The first field of the item's row. The item's bound stays a clause: it is the number of a line at once.
 pub fn name_span(s: &[u8], item: usize) -> Span
     requires { item < 64 }
     ensures { result ≡ span_of s.now item }

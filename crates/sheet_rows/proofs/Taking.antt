@@ -3,7 +3,7 @@
 use mathlib.Core.Path.{◌≡◌, sym, ap, ◌∙◌}
 use mathlib.Core.List.{List, [], ◌∷◌}
 use mathlib.Core.Bool.{true, false, not, ◌&&◌}
-use Prim.Native.Nat.{ℕ, suc, ◌+◌, ◌<◌}
+use Prim.Native.Nat.{ℕ, suc, ◌+◌, ◌≤◌, ◌<◌}
 use native.Mathlib.Omega.{arith}
 use lib.ListN.{take}
 use lib.Dec.{leb, ltb}
@@ -21,6 +21,7 @@ use Rattle.sheet_format.specs.Read.{ask, first_no, item_questions}
 use Rattle.vertex_set.proofs.Decisions.{and_parts}
 use Rattle.sheet_rows.specs.declared.ItemLine.{ItemLine}
 use Rattle.sheet_rows.specs.declared.EdgeLine.{EdgeLine}
+use Rattle.sheet_rows.specs.declared.taken.TakenEdge.{TakenEdge}
 use Rattle.sheet_rows.specs.Inner.NameKeys.{NameKeys, place_of, place_in}
 use Rattle.sheet_rows.specs.Inner.Lines.{read_line, item_line, edge_line, TakesItem, TakesEdge}
 use Rattle.sheet_rows.proofs.Asks.{answer-yes, answer-no, no-first}
@@ -202,20 +203,27 @@ module _ (l low high : List ℕ) (count : ℕ) where
             taken = tt;
           }
 
-      pub edge-taken : (j : ℕ) → Some j ≡ place_in low high count edge.to → TakesEdge l low high count (Ok (record { from = i; to = j; colour = edge.colour; rec = edge.rec }))
+      pub edge-inside : count ≤ 64 → (j : ℕ) → Some j ≡ place_in low high count edge.to → (i < 64) × (j < 64) × (edge.colour < 8)
+      edge-inside few j h =
+          let f = found-some low high count edge.from i from in
+          let g = found-some low high count edge.to j h in
+          (omega (arith, f.1), omega (arith, g.1), rw reads.is (edge-colour (fields_of l) reads.five))
+
+      pub edge-taken : (j : ℕ) → Some j ≡ place_in low high count edge.to
+          → (x : TakenEdge) → x.from ≡ i → x.to ≡ j → x.colour ≡ edge.colour → x.rec ≡ edge.rec → TakesEdge l low high count (Ok x)
       unfolding question8 gs first_no
-      edge-taken j h =
+      edge-taken j h x xf xt xc xr =
           let f = found-some low high count edge.from i from in
           let g = found-some low high count edge.to j h in
           let to_in : ltb (place_of (take count low) (take count high) edge.to.low edge.to.high) count ≡ true = lt-ltb _ count (omega (arith, g.0, g.1)) in
           record {
             number = λ d t. sym (answer-yes 8 (question8 d (edge_of gs)) [] (rw (from-known d.items t, to-known d.items t, from_in, to_in))) ∙ eight d;
             taken = record {
-              from = λ xs t. f.0 ∙ from-number xs t;
-              to = λ xs t. g.0 ∙ to-number xs t;
-              ends = (f.1, g.1);
-              colour = rw reads.is;
-              most = rw reads.is (edge-colour (fields_of l) reads.five);
-              rec = rw reads.is;
+              from = λ xs t. xf ∙ f.0 ∙ from-number xs t;
+              to = λ xs t. xt ∙ g.0 ∙ to-number xs t;
+              ends = (rw xf f.1, rw xt g.1);
+              colour = xc ∙ (let e : edge.colour ≡ (edge_of (fields_of l)).colour = rw reads.is in e);
+              most = rw (xc, reads.is) (edge-colour (fields_of l) reads.five);
+              rec = xr ∙ (let e : edge.rec ≡ (edge_of (fields_of l)).rec = rw reads.is in e);
             };
           }

@@ -2,6 +2,8 @@
 
 #![tactic(auto)]
 
+pub mod taken;
+
 ghost use Rattle.std.specs.Prelude.{◌≡◌, ◌+◌, suc, ◌≤◌, ◌<◌, ◌&&◌, leb, set};
 ghost use Rattle.setup.specs.Bounds.{most_items, most_chosen};
 ghost use Rattle.sheet_format.specs.Text.{fields_of};
@@ -14,6 +16,7 @@ ghost use Rattle.sheet_rows.specs.Inner.Lines.{read_line, vertex_form, vertex_fr
 use questions::Refusal;
 use setup::{MAX_CHOSEN, MAX_ITEMS, MAX_RANK, Vertex};
 use sheet_fields::{Cut, Key};
+use taken::TakenEdge;
 
 // A colour is read as a number of 64 bits.
 const MAX_COLOUR: u64 = setup::MAX_COLOUR as u64;
@@ -78,15 +81,6 @@ pub struct TakenItem {
 pub struct EdgeLine {
     pub from: Key,
     pub to: Key,
-    pub colour: usize,
-    pub rec: bool,
-}
-
-// `from` and `to` are item numbers.
-#[derive(Clone, Copy)]
-pub struct TakenEdge {
-    pub from: usize,
-    pub to: usize,
     pub colour: usize,
     pub rec: bool,
 }

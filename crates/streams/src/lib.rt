@@ -3,33 +3,14 @@
 
 #![tactic(auto)]
 
-ghost use Rattle.std.specs.Prelude.{◌≡◌, ◌<◌, ◌≤◌, IfNone, IsSome, length, take, drop};
+ghost use Rattle.std.specs.Prelude.{◌≡◌, ◌<◌, ◌≤◌, IfNone, IsSome, OnErr, OnOk, length, take};
 ghost use Rattle.std.specs.Io.KnownBytes.{Appends};
-ghost use Rattle.streams.specs.Inner.Streams.{failed_by, moved_by, MovedOn, TookFrom, PutTo, ReadInto, GivenBy, Grew};
+ghost use Rattle.streams.specs.Inner.Streams.{moved_by, MovedOn, TookFrom, PutTo, ReadInto, GivenBy, Grew};
 
 use std::io;
 use std::io::{ErrorKind, Read, Write};
 
-// What one call of `read` or `write` did.
-#[derive(Drop)]
-pub enum Moved {
-    Bytes(usize),
-    Nothing,
-    // A signal came in between, and the call may be made again.
-    Interrupted,
-    Failed(io::Error),
-}
-
-// What all reading came to.
-#[derive(Drop)]
-pub enum Input {
-    // All of the input, or as much of it as fits.
-    Read(usize),
-    // A read failed, so that nobody knows how the input goes on.
-    Failed(io::Error),
-}
-
-// What all writing came to.
+// What all writing came to. No Result: how many bytes are out is told of a failure too.
 #[derive(Drop)]
 pub struct Output {
     // How many bytes are out.
@@ -38,50 +19,43 @@ pub struct Output {
     pub failure: Option<io::Error>,
 }
 
-// What a failed call did, by its error.
-fn failed_by(error: io::Error) -> Moved
-    ensures { result ≡ failed_by error }
-{
-    if error.kind() != ErrorKind::Interrupted {
-        return Moved::Failed(error);
-    }
-    Moved::Interrupted
-}
-
-// What a call did, by its answer.
-fn moved_by(answer: io::Result<usize>) -> Moved
+// What a call did, by its answer: how many bytes it moved, and `None` where a signal came in between, so
+// that the call may be made again.
+fn moved_by(answer: io::Result<usize>) -> io::Result<Option<usize>>
     ensures { result ≡ moved_by answer }
 {
     match answer {
-        Ok(0) => Moved::Nothing,
-        Ok(n) => Moved::Bytes(n),
-        Err(error) => failed_by(error),
+        Ok(n) => Ok(Some(n)),
+        Err(error) => {
+            if error.kind() != ErrorKind::Interrupted {
+                return Err(error);
+            }
+            Ok(None)
+        }
     }
 }
 
-// One read into buf from index done on.
-fn read_once<R: Read>(reader: &mut R, buf: &mut [u8], done: usize) -> Moved
-    requires { done ≤ length buf.old }
-    ensures moved { MovedOn done (length buf.old) result }
-    ensures front { take done buf.new ≡ take done buf.old }
-    ensures bytes { TookFrom (R.remaining reader.old) (R.remaining reader.new) (drop done buf.new) result }
+// One read into the rest of a buffer.
+fn read_once<R: Read>(reader: &mut R, rest: &mut [u8]) -> io::Result<Option<usize>>
+    ensures moved { MovedOn (length rest.old) result }
+    ensures bytes { TookFrom (R.remaining reader.old) (R.remaining reader.new) rest.new result }
 {
-    let answer = reader.read(&mut buf[done..]);
+    let answer = reader.read(rest);
     moved_by(answer)
 }
 
-// One write of the bytes from index done on.
-fn write_once<W: Write>(writer: &mut W, bytes: &[u8], done: usize) -> Moved
-    requires { done ≤ length bytes.now }
-    ensures moved { MovedOn done (length bytes.now) result }
-    ensures bytes { PutTo (W.contents writer.old) (W.contents writer.new) (drop done bytes.now) result }
+// One write of the rest of some bytes.
+fn write_once<W: Write>(writer: &mut W, rest: &[u8]) -> io::Result<Option<usize>>
+    ensures moved { MovedOn (length rest.now) result }
+    ensures bytes { PutTo (W.contents writer.old) (W.contents writer.new) rest.now result }
 {
-    let answer = writer.write(&bytes[done..]);
+    let answer = writer.write(rest);
     moved_by(answer)
 }
 
-// Reads until the input ends, buf is full, or a read fails. Only an answer of 0 is the end.
-pub fn read_whole<R: Read>(reader: &mut R, buf: &mut [u8]) -> Input
+// Reads until the input ends, buf is full, or a read fails: how much of the input was read. Only an
+// answer of 0 is the end, and of a failed read nobody knows how the input goes on.
+pub fn read_whole<R: Read>(reader: &mut R, buf: &mut [u8]) -> io::Result<usize>
     ensures read { ReadInto buf.new result }
     ensures bytes { GivenBy (R.remaining reader.old) (R.remaining reader.new) buf.new result }
 {
@@ -90,19 +64,45 @@ pub fn read_whole<R: Read>(reader: &mut R, buf: &mut [u8]) -> Input
     // bound, since a loop has to be seen to end.
     let mut asks = u64::MAX;
     while done < buf.len() {
-        match read_once(reader, buf, done) {
-            Moved::Bytes(n) => done += n,
-            Moved::Nothing => return Input::Read(done),
-            Moved::Failed(error) => return Input::Failed(error),
-            Moved::Interrupted => {
+        match read_once(reader, &mut buf[done..])? {
+            Some(0) => return Ok(done),
+            Some(n) => done += n,
+            None => {
                 if asks == 0 {
-                    return Input::Failed(io::Error::from(ErrorKind::Interrupted));
+                    return Err(io::Error::from(ErrorKind::Interrupted));
                 }
                 asks -= 1;
             }
         }
     }
-    Input::Read(done)
+    Ok(done)
+}
+
+// Writes bytes until all are out or a write fails or takes nothing. `done`, which is 0 before, tells how
+// many are out then.
+fn write_on<W: Write>(writer: &mut W, bytes: &[u8], done: &mut usize) -> io::Result<()>
+    requires { done.old ≡ 0 }
+    ensures written { done.new ≤ length bytes.now }
+    ensures bytes { Appends (W.contents writer.old) (W.contents writer.new) (take done.new bytes.now) }
+    ensures whole { OnOk result (done.new ≡ length bytes.now) }
+    ensures short { OnErr result (done.new < length bytes.now) }
+{
+    // How often an interrupted write may still be made again: more than any run uses up, and a
+    // bound, since a loop has to be seen to end.
+    let mut asks = u64::MAX;
+    while *done < bytes.len() {
+        match write_once(writer, &bytes[*done..])? {
+            Some(0) => return Err(io::Error::from(ErrorKind::WriteZero)),
+            Some(n) => *done += n,
+            None => {
+                if asks == 0 {
+                    return Err(io::Error::from(ErrorKind::Interrupted));
+                }
+                asks -= 1;
+            }
+        }
+    }
+    Ok(())
 }
 
 // Writes bytes until all are out or a write fails or takes nothing, and answers how many are out.
@@ -112,38 +112,9 @@ pub fn write_whole<W: Write>(writer: &mut W, bytes: &[u8]) -> Output
     ensures whole { IfNone result.failure (result.written ≡ length bytes.now) }
     ensures short { IsSome result.failure → result.written < length bytes.now }
 {
-    let mut done = 0;
-    // How often an interrupted write may still be made again: more than any run uses up, and a
-    // bound, since a loop has to be seen to end.
-    let mut asks = u64::MAX;
-    while done < bytes.len() {
-        match write_once(writer, bytes, done) {
-            Moved::Bytes(n) => done += n,
-            Moved::Nothing => return cut_off(done, io::Error::from(ErrorKind::WriteZero)),
-            Moved::Failed(error) => return cut_off(done, error),
-            Moved::Interrupted => {
-                if asks == 0 {
-                    return cut_off(done, io::Error::from(ErrorKind::Interrupted));
-                }
-                asks -= 1;
-            }
-        }
-    }
-    Output {
-        written: done,
-        failure: None,
-    }
-}
-
-// What is told of writing that stopped before the end.
-fn cut_off(written: usize, failure: io::Error) -> Output
-    ensures written { result.written ≡ written }
-    ensures failure { IsSome result.failure }
-{
-    Output {
-        written,
-        failure: Some(failure),
-    }
+    let mut written = 0;
+    let failure = write_on(writer, bytes, &mut written).err();
+    Output { written, failure }
 }
 
 // No error's text has more bytes: the system's has up to 255, and std's number stands behind them.
@@ -154,8 +125,8 @@ const REASON: usize = 320;
 fn words(text: &[u8]) -> usize
     ensures { result ≤ length text.now }
 {
-    for i in 0..text.len() {
-        if text[i] == 0 || text[i..].starts_with(b" (os error ") {
+    for (i, byte) in text.iter().enumerate() {
+        if *byte == 0 || text[i..].starts_with(b" (os error ") {
             return i;
         }
     }

@@ -3,7 +3,7 @@
 
 #![tactic(auto, using(crate::proofs::Members::set_answers))]
 
-ghost use Rattle.std.specs.Prelude.{◌≡◌, ◌<◌, length, replicate};
+ghost use Rattle.std.specs.Prelude.{◌≡◌, ◌<◌, replicate};
 ghost use Rattle.std.specs.Iterator.{at_most};
 ghost use Rattle.successors.specs.Inner.{VertexOf, LowestOf, HighestOf, Without, Taken, Needed, Noted, Successors, AllSuccessors};
 
@@ -12,7 +12,8 @@ use vertex_set::VERTICES;
 
 pub const COLOURS: usize = 8;
 
-// The lowest vertex of a set that is not empty.
+// The lowest vertex of a set that is not empty. Here and in `highest` that stays a clause: callers have just
+// tested it, and a type would be made and opened on the spot.
 pub fn lowest(s: u64) -> usize
     requires { s ≡ 0 → ⊥ }
     ensures { LowestOf s result }
@@ -73,7 +74,8 @@ pub fn needed(rows: Rows) -> u64
     rows.needs.iter().fold(0, |all, row| all | *row)
 }
 
-// Makes v a successor of each of the vertices that it needs.
+// Makes v a successor of each of the vertices that it needs. The bound of v stays a clause: it is how far a bit
+// is shifted, and nothing else.
 fn note(needed: u64, v: usize, out: &mut [u64; 64])
     requires { v < 64 }
     ensures { Noted needed v out.old out.new }
@@ -94,8 +96,7 @@ pub fn fill(graph: Graph, out: &mut [u64; 64])
 }
 
 // The successors of a set's vertices, all together.
-pub fn of_set(list: &[u64], set: u64) -> u64
-    requires { length list.now ≡ 64 }
+pub fn of_set(list: &[u64; 64], set: u64) -> u64
     ensures { AllSuccessors list.now set result }
 {
     let mut r = 0;

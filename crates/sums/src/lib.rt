@@ -18,7 +18,8 @@ pub fn singles() -> [u64; 64]
     std::array::from_fn(|v| 1 << v)
 }
 
-// The values of the chosen vertices, lowest vertex first; the places behind them have 0.
+// The values of the chosen vertices, lowest vertex first; the places behind them have 0. That they are at
+// most 14 stays a clause, as in `families::words_for`.
 pub fn weights_of(chosen: VertexSet, values: [u64; 64]) -> [u64; 14]
     requires { ones chosen.0 ≤ mask_bits }
     ensures { WeightsOf chosen.0 (λ (v : ℕ). get_or values v 0) result }
@@ -69,7 +70,7 @@ impl MaskSums {
         MaskSums { low, high }
     }
 
-    // The sum of a mask.
+    // The sum of a mask. Its bound stays a clause: it is an index at once.
     pub fn at(&self, mask: usize) -> u64
         requires { mask < masks }
         ensures { result ≡ sum_by self.now.low self.now.high mask }

@@ -1,12 +1,12 @@
 -- A settled block of lanes gets one vertex more in every lane. Only the vertices that need it can have something new.
 -- Assumes nothing.
-use mathlib.Core.Path.{◌≡◌, refl, sym, subst, ap}
+use mathlib.Core.Path.{◌≡◌, refl, sym, subst, ap, ◌∙◌}
 use Rattle.std.specs.Prelude.{None, Some}
 use mathlib.Core.Bool.{Bool}
 use mathlib.Core.List.{List}
 use mathlib.Core.Logic.{◌⊎◌, inl, inr, ⊎_elim}
 use Prim.Native.Nat.{ℕ, ◌-◌, ◌*◌, ◌^◌, ◌<◌}
-use lib.ListN.{length, get_or}
+use lib.ListN.{length, get_or, replicate}
 use borrow.Rule.Slice.PartMut.{put_mid}
 use Rattle.vertex_set.specs.Set.{Member, Iff}
 use Rattle.vertex_set.proofs.Cases.{same_or}
@@ -20,8 +20,7 @@ use Rattle.derivations.proofs.Rules.{held, least, monotone, union}
 use Rattle.derivations.proofs.Both.{lawful}
 use Rattle.derivations.proofs.Admits.{admits-local, admits-derived, step-admits, admits-place}
 use Rattle.successors.specs.Inner.{Successors}
-use Rattle.family_words.specs.Inner.Words.{PartWhere}
-use Rattle.family_words.proofs.Families.{full-word}
+use Rattle.family_words.proofs.Families.{full-word, filled-part}
 use Rattle.lanes.specs.Inner.Lanes.{Lane}
 use Rattle.tables.specs.Inner.Steps.{Closed, Quiet, Extended}
 use Rattle.tables.specs.Inner.Blocks.{AtPlace, VertexAt}
@@ -45,17 +44,20 @@ pub record WithAll (v : ℕ) (w e : List ℕ) : Type 0 where
   pub words : length e ≡ 1024
   pub each : (b i u : ℕ) → b < 16 → i < 64 → Iff (Lane e b i u) (Lane w b i u ⊎ (u ≡ v))
 
-pub with_all : (v k : ℕ) (w d : List ℕ) → length w ≡ 1024 → v < 64 → k ≡ 16 → PartWhere (λ b i. Member (2 ^ 64 - 1) i) d → WithAll v w (put_mid (v * 16) k w d)
-with_all v k w d hw hv hk f =
-    record {
-      words = part_length w d v k hw hv hk f.words;
+pub with_all : (v k : ℕ) (w part d : List ℕ) → length w ≡ 1024 → v < 64 → k ≡ 16 → length part ≡ k → d ≡ replicate (length part) (2 ^ 64 - 1)
+    → WithAll v w (put_mid (v * 16) k w d)
+with_all v k w part d hw hv hk long e =
+    let f = filled-part (2 ^ 64 - 1) part d (long ∙ hk) e in
+    subst (λ (j : ℕ). WithAll v w (put_mid (v * 16) j w d)) (sym hk)
+    (record {
+      words = part_length w d v hw hv f.words;
       each = λ b i u hb hi. ⊎_elim
-          (λ q. subst (λ (x : ℕ). Iff (Lane (put_mid (v * 16) k w d) b i x) (Lane w b i x ⊎ (x ≡ v))) (sym q)
-          (record { to = λ m. inr refl; from = λ m. (lane-put w d v k hw hv hk f.words b i hb).from ((f.each b i hb hi).from (full-word i hi)) }))
-          (λ n. let t = lane-kept w d v k hw hv hk f.words b i u hb n in
+          (λ q. subst (λ (x : ℕ). Iff (Lane (put_mid (v * 16) 16 w d) b i x) (Lane w b i x ⊎ (x ≡ v))) (sym q)
+          (record { to = λ m. inr refl; from = λ m. (lane-put w d v hw hv f.words b i hb).from ((f.each b i hb hi).from (full-word i hi)) }))
+          (λ n. let t = lane-kept w d v hw hv f.words b i u hb n in
           record { to = λ m. inl (t.to m); from = ⊎_elim (λ m. t.from m) (λ q. absurd (n q)) })
           (same_or u v);
-    }
+    })
 
 module _ (loss : Bool) (g : Graph) (v : ℕ) (w e : List ℕ) (a : WithAll v w e) where
   -- a vertex that does not need v is admitted by the same lanes as before

@@ -60,60 +60,64 @@ module _ (w d : List ℕ) (at k : ℕ) (fit : at + k ≤ length w) (hd : length 
 
 -- ---- the part of a vertex in a block
 
-module _ (w d : List ℕ) (v k : ℕ) (hw : length w ≡ 1024) (hv : v < 64) (hk : k ≡ 16) (hd : length d ≡ 16) where
-  fit : v * 16 + k ≤ length w
+module _ (w d : List ℕ) (v : ℕ) (hw : length w ≡ 1024) (hv : v < 64) (hd : length d ≡ 16) where
+  fit : v * 16 + 16 ≤ length w
   fit = omega arith
 
-  long : length d ≡ k
-  long = omega arith
+  pub part_length : length (put_mid (v * 16) 16 w d) ≡ 1024
+  part_length = put-length w d (v * 16) 16 fit hd ∙ hw
 
-  pub part_length : length (put_mid (v * 16) k w d) ≡ 1024
-  part_length = put-length w d (v * 16) k fit long ∙ hw
-
-  pub lane-put : (b i : ℕ) → b < 16 → Iff (Lane (put_mid (v * 16) k w d) b i v) (At d b i)
+  pub lane-put : (b i : ℕ) → b < 16 → Iff (Lane (put_mid (v * 16) 16 w d) b i v) (At d b i)
   unfolding Lane At
   lane-put b i hb =
-      let e = put-own w d (v * 16) k fit long b (omega arith) in record { to = subst (λ (x : ℕ). Member x i) e; from = subst (λ (x : ℕ). Member x i) (sym e) }
+      let e = put-own w d (v * 16) 16 fit hd b hb in record { to = subst (λ (x : ℕ). Member x i) e; from = subst (λ (x : ℕ). Member x i) (sym e) }
 
-  pub lane-kept : (b i u : ℕ) → b < 16 → (u ≡ v → ⊥) → Iff (Lane (put_mid (v * 16) k w d) b i u) (Lane w b i u)
+  pub lane-kept : (b i u : ℕ) → b < 16 → (u ≡ v → ⊥) → Iff (Lane (put_mid (v * 16) 16 w d) b i u) (Lane w b i u)
   unfolding Lane
   lane-kept b i u hb n =
-      let e = put_other w d (v * 16) k fit long (u * 16 + b) (⊎_elim (λ l. inl (omega arith)) (λ l. inr (omega (arith, n))) (less-or u v)) in record { to = subst (λ (x : ℕ). Member x i) e; from = subst (λ (x : ℕ). Member x i) (sym e) }
+      let e = put_other w d (v * 16) 16 fit hd (u * 16 + b) (⊎_elim (λ l. inl (omega arith)) (λ l. inr (omega (arith, n))) (less-or u v)) in record { to = subst (λ (x : ℕ). Member x i) e; from = subst (λ (x : ℕ). Member x i) (sym e) }
 
-  pub put-room : room (put_mid (v * 16) k w d) + room (take k (drop (v * 16) w)) ≡ room w + room d
+  pub put-room : room (put_mid (v * 16) 16 w d) + room (take 16 (drop (v * 16) w)) ≡ room w + room d
   put-room =
-      let a = room-append (take (v * 16) w) (d ++ drop k (drop (v * 16) w)) in
-      let b = room-append d (drop k (drop (v * 16) w)) in
+      let a = room-append (take (v * 16) w) (d ++ drop 16 (drop (v * 16) w)) in
+      let b = room-append d (drop 16 (drop (v * 16) w)) in
       let p = ap room (take-append-drop (v * 16) w) in
       let q = room-append (take (v * 16) w) (drop (v * 16) w) in
-      let r = ap room (take-append-drop k (drop (v * 16) w)) in
-      let s = room-append (take k (drop (v * 16) w)) (drop k (drop (v * 16) w)) in
+      let r = ap room (take-append-drop 16 (drop (v * 16) w)) in
+      let s = room-append (take 16 (drop (v * 16) w)) (drop 16 (drop (v * 16) w)) in
       omega arith
 
-module _ (loss : Bool) (rows : Rows) (v k : ℕ) (w gains d : List ℕ) (r : Bool) (hw : length w ≡ 1024) (hv : v < 64) (hk : k ≡ 16) where
+module _ (loss : Bool) (rows : Rows) (v : ℕ) (w gains part d : List ℕ) (r : Bool) (hw : length w ≡ 1024) (hv : v < 64) where
   abbrev Grown : ℕ → ℕ → ℕ → Type 0
-  Grown b i u = Iff (Lane (put_mid (v * 16) k w d) b i u) (Lane w b i u ⊎ ((u ≡ v) × Admits loss rows (Lane w b i)))
+  Grown b i u = Iff (Lane (put_mid (v * 16) 16 w d) b i u) (Lane w b i u ⊎ ((u ≡ v) × Admits loss rows (Lane w b i)))
 
-  module _ (g : PartWhere (λ b i. Admits loss rows (Lane w b i)) gains) (j : Joined (take k (drop (v * 16) w)) gains r d) where
+  module _ (e : part ≡ take 16 (drop (v * 16) w)) (g : PartWhere (λ b i. Admits loss rows (Lane w b i)) gains) (j : Joined part gains r d) where
     own : (b i : ℕ) → b < 16 → i < 64 → Grown b i v
     own b i hb hi =
-        let p = part-lane w v k b i (omega arith) in
+        let p = part-lane w v part b i hb e in
         let a = g.each b i hb hi in
-        iff-trans (lane-put w d v k hw hv hk j.family.words b i hb) (iff-trans (j.family.each b i hb hi) (record {
+        iff-trans (lane-put w d v hw hv j.family.words b i hb) (iff-trans (j.family.each b i hb hi) (record {
           to = ⊎_elim (λ x. inl (p.to x)) (λ x. inr (refl, a.to x));
           from = ⊎_elim (λ x. inl (p.from x)) (λ x. inr (a.from x.1));
         }))
 
     other : (b i u : ℕ) → b < 16 → (u ≡ v → ⊥) → Grown b i u
     other b i u hb n =
-        iff-trans (lane-kept w d v k hw hv hk j.family.words b i u hb n)
+        iff-trans (lane-kept w d v hw hv j.family.words b i u hb n)
         (record { to = λ x. inl x; from = ⊎_elim (λ x. x) (λ x. absurd (n x.0)) })
 
-    pub stepped : Stepped loss rows v w r (put_mid (v * 16) k w d)
+    stepped : Stepped loss rows v w r (put_mid (v * 16) 16 w d)
     stepped =
         record {
-          words = part_length w d v k hw hv hk j.family.words;
+          words = part_length w d v hw hv j.family.words;
           each = λ b i u hb hi. ⊎_elim (λ q. subst (Grown b i) (sym q) (own b i hb hi)) (λ n. other b i u hb n) (same_or u v);
-          same = λ e. ap (put_mid (v * 16) k w) (j.same e) ∙ put_same (v * 16) k w;
-          more = λ e. let m = j.more e in let p = put-room w d v k hw hv hk j.family.words in omega arith;
+          same = λ q. ap (put_mid (v * 16) 16 w) (j.same q ∙ e) ∙ put_same (v * 16) 16 w;
+          more = λ q. let m = j.more q in let p = put-room w d v hw hv j.family.words in let s = ap room e in omega arith;
         }
+
+-- the part of v as the program cuts it out
+pub stepped-in : (loss : Bool) (rows : Rows) (v k : ℕ) (w gains d : List ℕ) (r : Bool) → length w ≡ 1024 → v < 64 → k ≡ 16
+    → PartWhere (λ b i. Admits loss rows (Lane w b i)) gains → Joined (take k (drop (v * 16) w)) gains r d → Stepped loss rows v w r (put_mid (v * 16) k w d)
+stepped-in loss rows v k w gains d r hw hv hk g j =
+    subst (λ (n : ℕ). Stepped loss rows v w r (put_mid (v * 16) n w d)) (sym hk)
+    (stepped loss rows v w gains (take k (drop (v * 16) w)) d r hw hv (ap (λ (n : ℕ). take n (drop (v * 16) w)) hk) g j)

@@ -60,18 +60,20 @@ module _ (chosen : ℕ) where
   pub started_none : (w : List ℕ) → length w ≡ 1024 → StartedBelow chosen 0 w
   started_none w e = record { place = omega arith; words = e; each = λ b i v hb hi l. absurd (omega arith) }
 
-  pub started-more : (n k : ℕ) (w d : List ℕ) → n < 64 → k ≡ 16 → StartedBelow chosen n w → PartWhere (λ b i. Picked chosen (b * 64 + i) n) d
+  pub started-more : (n k : ℕ) (w part d : List ℕ) → n < 64 → k ≡ 16 → StartedBelow chosen n w → PartWhere (λ b i. Picked chosen (b * 64 + i) n) part → d ≡ part
       → StartedBelow chosen (n + 1) (put_mid (n * 16) k w d)
-  started-more n k w d h hk s l =
-      record {
+  started-more n k w part d h hk s p e =
+      let l = subst (PartWhere (λ b i. Picked chosen (b * 64 + i) n)) (sym e) p in
+      subst (λ (j : ℕ). StartedBelow chosen (n + 1) (put_mid (n * 16) j w d)) (sym hk)
+      (record {
         place = omega arith;
-        words = part_length w d n k s.words h hk l.words;
+        words = part_length w d n s.words h l.words;
         each = λ b i v hb hi hv. ⊎_elim
-            (λ q. subst (λ (u : ℕ). Iff (Lane (put_mid (n * 16) k w d) b i u) (Picked chosen (b * 64 + i) u)) (sym q)
-            (iff-trans (lane-put w d n k s.words h hk l.words b i hb) (l.each b i hb hi)))
-            (λ q. iff-trans (lane-kept w d n k s.words h hk l.words b i v hb q) (s.each b i v hb hi (omega (arith, q))))
+            (λ q. subst (λ (u : ℕ). Iff (Lane (put_mid (n * 16) 16 w d) b i u) (Picked chosen (b * 64 + i) u)) (sym q)
+            (iff-trans (lane-put w d n s.words h l.words b i hb) (l.each b i hb hi)))
+            (λ q. iff-trans (lane-kept w d n s.words h l.words b i v hb q) (s.each b i v hb hi (omega (arith, q))))
             (same_or v n);
-      }
+      })
 
   pub started-done : (n : ℕ) (w : List ℕ) → chosen < 2 ^ 64 → 64 ≤ n → StartedBelow chosen n w → Started chosen w
   unfolding Picked

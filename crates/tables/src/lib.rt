@@ -5,27 +5,25 @@
 
 #![tactic(auto)]
 
-ghost use Rattle.std.specs.Prelude.{◌≡◌, ◌+◌, ◌*◌, ◌<◌, length, get_or};
+ghost use Rattle.std.specs.Prelude.{◌≡◌, ◌+◌, ◌*◌, ◌<◌, get_or};
 ghost use Rattle.derivations.specs.Both.{rule_of};
 ghost use Rattle.families.specs.Inner.Masks.{place_among, Picked};
 ghost use Rattle.successors.specs.Inner.{VertexOf, Successors};
-ghost use Rattle.family_words.specs.Inner.Words.{part_words, PartWhere};
-ghost use Rattle.lanes.specs.Inner.Lanes.{block_words};
-ghost use Rattle.tables.specs.Inner.Table.{table_words, Table};
+ghost use Rattle.family_words.specs.Inner.Words.{PartWhere};
+ghost use Rattle.tables.specs.Inner.Table.{Table};
 ghost use Rattle.tables.specs.Inner.Steps.{Stepped, way_on, Beyond, Quiet, Closed, Started, Extended};
 ghost use Rattle.tables.specs.Inner.Blocks.{block_bits, table_blocks, AtPlace, VertexAt, BlockOf, PutBlock, Block, TableBelow};
 
 use families::WORDS;
 use family_words::PART;
+use lanes::BLOCK;
 use setup::{Graph, Rows};
 use vertex_set::{VERTICES, VertexSet};
 
 // A table has the words of a family for each vertex.
 pub const TABLE: usize = VERTICES * WORDS;
 
-// A block has the words of a part for each vertex, and a table has so many blocks.
-pub const BLOCK: usize = VERTICES * PART;
-
+// A table has so many blocks.
 const BLOCKS: usize = WORDS / PART;
 
 // The bits of a mask that tell its lane within a block.
@@ -35,10 +33,10 @@ pub const BLOCK_BITS: usize = 10;
 const ALL: u64 = u64::MAX;
 
 // Adds the vertex v, which has these rows, to each lane that admits it, and says whether a lane has
-// grown.
-fn step(w: &mut [u64], v: usize, rows: Rows, loss: bool) -> bool
-    requires w_len { length w.old ≡ block_words }
-    requires v_bound { v < 64 }
+// grown. Here and below the bounds of a vertex and of a block's number stay clauses, as that a set is not
+// empty in `end` and `next`: a type for one of them would be made and opened on the spot.
+fn step(w: &mut [u64; BLOCK], v: usize, rows: Rows, loss: bool) -> bool
+    requires { v < 64 }
     ensures { Stepped loss rows v w.old result w.new }
 {
     let mut gains = [0u64; PART];
@@ -89,9 +87,8 @@ fn beyond(v: usize, up: bool) -> u64
 }
 
 // The vertices that need v, by the list of all successors.
-fn users(list: &[u64], v: usize) -> u64
-    requires list_len { length list.now ≡ 64 }
-    requires v_bound { v < 64 }
+fn users(list: &[u64; 64], v: usize) -> u64
+    requires { v < 64 }
     ensures { result ≡ get_or list.now v 0 }
 {
     list[v]
@@ -106,27 +103,25 @@ fn place_among(chosen: u64, v: usize) -> usize
 }
 
 // The part of the first block that has the masks whose sets have the vertex v.
-fn start_part(d: &mut [u64], chosen: VertexSet, v: usize)
-    requires d_len { length d.old ≡ part_words }
-    requires v_bound { v < 64 }
-    ensures { PartWhere (λ b i. Picked chosen.0 (b * 64 + i) v) d.new }
+fn start_part(chosen: VertexSet, v: usize) -> [u64; PART]
+    requires { v < 64 }
+    ensures { PartWhere (λ b i. Picked chosen.0 (b * 64 + i) v) result }
 {
     if chosen.has(v) {
         let k = place_among(chosen.0, v);
-        family_words::start_words(d, k);
+        family_words::start_words(k)
     } else {
-        family_words::set_all(d, 0);
+        [0u64; PART]
     }
 }
 
 // Each lane of the first block becomes the set that its mask stands for.
-fn start(chosen: VertexSet, w: &mut [u64])
-    requires { length w.old ≡ block_words }
+fn start(chosen: VertexSet, w: &mut [u64; BLOCK])
     ensures { Started chosen.0 w.new }
 {
     for v in 0..VERTICES {
         let a = v * PART;
-        start_part(&mut w[a..a + PART], chosen, v);
+        w[a..a + PART].copy_from_slice(&start_part(chosen, v));
     }
 }
 
@@ -136,9 +131,8 @@ fn start(chosen: VertexSet, w: &mut [u64])
 // followed. The graph, the way and the list stand as parameters, and not in a struct: that the list has the
 // graph's successors names a colour for each, so that it has more than one proof, and a ghost field takes
 // only facts with one.
-fn settle(graph: Graph, loss: bool, list: &[u64], first: u64, w: &mut [u64])
+fn settle(graph: Graph, loss: bool, list: &[u64; 64], first: u64, w: &mut [u64; BLOCK])
     requires successors { Successors graph list.now }
-    requires w_len { length w.old ≡ block_words }
     requires quiet { Quiet loss graph first w.old }
     ensures { Closed (rule_of loss graph) w.old w.new }
 {
@@ -158,16 +152,15 @@ fn settle(graph: Graph, loss: bool, list: &[u64], first: u64, w: &mut [u64])
 
 // Adds the vertex v to every lane of a settled block, and each lane grows to what is derivable from
 // it. At the beginning only the vertices that need v can be new in a lane.
-fn extend(graph: Graph, loss: bool, list: &[u64], v: usize, w: &mut [u64])
+fn extend(graph: Graph, loss: bool, list: &[u64; 64], v: usize, w: &mut [u64; BLOCK])
     requires successors { Successors graph list.now }
-    requires w_len { length w.old ≡ block_words }
     requires v_bound { v < 64 }
     requires quiet { Quiet loss graph 0 w.old }
     ensures { Extended loss graph (λ u. u ≡ v) w.old w.new }
 {
     let first = users(list, v);
     let a = v * PART;
-    family_words::set_all(&mut w[a..a + PART], ALL);
+    w[a..a + PART].fill(ALL);
     settle(graph, loss, list, first, w);
 }
 
@@ -185,9 +178,15 @@ fn vertex_at(chosen: u64, k: usize) -> Option<usize>
 
 // Adds the chosen vertex at bit k of every mask to every lane of a settled block. If there is none,
 // the block stays as it is.
-fn widen(graph: Graph, chosen: VertexSet, loss: bool, list: &[u64], k: usize, w: &mut [u64])
+fn widen(
+    graph: Graph,
+    chosen: VertexSet,
+    loss: bool,
+    list: &[u64; 64],
+    k: usize,
+    w: &mut [u64; BLOCK],
+)
     requires successors { Successors graph list.now }
-    requires w_len { length w.old ≡ block_words }
     requires quiet { Quiet loss graph 0 w.old }
     ensures { Extended loss graph (AtPlace chosen.0 k) w.old w.new }
 {
@@ -198,9 +197,8 @@ fn widen(graph: Graph, chosen: VertexSet, loss: bool, list: &[u64], k: usize, w:
 
 // The block of the masks below 1,024. At the beginning a lane has chosen vertices alone, so only a
 // vertex that needs one of them can be new.
-fn first_block(graph: Graph, chosen: VertexSet, loss: bool, list: &[u64], w: &mut [u64])
-    requires successors { Successors graph list.now }
-    requires w_len { length w.old ≡ block_words }
+fn first_block(graph: Graph, chosen: VertexSet, loss: bool, list: &[u64; 64], w: &mut [u64; BLOCK])
+    requires { Successors graph list.now }
     ensures { Block (rule_of loss graph) chosen.0 0 w.new }
 {
     start(chosen, w);
@@ -208,9 +206,9 @@ fn first_block(graph: Graph, chosen: VertexSet, loss: bool, list: &[u64], w: &mu
     settle(graph, loss, list, first, w);
 }
 
-// Fills the first block alone: a whole table, if at most ten vertices are chosen.
-pub fn fill_block(graph: Graph, chosen: VertexSet, loss: bool, x: &mut [u64])
-    requires { length x.old ≡ block_words }
+// Fills the first block alone: a whole table, if at most ten vertices are chosen. Here and in `fill` graph, chosen
+// vertices and way are no struct, for what `settle` says.
+pub fn fill_block(graph: Graph, chosen: VertexSet, loss: bool, x: &mut [u64; BLOCK])
     ensures { Block (rule_of loss graph) chosen.0 0 x.new }
 {
     let mut list = [0u64; 64];
@@ -219,10 +217,8 @@ pub fn fill_block(graph: Graph, chosen: VertexSet, loss: bool, x: &mut [u64])
 }
 
 // Copies block b of the table w to x.
-fn take_block(w: &[u64], b: usize, x: &mut [u64])
-    requires w_len { length w.now ≡ table_words }
-    requires b_lt_table_blocks { b < table_blocks }
-    requires x_len { length x.old ≡ block_words }
+fn take_block(w: &[u64; TABLE], b: usize, x: &mut [u64; BLOCK])
+    requires { b < table_blocks }
     ensures { BlockOf w.now b x.new }
 {
     for v in 0..VERTICES {
@@ -233,10 +229,8 @@ fn take_block(w: &[u64], b: usize, x: &mut [u64])
 }
 
 // Makes x the block b of the table w.
-fn put_block(x: &[u64], b: usize, w: &mut [u64])
-    requires x_len { length x.now ≡ block_words }
-    requires b_lt_table_blocks { b < table_blocks }
-    requires w_len { length w.old ≡ table_words }
+fn put_block(x: &[u64; BLOCK], b: usize, w: &mut [u64; TABLE])
+    requires { b < table_blocks }
     ensures { PutBlock x.now b w.old w.new }
 {
     for v in 0..VERTICES {
@@ -252,14 +246,13 @@ fn next_block(
     graph: Graph,
     chosen: VertexSet,
     loss: bool,
-    list: &[u64],
+    list: &[u64; 64],
     b: usize,
-    x: &mut [u64],
-    w: &mut [u64],
+    x: &mut [u64; BLOCK],
+    w: &mut [u64; TABLE],
 )
     requires successors { Successors graph list.now }
     requires b_nonzero { (0 < b) × (b < table_blocks) }
-    requires x_len { length x.old ≡ block_words }
     requires table_below { TableBelow (rule_of loss graph) chosen.0 b w.old }
     ensures { TableBelow (rule_of loss graph) chosen.0 (b + 1) w.new }
 {
@@ -273,10 +266,8 @@ fn next_block(
 
 // Fills the table of the graph and the chosen vertices. It says of each vertex and mask whether the
 // mask's set opens the vertex or, with loss, whether the loss of that set takes the vertex away.
-pub fn fill(graph: Graph, chosen: VertexSet, loss: bool, w: &mut [u64])
-    requires { length w.old ≡ table_words }
-    ensures w_len { length w.new ≡ table_words }
-    ensures table { Table (rule_of loss graph) chosen.0 w.new }
+pub fn fill(graph: Graph, chosen: VertexSet, loss: bool, w: &mut [u64; TABLE])
+    ensures { Table (rule_of loss graph) chosen.0 w.new }
 {
     let mut list = [0u64; 64];
     successors::fill(graph, &mut list);

@@ -57,7 +57,8 @@ pub struct WayEnd {
     pub held: VertexSet,
 }
 
-// Takes the steps of the way in.
+// Takes the steps of the way in. Graph, target and set are no struct: `access` and `quick_yes` have them
+// one by one, and hand them on once.
 pub fn follow_way(graph: Graph, target: usize, set: VertexSet) -> WayEnd
     ensures { WayFollowed graph target set.0 result.steps result.held.0 }
 {

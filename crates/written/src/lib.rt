@@ -6,7 +6,8 @@
 ghost use Rattle.std.specs.Prelude.{◌+◌, ◌≤◌, length};
 ghost use Rattle.written.specs.Inner.{Wrote};
 
-// Writes the items from `at` on, and gives the next place.
+// Writes the items from `at` on, and gives the next place. List and place stay two parameters: bytes are
+// written by `writing::Pen`, which calls this, and a pen of words would serve `multiset_rows` alone.
 pub fn put<T: Copy>(items: &[T], out: &mut [T], at: usize) -> usize
     requires { at + length items.now ≤ length out.old }
     ensures { Wrote out.old at items.now out.new result }

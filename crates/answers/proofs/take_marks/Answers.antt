@@ -6,12 +6,12 @@ use Rattle.answers.proofs.take_marks.Goals as goal
 pub both_families-total-requires : goal.both_families-total-requires
 both_families-total-requires c =
     let p = c.requires in
-    (record { formed = p.formed; vertex = lt_of_lt_of_le p.vertex p.formed.most; is_chosen = c.chosen-chosen.ensures; words = search rules }, search rules)
+    record { formed = p.formed; vertex = lt_of_lt_of_le p.vertex p.formed.most; is_chosen = c.chosen-chosen.ensures }
 
 pub mark_all-t-requires : goal.mark_all-t-requires
 mark_all-t-requires c =
     let f = c.both_families-total.ensures in
-    record { few = f.base.few; words = search rules; words_minimal = f.base.words; is_minimal = f.is_minimal }
+    record { few = f.base.few; is_minimal = f.is_minimal }
 
 pub returns : goal.returns
 returns c =

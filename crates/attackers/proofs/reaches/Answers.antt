@@ -1,5 +1,7 @@
 use mathlib.Core.Path.{sym, ◌∙◌}
 use borrow.Author.Rules.{rules}
+use Rattle.std.proofs.Common.{Fits, w64}
+use lib.ListN.{get_or}
 use Prim.Native.Nat.{◌^◌, ◌<◌}
 use Rattle.vertex_set.proofs.Decisions.{decide-yes, decide-no}
 use Rattle.closures.proofs.Colours.{found-decides}
@@ -26,10 +28,11 @@ loop-graph-smaller-then-is_some c =
 
 pub loop-graph-preserved-then-is_some : goal.loop-graph-preserved-then-is_some
 loop-graph-preserved-then-is_some c =
-    let fits : c.insert-held.result.0 < 2 ^ 64 = search rules in (
+    let fits : c.insert-held.result.0 < 2 ^ 64 = search rules in
+    let word : Fits w64 (get_or c.args.list.now c.lowest-v.result 0) = search rules in (
       c.loop-graph.invariant.0,
       reaching-take _ _ c.loop-graph.invariant.0 _ _ _ c.loop-graph.invariant.1 _ _ c.lowest-v.ensures.vertex c.without-left.ensures _ c.insert-held.ensures
-          ((found-decides _ _ _ c.lowest_colour.ensures).yes (sym c.is_some.ensures ∙ c.if-is_some.true)) c.without-left.type_inv (c.shared_slice_known-then-is_some-1.given c.lowest-v.result).fits fits,
+          ((found-decides _ _ _ c.lowest_colour.ensures).yes (sym c.is_some.ensures ∙ c.if-is_some.true)) c.without-left.type_inv word.fits fits,
     )
 
 pub loop-graph-smaller : goal.loop-graph-smaller

@@ -9,5 +9,5 @@ use Rattle.bases.proofs.family_by_table.Goals as goal
 pub returns : goal.returns
 returns c =
     let a = c.args in
-    let all = copied c.fill.new.w (a.target * 256) 256 (a.target * 256 + 256 - a.target * 256) _ (omega arith) (omega (arith, c.requires.0, c.fill.ensures.w_len)) c.copy_from_slice.ensures.after in
-    (all.words, copied-family (rule_of a.loss a.graph) a.chosen.0 a.target _ _ c.requires.0 c.fill.ensures.table all)
+    let all = copied c.fill.new.w (a.target * 256) 256 (a.target * 256 + 256 - a.target * 256) _ (omega arith) (omega (arith, c.requires)) c.copy_from_slice.ensures.after in
+    copied-family (rule_of a.loss a.graph) a.chosen.0 a.target _ _ c.requires c.fill.ensures all

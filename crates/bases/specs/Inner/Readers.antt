@@ -15,11 +15,10 @@ use Rattle.bases.specs.Base.{Base}
 use Rattle.bases.specs.Score.{points_at, Score, ScoreOver}
 
 -- What base_family asks for.
-pub record CanList (loss : Bool) (s : Setup) (target chosen : ℕ) (out : List ℕ) : Type 0 where
+pub record CanList (loss : Bool) (s : Setup) (target chosen : ℕ) : Type 0 where
   pub formed : WellFormed s
   pub vertex : target < 64
   pub is_chosen : ChosenSet loss s chosen
-  pub words : length out ≡ family_words
 
 -- The family m has n members, and their sets in order are the target's base.
 pub record BaseFamily (loss : Bool) (s : Setup) (g : Graph) (target chosen : ℕ) (m : List ℕ) (n : ℕ) : Type 0 where

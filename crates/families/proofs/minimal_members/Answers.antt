@@ -3,4 +3,4 @@ use Rattle.families.proofs.minimal_members.Goals as goal
 
 pub returns : goal.returns
 returns c =
-    minimal-members _ _ (least-to-all _ _ c.requires.least_below _ _ c.loop-b-test.false c.loop-b.invariant)
+    minimal-members _ _ (least-to-all _ _ c.requires _ _ c.loop-b-test.false c.loop-b.invariant)

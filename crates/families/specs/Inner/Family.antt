@@ -19,6 +19,10 @@ masks = 16384
 unfoldable pub In : List ℕ → ℕ → Type 0
 In f m = Member (get_or f (m / 64) 0) (m % 64)
 
+-- The words of the family are words of 64 bits.
+abbrev pub WordsFit : List ℕ → Type 0
+WordsFit f = (i : ℕ) → get_or f i 0 < 2 ^ 64
+
 -- The number of the family's members: the ones of all its words.
 abbrev pub size : List ℕ → ℕ
 size [] = 0

@@ -15,7 +15,7 @@ loop-b-init c = (search rules, joining-none _ 9)
 pub loop-b-preserved : goal.loop-b-preserved
 loop-b-preserved c =
     let b = get_or c.args.occupied.now c.loop-b.b-index 0 in
-    let few : ones b ≤ 8 = ones-le 8 b (c.requires.words.below c.loop-b.b-index (omega arith)) in (
+    let few : ones b ≤ 8 = ones-le 8 b (c.requires.below c.loop-b.b-index (omega arith)) in (
       search rules,
       rw (add-one c.loop-b.b-index, take-suc c.args.occupied.now c.loop-b.b-index 0 (omega arith))
           (joining-more c.args.f.now (take c.loop-b.b-index c.args.occupied.now) c.loop-b.joined c.loop-b.invariant.1 b
@@ -25,4 +25,4 @@ loop-b-preserved c =
 pub returns : goal.returns
 returns c =
     let all : take c.loop-b.b-index c.args.occupied.now ≡ c.args.occupied.now = take_all c.loop-b.b-index c.args.occupied.now (omega arith) in
-    joining-end c.args.f.now c.args.occupied.now c.loop-b.joined c.requires.words (rw all at c.loop-b.invariant.1)
+    joining-end c.args.f.now c.args.occupied.now c.loop-b.joined c.requires (rw all at c.loop-b.invariant.1)

@@ -1,4 +1,5 @@
 use native.Mathlib.Omega.{arith}
+use borrow.Author.Rules.{rules}
 use Rattle.family_lists.specs.Inner.Tables.{sum_by}
 use Rattle.family_lists.proofs.Order.{Words}
 use Rattle.family_lists.proofs.SetLists.{all_room, all-next}
@@ -8,9 +9,9 @@ use Rattle.family_lists.proofs.put_all.Goals.{else-some, then-some}
 
 pub put_size-next-requires-clause-f_in_bounds : goal.put_size-next-requires-clause-f_in_bounds
 put_size-next-requires-clause-f_in_bounds c =
-    let words : Words c.args.f.now = λ i. (c.type_inv.f i).fits in
+    let words : Words c.args.f.now = λ i. search rules in
     all_room (sum_by c.args.sums.now.low c.args.sums.now.high) c.args.f.now c.args.out.now c.loop-s.out c.loop-s.next c.loop-s.s
-    c.loop-s.invariant.1 c.loop-s-test.true c.requires.f_len words c.requires.f_in_bounds
+    c.loop-s.invariant.1 c.loop-s-test.true (search rules) words c.requires
 
 pub loop-s-preserved : goal.loop-s-preserved
 loop-s-preserved c =
@@ -21,7 +22,7 @@ loop-s-preserved c =
           (elim c.if-some.branch [
             | then-some w ↦ rw (w.out-is, w.next-is) w.put_size-next.ensures
             | else-some w ↦ rw (w.out-is, w.next-is)
-                (wrote-no-size N s.args.f.now _ c.loop-s.out c.loop-s.next c.loop-s.s _ s.requires.f_len c.joined_words-joined.ensures
+                (wrote-no-size N s.args.f.now _ c.loop-s.out c.loop-s.next c.loop-s.s _ (search rules) c.joined_words-joined.ensures
                 c.some_of_size-some.ensures w.if-some.false)
           ]),
     )

@@ -14,5 +14,5 @@ pub returns : goal.returns
 returns c =
     let small : c.args.chosen.0 < 2 ^ 64 = search rules in
     wrote-sets _ c.singles-values.ensures.each c.args.chosen.0 small c.weights_of-weights.result c.weights_of-weights.ensures
-    c.args.f.now c.args.out.now _ _ c.put_all.result _ c.requires.words (λ i. (c.type_inv.f i).fits)
+    c.args.f.now c.args.out.now _ _ c.put_all.result _ (search rules) (λ i. search rules)
     c.requires.exact c.requires.room c.of-sums.ensures.low_sums c.of-sums.ensures.high_sums c.put_all.ensures

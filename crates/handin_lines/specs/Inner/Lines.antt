@@ -10,9 +10,10 @@ use Rattle.register.specs.Afternoon.{RegisterCall, HandIn, Withdraw}
 use Rattle.handin_format.specs.Entries.{most_handed}
 use Rattle.handin_format.specs.Lines.{FieldAsked, ask_of, fields_filled, fields_there, field_questions, is_way, first_no_of, line_no, line_call}
 use Rattle.questions.specs.Refusals.{number}
-use Rattle.handin_lines.specs.declared.FieldRefusal.{FieldRefusal}
+use Rattle.handin_format.specs.declared.FieldRefusal.{FieldRefusal}
 use Rattle.handin_lines.specs.declared.lines.Form.{Form}
 use Rattle.handin_lines.specs.declared.lines.LineRead.{LineRead}
+use Rattle.handin_lines.specs.declared.lines.LineRead.TheVariants as read
 use Rattle.handin_lines.specs.Inner.Splitting.{split_from}
 use Rattle.handin_lines.specs.Inner.Sets.{handed_questions, sets_from}
 
@@ -53,9 +54,18 @@ pub record LineFound : Type 0 where
 abbrev pub no_line : ℕ → ℕ → LineFound
 no_line q k = record { number = q; place = k; withdraws = false; student = 0; target = 0; loss = false; start = 0; count = 0 }
 
+-- A hand-in whose sets begin at `start`, without its sets.
+abbrev pub attempt_read : ℕ → ℕ → Bool → ℕ → ℕ → LineFound
+attempt_read student target loss start count =
+    record { number = 0; place = 0; withdraws = false; student = student; target = target; loss = loss; start = start; count = count }
+
+-- A withdrawal.
+abbrev pub withdrawal_read : ℕ → LineFound
+withdrawal_read k = record { number = 0; place = 0; withdraws = true; student = k; target = 0; loss = false; start = 0; count = 0 }
+
 abbrev pub line_said : LineRead → LineFound
-line_said x =
-    record { number = 0; place = 0; withdraws = x.withdraws; student = x.student; target = x.target; loss = x.loss; start = x.start; count = x.count }
+line_said (read.Withdrawal k) = withdrawal_read k
+line_said (read.Attempt x start) = attempt_read x.student x.target x.loss start x.count
 
 abbrev pub line_found : Result LineRead FieldRefusal → LineFound
 line_found (Ok x) = line_said x
@@ -110,11 +120,6 @@ pub record ReadsWay (f : List ℕ) (r : WayField) : Type 0 where
 unfoldable pub attempt_questions : List ItemRow → List ℕ → List ℕ → List (List ℕ) → List FieldAsked
 attempt_questions items g h xs = ask_of 5 2 (is_name g) ∷ ask_of 8 2 (is_known items g) ∷ ask_of 5 3 (is_way h) ∷ handed_questions items xs
 
--- A hand-in whose sets begin at `start`, without its sets.
-abbrev pub attempt_read : ℕ → ℕ → Bool → ℕ → ℕ → LineFound
-attempt_read student target loss start count =
-    record { number = 0; place = 0; withdraws = false; student = student; target = target; loss = loss; start = start; count = count }
-
 -- The first no of the fields behind the student, and what they say where there is none.
 pub record ChecksAttempt (low high : List ℕ) (count : ℕ) (l : List ℕ) (form : FormFound) (student : ℕ) (r : LineFound) : Type 0 where
   pub first : (items : List ItemRow) → NameKeys items low high count
@@ -131,10 +136,10 @@ call_read items l r =
     cond r.withdraws (Withdraw r.student)
     (HandIn (record { student = r.student; target = r.target; loss = r.loss; handed = sets_from items r.start l }))
 
--- What is known of a line without a no: the call that it says, and how many sets it has; a withdrawal has none, and no target.
+-- What is known of a line without a no: the call that it says, and how many sets a hand-in has; a withdrawal has none, and no target.
 pub record SaysCall (items : List ItemRow) (l : List ℕ) (r : LineFound) : Type 0 where
   pub call : line_call items l ≡ call_read items l r
-  pub counted : r.count ≡ length (split_from 32 r.start l)
+  pub counted : r.withdraws ≡ false → r.count ≡ length (split_from 32 r.start l)
   pub few : r.count ≤ most_handed
   pub alone : r.withdraws ≡ true → (r.target ≡ 0) × (r.loss ≡ false) × (r.count ≡ 0)
 

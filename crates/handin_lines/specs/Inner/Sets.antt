@@ -7,7 +7,7 @@ use Rattle.handin_format.specs.Sets.{set_from}
 use Rattle.handin_format.specs.Entries.{most_handed}
 use Rattle.handin_format.specs.Lines.{FieldAsked, ask_of, first_no_of, set_questions}
 use Rattle.questions.specs.Refusals.{number}
-use Rattle.handin_lines.specs.declared.FieldRefusal.{FieldRefusal}
+use Rattle.handin_format.specs.declared.FieldRefusal.{FieldRefusal}
 use Rattle.handin_lines.specs.Inner.Splitting.{split_from}
 
 -- The number and the field of the first no; or 0, 0 and how many sets there are.

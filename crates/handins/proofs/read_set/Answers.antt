@@ -11,7 +11,7 @@ use Rattle.handins.proofs.read_set.Goals as goal
 pub returns-in-Err : goal.returns-in-Err
 returns-in-Err c =
     let a = c.args in
-    set-no-sheet a.sheet.now a.text.now (reading (Err c.in-Err.refused)) c.in-Err.ensures c.no_set.result (number_some _) c.no_set.ensures
+    set-no-sheet a.sheet.now a.text.now (reading (Err c.in-Err.refused)) c.in-Err.ensures _ (number_some _) refl
 
 pub keys_of-found-requires : goal.keys_of-found-requires
 keys_of-found-requires c = lines-there _ _ (accepts-of _ (reading (Ok c.in-Ok.setup)) c.in-Ok.ensures refl)
@@ -19,7 +19,7 @@ keys_of-found-requires c = lines-there _ _ (accepts-of _ (reading (Ok c.in-Ok.se
 pub returns-in-Err-set_of : goal.returns-in-Err-set_of
 returns-in-Err-set_of c =
     let a = c.args in
-    set-refused a.sheet.now a.text.now (reading (Ok c.in-Ok.setup)) c.in-Ok.ensures refl c.keys_of-found.result c.keys_of-found.ensures (set_field (Err c.in-Err-set_of.refusal)) c.in-Err-set_of.ensures c.no_set-in-Err-set_of.result (number_some _) c.no_set-in-Err-set_of.ensures
+    set-refused a.sheet.now a.text.now (reading (Ok c.in-Ok.setup)) c.in-Ok.ensures refl c.keys_of-found.result c.keys_of-found.ensures (set_field (Err c.in-Err-set_of.refusal)) c.in-Err-set_of.ensures _ (number_some _) refl
 
 pub returns-in-Ok-set_of : goal.returns-in-Ok-set_of
 returns-in-Ok-set_of c =

@@ -1,17 +1,18 @@
 use native.Mathlib.Omega.{arith}
 use borrow.Author.Rules.{rules}
+use Rattle.family_words.proofs.Families.{filled-part}
 use Rattle.lanes.proofs.Colours.{taken_none, taken_more, taken-done, admitted-none}
 use Rattle.lanes.proofs.admitted.Goals as goal
 
 pub returns-then-needed-eq0 : goal.returns-then-needed-eq0
 returns-then-needed-eq0 c =
     let a = c.args in
-    admitted-none a.w.now a.rows a.loss _ _ c.needed.ensures c.if-needed-eq0.true c.set_all.ensures
+    admitted-none a.w.now a.rows a.loss _ _ c.needed.ensures c.if-needed-eq0.true (filled-part 0 _ _ (search rules) (c.fill.ensures.after (λ y e. e)))
 
 pub loop-row-init : goal.loop-row-init
 loop-row-init c =
     let a = c.args in
-    taken_none a.w.now a.rows a.loss _ _ c.untaken-first.ensures c.set_all-2.ensures
+    taken_none a.w.now a.rows a.loss _ _ c.untaken.ensures (filled-part _ _ _ (search rules) (c.fill-2.ensures.after (λ y e. e)))
 
 pub loop-row-preserved : goal.loop-row-preserved
 loop-row-preserved c =

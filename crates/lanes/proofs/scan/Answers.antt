@@ -1,6 +1,4 @@
 use mathlib.Core.Path.{ap, ◌∙◌}
-use Prim.Native.Nat.{◌+◌, ◌-◌, ◌*◌}
-use native.Mathlib.Omega.{arith}
 use borrow.Author.Rules.{rules}
 use Rattle.successors.specs.declared.Vertices.{Vertices}
 use Rattle.lanes.proofs.Scans.{scan-first, scan-more, scan-done}
@@ -8,15 +6,13 @@ use Rattle.lanes.proofs.scan.Goals as goal
 
 pub loop-v-init : goal.loop-v-init
 loop-v-init c =
-    let v = c.lowest-first.result in
     let begun = ap (λ (i : Vertices). i.left) c.into_iter-v-iterator.ensures.into_iter_gives ∙ c.vertices_of-v-items.ensures in
-    rw begun (scan-first _ _ _ v _ (v * 16 + 16 - v * 16) _ c.lowest-first.ensures.vertex.member c.without.ensures (omega arith) (search rules) (search rules))
+    rw begun (scan-first _ _ _ _ _ _ c.lowest-first.ensures.vertex.member c.without.ensures (search rules) (search rules))
 
 pub loop-v-preserved : goal.loop-v-preserved
 loop-v-preserved c =
     let taken = c.in-Some.ensures.steps in
-    let v = c.in-Some.v in
-    scan-more _ _ _ _ v _ (v * 16 + 16 - v * 16) _ _ taken.0.vertex.member taken.1 (omega arith) c.loop-v.invariant c.merge_in.ensures
+    scan-more _ _ _ _ _ _ _ _ _ taken.0.vertex.member taken.1 c.part_of-in-loop-v.ensures c.loop-v.invariant c.merge_in.ensures
 
 pub returns : goal.returns
 returns c = scan-done _ _ _ _ _ c.in-None.ensures.steps c.loop-v.invariant

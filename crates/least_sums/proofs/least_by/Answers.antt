@@ -1,6 +1,7 @@
 use mathlib.Core.Path.{◌≡◌, ◌∙◌}
 use mathlib.Core.List.{map}
 use native.Mathlib.Omega.{arith}
+use borrow.Author.Rules.{rules}
 use lib.ListN.{get_or}
 use Rattle.family_lists.specs.Inner.Tables.{sum_by, masks_in}
 use Rattle.least_sums.specs.Inner.Least.{least_of}
@@ -20,5 +21,5 @@ loop-b-preserved c =
 pub returns : goal.returns
 returns c =
     let sums = sum_by c.args.sums.now.low c.args.sums.now.high in
-    least-sum c.args.f.now c.args.sums.now.low c.args.sums.now.high c.loop-b.least c.requires
+    least-sum c.args.f.now c.args.sums.now.low c.args.sums.now.high c.loop-b.least (search rules)
     (remaining-end sums c.args.f.now c.loop-b.least c.loop-b.b (omega arith) c.loop-b.invariant)

@@ -11,7 +11,7 @@ use Rattle.living.specs.Calls.{AddEdge, asks19, asks7, back, Done, CallOf}
 use Rattle.living.specs.Calls.{Redrawing}
 use Rattle.std.proofs.lemmas.Result.{err_from_is_err_and}
 use Rattle.living.proofs.Calls.{handed-on, asks_place, place-asked, place-yes, placed, edge-place}
-use Rattle.living.proofs.Drawing.{row-place, add-redrawn}
+use Rattle.living.proofs.Drawing.{add-redrawn}
 use Rattle.living.proofs.add_edge.Goals as goal
 
 pub returns-in_err-ask_place : goal.returns-in_err-ask_place
@@ -20,21 +20,14 @@ returns-in_err-ask_place c =
     let p = err_from_is_err_and c.from_residual.result c.from_residual.ensures.1 in
     handed-on a.s (AddEdge a.from a.to a.colour a.rec) (asks_place a.s a.from a.to a.colour) (asks19 a.s a.from a.to a.colour ∷ asks7 a.s ∷ []) refl _ p.0 (place-asked a.s a.from a.to a.colour _ c.well_formed-formed.ensures _ c.in_err-ask_place.ensures) _ p.1 p.2
 
-pub has_edge-requires : goal.has_edge-requires
-has_edge-requires c =
-    let yes-to : let a = c.args in AllYes (asks_place a.s a.from a.to a.colour) = let a = c.args in
-    place-yes a.s a.from a.to a.colour _ c.well_formed-formed.ensures _ c.in_ok-ask_place.ensures refl in
-    let a = c.args in
-    row-place a.s a.from a.to a.colour yes-to.0 (placed a.s a.from a.to a.colour yes-to)
-
-pub returns-then-has_edge : goal.returns-then-has_edge
+pub returns-then-is_in : goal.returns-then-is_in
 unfolding Asks
-returns-then-has_edge c =
+returns-then-is_in c =
     let yes-to : let a = c.args in AllYes (asks_place a.s a.from a.to a.colour) = let a = c.args in
     place-yes a.s a.from a.to a.colour _ c.well_formed-formed.ensures _ c.in_ok-ask_place.ensures refl in
     let behind : let a = c.args in (r : Redrawing) → Asks (back a.s) (asks19 a.s a.from a.to a.colour ∷ asks7 a.s ∷ []) (Done (AddEdge a.from a.to a.colour a.rec) a.s) r → CallOf (AddEdge a.from a.to a.colour a.rec) a.s r = λ r h. let a = c.args in
     ask-then (back a.s) (Done (AddEdge a.from a.to a.colour a.rec) a.s) (asks_place a.s a.from a.to a.colour) (asks19 a.s a.from a.to a.colour ∷ asks7 a.s ∷ []) r yes-to h in
-    behind _ (inl (λ n. n (c.has_edge.ensures.yes c.if-has_edge.true), refl))
+    behind _ (inl (λ n. n (c.is_in.ensures.yes c.if-is_in.true), refl))
 
 pub returns-then-edge_count : goal.returns-then-edge_count
 unfolding Asks
@@ -45,14 +38,14 @@ returns-then-edge_count c =
     ask-then (back a.s) (Done (AddEdge a.from a.to a.colour a.rec) a.s) (asks_place a.s a.from a.to a.colour) (asks19 a.s a.from a.to a.colour ∷ asks7 a.s ∷ []) r yes-to h in
     let a = c.args in
     let full : most_edges ≤ edge_count a.s.graph = subst (λ (x : ℕ). most_edges ≤ x) c.edge_count.ensures.0 c.if-edge_count.true in
-    behind _ (inr (c.has_edge.ensures.no c.if-has_edge.false, inl (λ l. omega arith, refl)))
+    behind _ (inr (c.is_in.ensures.no c.if-is_in.false, inl (λ l. omega arith, refl)))
 
-pub draw_edge-requires : goal.draw_edge-requires
-draw_edge-requires c =
+pub invariant_of-edge : goal.invariant_of-edge
+invariant_of-edge c =
     let yes-to : let a = c.args in AllYes (asks_place a.s a.from a.to a.colour) = let a = c.args in
     place-yes a.s a.from a.to a.colour _ c.well_formed-formed.ensures _ c.in_ok-ask_place.ensures refl in
     let a = c.args in
-    edge-place a.s a.from a.to a.colour yes-to
+    record { place = edge-place a.s a.from a.to a.colour yes-to }
 
 pub returns : goal.returns
 unfolding Asks
@@ -63,15 +56,15 @@ returns c =
     ask-then (back a.s) (Done (AddEdge a.from a.to a.colour a.rec) a.s) (asks_place a.s a.from a.to a.colour) (asks19 a.s a.from a.to a.colour ∷ asks7 a.s ∷ []) r yes-to h in
     let a = c.args in
     let y = yes-to in
-    let d = c.draw_edge.ensures in
+    let d = c.draw.ensures in
     let room : edge_count a.s.graph < most_edges = subst (λ (x : ℕ). x < most_edges) c.edge_count.ensures.0 c.if-edge_count.false in
     behind _ (inr (
-      c.has_edge.ensures.no c.if-has_edge.false,
+      c.is_in.ensures.no c.if-is_in.false,
       inr (
         room,
         record {
           numbered = refl;
-          redrawn = add-redrawn a.s c.draw_edge.result a.from a.to a.colour y.0 (placed a.s a.from a.to a.colour y) d.graph d.recovery d.drawn a.rec d.more d.marked;
+          redrawn = add-redrawn a.s c.draw.result a.from a.to a.colour y.0 (placed a.s a.from a.to a.colour y) d.graph d.recovery d.drawn a.rec d.more d.marked;
         },
       ),
     ))

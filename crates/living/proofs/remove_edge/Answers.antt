@@ -7,7 +7,7 @@ use Rattle.living.specs.Calls.{RemoveEdge, asks20, back, Done, CallOf}
 use Rattle.living.specs.Calls.{Redrawing}
 use Rattle.std.proofs.lemmas.Result.{err_from_is_err_and}
 use Rattle.living.proofs.Calls.{handed-on, asks_place, place-asked, place-yes, placed, edge-place}
-use Rattle.living.proofs.Drawing.{row-place, remove-redrawn}
+use Rattle.living.proofs.Drawing.{remove-redrawn}
 use Rattle.living.proofs.remove_edge.Goals as goal
 
 pub returns-in_err-ask_place : goal.returns-in_err-ask_place
@@ -16,19 +16,12 @@ returns-in_err-ask_place c =
     let p = err_from_is_err_and c.from_residual.result c.from_residual.ensures.1 in
     handed-on a.s (RemoveEdge a.from a.to a.colour) (asks_place a.s a.from a.to a.colour) (asks20 a.s a.from a.to a.colour ∷ []) refl _ p.0 (place-asked a.s a.from a.to a.colour _ c.well_formed-formed.ensures _ c.in_err-ask_place.ensures) _ p.1 p.2
 
-pub has_edge-requires : goal.has_edge-requires
-has_edge-requires c =
+pub invariant_of-edge : goal.invariant_of-edge
+invariant_of-edge c =
     let yes-to : let a = c.args in AllYes (asks_place a.s a.from a.to a.colour) = let a = c.args in
     place-yes a.s a.from a.to a.colour _ c.well_formed-formed.ensures _ c.in_ok-ask_place.ensures refl in
     let a = c.args in
-    row-place a.s a.from a.to a.colour yes-to.0 (placed a.s a.from a.to a.colour yes-to)
-
-pub erase_edge-requires : goal.erase_edge-requires
-erase_edge-requires c =
-    let yes-to : let a = c.args in AllYes (asks_place a.s a.from a.to a.colour) = let a = c.args in
-    place-yes a.s a.from a.to a.colour _ c.well_formed-formed.ensures _ c.in_ok-ask_place.ensures refl in
-    let a = c.args in
-    edge-place a.s a.from a.to a.colour yes-to
+    record { place = edge-place a.s a.from a.to a.colour yes-to }
 
 pub returns : goal.returns
 unfolding Asks
@@ -39,20 +32,20 @@ returns c =
     ask-then (back a.s) (Done (RemoveEdge a.from a.to a.colour) a.s) (asks_place a.s a.from a.to a.colour) (asks20 a.s a.from a.to a.colour ∷ []) r yes-to h in
     let a = c.args in
     let y = yes-to in
-    let d = c.erase_edge.ensures in
+    let d = c.erase.ensures in
     behind _ (inr (
-      c.has_edge.ensures.yes c.if-not-has_edge.false,
+      c.is_in.ensures.yes c.if-not-is_in.false,
       record {
         numbered = refl;
-        redrawn = remove-redrawn a.s c.erase_edge.result a.from a.to a.colour y.0 (placed a.s a.from a.to a.colour y) d.graph d.recovery d.drawn d.less d.unmarked;
+        redrawn = remove-redrawn a.s c.erase.result a.from a.to a.colour y.0 (placed a.s a.from a.to a.colour y) d.graph d.recovery d.drawn d.less d.unmarked;
       },
     ))
 
-pub returns-then-not-has_edge : goal.returns-then-not-has_edge
+pub returns-then-not-is_in : goal.returns-then-not-is_in
 unfolding Asks
-returns-then-not-has_edge c =
+returns-then-not-is_in c =
     let yes-to : let a = c.args in AllYes (asks_place a.s a.from a.to a.colour) = let a = c.args in
     place-yes a.s a.from a.to a.colour _ c.well_formed-formed.ensures _ c.in_ok-ask_place.ensures refl in
     let behind : let a = c.args in (r : Redrawing) → Asks (back a.s) (asks20 a.s a.from a.to a.colour ∷ []) (Done (RemoveEdge a.from a.to a.colour) a.s) r → CallOf (RemoveEdge a.from a.to a.colour) a.s r = λ r h. let a = c.args in
     ask-then (back a.s) (Done (RemoveEdge a.from a.to a.colour) a.s) (asks_place a.s a.from a.to a.colour) (asks20 a.s a.from a.to a.colour ∷ []) r yes-to h in
-    behind _ (inl (c.has_edge.ensures.no c.if-not-has_edge.true, refl))
+    behind _ (inl (c.is_in.ensures.no c.if-not-is_in.true, refl))

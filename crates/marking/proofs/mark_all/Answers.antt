@@ -21,8 +21,8 @@ overflow_add-different c =
     let small : chosen < 2 ^ 64 = search rules in
     let words : Words handed = λ i. (c.type_inv.handed i).fits in
     let is : Seen chosen handed seen = c.see_all.ensures in
-    let e = c.count_members-inside.ensures in
-    let h = different-le chosen family minimal handed seen c.count_outsiders-outsiders.result small c.requires words is c.count_outsiders-outsiders.ensures in
+    let e = c.count_members-inside.ensures.count in
+    let h = different-le chosen family minimal handed seen c.count_outsiders-outsiders.result small c.requires (search rules) (search rules) words is c.count_members-inside.ensures.words c.count_outsiders-outsiders.ensures in
     let g = c.well_formed.0 in
     search rules
 
@@ -37,8 +37,8 @@ overflow_sub-result c =
     let small : chosen < 2 ^ 64 = search rules in
     let words : Words handed = λ i. (c.type_inv.handed i).fits in
     let is : Seen chosen handed seen = c.see_all.ensures in
-    let e = c.count_members-inside.ensures in
-    let h = different-le chosen family minimal handed seen c.count_outsiders-outsiders.result small c.requires words is c.count_outsiders-outsiders.ensures in
+    let e = c.count_members-inside.ensures.count in
+    let h = different-le chosen family minimal handed seen c.count_outsiders-outsiders.result small c.requires (search rules) (search rules) words is c.count_members-inside.ensures.words c.count_outsiders-outsiders.ensures in
     omega arith
 
 pub overflow_sub-result-2 : goal.overflow_sub-result-2
@@ -52,9 +52,9 @@ overflow_sub-result-2 c =
     let small : chosen < 2 ^ 64 = search rules in
     let words : Words handed = λ i. (c.type_inv.handed i).fits in
     let is : Seen chosen handed seen = c.see_all.ensures in
-    let e = c.count_members-inside.ensures in
+    let e = c.count_members-inside.ensures.count in
     let f = c.count_common-opening.ensures in
-    let h = opening-le chosen family minimal handed seen c.count_outsiders-outsiders.result small c.requires words is c.count_outsiders-outsiders.ensures in
+    let h = opening-le chosen family minimal handed seen c.count_outsiders-outsiders.result small c.requires (search rules) (search rules) words is c.count_members-inside.ensures.words c.count_outsiders-outsiders.ensures in
     omega arith
 
 pub overflow_sub-result-3 : goal.overflow_sub-result-3
@@ -70,7 +70,7 @@ overflow_sub-result-3 c =
     let is : Seen chosen handed seen = c.see_all.ensures in
     let e = c.count_common-right.ensures in
     let f = c.count_common-opening.ensures in
-    let h = right_le chosen family minimal handed seen c.count_outsiders-outsiders.result small c.requires words is c.count_outsiders-outsiders.ensures in
+    let h = right_le chosen family minimal handed seen c.count_outsiders-outsiders.result small c.requires (search rules) (search rules) words is c.count_members-inside.ensures.words c.count_outsiders-outsiders.ensures in
     omega arith
 
 pub returns : goal.returns
@@ -84,5 +84,5 @@ returns c =
     let small : chosen < 2 ^ 64 = search rules in
     let words : Words handed = λ i. (c.type_inv.handed i).fits in
     let is : Seen chosen handed seen = c.see_all.ensures in
-    rw (c.count_common-right.ensures, c.count_common-opening.ensures, c.count_members-inside.ensures)
-    (marked_all chosen family minimal handed seen c.count_outsiders-outsiders.result small c.requires words is c.count_outsiders-outsiders.ensures)
+    rw (c.count_common-right.ensures, c.count_common-opening.ensures, c.count_members-inside.ensures.count)
+    (marked_all chosen family minimal handed seen c.count_outsiders-outsiders.result small c.requires (search rules) (search rules) words is c.count_members-inside.ensures.words c.count_outsiders-outsiders.ensures)

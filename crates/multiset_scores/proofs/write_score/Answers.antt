@@ -3,7 +3,7 @@
 use mathlib.Core.Logic.{inl, inr}
 use native.Mathlib.Omega.{arith}
 use borrow.Author.Rules.{rules}
-use Rattle.multiset_scores.proofs.Calls.{bags-short, rows_fit, bags-room}
+use Rattle.multiset_scores.proofs.Calls.{bags-short, count, rows_fit, bags-room}
 use Rattle.multiset_scores.proofs.write_score.Goals as goal
 
 pub returns-then-lengths-n : goal.returns-then-lengths-n
@@ -27,9 +27,10 @@ write_rows-requires c =
 
 pub write_lengths-requires : goal.write_lengths-requires
 write_lengths-requires c =
-    let l = c.find_score-n.ensures.long in
-    let m = c.find_score-n.ensures.most in
-    record { n_in_bounds = omega arith; n_in_bounds_2 = c.if-lengths-n.false }
+    let a = c.args in
+    let k = count a.s a.target a.places.now a.lengths.now _ c.find_score-n.result c.find_score-n.ensures in
+    let l = c.if-lengths-n.false in
+    omega arith
 
 pub returns : goal.returns
 returns c =

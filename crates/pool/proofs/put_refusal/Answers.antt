@@ -1,13 +1,14 @@
 -- `pool::put_refusal` meets its contract: the line has four fields.
+use borrow.Author.Rules.{rules}
 use mathlib.Core.List.{List, ◌++◌}
 use mathlib.Core.Path.{◌≡◌, refl}
 use Prim.Native.Nat.{ℕ, ◌^◌, ◌<◌, ◌≤◌}
 use native.Mathlib.Omega.{arith}
 use lib.ListN.{length, length-append}
-use Rattle.written.proofs.Writing.{wrote_then, room-then}
 use Rattle.sheet_format.specs.Text.{bytes_of}
 use Rattle.sheet_format.specs.Fields.{decimal}
 use Rattle.writing.specs.Inner.{ended}
+use Rattle.writing.proofs.Pens.{penned_then, room_then, start_room, start_wrote}
 use Rattle.pool.specs.Printed.{refusal_line}
 use Rattle.pool.proofs.Telling.{number_short, line-written}
 use Rattle.pool.proofs.put_refusal.Goals as goal
@@ -37,35 +38,36 @@ lengths sheet number line s n l =
     let z = length-append (three sheet number) (ended (decimal line) 10) in
     (o, omega arith, omega arith, omega arith)
 
-pub put_field-next-requires : goal.put_field-next-requires
-put_field-next-requires c =
+pub put_field-requires : goal.put_field-requires
+put_field-requires c =
     let l = lengths _ _ _ c.ranges.sheet.fits c.ranges.number.fits c.ranges.line.fits in
-    omega (arith, l.0, c.requires)
-
-pub put_number-next-requires : goal.put_number-next-requires
-put_number-next-requires c =
-    let l = lengths _ _ _ c.ranges.sheet.fits c.ranges.number.fits c.ranges.line.fits in
-    room-then _ _ _ _ _ c.put_field-next.ensures (ended (decimal c.args.sheet) 32) (omega (arith, l.1, c.requires))
-
-pub put_number-next-requires-2 : goal.put_number-next-requires-2
-put_number-next-requires-2 c =
-    let l = lengths _ _ _ c.ranges.sheet.fits c.ranges.number.fits c.ranges.line.fits in
-    let w = wrote_then _ _ _ _ _ c.put_field-next.ensures _ _ _ c.put_number-next.ensures in
-    room-then _ _ _ _ _ w (ended (decimal c.args.number) 32) (omega (arith, l.2, c.requires))
+    start_room _ _ c.new-pen.ensures one (omega (arith, l.0, c.requires))
 
 pub put_number-requires : goal.put_number-requires
 put_number-requires c =
     let l = lengths _ _ _ c.ranges.sheet.fits c.ranges.number.fits c.ranges.line.fits in
-    let w = wrote_then _ _ _ _ _ c.put_field-next.ensures _ _ _ c.put_number-next.ensures in
-    let v = wrote_then _ _ _ _ _ w _ _ _ c.put_number-next-2.ensures in
-    room-then _ _ _ _ _ v (ended (decimal c.args.line) 10) (omega (arith, l.3, c.requires))
+    room_then _ _ _ c.put_field.ensures (ended (decimal c.args.sheet) 32) (start_room _ _ c.new-pen.ensures (two c.args.sheet) (omega (arith, l.1, c.requires)))
+
+pub put_number-requires-2 : goal.put_number-requires-2
+put_number-requires-2 c =
+    let l = lengths _ _ _ c.ranges.sheet.fits c.ranges.number.fits c.ranges.line.fits in
+    let w = penned_then _ _ _ c.put_field.ensures _ _ c.put_number.ensures in
+    room_then _ _ _ w (ended (decimal c.args.number) 32) (start_room _ _ c.new-pen.ensures (three c.args.sheet c.args.number) (omega (arith, l.2, c.requires)))
+
+pub put_number-requires-3 : goal.put_number-requires-3
+put_number-requires-3 c =
+    let l = lengths _ _ _ c.ranges.sheet.fits c.ranges.number.fits c.ranges.line.fits in
+    let w = penned_then _ _ _ c.put_field.ensures _ _ c.put_number.ensures in
+    let v = penned_then _ _ _ w _ _ c.put_number-2.ensures in
+    room_then _ _ _ v (ended (decimal c.args.line) 10) (start_room _ _ c.new-pen.ensures (four c.args.sheet c.args.number c.args.line) (omega (arith, l.3, c.requires)))
 
 pub returns : goal.returns
 unfolding refusal_line
 returns c =
     let l = lengths _ _ _ c.ranges.sheet.fits c.ranges.number.fits c.ranges.line.fits in
-    let w = wrote_then _ _ _ _ _ c.put_field-next.ensures _ _ _ c.put_number-next.ensures in
-    let v = wrote_then _ _ _ _ _ w _ _ _ c.put_number-next-2.ensures in
-    let u = wrote_then _ _ _ _ _ v _ _ _ c.put_number.ensures in
+    let w = penned_then _ _ _ c.put_field.ensures _ _ c.put_number.ensures in
+    let v = penned_then _ _ _ w _ _ c.put_number-2.ensures in
+    let u = penned_then _ _ _ v _ _ c.put_number-3.ensures in
     let room : length (four c.args.sheet c.args.number c.args.line) ≤ length c.args.out.now = omega (arith, l.3, c.requires) in
-    line-written (bytes_of "pool: refused") (decimal c.args.sheet) (decimal c.args.number) (decimal c.args.line) c.args.out.now _ _ u room
+    let row = line-written (bytes_of "pool: refused") (decimal c.args.sheet) (decimal c.args.number) (decimal c.args.line) c.args.out.now _ _ (start_wrote _ _ c.new-pen.ensures _ _ u) room in
+    search (rules, row)

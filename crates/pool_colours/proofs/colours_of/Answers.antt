@@ -3,15 +3,15 @@ use Prim.Native.Nat.{◌≤◌}
 use native.Mathlib.Omega.{arith}
 use lib.ListN.{length, drop, length-drop}
 use Rattle.sheet_fields.proofs.Cutting.{until-le}
-use Rattle.pool_colours.proofs.Edges.{colours-none, colours-full, colours-ninth, colours-more, colours-all}
+use Rattle.pool_colours.proofs.Edges.{colours-none, colours-full, colours-none-left, colours-ninth, colours-more, colours-all}
 use Rattle.pool_colours.proofs.colours_of.Goals as goal
 
 pub loop-at-init : goal.loop-at-init
-loop-at-init c = (search rules, colours-none _ _ _ _ _ _ _ _ _ _ (search rules))
+loop-at-init c = (search rules, colours-none _ _ _ _ _ _ _ _ _ (search rules))
 
 pub returns-then-edges-ge-MAX_EDGES : goal.returns-then-edges-ge-MAX_EDGES
 returns-then-edges-ge-MAX_EDGES c =
-    colours-full _ _ _ _ _ _ _ _ _ _ _ _ c.loop-at.invariant.1 c.loop-at-test.true c.if-edges-ge-MAX_EDGES.true
+    colours-full _ _ _ _ _ _ _ _ _ _ _ c.loop-at.invariant.1 c.loop-at-test.true c.if-edges-ge-MAX_EDGES.true
 
 pub slice_bounds-edge_colour-count : goal.slice_bounds-edge_colour-count
 slice_bounds-edge_colour-count c =
@@ -43,9 +43,14 @@ slice_bounds-edge_colour-end c =
     (omega arith, omega arith) in
     line-end.1
 
+pub returns-in_err-colour : goal.returns-in_err-colour
+returns-in_err-colour c =
+    rw c.from_residual.ensures
+    (colours-none-left _ _ _ _ _ _ _ _ _ _ _ c.loop-at.invariant.1 c.loop-at-test.true c.find-end.result c.find-end.ensures c.edge_colour.result c.edge_colour.ensures c.in_err-colour.was)
+
 pub returns-then-colour-gt-MAX_COLOUR : goal.returns-then-colour-gt-MAX_COLOUR
 returns-then-colour-gt-MAX_COLOUR c =
-    colours-ninth _ _ _ _ _ _ _ _ _ _ _ _ c.loop-at.invariant.1 c.loop-at-test.true c.find-end.result c.find-end.ensures c.edge_colour-colour.result c.edge_colour-colour.ensures c.if-colour-gt-MAX_COLOUR.true
+    colours-ninth _ _ _ _ _ _ _ _ _ _ _ c.loop-at.invariant.1 c.loop-at-test.true c.find-end.result c.find-end.ensures c.edge_colour.result c.edge_colour.ensures _ c.in_ok-colour.was c.if-colour-gt-MAX_COLOUR.true
 
 pub overflow_add-at : goal.overflow_add-at
 overflow_add-at c =
@@ -76,9 +81,9 @@ loop-at-smaller c =
 pub loop-at-preserved : goal.loop-at-preserved
 loop-at-preserved c = (
   search rules,
-  colours-more _ _ _ _ _ _ _ _ _ _ _ _ c.loop-at.invariant.1 c.loop-at-test.true c.find-end.result c.find-end.ensures c.edge_colour-colour.result c.edge_colour-colour.ensures c.if-colour-gt-MAX_COLOUR.false c.if-edges-ge-MAX_EDGES.false,
+  colours-more _ _ _ _ _ _ _ _ _ _ _ c.loop-at.invariant.1 c.loop-at-test.true c.find-end.result c.find-end.ensures c.edge_colour.result c.edge_colour.ensures _ c.in_ok-colour.was c.if-colour-gt-MAX_COLOUR.false c.if-edges-ge-MAX_EDGES.false,
 )
 
 pub returns : goal.returns
 returns c =
-    colours-all _ _ _ _ _ _ _ _ _ _ _ _ c.loop-at.invariant.1 c.loop-at-test.false
+    colours-all _ _ _ _ _ _ _ _ _ _ _ c.loop-at.invariant.1 c.loop-at-test.false

@@ -1,5 +1,5 @@
 -- Inner: agreement of items in both sheets, and what is counted of the others.
-use Rattle.std.specs.Prelude.{◌≡◌, List, ℕ, suc, ◌+◌, ◌^◌, ◌≤◌, ◌<◌, length, get_or}
+use Rattle.std.specs.Prelude.{◌≡◌, Option, Some, None, List, ℕ, suc, ◌+◌, ◌^◌, ◌≤◌, ◌<◌, length, get_or}
 use Rattle.setup.specs.Bounds.{most_bytes}
 use Rattle.setup.specs.declared.Vertex.{Vertex}
 use Rattle.setup.specs.Setup.{unused_vertex, given}
@@ -9,9 +9,9 @@ use Rattle.pool_format.specs.Rows.{remaining}
 use Rattle.pool_format.specs.Inner.{PlacesAmong}
 use Rattle.pool_items.specs.declared.Remaining.{Remaining}
 
--- Each of the second vertices that has a place among the first na is the same as the one there.
-pub record AllAgree (first : List Vertex) (na : ℕ) (second : List Vertex) (nb : ℕ) (places : List ℕ) : Type 0 where
-  pub each : (j : ℕ) → j < nb → get_or places j 0 < na → get_or first (get_or places j 0) unused_vertex ≡ get_or second j unused_vertex
+-- Each of the second vertices that has a place in the first is the same as the one there.
+pub record AllAgree (first second : List Vertex) (nb : ℕ) (places : List (Option ℕ)) : Type 0 where
+  pub each : (j i : ℕ) → j < nb → get_or places j None ≡ Some i → get_or first i unused_vertex ≡ get_or second j unused_vertex
 
 -- Sums that one item more does not make too large.
 pub record Small (r : Remaining) (size : ℕ) : Type 0 where
@@ -46,5 +46,5 @@ pub record ItemCounts (zs : List ItemRow) (r : Remaining) : Type 0 where
   pub bytes : r.bytes ≡ length (item_lines zs)
 
 -- For whatever item rows the places are of, those that remain are counted.
-pub record CountsRemaining (vertices : List Vertex) (nb : ℕ) (places : List ℕ) (na : ℕ) (from : List ℕ) (r : Remaining) : Type 0 where
-  pub each : (xs ys : List ItemRow) → PlacesAmong xs ys places → na ≡ length xs → nb ≡ length ys → ItemRowsAt ys vertices from → ItemCounts (remaining xs ys) r
+pub record CountsRemaining (vertices : List Vertex) (nb : ℕ) (places : List (Option ℕ)) (from : List ℕ) (r : Remaining) : Type 0 where
+  pub each : (xs ys : List ItemRow) → PlacesAmong xs ys places → nb ≡ length ys → ItemRowsAt ys vertices from → ItemCounts (remaining xs ys) r

@@ -4,7 +4,7 @@ use Prim.Native.Nat.{◌-◌}
 use native.Mathlib.Omega.{arith}
 use lib.ListN.{length}
 use lib.Seq.{length-take-le}
-use Rattle.pool_text.proofs.Rows.{digit-first, digit_room, digit-wrote}
+use Rattle.pool_text.proofs.Rows.{digit-first, digit_room, digit-penned}
 use Rattle.pool_text.proofs.put_edge.Goals as goal
 
 pub slice_bounds-put_field-end : goal.slice_bounds-put_field-end
@@ -12,9 +12,9 @@ slice_bounds-put_field-end c =
     let l = c.args.line.now in
     sym (length-take-le (length l - 3) l (omega arith))
 
-pub put_field-next-requires : goal.put_field-next-requires
-put_field-next-requires c =
-    digit-first c.args.line.now c.args.digit c.args.at _ c.requires.1
+pub put_field-requires : goal.put_field-requires
+put_field-requires c =
+    digit-first c.args.line.now c.args.digit c.args.pen.now c.requires.1
 
 pub overflow_add-split : goal.overflow_add-split
 overflow_add-split c =
@@ -31,10 +31,9 @@ slice_bounds-put_field-start c =
     let l = c.requires.0 in
     omega arith
 
-pub put_field-requires : goal.put_field-requires
-put_field-requires c =
-    digit_room c.args.line.now c.args.digit _ _ _ _ c.put_field-next.ensures c.requires.1
+pub put_field-requires-2 : goal.put_field-requires-2
+put_field-requires-2 c = digit_room c.args.line.now c.args.digit _ _ c.put_field.ensures c.requires.1
 
 pub returns : goal.returns
 returns c =
-    digit-wrote c.args.line.now c.args.digit _ _ _ _ c.put_field-next.ensures _ _ c.put_field.ensures
+    digit-penned c.args.line.now c.args.digit _ _ c.put_field.ensures _ c.put_field-2.ensures

@@ -1,17 +1,17 @@
 use Prim.Native.Nat.{◌-◌, ◌≤◌, ◌<◌}
 use native.Mathlib.Omega.{arith}
 use lib.ListN.{length, drop, length-drop}
-use Rattle.written.proofs.Writing.{writing-end}
+use Rattle.writing.proofs.Pens.{pen_end}
 use Rattle.sheet_fields.proofs.Cutting.{until-le}
 use Rattle.pool_text.proofs.Rows.{edges-first, edge-can, edge-room, edges-next, edges-over}
 use Rattle.pool_text.proofs.put_edges.Goals as goal
 
 pub loop-from-init : goal.loop-from-init
-loop-from-init c = edges-first _ _ _ _ _ c.requires.can_put
+loop-from-init c = edges-first _ _ _ _ c.requires.can_put
 
 pub bounds-digits-k : goal.bounds-digits-k
 bounds-digits-k c =
-    let can : c.loop-from.k < 256 = (edge-can _ _ _ _ _ _ _ _ _ c.loop-from.invariant c.loop-from-test.true c.find-end.result c.find-end.ensures).1 in
+    let can : c.loop-from.k < 256 = (edge-can _ _ _ _ _ _ _ c.loop-from.invariant c.loop-from-test.true c.find-end.result c.find-end.ensures).1 in
     can
 
 pub slice_bounds-put_edge-count : goal.slice_bounds-put_edge-count
@@ -44,10 +44,10 @@ slice_bounds-put_edge-end c =
     (omega arith, omega arith) in
     line-end.1
 
-pub put_edge-next-requires : goal.put_edge-next-requires
-put_edge-next-requires c = (
-  (edge-can _ _ _ _ _ _ _ _ _ c.loop-from.invariant c.loop-from-test.true c.find-end.result c.find-end.ensures).0,
-  edge-room _ _ _ _ _ _ _ _ _ c.loop-from.invariant c.loop-from-test.true c.find-end.result c.find-end.ensures c.requires.digits_in_bounds,
+pub put_edge-requires : goal.put_edge-requires
+put_edge-requires c = (
+  (edge-can _ _ _ _ _ _ _ c.loop-from.invariant c.loop-from-test.true c.find-end.result c.find-end.ensures).0,
+  edge-room _ _ _ _ _ _ _ c.loop-from.invariant c.loop-from-test.true c.find-end.result c.find-end.ensures c.requires.room,
 )
 
 pub overflow_add-from : goal.overflow_add-from
@@ -64,7 +64,7 @@ overflow_add-from c =
 
 pub overflow_add-k : goal.overflow_add-k
 overflow_add-k c =
-    let can : c.loop-from.k < 256 = (edge-can _ _ _ _ _ _ _ _ _ c.loop-from.invariant c.loop-from-test.true c.find-end.result c.find-end.ensures).1 in
+    let can : c.loop-from.k < 256 = (edge-can _ _ _ _ _ _ _ c.loop-from.invariant c.loop-from-test.true c.find-end.result c.find-end.ensures).1 in
     let b = can in
     omega arith
 
@@ -84,11 +84,8 @@ loop-from-smaller c =
 
 pub loop-from-preserved : goal.loop-from-preserved
 loop-from-preserved c =
-    edges-next _ _ _ _ _ _ _ _ _ c.loop-from.invariant c.loop-from-test.true c.find-end.result c.find-end.ensures _ _ c.put_edge-next.ensures
-
-pub shape_of-out : goal.shape_of-out
-shape_of-out c = c.loop-from.invariant.left.long
+    edges-next _ _ _ _ _ _ _ c.loop-from.invariant c.loop-from-test.true c.find-end.result c.find-end.ensures _ c.put_edge.ensures
 
 pub returns : goal.returns
 returns c =
-    writing-end _ _ _ _ _ _ (edges-over _ _ _ _ c.loop-from-test.false) c.loop-from.invariant.left
+    pen_end _ _ _ _ (edges-over _ _ _ _ c.loop-from-test.false) c.loop-from.invariant.left

@@ -8,7 +8,7 @@ use Rattle.pool_text.proofs.put_edges.Given as goal
 
 -- The lines from `from` on are still to be written, with the digits from the place k on.
 abbrev pub invariant-loop-from : goal.invariant-loop-from
-invariant-loop-from l = EdgesLeft l.s l.digits l.initial.out l.at (with_digits (lines_of (drop l.start l.s)) l.digits 0) l.out l.next l.from l.k
+invariant-loop-from l = EdgesLeft l.s l.digits l.initial.pen (with_digits (lines_of (drop l.start l.s)) l.digits 0) l.pen l.from l.k
 
 abbrev pub decreases-loop-from : goal.decreases-loop-from
 decreases-loop-from l = length l.s - l.from

@@ -1,9 +1,8 @@
 -- `pooling::plan_of` meets its contract: agreement, bounds and colours, in this order.
 use native.Mathlib.Omega.{arith}
-use mathlib.Core.Path.{refl}
+use mathlib.Core.Path.{refl, ◌∙◌}
 use Prim.Native.Nat.{◌+◌, ◌≤◌}
 use lib.ListN.{length, get_or}
-use Rattle.pooling.specs.Inner.{BothRead}
 use Rattle.sheet_lines.proofs.Accepted.{lines-there}
 use Rattle.pooling.proofs.Calls.{text-short, start-there, both_read, bytes_small}
 use Rattle.pooling.proofs.Plans.{both-start, plan-disagrees, plan-beyond, plan-ninth, plan-ready}
@@ -15,89 +14,69 @@ keys_of-own-requires c = lines-there _ _ c.requires.0
 pub keys_of-keys-requires : goal.keys_of-keys-requires
 keys_of-keys-requires c = lines-there _ _ c.requires.1
 
-pub all_agree-requires : goal.all_agree-requires
-all_agree-requires c =
-    let p = c.requires in
-    ((lines-there _ _ p.0).few, (lines-there _ _ p.1).few)
-
 pub returns-then-not-all_agree : goal.returns-then-not-all_agree
-returns-then-not-all_agree c =
-    plan-disagrees _ _ _ _ c.keys_of-own.result c.keys_of-keys.result _ c.requires c.keys_of-own.ensures c.keys_of-keys.ensures c.places_of-places.ensures
-    c.all_agree.result c.all_agree.ensures c.if-not-all_agree.true
+returns-then-not-all_agree c = plan-disagrees _ _ _ _ c.keys_of-own.result c.keys_of-keys.result c.of-shared.result c.requires c.keys_of-own.ensures c.keys_of-keys.ensures c.of-shared.ensures.places (c.of-shared.ensures.count ∙ c.keys_of-keys.ensures.size) c.all_agree.result c.all_agree.ensures c.if-not-all_agree.true
 
-pub bounds_of-bounds-requires : goal.bounds_of-bounds-requires
-bounds_of-bounds-requires c =
-    both_read _ _ _ _ c.keys_of-own.result c.keys_of-keys.result _ c.requires c.keys_of-own.ensures c.keys_of-keys.ensures c.places_of-places.ensures
+pub bounds_of-requires : goal.bounds_of-requires
+bounds_of-requires c = record { both = both_read _ _ _ _ c.keys_of-own.result c.keys_of-keys.result _ c.requires c.keys_of-own.ensures c.keys_of-keys.ensures c.of-shared.ensures.places; count = c.of-shared.ensures.count ∙ c.keys_of-keys.ensures.size }
 
-pub returns-then-not-bounds : goal.returns-then-not-bounds
-returns-then-not-bounds c =
-    plan-beyond _ _ _ _ c.keys_of-own.result c.keys_of-keys.result _ c.requires c.keys_of-own.ensures c.keys_of-keys.ensures c.places_of-places.ensures
-    c.all_agree.result c.all_agree.ensures c.if-not-all_agree.false c.bounds_of-bounds.result c.bounds_of-bounds.ensures c.if-not-bounds.true
+pub returns-in_default : goal.returns-in_default
+returns-in_default c =
+    plan-beyond _ _ _ _ c.keys_of-own.result c.keys_of-keys.result c.of-shared.result c.requires c.keys_of-own.ensures c.keys_of-keys.ensures c.of-shared.ensures.places (c.of-shared.ensures.count ∙ c.keys_of-keys.ensures.size) c.all_agree.result c.all_agree.ensures c.if-not-all_agree.false c.bounds_of.result c.bounds_of.ensures c.in_default.is
 
-pub offset_bounds-from-count : goal.offset_bounds-from-count
-offset_bounds-from-count c =
-    let begins : (get_or c.keys_of-keys.result.from c.args.b.count 0 + 20 ≤ length c.args.second.now) × (c.args.b.count ≤ 64) = let p = c.requires in
-    let r = both-start _ _ _ _ c.keys_of-own.result c.keys_of-keys.result _ p c.keys_of-own.ensures c.keys_of-keys.ensures c.places_of-places.ensures in
+pub offset_bounds-keys-b : goal.offset_bounds-keys-b
+offset_bounds-keys-b c =
+    let begins : (get_or c.keys_of-keys.result.from c.args.b.now.count 0 + 20 ≤ length c.args.second.now) × (c.args.b.now.count ≤ 64) = let p = c.requires in
+    let r = both-start _ _ _ _ c.keys_of-own.result c.keys_of-keys.result c.of-shared.result c.requires c.keys_of-own.ensures c.keys_of-keys.ensures c.of-shared.ensures.places (c.of-shared.ensures.count ∙ c.keys_of-keys.ensures.size) in
     (start-there _ _ _ p.1 r.1, (lines-there _ _ p.1).few) in
     let b = begins.1 in omega arith
 
-pub bounds-from-count : goal.bounds-from-count
-bounds-from-count c =
-    let begins : (get_or c.keys_of-keys.result.from c.args.b.count 0 + 20 ≤ length c.args.second.now) × (c.args.b.count ≤ 64) = let p = c.requires in
-    let r = both-start _ _ _ _ c.keys_of-own.result c.keys_of-keys.result _ p c.keys_of-own.ensures c.keys_of-keys.ensures c.places_of-places.ensures in
+pub bounds-keys-b : goal.bounds-keys-b
+bounds-keys-b c =
+    let begins : (get_or c.keys_of-keys.result.from c.args.b.now.count 0 + 20 ≤ length c.args.second.now) × (c.args.b.now.count ≤ 64) = let p = c.requires in
+    let r = both-start _ _ _ _ c.keys_of-own.result c.keys_of-keys.result c.of-shared.result c.requires c.keys_of-own.ensures c.keys_of-keys.ensures c.of-shared.ensures.places (c.of-shared.ensures.count ∙ c.keys_of-keys.ensures.size) in
     (start-there _ _ _ p.1 r.1, (lines-there _ _ p.1).few) in
     let b = begins.1 in omega arith
 
 pub overflow_add-start : goal.overflow_add-start
 overflow_add-start c =
-    let begins : (get_or c.keys_of-keys.result.from c.args.b.count 0 + 20 ≤ length c.args.second.now) × (c.args.b.count ≤ 64) = let p = c.requires in
-    let r = both-start _ _ _ _ c.keys_of-own.result c.keys_of-keys.result _ p c.keys_of-own.ensures c.keys_of-keys.ensures c.places_of-places.ensures in
+    let begins : (get_or c.keys_of-keys.result.from c.args.b.now.count 0 + 20 ≤ length c.args.second.now) × (c.args.b.now.count ≤ 64) = let p = c.requires in
+    let r = both-start _ _ _ _ c.keys_of-own.result c.keys_of-keys.result c.of-shared.result c.requires c.keys_of-own.ensures c.keys_of-keys.ensures c.of-shared.ensures.places (c.of-shared.ensures.count ∙ c.keys_of-keys.ensures.size) in
     (start-there _ _ _ p.1 r.1, (lines-there _ _ p.1).few) in
     let b = begins.0 in
     let t = text-short _ _ c.requires.1 in
     omega arith
 
-pub colours_of-colours-requires : goal.colours_of-colours-requires
-colours_of-colours-requires c = (lines-there _ _ c.requires.0).few
-
-pub returns-then-not-colours : goal.returns-then-not-colours
-returns-then-not-colours c =
-    plan-ninth _ _ _ _ c.keys_of-own.result c.keys_of-keys.result _ c.requires c.keys_of-own.ensures c.keys_of-keys.ensures c.places_of-places.ensures
-    c.all_agree.result c.all_agree.ensures c.if-not-all_agree.false c.bounds_of-bounds.result c.bounds_of-bounds.ensures c.if-not-bounds.false _ refl c.colours_of-colours.result c.colours_of-colours.ensures
-    c.if-not-colours.true
+pub returns-in_default-colours_of : goal.returns-in_default-colours_of
+returns-in_default-colours_of c =
+    plan-ninth _ _ _ _ c.keys_of-own.result c.keys_of-keys.result c.of-shared.result c.requires c.keys_of-own.ensures c.keys_of-keys.ensures c.of-shared.ensures.places (c.of-shared.ensures.count ∙ c.keys_of-keys.ensures.size) c.all_agree.result c.all_agree.ensures c.if-not-all_agree.false c.bounds_of.result c.bounds_of.ensures c.in-Some.bytes c.in-Some.is _ refl c.colours_of.result c.colours_of.ensures c.in_default-colours_of.is
 
 pub overflow_add-parts : goal.overflow_add-parts
 overflow_add-parts c =
-    let known : BothRead c.args.first.now c.args.second.now c.args.a c.args.b c.keys_of-own.result.from c.keys_of-keys.result.from c.places_of-places.result = both_read _ _ _ _ c.keys_of-own.result c.keys_of-keys.result _ c.requires c.keys_of-own.ensures c.keys_of-keys.ensures c.places_of-places.ensures in
-    let p = c.requires in
-    let y = bytes_small _ _ _ _ _ _ _ c.bounds_of-bounds.result known c.bounds_of-bounds.ensures in
-    let t = text-short _ _ p.0 in
+    let y = bytes_small _ _ _ _ _ _ _ c.bounds_of.result c.in-Some.bytes (both_read _ _ _ _ c.keys_of-own.result c.keys_of-keys.result _ c.requires c.keys_of-own.ensures c.keys_of-keys.ensures c.of-shared.ensures.places) c.bounds_of.ensures c.in-Some.is in
+    let t = text-short _ _ c.requires.0 in
     omega arith
 
 pub overflow_sub-rows : goal.overflow_sub-rows
 overflow_sub-rows c =
-    let begins : (get_or c.keys_of-keys.result.from c.args.b.count 0 + 20 ≤ length c.args.second.now) × (c.args.b.count ≤ 64) = let p = c.requires in
-    let r = both-start _ _ _ _ c.keys_of-own.result c.keys_of-keys.result _ p c.keys_of-own.ensures c.keys_of-keys.ensures c.places_of-places.ensures in
+    let begins : (get_or c.keys_of-keys.result.from c.args.b.now.count 0 + 20 ≤ length c.args.second.now) × (c.args.b.now.count ≤ 64) = let p = c.requires in
+    let r = both-start _ _ _ _ c.keys_of-own.result c.keys_of-keys.result c.of-shared.result c.requires c.keys_of-own.ensures c.keys_of-keys.ensures c.of-shared.ensures.places (c.of-shared.ensures.count ∙ c.keys_of-keys.ensures.size) in
     (start-there _ _ _ p.1 r.1, (lines-there _ _ p.1).few) in
     begins.0
 
 pub overflow_add-size : goal.overflow_add-size
 overflow_add-size c =
-    let known : BothRead c.args.first.now c.args.second.now c.args.a c.args.b c.keys_of-own.result.from c.keys_of-keys.result.from c.places_of-places.result = both_read _ _ _ _ c.keys_of-own.result c.keys_of-keys.result _ c.requires c.keys_of-own.ensures c.keys_of-keys.ensures c.places_of-places.ensures in
-    let p = c.requires in
-    let y = bytes_small _ _ _ _ _ _ _ c.bounds_of-bounds.result known c.bounds_of-bounds.ensures in
-    let t = text-short _ _ p.0 in
-    let u = text-short _ _ p.1 in
+    let y = bytes_small _ _ _ _ _ _ _ c.bounds_of.result c.in-Some.bytes (both_read _ _ _ _ c.keys_of-own.result c.keys_of-keys.result _ c.requires c.keys_of-own.ensures c.keys_of-keys.ensures c.of-shared.ensures.places) c.bounds_of.ensures c.in-Some.is in
+    let t = text-short _ _ c.requires.0 in
+    let u = text-short _ _ c.requires.1 in
     omega arith
 
-pub offset_bounds-begins-known : goal.offset_bounds-begins-known
-offset_bounds-begins-known c = let f = (lines-there _ _ c.requires.0).few in omega arith
+pub offset_bounds-own-a : goal.offset_bounds-own-a
+offset_bounds-own-a c = let f = (lines-there _ _ c.requires.0).few in omega arith
 
-pub bounds-begins-known : goal.bounds-begins-known
-bounds-begins-known c = let f = (lines-there _ _ c.requires.0).few in omega arith
+pub bounds-own-a : goal.bounds-own-a
+bounds-own-a c = let f = (lines-there _ _ c.requires.0).few in omega arith
 
 pub returns : goal.returns
 returns c =
-    plan-ready _ _ _ _ c.keys_of-own.result c.keys_of-keys.result _ c.requires c.keys_of-own.ensures c.keys_of-keys.ensures c.places_of-places.ensures
-    c.all_agree.result c.all_agree.ensures c.if-not-all_agree.false c.bounds_of-bounds.result c.bounds_of-bounds.ensures c.if-not-bounds.false _ refl c.colours_of-colours.result c.colours_of-colours.ensures
-    _ _ c.if-not-colours.false refl refl
+    plan-ready _ _ _ _ c.keys_of-own.result c.keys_of-keys.result c.of-shared.result c.requires c.keys_of-own.ensures c.keys_of-keys.ensures c.of-shared.ensures.places (c.of-shared.ensures.count ∙ c.keys_of-keys.ensures.size) c.all_agree.result c.all_agree.ensures c.if-not-all_agree.false c.bounds_of.result c.bounds_of.ensures c.in-Some.bytes c.in-Some.is _ refl c.colours_of.result c.colours_of.ensures _ _ c.in-Some-colours_of.digits c.in-Some-colours_of.is refl refl

@@ -1,4 +1,4 @@
-use Prim.Native.Nat.{ℕ, ◌+◌, ◌*◌, ◌-◌, ◌≤◌}
+use Prim.Native.Nat.{ℕ, ◌+◌, ◌*◌, ◌≤◌}
 use Rattle.portal_words.specs.Words.{rows_in}
 use Rattle.portal_words.proofs.Filling.{Filled}
 use Rattle.portal_words.proofs.graph_in.Given as goal

@@ -1,7 +1,7 @@
 use borrow.Author.Rules.{rules}
-use Prim.Native.Nat.{◌-◌}
 use mathlib.Core.Path.{◌≡◌, refl}
 use native.Mathlib.Omega.{arith}
+use lib.ListN.{length}
 use Rattle.vertex_set.proofs.Decisions.{decide-yes, decide-no}
 use Rattle.portal_words.proofs.Strict.{kinds-none, kinds-more, says-no, says-yes}
 use Rattle.portal_words.proofs.kinds_said.Goals as goal
@@ -18,4 +18,5 @@ loop-v-preserved c = (omega arith, kinds-more _ c.loop-v.v _ refl (omega arith) 
 pub returns : goal.returns
 returns c =
     let e : c.loop-v.v ≡ 64 = omega arith in
+    let long : length c.args.words.now ≡ 1283 = search rules in
     decide-yes (says-yes _ (omega arith) (rw e at c.loop-v.invariant.1))

@@ -1,4 +1,4 @@
-use Prim.Native.Nat.{◌-◌, ◌≤◌}
+use Prim.Native.Nat.{◌≤◌}
 use Rattle.portal_words.proofs.Strict.{KindsTo}
 use Rattle.portal_words.proofs.kinds_said.Given as goal
 

@@ -1,8 +1,7 @@
 use borrow.Author.Rules.{rules}
-use Prim.Native.Nat.{◌-◌}
 use mathlib.Core.Path.{◌≡◌}
 use native.Mathlib.Omega.{arith}
-use lib.ListN.{length, length-map}
+use lib.ListN.{length}
 use Rattle.portal_words.specs.Words.{needs_of}
 use Rattle.portal_words.proofs.Writing.{put-none, put-more, put_all}
 use Rattle.portal_words.proofs.put_graph.Goals as goal

@@ -1,14 +1,12 @@
-use mathlib.Core.Path.{sym, ◌∙◌}
-use Rattle.portal_words.proofs.Strict.{setup-spelt, setup-none}
+use Rattle.std.proofs.Common.{◌∙◌}
+use Rattle.portal_words.proofs.Front.{spelt-front, none-front, none-short}
 use Rattle.portal_words.proofs.setup_in.Goals as goal
 
-pub spell_out-requires : goal.spell_out-requires
-spell_out-requires c = (c.says_setup.ensures.yes c.if-says_setup.true).long
+pub returns-in_default : goal.returns-in_default
+returns-in_default c = c.no_items.ensures ∙ none-short c.args.words.now c.in_default.ensures.cases
 
-pub returns-then-says_setup : goal.returns-then-says_setup
-returns-then-says_setup c =
-    c.spell_out.ensures ∙ sym (setup-spelt _ (c.says_setup.ensures.yes c.if-says_setup.true))
+pub returns-then-kinds_said : goal.returns-then-kinds_said
+returns-then-kinds_said c = c.spell_out.ensures ∙ spelt-front c.args.words.now _ c.in-Some.ensures.cases (c.kinds_said.ensures.yes c.if-kinds_said.true)
 
 pub returns : goal.returns
-returns c =
-    c.no_items.ensures ∙ sym (setup-none _ (c.says_setup.ensures.no c.if-says_setup.false))
+returns c = c.no_items-2.ensures ∙ none-front c.args.words.now _ c.in-Some.ensures.cases (c.kinds_said.ensures.no c.if-kinds_said.false)

@@ -1,4 +1,4 @@
-use Prim.Native.Nat.{◌-◌, ◌≤◌}
+use Prim.Native.Nat.{◌≤◌}
 use Rattle.portal_words.specs.Words.{vertex_in}
 use Rattle.portal_words.proofs.Filling.{Filled}
 use Rattle.portal_words.proofs.vertices_in.Given as goal

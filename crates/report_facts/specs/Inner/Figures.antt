@@ -1,24 +1,16 @@
 -- Inner: scores, risks and findings of all vertices.
-use Rattle.std.specs.Prelude.{◌≡◌, true, false, List, ℕ, ◌<◌, length}
+use Rattle.std.specs.Prelude.{◌≡◌, true, false, List, ℕ, ◌<◌}
 use Rattle.vertex_set.specs.Set.{Member, Iff}
 use Rattle.scores.specs.Inner.Lists.{security_at, recoverability_at}
 use Rattle.setup.specs.declared.Graph.{Graph}
 use Rattle.setup.specs.declared.Setup.{Setup}
 use Rattle.setup.specs.Setup.{ChosenSet}
-use Rattle.formed.specs.WellFormed.{WellFormed}
-use Rattle.tables.specs.Inner.Table.{table_words}
 use Rattle.report_scores.specs.Inner.Scores.{BaseTable, Scored}
 use Rattle.derivations.specs.Both.{rule_of}
 use Rattle.reference.specs.Bases.{score_of}
 use Rattle.report_text.specs.Report.{is_backdoor, is_idle}
 use Rattle.report_facts.specs.declared.figures.Scores.{Scores}
 use Rattle.report_facts.specs.declared.figures.Findings.{Findings}
-
--- What scores_with asks for: room for both tables.
-pub record CanFill (s : Setup) (opening lockout : List ℕ) : Type 0 where
-  pub formed : WellFormed s
-  pub first : length opening ≡ table_words
-  pub second : length lockout ≡ table_words
 
 -- The tables are those of the graph, and r has the scores and risks of all vertices in it.
 pub record BothScored (s : Setup) (g : Graph) (opening lockout : List ℕ) (r : Scores) : Type 0 where

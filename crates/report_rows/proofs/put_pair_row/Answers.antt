@@ -8,9 +8,9 @@ use Rattle.sheet_format.specs.Names.{name_of}
 use Rattle.report_rows.proofs.Lines.{line-none, field-more, last_end}
 use Rattle.report_rows.proofs.put_pair_row.Goals as goal
 
-pub returns : goal.returns
+pub returns-clause-row_written : goal.returns-clause-row_written
 unfolding pair_row
-returns c =
+returns-clause-row_written c =
     let fields : List (List ℕ) = name_of c.args.names.sheet.now c.args.v ∷ name_of c.args.names.sheet.now c.args.w ∷ [] in
-    let w = field-more fields _ _ 0 _ _ (line-none fields _ _) (omega arith) _ _ c.put_name_field-next.ensures in
-    record { row_written = last_end fields _ _ 1 _ _ w refl c.requires.w_in_bounds _ _ c.put_name_field.ensures }
+    let w = field-more fields _ 0 _ (line-none fields _) (omega arith) _ c.put_name_field.ensures in
+    (last_end fields _ 1 _ w refl c.requires.room _ c.put_name_field-2.ensures).row_written

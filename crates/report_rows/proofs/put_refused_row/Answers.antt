@@ -8,10 +8,10 @@ use Rattle.report_text.specs.Rows.{refused_row}
 use Rattle.report_rows.proofs.Lines.{line-none, field-more, last_end}
 use Rattle.report_rows.proofs.put_refused_row.Goals as goal
 
-pub returns : goal.returns
+pub returns-clause-row_written : goal.returns-clause-row_written
 unfolding refused_row
-returns c =
+returns-clause-row_written c =
     let fields : List (List ℕ) = (114 ∷ 101 ∷ 102 ∷ 117 ∷ 115 ∷ 101 ∷ 100 ∷ []) ∷ decimal c.args.number ∷ decimal c.args.line ∷ [] in
-    let w = field-more fields _ _ 0 _ _ (line-none fields _ _) (omega arith) _ _ c.put_field-next.ensures in
-    let w = field-more fields _ _ 1 _ _ w (omega arith) _ _ c.put_number-next.ensures in
-    record { row_written = last_end fields _ _ 2 _ _ w refl c.requires _ _ c.put_number.ensures }
+    let w = field-more fields _ 0 _ (line-none fields _) (omega arith) _ c.put_field.ensures in
+    let w = field-more fields _ 1 _ w (omega arith) _ c.put_number.ensures in
+    (last_end fields _ 2 _ w refl c.requires _ c.put_number-2.ensures).row_written

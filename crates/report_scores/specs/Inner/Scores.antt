@@ -18,11 +18,6 @@ use Rattle.bases.specs.Score.{Score}
 abbrev pub list_room : ℕ
 list_room = masks
 
--- What the functions that read all scores ask for: room for a table.
-pub record CanScore (s : Setup) (w : List ℕ) : Type 0 where
-  pub formed : WellFormed s
-  pub words : length w ≡ table_words
-
 -- The words of the vertex v in a table.
 abbrev pub words_at : List ℕ → ℕ → List ℕ
 words_at w v = take family_words (drop (v * family_words) w)

@@ -2,6 +2,7 @@
 use Rattle.std.specs.Prelude.{◌≡◌, Bool, List, ℕ, zero, suc, ◌+◌, ◌-◌, ◌*◌, ◌^◌, ◌≤◌, ◌<◌, length, take}
 use Rattle.setup.specs.declared.Setup.{Setup}
 use Rattle.setup.specs.Calls.{written}
+use Rattle.writing.specs.declared.Pen.{Pen}
 use Rattle.bases.specs.Inner.Readers.{Values}
 use Rattle.sheet_format.specs.Names.{name_of}
 use Rattle.report_scores.specs.Inner.Scores.{list_room}
@@ -9,11 +10,18 @@ use Rattle.report_facts.specs.declared.Facts.{Facts}
 use Rattle.report_facts.specs.Inner.Facts.{FactsOf, TablesOf}
 use Rattle.report_facts.specs.Texts.{slot_list}
 use Rattle.report_facts.specs.Inner.Parts.{Part}
-use Rattle.report_sections.specs.declared.lists.RowsStep.{RowsStep}
 use Rattle.report_writer.specs.declared.steps.Cursor.{Cursor}
 use Rattle.report_writer.specs.declared.steps.Cursor.TheVariants as cursor
 use Rattle.report_writer.specs.declared.steps.Step.{Step}
 use Rattle.report_writer.specs.Rest.{rows_from, rest_of}
+
+-- There is room for any step: the pairs of one account are at most 64 rows of 34 bytes.
+abbrev pub StepRoom : Pen → Type 0
+StepRoom p = p.at + 4096 ≤ length p.out.now
+
+-- Where the report goes on, with the pen at the place of its next byte.
+abbrev pub step_at : Cursor → Pen → Step
+step_at c p = record { cursor = c; at = p.at }
 
 pub record ValuesBy (loss : Bool) (f : Facts) (r : List ℕ) : Type 0 where
   pub each : (sheet : List ℕ) (s : Setup) → FactsOf sheet s f → Values loss s r
@@ -31,10 +39,10 @@ pub record CanPutList (sheet : List ℕ) (f : Facts) (list : List ℕ) (k i n : 
   pub setup : Setup
   pub here : ListAt sheet setup f list k i n
 
-pub record ListPut (sheet : List ℕ) (f : Facts) (list : List ℕ) (k i n : ℕ) (entry : List ℕ) (at : ℕ) (exit : List ℕ) (r : RowsStep) : Type 0 where
-  pub each : (s : Setup) → ListAt sheet s f list k i n → Part entry at (rows_from (name_of sheet) s k i) (rows_from (name_of sheet) s k r.row) exit r.at
-  pub most : r.row ≤ n
-  pub more : i < n → i < r.row
+pub record ListPut (sheet : List ℕ) (f : Facts) (list : List ℕ) (k i n : ℕ) (entry : List ℕ) (at : ℕ) (exit : List ℕ) (row r : ℕ) : Type 0 where
+  pub each : (s : Setup) → ListAt sheet s f list k i n → Part entry at (rows_from (name_of sheet) s k i) (rows_from (name_of sheet) s k row) exit r
+  pub most : row ≤ n
+  pub more : i < n → i < row
 
 -- What is known of the setup s where the report goes on: the facts, and before the scores the tables too.
 abbrev pub KnownAt : List ℕ → Setup → Facts → List ℕ → List ℕ → List ℕ → Cursor → Type 0

@@ -10,8 +10,8 @@ use Rattle.save_text.proofs.put_item.Goals as goal
 pub returns : goal.returns
 returns c =
     let fields = item_fields (item_row (name_of c.args.names.sheet.now c.args.item) c.args.x) in
-    let w = field-more fields _ _ 0 _ _ (line-none fields _ _) (omega arith) _ _ c.put_name_field-next.ensures in
-    let w = field-more fields _ _ 1 _ _ w (omega arith) _ _ c.put_kind-next.ensures in
-    let w = field-more fields _ _ 2 _ _ w (omega arith) _ _ c.put_value-next.ensures in
-    let w = field-more fields _ _ 3 _ _ w (omega arith) _ _ c.put_value-next-2.ensures in
-    last-wrote fields _ _ 4 _ _ w refl _ _ c.put_number.ensures
+    let w = field-more fields _ 0 _ (line-none fields _) (omega arith) _ c.put_name_field.ensures in
+    let w = field-more fields _ 1 _ w (omega arith) _ c.put_kind.ensures in
+    let w = field-more fields _ 2 _ w (omega arith) _ c.put_value.ensures in
+    let w = field-more fields _ 3 _ w (omega arith) _ c.put_value-2.ensures in
+    last-wrote fields _ 4 _ w refl _ c.put_number.ensures

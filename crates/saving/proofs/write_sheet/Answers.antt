@@ -1,8 +1,9 @@
 -- `saving::write_sheet` meets its contract: the sheet's refusal, 12, 13, then the rows.
-use mathlib.Core.Path.{refl}
+use mathlib.Core.Path.{refl, ap}
 use Rattle.std.specs.Prelude.{Ok, Err}
 use Rattle.questions.proofs.Refusals.{number_some}
 use Rattle.sheet_format.specs.Read.{reading}
+use Rattle.save_format.specs.Call.{saved}
 use Rattle.saving.proofs.Calls.{call-refused, call-malformed, call-nameless, call-can, call-saves}
 use Rattle.saving.proofs.write_sheet.Goals as goal
 
@@ -24,4 +25,4 @@ save_named-requires c =
 
 pub returns : goal.returns
 returns c =
-    call-saves c.args.sheet.now c.args.s _ _ _ (reading (Ok c.in-Ok.setup)) c.in-Ok.ensures refl (c.well_formed-2.ensures.yes c.if-not-well_formed.false) c.if-names-count.false c.save_named.ensures
+    call-saves c.args.sheet.now c.args.s _ _ _ (reading (Ok c.in-Ok.setup)) c.in-Ok.ensures refl (c.well_formed-2.ensures.yes c.if-not-well_formed.false) c.if-names-count.false c.save_named.result (ap saved c.ok_or.ensures.value) c.save_named.ensures

@@ -15,7 +15,7 @@ use Rattle.sheet_fields.specs.Inner.Keys.{key_of}
 use Rattle.sheet_rows.specs.declared.ItemLine.{ItemLine}
 use Rattle.sheet_rows.specs.declared.TakenItem.{TakenItem}
 use Rattle.sheet_rows.specs.declared.EdgeLine.{EdgeLine}
-use Rattle.sheet_rows.specs.declared.TakenEdge.{TakenEdge}
+use Rattle.sheet_rows.specs.declared.taken.TakenEdge.{TakenEdge}
 use Rattle.sheet_rows.specs.Inner.NameKeys.{NameKeys}
 
 -- What a reader of a row by itself answers: question 4, question 5, and what the row says.

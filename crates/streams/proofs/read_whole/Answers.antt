@@ -1,16 +1,17 @@
-use Rattle.std.proofs.Common.{rules, ◌≡◌, ◌≤◌, ◌+◌, length, take, drop, sym, subst}
+use Rattle.std.proofs.Common.{rules, ◌≤◌, ◌-◌, length, take, subst}
 use Rattle.std.specs.Io.KnownBytes.{Consumes}
 use Rattle.std.proofs.KnownBytes.{Consumes-trans}
-use Rattle.streams.proofs.Answers.{take-on}
+use Rattle.streams.proofs.Answers.{read-on}
 use Rattle.streams.proofs.read_whole.Goals as goal
 
-pub loop-done-preserved-in-Bytes : goal.loop-done-preserved-in-Bytes
-loop-done-preserved-in-Bytes g c =
+pub loop-done-preserved-in-Some : goal.loop-done-preserved-in-Some
+loop-done-preserved-in-Some g c =
     let (before, long, given) = c.loop-done.invariant in
-    let buf = c.read_once.new.buf in
+    let buf = c.loop-done.buf in
     let done = c.loop-done.done in
-    let n = c.in-Bytes.n in
-    let same : length buf ≡ length c.args.buf.now = search rules in
-    let room : done + n ≤ length buf = search rules in
-    let front = subst (Consumes _ _) (sym c.read_once.ensures.front) given in
-    (room, same, subst (Consumes _ _) (take-on done n buf (search rules)) (Consumes-trans _ _ _ (take done buf) (take n (drop done buf)) front c.in-Bytes.ensures.bytes))
+    let n = c.in-Some.n in
+    let rest = c.read_once.new.rest in
+    let few : n ≤ length rest = search rules in
+    let took : Consumes (g.R.Read.remaining c.loop-done.reader) (g.R.Read.remaining c.read_once.new.reader) (take n rest) = search rules in
+    let more = Consumes-trans _ _ _ (take done buf) (take n rest) given took in
+    (search rules, search rules, subst (Consumes _ _) (read-on done (length buf - done) n buf rest before few) more)

@@ -1,12 +1,13 @@
 -- `tables::first_block` meets its contract: lanes that start as their masks' sets and are closed.
 -- Assumes nothing.
+use borrow.Author.Rules.{rules}
 use Rattle.tables.proofs.Blocks.{start-quiet, block-first}
 use Rattle.tables.proofs.first_block.Goals as goal
 
 pub settle-requires : goal.settle-requires
 settle-requires c =
     let a = c.args in
-    record { successors = c.requires.successors; w_len = c.start.ensures.words; quiet = start-quiet a.loss a.graph a.chosen.0 _ _ _ c.well_formed.1.0.1.1.0.1 c.requires.successors c.of_set-first.ensures c.start.ensures }
+    record { successors = c.requires; quiet = start-quiet a.loss a.graph a.chosen.0 _ _ _ (search rules) c.requires c.of_set-first.ensures c.start.ensures }
 
 pub returns : goal.returns
 returns c =

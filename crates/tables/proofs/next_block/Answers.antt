@@ -8,7 +8,7 @@ pub widen-requires : goal.widen-requires
 widen-requires c =
     let a = c.args in
     let block = block-of-table (rule_of a.loss a.graph) a.chosen.0 _ _ _ _ c.without-smaller.ensures.less c.requires.table_below c.take_block.ensures in
-    record { successors = c.requires.successors; w_len = c.take_block.ensures.words; quiet = block-quiet a.loss a.graph a.chosen.0 _ _ block }
+    record { successors = c.requires.successors; quiet = block-quiet a.loss a.graph a.chosen.0 _ _ block }
 
 pub returns : goal.returns
 returns c =

@@ -7,7 +7,7 @@ use Rattle.tables.proofs.start.Goals as goal
 pub loop-v-preserved : goal.loop-v-preserved
 loop-v-preserved c =
     let v = c.loop-v.v in
-    started-more _ v (v * 16 + 16 - v * 16) _ _ c.loop-v-test.true (omega arith) c.loop-v.invariant c.start_part.ensures
+    started-more c.args.chosen.0 v (v * 16 + 16 - v * 16) _ _ _ c.loop-v-test.true (omega arith) c.loop-v.invariant c.start_part.ensures (search rules)
 
 pub returns : goal.returns
 returns c =

@@ -1,40 +1,24 @@
-use Prim.Native.Nat.{◌≤◌}
-use native.Mathlib.Omega.{arith}
-use lib.ListN.{length, drop, length-drop}
-use Rattle.sheet_fields.proofs.Cutting.{until-le}
-use Rattle.handin_lines.proofs.Shapes.{filled-first, filled-found, filled_next, filled-over}
+use mathlib.Core.Path.{◌∙◌}
+use lib.Dec.{eqb}
+use mathlib.Core.List.{List}
+use Prim.Native.Nat.{ℕ}
+use lib.ListN.{length}
+use Rattle.std.proofs.Common.{rules, tests}
+use Rattle.std.specs.List.{slice_split}
+use Rattle.std.proofs.lemmas.Iterator.Splits.{YieldsList-from_slice_split}
+use Rattle.std.proofs.lemmas.Iterator.Search.{position_from_yields_List}
+use Rattle.std.proofs.lemmas.Iterator.Adapters.{position_from-zero}
+use Rattle.handin_lines.proofs.Shapes.{filled-found, filled-over}
 use Rattle.handin_lines.proofs.lines.first_empty.Goals as goal
 
-pub loop-at-init : goal.loop-at-init
-loop-at-init c = (omega arith, filled-first _)
-
-pub returns-then-end-at : goal.returns-then-end-at
-returns-then-end-at c =
-    filled-found c.args.l.now c.loop-at.n c.loop-at.at c.find-end.result c.loop-at.invariant.1 c.loop-at-test.true c.find-end.ensures c.if-end-at.true
-
-pub overflow_add-at : goal.overflow_add-at
-overflow_add-at c =
-    let field_end : (c.find-end.result ≤ length c.args.l.now) × (c.loop-at.at ≤ c.find-end.result) = let l = c.args.l.now in
-    let d = length-drop c.loop-at.at l in
-    let u = until-le 32 (drop c.loop-at.at l) in
-    let t = c.loop-at-test.true in
-    let e = c.find-end.ensures in
-    (omega arith, omega arith) in
-    let e = field_end in
-    omega (arith, e.0)
-
-pub loop-at-preserved : goal.loop-at-preserved
-loop-at-preserved c =
-    let field_end : (c.find-end.result ≤ length c.args.l.now) × (c.loop-at.at ≤ c.find-end.result) = let l = c.args.l.now in
-    let d = length-drop c.loop-at.at l in
-    let u = until-le 32 (drop c.loop-at.at l) in
-    let t = c.loop-at-test.true in
-    let e = c.find-end.ensures in
-    (omega arith, omega arith) in
-    let e = field_end in
-    let i = c.loop-at.invariant.0 in
-    (omega (arith, i, e.1), filled_next c.args.l.now c.loop-at.n c.loop-at.at c.find-end.result c.loop-at.invariant.1 c.loop-at-test.true c.find-end.ensures c.if-end-at.false)
+pub returns-in_err-empty : goal.returns-in_err-empty
+returns-in_err-empty c =
+    let e = position_from_yields_List (λ (f : List ℕ). eqb (length f) 0) c.position.new.self _ c.position.result c.position.ensures.ran
+    (YieldsList-from_slice_split _ (λ b. eqb b 32) c.args.l.now c.split.ensures.rest c.split.ensures.done c.split.ensures.closure (λ x b q k. search (rules, tests))) (λ x b q k. search (rules, tests)) in
+    rw c.from_residual.ensures (filled-over c.args.l.now c.position.result (e ∙ position_from-zero {B = List ℕ} (λ f. eqb (length f) 0) (slice_split (λ b. eqb b 32) c.args.l.now)) c.in_err-empty.was)
 
 pub returns : goal.returns
 returns c =
-    filled-over c.args.l.now c.loop-at.n c.loop-at.at c.loop-at.invariant.1 c.loop-at-test.false
+    let e = position_from_yields_List (λ (f : List ℕ). eqb (length f) 0) c.position.new.self _ c.position.result c.position.ensures.ran
+    (YieldsList-from_slice_split _ (λ b. eqb b 32) c.args.l.now c.split.ensures.rest c.split.ensures.done c.split.ensures.closure (λ x b q k. search (rules, tests))) (λ x b q k. search (rules, tests)) in
+    filled-found c.args.l.now c.position.result (e ∙ position_from-zero {B = List ℕ} (λ f. eqb (length f) 0) (slice_split (λ b. eqb b 32) c.args.l.now)) c.in_ok-empty.empty c.in_ok-empty.was

@@ -1,70 +1,59 @@
-use mathlib.Core.Path.{refl}
+use mathlib.Core.Path.{refl, ap, ◌∙◌}
+use lib.Dec.{eqb}
+use Rattle.std.proofs.Common.{arith, rules, tests}
+use Rattle.std.specs.Slice.Iter.{split_rest, split_done, split_callee}
+use Rattle.std.proofs.lemmas.Iterator.Splits.{YieldsList-from_slice_split}
+use Rattle.std.proofs.lemmas.Iterator.Consumers.{YieldsList-turn, YieldsList-end}
+use Rattle.std.proofs.lemmas.List.{length_push}
 use Rattle.questions.proofs.Refusals.{number_some}
-use Prim.Native.Nat.{◌≤◌}
-use native.Mathlib.Omega.{arith}
-use lib.ListN.{length, drop, length-drop}
-use Rattle.sheet_fields.proofs.Cutting.{until-le}
-use Rattle.handin_lines.proofs.SetFields.{checking-first, checking-no, checking-next, checking-over}
+use Rattle.std.specs.Prelude.{Ok, Err}
+use Rattle.handin_lines.specs.Inner.Naming.{set_field}
+use Rattle.handin_lines.specs.Inner.Splitting.{split_from}
+use Rattle.handin_lines.proofs.Splitting.{rest-is, next_field, no_field, split-many, behind}
+use Rattle.handin_lines.proofs.SetFields.{checking-first, checking-no, checking-next, checking-over, checking-none}
 use Rattle.handin_lines.proofs.sets.check_sets.Goals as goal
 
-pub loop-at-init : goal.loop-at-init
-loop-at-init c =
+pub returns-in_default : goal.returns-in_default
+returns-in_default c =
     let a = c.args in
-    (omega arith, checking-first a.keys.now.low a.keys.now.high a.keys.now.count a.l.now a.start)
+    checking-none a.keys.now.low a.keys.now.high a.keys.now.count a.l.now a.start (behind _ _ c.in_default.ensures.lookup.0)
 
-pub slice_bounds-set_of-end : goal.slice_bounds-set_of-end
-slice_bounds-set_of-end c =
-    let field_end : (c.find-end.result ≤ length c.args.l.now) × (c.loop-at.at ≤ c.find-end.result) = let l = c.args.l.now in
-    let d = length-drop c.loop-at.at l in
-    let u = until-le 32 (drop c.loop-at.at l) in
-    let t = c.loop-at-test.true in
-    let e = c.find-end.ensures in
-    (omega arith, omega arith) in
-    let e = field_end in
-    omega (arith, e.0)
+pub loop-field-init : goal.loop-field-init
+loop-field-init c = let a = c.args in checking-first a.keys.now.low a.keys.now.high a.keys.now.count (split_from 32 a.start a.l.now)
 
 pub overflow_add-result : goal.overflow_add-result
 overflow_add-result c =
-    let i = c.loop-at.invariant.0 in
-    let t = c.loop-at-test.true in
-    omega (arith, i, t)
+    let i = c.loop-field.invariant.counted in
+    let m = split-many 32 c.args.start c.args.l.now in
+    omega (arith, i, m)
 
 pub returns-in-Err : goal.returns-in-Err
 returns-in-Err c =
     let a = c.args in
-    checking-no a.keys.now.low a.keys.now.high a.keys.now.count a.l.now a.start c.loop-at.n c.loop-at.at c.find-end.result c.loop-at.invariant.1 c.loop-at-test.true c.find-end.ensures _ c.in-Err.ensures _ (number_some _) refl refl
+    let g = c.in-Some.ensures.lookup.0 in
+    let t = YieldsList-turn (YieldsList-from_slice_split _ (λ b. eqb b 32) c.in-Some.rest.now (ap split_rest c.into_iter-field-iterator.ensures.into_iter_gives ∙ c.split-field-items.ensures.rest) (ap split_done c.into_iter-field-iterator.ensures.into_iter_gives ∙ c.split-field-items.ensures.done) (ap split_callee c.into_iter-field-iterator.ensures.into_iter_gives ∙ c.split-field-items.ensures.closure) (λ x b q k. search (rules, tests))) c.loop-field.yielded _ c.loop-field.yielded_by _ _ c.in-Some-field.field c.in-Some-field.is c.next.ensures.steps in
+    let q = next_field a.l.now a.start c.in-Some.rest.now _ _ (rest-is a.l.now a.start c.in-Some.rest.now g.2) g.0 t in
+    checking-no a.keys.now.low a.keys.now.high a.keys.now.count a.l.now a.start (split_from 32 a.start a.l.now) c.loop-field.n _ c.loop-field.invariant _ _ q (set_field (Err c.in-Err.refusal)) c.in-Err.ensures refl _ (number_some _) refl refl
 
 pub overflow_add-n : goal.overflow_add-n
 overflow_add-n c =
-    let i = c.loop-at.invariant.0 in
-    let t = c.loop-at-test.true in
-    omega (arith, i, t)
+    let i = c.loop-field.invariant.counted in
+    let m = split-many 32 c.args.start c.args.l.now in
+    omega (arith, i, m)
 
-pub overflow_add-at : goal.overflow_add-at
-overflow_add-at c =
-    let field_end : (c.find-end.result ≤ length c.args.l.now) × (c.loop-at.at ≤ c.find-end.result) = let l = c.args.l.now in
-    let d = length-drop c.loop-at.at l in
-    let u = until-le 32 (drop c.loop-at.at l) in
-    let t = c.loop-at-test.true in
-    let e = c.find-end.ensures in
-    (omega arith, omega arith) in
-    let e = field_end in
-    omega (arith, e.0)
-
-pub loop-at-preserved : goal.loop-at-preserved
-loop-at-preserved c =
-    let field_end : (c.find-end.result ≤ length c.args.l.now) × (c.loop-at.at ≤ c.find-end.result) = let l = c.args.l.now in
-    let d = length-drop c.loop-at.at l in
-    let u = until-le 32 (drop c.loop-at.at l) in
-    let t = c.loop-at-test.true in
-    let e = c.find-end.ensures in
-    (omega arith, omega arith) in
+pub loop-field-preserved : goal.loop-field-preserved
+loop-field-preserved c =
     let a = c.args in
-    let e = field_end in
-    let i = c.loop-at.invariant.0 in
-    (omega (arith, i, e.1), checking-next a.keys.now.low a.keys.now.high a.keys.now.count a.l.now a.start c.loop-at.n c.loop-at.at c.find-end.result c.loop-at.invariant.1 c.loop-at-test.true c.find-end.ensures _ c.in-Ok.ensures refl)
+    let g = c.in-Some.ensures.lookup.0 in
+    let t = YieldsList-turn (YieldsList-from_slice_split _ (λ b. eqb b 32) c.in-Some.rest.now (ap split_rest c.into_iter-field-iterator.ensures.into_iter_gives ∙ c.split-field-items.ensures.rest) (ap split_done c.into_iter-field-iterator.ensures.into_iter_gives ∙ c.split-field-items.ensures.done) (ap split_callee c.into_iter-field-iterator.ensures.into_iter_gives ∙ c.split-field-items.ensures.closure) (λ x b q k. search (rules, tests))) c.loop-field.yielded _ c.loop-field.yielded_by _ _ c.in-Some-field.field c.in-Some-field.is c.next.ensures.steps in
+    let q = next_field a.l.now a.start c.in-Some.rest.now _ _ (rest-is a.l.now a.start c.in-Some.rest.now g.2) g.0 t in
+    rw (length_push c.loop-field.yielded c.in-Some-field.field)
+    (checking-next a.keys.now.low a.keys.now.high a.keys.now.count a.l.now a.start (split_from 32 a.start a.l.now) c.loop-field.n _ c.loop-field.invariant _ _ q (set_field (Ok c.in_default-set_of.field-0)) c.in_default-set_of.ensures refl)
 
 pub returns : goal.returns
 returns c =
     let a = c.args in
-    checking-over a.keys.now.low a.keys.now.high a.keys.now.count a.l.now a.start c.loop-at.n c.loop-at.at c.loop-at.invariant.1 c.loop-at-test.false
+    let g = c.in-Some.ensures.lookup.0 in
+    let t = YieldsList-end (YieldsList-from_slice_split _ (λ b. eqb b 32) c.in-Some.rest.now (ap split_rest c.into_iter-field-iterator.ensures.into_iter_gives ∙ c.split-field-items.ensures.rest) (ap split_done c.into_iter-field-iterator.ensures.into_iter_gives ∙ c.split-field-items.ensures.done) (ap split_callee c.into_iter-field-iterator.ensures.into_iter_gives ∙ c.split-field-items.ensures.closure) (λ x b q k. search (rules, tests))) c.loop-field.yielded _ c.loop-field.yielded_by _ _ c.in-None.is c.next.ensures.steps in
+    let q = no_field a.l.now a.start c.in-Some.rest.now _ (rest-is a.l.now a.start c.in-Some.rest.now g.2) g.0 t.1 in
+    checking-over a.keys.now.low a.keys.now.high a.keys.now.count a.l.now a.start (split_from 32 a.start a.l.now) c.loop-field.n _ c.loop-field.invariant q refl

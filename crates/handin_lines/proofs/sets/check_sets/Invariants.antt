@@ -1,12 +1,9 @@
--- `handin_lines::sets::check_sets` meets its contract: a set a turn.
-use Prim.Native.Nat.{◌+◌, ◌-◌, ◌≤◌}
-use lib.ListN.{length}
+use lib.ListN.{length, drop}
+use Rattle.handin_lines.specs.Inner.Splitting.{split_from}
 use Rattle.handin_lines.proofs.SetFields.{Checking}
 use Rattle.handin_lines.proofs.sets.check_sets.Given as goal
 
--- n fields before `at` are sets.
-abbrev pub invariant-loop-at : goal.invariant-loop-at
-invariant-loop-at l = (l.n ≤ l.at) × Checking l.keys.low l.keys.high l.keys.count l.l l.start l.n l.at
-
-abbrev pub decreases-loop-at : goal.decreases-loop-at
-decreases-loop-at l = length l.l + 1 - l.at
+-- The n fields so far are sets.
+abbrev pub invariant-loop-field : goal.invariant-loop-field
+invariant-loop-field l =
+    Checking l.keys.low l.keys.high l.keys.count (split_from 32 l.start l.l) l.n (drop (length l.yielded) (split_from 32 l.start l.l))

@@ -1,56 +1,57 @@
-use Prim.Native.Nat.{◌≤◌}
-use native.Mathlib.Omega.{arith}
-use lib.ListN.{length, drop, length-drop}
-use Rattle.sheet_fields.proofs.Cutting.{until-le}
-use Rattle.handin_lines.proofs.SetFields.{set-read, putting-first, putting-room, putting-next, putting-over}
+use mathlib.Core.Path.{refl, ap, ◌∙◌}
+use lib.Dec.{eqb}
+use Rattle.std.proofs.Common.{arith, rules, tests}
+use Rattle.std.specs.Slice.Iter.{split_rest, split_done, split_callee}
+use Rattle.std.proofs.lemmas.Iterator.Splits.{YieldsList-from_slice_split}
+use Rattle.std.proofs.lemmas.Iterator.Consumers.{YieldsList-turn, YieldsList-end}
+use Rattle.std.proofs.lemmas.List.{length_push}
+use Rattle.handin_lines.specs.Inner.Splitting.{split_from}
+use Rattle.handin_lines.proofs.Splitting.{rest-is, next_field, no_field, split-many, behind}
+use Rattle.handin_lines.proofs.SetFields.{set-read, putting-first, putting-room, putting-next, putting-over, putting-none}
 use Rattle.handin_lines.proofs.sets.put_sets.Goals as goal
 
-pub loop-at-init : goal.loop-at-init
-loop-at-init c =
+pub returns-in_default : goal.returns-in_default
+returns-in_default c =
     let a = c.args in
-    (omega arith, putting-first a.keys.now.low a.keys.now.high a.keys.now.count a.l.now a.start a.out.now)
+    putting-none a.keys.now.low a.keys.now.high a.keys.now.count a.l.now a.start a.out.now (behind _ _ c.in_default.ensures.lookup.0)
 
-pub slice_bounds-set_of-end : goal.slice_bounds-set_of-end
-slice_bounds-set_of-end c =
-    let field_end : (c.find-end.result ≤ length c.args.l.now) × (c.loop-at.at ≤ c.find-end.result) = let l = c.args.l.now in
-    let d = length-drop c.loop-at.at l in
-    let u = until-le 32 (drop c.loop-at.at l) in
-    let t = c.loop-at-test.true in
-    let e = c.find-end.ensures in
-    (omega arith, omega arith) in
-    let e = field_end in
-    omega (arith, e.0)
+pub loop-field-init : goal.loop-field-init
+loop-field-init c = let a = c.args in putting-first a.keys.now.low a.keys.now.high a.keys.now.count (split_from 32 a.start a.l.now) a.out.now
+
+pub offset_bounds-out-n : goal.offset_bounds-out-n
+offset_bounds-out-n c =
+    let i = c.loop-field.invariant.counted in
+    let m = split-many 32 c.args.start c.args.l.now in
+    let l = c.requires in
+    omega (arith, i, m, l)
 
 pub bounds-out-n : goal.bounds-out-n
 bounds-out-n c =
     let a = c.args in
-    putting-room a.keys.now.low a.keys.now.high a.keys.now.count a.l.now a.start c.loop-at.n c.loop-at.at c.find-end.result a.out.now c.loop-at.out c.loop-at.invariant.1 c.loop-at-test.true c.find-end.ensures c.requires
+    let g = c.in-Some.ensures.lookup.0 in
+    let t = YieldsList-turn (YieldsList-from_slice_split _ (λ b. eqb b 32) c.in-Some.rest.now (ap split_rest c.into_iter-field-iterator.ensures.into_iter_gives ∙ c.split-field-items.ensures.rest) (ap split_done c.into_iter-field-iterator.ensures.into_iter_gives ∙ c.split-field-items.ensures.done) (ap split_callee c.into_iter-field-iterator.ensures.into_iter_gives ∙ c.split-field-items.ensures.closure) (λ x b q k. search (rules, tests))) c.loop-field.yielded _ c.loop-field.yielded_by _ _ c.in-Some-field.field c.in-Some-field.is c.next.ensures.steps in
+    let q = next_field a.l.now a.start c.in-Some.rest.now _ _ (rest-is a.l.now a.start c.in-Some.rest.now g.2) g.0 t in
+    putting-room a.keys.now.low a.keys.now.high a.keys.now.count (split_from 32 a.start a.l.now) c.loop-field.n _ a.out.now c.loop-field.out c.loop-field.invariant _ _ q c.requires
 
-pub overflow_add-at : goal.overflow_add-at
-overflow_add-at c =
-    let field_end : (c.find-end.result ≤ length c.args.l.now) × (c.loop-at.at ≤ c.find-end.result) = let l = c.args.l.now in
-    let d = length-drop c.loop-at.at l in
-    let u = until-le 32 (drop c.loop-at.at l) in
-    let t = c.loop-at-test.true in
-    let e = c.find-end.ensures in
-    (omega arith, omega arith) in
-    let e = field_end in
-    omega (arith, e.0)
+pub overflow_add-n : goal.overflow_add-n
+overflow_add-n c =
+    let i = c.loop-field.invariant.counted in
+    let m = split-many 32 c.args.start c.args.l.now in
+    omega (arith, i, m)
 
-pub loop-at-preserved : goal.loop-at-preserved
-loop-at-preserved c =
-    let field_end : (c.find-end.result ≤ length c.args.l.now) × (c.loop-at.at ≤ c.find-end.result) = let l = c.args.l.now in
-    let d = length-drop c.loop-at.at l in
-    let u = until-le 32 (drop c.loop-at.at l) in
-    let t = c.loop-at-test.true in
-    let e = c.find-end.ensures in
-    (omega arith, omega arith) in
+pub loop-field-preserved : goal.loop-field-preserved
+loop-field-preserved c =
     let a = c.args in
-    let e = field_end in
-    let i = c.loop-at.invariant.0 in
-    (omega (arith, i, e.1), rw (c.unwrap_or.ensures, set-read c.set_of.result) (putting-next a.keys.now.low a.keys.now.high a.keys.now.count a.l.now a.start c.loop-at.n c.loop-at.at c.find-end.result a.out.now c.loop-at.out c.loop-at.invariant.1 c.loop-at-test.true c.find-end.ensures _ c.set_of.ensures))
+    let g = c.in-Some.ensures.lookup.0 in
+    let t = YieldsList-turn (YieldsList-from_slice_split _ (λ b. eqb b 32) c.in-Some.rest.now (ap split_rest c.into_iter-field-iterator.ensures.into_iter_gives ∙ c.split-field-items.ensures.rest) (ap split_done c.into_iter-field-iterator.ensures.into_iter_gives ∙ c.split-field-items.ensures.done) (ap split_callee c.into_iter-field-iterator.ensures.into_iter_gives ∙ c.split-field-items.ensures.closure) (λ x b q k. search (rules, tests))) c.loop-field.yielded _ c.loop-field.yielded_by _ _ c.in-Some-field.field c.in-Some-field.is c.next.ensures.steps in
+    let q = next_field a.l.now a.start c.in-Some.rest.now _ _ (rest-is a.l.now a.start c.in-Some.rest.now g.2) g.0 t in
+    rw (length_push c.loop-field.yielded c.in-Some-field.field, c.unwrap_or.ensures, set-read c.set_of.result)
+    (putting-next a.keys.now.low a.keys.now.high a.keys.now.count (split_from 32 a.start a.l.now) c.loop-field.n _ a.out.now c.loop-field.out c.loop-field.invariant _ _ q _ c.set_of.ensures)
 
 pub returns : goal.returns
 returns c =
     let a = c.args in
-    putting-over a.keys.now.low a.keys.now.high a.keys.now.count a.l.now a.start c.loop-at.n c.loop-at.at a.out.now c.loop-at.out c.loop-at.invariant.1 c.loop-at-test.false
+    let g = c.in-Some.ensures.lookup.0 in
+    let t = YieldsList-end (YieldsList-from_slice_split _ (λ b. eqb b 32) c.in-Some.rest.now (ap split_rest c.into_iter-field-iterator.ensures.into_iter_gives ∙ c.split-field-items.ensures.rest) (ap split_done c.into_iter-field-iterator.ensures.into_iter_gives ∙ c.split-field-items.ensures.done) (ap split_callee c.into_iter-field-iterator.ensures.into_iter_gives ∙ c.split-field-items.ensures.closure) (λ x b q k. search (rules, tests))) c.loop-field.yielded _ c.loop-field.yielded_by _ _ c.in-None.is c.next.ensures.steps in
+    let q = no_field a.l.now a.start c.in-Some.rest.now _ (rest-is a.l.now a.start c.in-Some.rest.now g.2) g.0 t.1 in
+    putting-over a.keys.now.low a.keys.now.high a.keys.now.count a.l.now a.start (split_from 32 a.start a.l.now) c.loop-field.n _ a.out.now c.loop-field.out c.loop-field.invariant q refl

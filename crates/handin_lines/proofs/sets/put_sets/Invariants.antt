@@ -1,11 +1,9 @@
-use Prim.Native.Nat.{◌+◌, ◌-◌, ◌≤◌}
-use lib.ListN.{length}
+use lib.ListN.{length, drop}
+use Rattle.handin_lines.specs.Inner.Splitting.{split_from}
 use Rattle.handin_lines.proofs.SetFields.{Putting}
 use Rattle.handin_lines.proofs.sets.put_sets.Given as goal
 
--- The sets of the n fields before `at` are written.
-abbrev pub invariant-loop-at : goal.invariant-loop-at
-invariant-loop-at l = (l.n ≤ l.at) × Putting l.keys.low l.keys.high l.keys.count l.l l.start l.n l.at l.initial.out l.out
-
-abbrev pub decreases-loop-at : goal.decreases-loop-at
-decreases-loop-at l = length l.l + 1 - l.at
+-- The sets of the n fields so far are written.
+abbrev pub invariant-loop-field : goal.invariant-loop-field
+invariant-loop-field l =
+    Putting l.keys.low l.keys.high l.keys.count (split_from 32 l.start l.l) l.n (drop (length l.yielded) (split_from 32 l.start l.l)) l.initial.out l.out

@@ -4,6 +4,7 @@ use Rattle.std.specs.Prelude.{Ok, Err}
 use Rattle.questions.proofs.Refusals.{number_some}
 use Rattle.sheet_format.specs.Read.{reading}
 use Rattle.sheet_lines.proofs.Accepted.{accepts-of, lines-there}
+use Rattle.handin_lines.specs.declared.lines.LineRead.TheVariants as read
 use Rattle.handin_lines.specs.Inner.Lines.{line_found}
 use Rattle.handin_lines.proofs.Entering.{task-no-sheet, task-no-line, task-leaves, can-hand-over, task-hands-over}
 use Rattle.handin_lines.proofs.tasks.task_of.Goals as goal
@@ -21,17 +22,17 @@ returns-in-Err-check_line c =
     let a = c.args in
     task-no-line a.sheet.now a.line.now (reading (Ok c.in-Ok.setup)) c.in-Ok.ensures refl c.keys_of-found.result c.keys_of-found.ensures (line_found (Err c.in-Err-check_line.no)) c.in-Err-check_line.ensures _ (number_some _) refl
 
-pub returns-then-read : goal.returns-then-read
-returns-then-read c =
+pub returns-in-Ok-Withdrawal : goal.returns-in-Ok-Withdrawal
+returns-in-Ok-Withdrawal c =
     let a = c.args in
-    task-leaves a.sheet.now a.line.now (reading (Ok c.in-Ok.setup)) c.in-Ok.ensures refl c.keys_of-found.result c.keys_of-found.ensures (line_found (Ok c.in-Ok-check_line.read)) c.in-Ok-check_line.ensures refl _ c.if-read.true refl
+    task-leaves a.sheet.now a.line.now (reading (Ok c.in-Ok.setup)) c.in-Ok.ensures refl c.keys_of-found.result c.keys_of-found.ensures (line_found (Ok (read.Withdrawal c.in-Ok-Withdrawal.student))) (rw c.in-Ok-Withdrawal.field-0-is at c.in-Ok-Withdrawal.ensures) refl _ refl refl
 
 pub hand_over-requires : goal.hand_over-requires
 hand_over-requires c =
     let a = c.args in
-    can-hand-over a.sheet.now a.line.now (reading (Ok c.in-Ok.setup)) c.in-Ok.ensures refl c.keys_of-found.result c.keys_of-found.ensures (line_found (Ok c.in-Ok-check_line.read)) c.in-Ok-check_line.ensures refl
+    can-hand-over a.sheet.now a.line.now (reading (Ok c.in-Ok.setup)) c.in-Ok.ensures refl c.keys_of-found.result c.keys_of-found.ensures (line_found (Ok (read.Attempt c.in-Ok-Attempt.attempt c.in-Ok-Attempt.start))) (rw c.in-Ok-Attempt.field-0-is at c.in-Ok-Attempt.ensures) refl refl
 
-pub returns : goal.returns
-returns c =
+pub returns-in-Ok-Attempt : goal.returns-in-Ok-Attempt
+returns-in-Ok-Attempt c =
     let a = c.args in
-    task-hands-over a.sheet.now a.line.now (reading (Ok c.in-Ok.setup)) c.in-Ok.ensures refl c.keys_of-found.result c.keys_of-found.ensures (line_found (Ok c.in-Ok-check_line.read)) c.in-Ok-check_line.ensures refl _ c.if-read.false c.hand_over.ensures
+    task-hands-over a.sheet.now a.line.now (reading (Ok c.in-Ok.setup)) c.in-Ok.ensures refl c.keys_of-found.result c.keys_of-found.ensures (line_found (Ok (read.Attempt c.in-Ok-Attempt.attempt c.in-Ok-Attempt.start))) (rw c.in-Ok-Attempt.field-0-is at c.in-Ok-Attempt.ensures) refl _ refl c.hand_over.ensures

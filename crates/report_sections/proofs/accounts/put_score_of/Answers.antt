@@ -6,19 +6,19 @@ use Rattle.report_sections.proofs.Parts.{part-wrote, part-empty, no-score, score
 use borrow.Author.Rules.{rules}
 use Rattle.report_sections.proofs.accounts.put_score_of.Goals as goal
 
-pub put-requires-clause-idle_in_bounds : goal.put-requires-clause-idle_in_bounds
-put-requires-clause-idle_in_bounds c =
+pub put-requires-clause-room : goal.put-requires-clause-room
+put-requires-clause-room c =
     let low-score : Fits w64 c.number.result = search rules in
     let low-risk : Fits w64 c.number-2.result = search rules in
     score-room _ _ _ _ _ c.requires _ _ _ _ low-score.fits low-risk.fits
 
-pub returns-then-not-has : goal.returns-then-not-has
-returns-then-not-has c =
+pub returns-then-not-has-clause-part : goal.returns-then-not-has-clause-part
+returns-then-not-has-clause-part c =
     let a = c.args in
     part-empty score_at _ _ _ _ _ (no-score a.source.sheet.now a.source.facts.now a.v (c.has.ensures.no c.if-not-has.true)) c.requires
 
-pub returns : goal.returns
-returns c =
+pub returns-clause-part : goal.returns-clause-part
+returns-clause-part c =
     let a = c.args in
     let low-score : Fits w64 c.number.result = search rules in
     let low-risk : Fits w64 c.number-2.result = search rules in

@@ -1,47 +1,33 @@
-use mathlib.Core.Path.{◌∙◌}
+use borrow.Author.Rules.{rules}
+use mathlib.Core.Path.{refl, ◌∙◌}
 use Rattle.report_writer.proofs.Filling.{filling-none, filling-more, went-going, went-inside, went-filling, left-some}
 use Rattle.report_writer.proofs.steps.fill.Goals as goal
 
-pub advance-step-requires : goal.advance-step-requires
-advance-step-requires c = record { can_step = c.requires.can_step; at_in_bounds = c.requires.in_bounds }
+pub advance-next-requires : goal.advance-next-requires
+advance-next-requires c = record { can_step = c.requires.can_step; room = rw (c.new-pen.ensures.bytes, c.new-pen.ensures.start) c.requires.in_bounds }
 
-pub loop-out-init : goal.loop-out-init
-loop-out-init c =
-    let a = c.advance-step in
-    filling-none _ _ _ _ _ _ _ _ (went-going _ _ _ _ _ _ _ _ _ _ _ c.requires.can_step a.ensures) (went-inside _ _ _ _ _ _ _ _ _ _ _ c.requires.can_step a.ensures)
+pub loop-source-init : goal.loop-source-init
+loop-source-init c =
+    let a = c.advance-next.ensures.step in
+    (refl, filling-none _ _ _ _ _ _ _ _ (went-going _ _ _ _ _ _ _ _ _ _ _ c.requires.can_step a) (went-inside _ _ _ _ _ _ _ _ _ _ _ c.requires.can_step a))
 
-pub overflow_sub-out : goal.overflow_sub-out
-overflow_sub-out c = c.loop-out.invariant.inside
+pub left-requires : goal.left-requires
+left-requires c = c.loop-source.invariant.1.inside
 
 pub unfinished-requires : goal.unfinished-requires
 unfinished-requires c = tt
 
-pub loop-out-smaller : goal.loop-out-smaller
-loop-out-smaller c =
-    let g = c.unfinished in
-    c.advance-step-in-loop-out.ensures.less (left-some _ _ (g.ensures.yes c.if-unfinished.true))
+pub loop-source-smaller : goal.loop-source-smaller
+loop-source-smaller c = c.advance-next-in-loop-source.ensures.step.less (left-some _ _ (c.unfinished.ensures.yes c.if-unfinished.true))
 
-pub loop-out-preserved : goal.loop-out-preserved
-loop-out-preserved c =
-    let l = c.loop-out in
-    filling-more _ _ _ _ _ _ _ _ _ _ _ _ _ _ _ l.invariant c.advance-step-in-loop-out.auto.list (left-some _ _ (c.unfinished.ensures.yes c.if-unfinished.true)) c.advance-step-in-loop-out.ensures
+pub loop-source-preserved : goal.loop-source-preserved
+loop-source-preserved c =
+    let l = c.loop-source in
+    let a = c.advance-next-in-loop-source in
+    (a.ensures.same ∙ l.invariant.0, filling-more _ _ _ _ _ _ _ _ _ _ _ _ _ _ _ l.invariant.1 a.auto.list (left-some _ _ (c.unfinished.ensures.yes c.if-unfinished.true)) a.ensures.step)
 
-pub shape_of-list-else-unfinished : goal.shape_of-list-else-unfinished
-shape_of-list-else-unfinished c = c.loop-out.invariant.long_list ∙ c.advance-step.auto.list
-
-pub shape_of-out-else-unfinished : goal.shape_of-out-else-unfinished
-shape_of-out-else-unfinished c = c.loop-out.invariant.long ∙ c.advance-step.auto.out
-
-pub returns-else-unfinished : goal.returns-else-unfinished
-returns-else-unfinished c =
-    went-filling _ _ _ _ _ _ _ _ _ _ _ _ _ _ _ c.advance-step.ensures c.loop-out.invariant
-
-pub shape_of-list-after-loop-out : goal.shape_of-list-after-loop-out
-shape_of-list-after-loop-out c = c.loop-out.invariant.long_list ∙ c.advance-step.auto.list
-
-pub shape_of-out-after-loop-out : goal.shape_of-out-after-loop-out
-shape_of-out-after-loop-out c = c.loop-out.invariant.long ∙ c.advance-step.auto.out
-
-pub returns-after-loop-out : goal.returns-after-loop-out
-returns-after-loop-out c =
-    went-filling _ _ _ _ _ _ _ _ _ _ _ _ _ _ _ c.advance-step.ensures c.loop-out.invariant
+pub returns : goal.returns
+returns c =
+    let w = went-filling _ _ _ _ _ _ _ _ _ _ _ _ _ _ _ c.advance-next.ensures.step c.loop-source.invariant.1 in
+    let v = rw (c.new-pen.ensures.bytes, c.new-pen.ensures.start) at w in
+    search (rules, v)

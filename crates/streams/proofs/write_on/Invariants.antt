@@ -1,0 +1,10 @@
+use Rattle.std.specs.Prelude.{◌-◌, ◌+◌, ◌≤◌, length, take}
+use Rattle.std.specs.Io.KnownBytes.{Appends}
+use Rattle.streams.proofs.write_on.Given as goal
+
+-- No more bytes are out than there are, and those that are out are the first ones.
+abbrev pub invariant-loop-done : goal.invariant-loop-done
+invariant-loop-done g l = (l.done ≤ length l.bytes) × Appends (g.W.Write.contents l.initial.writer) (g.W.Write.contents l.writer) (take l.done l.bytes)
+
+abbrev pub decreases-loop-done : goal.decreases-loop-done
+decreases-loop-done g l = (length l.bytes - l.done) + l.asks

@@ -2,8 +2,8 @@
 """Checks that rows are written straight into the bytes that go out, with none built elsewhere and copied (document 02, point 7).
 
 The crates of the program `report` that write rows, and all crates below them, have no byte array: none that a function makes, no field, no
-constant and no answer, and no memory from an allocator. The program has two, named below, and two more: one for the words of a failed read or
-write, and one for the eight bytes of a name that are read as one number. Of the library they use what is named below, and nothing else. So there is no byte array to build a row in, or its digits, names and
+constant and no answer, and no memory from an allocator. The program has two, named below, and one more, for the words of a failed read or
+write. Of the library they use what is named below, and nothing else. So there is no byte array to build a row in, or its digits, names and
 sums, and to copy them from. Byte strings are no such place: they are constants, and rows have their fixed words from them. Where rows are written, arrays of words and of structs are named below too, by function, so that no row is packed
 into words; and no function reads from the bytes that are lent to it for writing, so that no row is built behind its place and moved. A struct may hold
 such bytes in a field that no other crate reaches; then the same holds of the field. Pooling is not looked at, which writes a sheet and no report. The exit status is 1 where something of this does not hold. `rows.py FOLDER` looks at another
@@ -19,9 +19,8 @@ from contracts import functions
 WHOLE = "report"
 # All crates of that program that stand on one of these write rows, and these two: one puts bytes into a lent buffer, one hands bytes to the system.
 GROUND = {"writing", "streams"}
-# The byte arrays that there are, by crate, function and name: what is read, the bytes that go out, an error's words, and eight bytes of a name. Each is
-# made once.
-OWN = {("report", "main", "sheet"), ("report", "print_report", "out"), ("streams", "fail", "text"), ("sheet_fields", "pack", "bytes")}
+# The byte arrays that there are, by crate, function and name: what is read, the bytes that go out, and an error's words. Each is made once.
+OWN = {("report", "main", "sheet"), ("report", "print_report", "out"), ("streams", "fail", "text")}
 # The arrays of words and of structs that functions make where rows are written, by crate, function and name (empty where it has none): tables,
 # lists and figures, and no bytes. Each is made once.
 PERMITTED = {
@@ -92,8 +91,7 @@ PROGRAM = {
         "pub fn put_byte(b: u8, out: &mut [u8], at: usize) {\n    out[at] = b;\n}",
     ),
     "pool": ("writing", "pub fn colours() {\n    let digits = [0u8; 256];\n}"),
-    "sheet_fields": ("", "fn pack() -> u64 {\n    let mut bytes = [0; WORD_BYTES];\n    u64::from_le_bytes(bytes)\n}"),
-    "report_rows": ("ground writing sheet_fields", "pub fn put_row(out: &mut [u8]) {\n    writing::put_byte(ground::least(1) as u8, out, 0);\n}"),
+    "report_rows": ("ground writing", "pub fn put_row(out: &mut [u8]) {\n    writing::put_byte(ground::least(1) as u8, out, 0);\n}"),
     "streams": (
         "",
         "use std::io::{ErrorKind, Read, Write};\npub fn read_once<R: Read>(r: &mut R, b: &mut [u8]) {\n    let n = r.read(&mut b[1..]);\n}\n"

@@ -59,7 +59,9 @@ pub fn access_derivation(
     let Some(count) = way.steps else {
         return Ok(None);
     };
-    if vertices.len() < count || colours.len() < count {
+    let vertex_room = vertices.len();
+    let colour_room = colours.len();
+    if vertex_room < count || colour_room < count {
         return Err(Refusal::Short);
     }
     ways::write_way(s.graph, target, set, vertices, colours);

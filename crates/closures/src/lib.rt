@@ -47,10 +47,12 @@ fn admits(loss: bool, rows: Rows, held: VertexSet) -> bool
 
 // The vertices outside of `grown` that need one of the vertices which `grown` has and `held` has
 // not. No other vertex outside of `grown` can be admitted by `grown` and not by `held`.
-pub fn to_look_at(list: &[u64; 64], held: VertexSet, grown: VertexSet) -> u64
+pub fn to_look_at(list: &[u64], held: VertexSet, grown: VertexSet) -> u64
+    requires { length list.now ≡ 64 }
     ensures { ToLookAt list.now held.0 grown.0 result }
 {
-    successors::of_set(list, grown.0 & !held.0) & !grown.0
+    let users = successors::of_set(list.first_chunk().unwrap(), grown.0 & !held.0);
+    users & !grown.0
 }
 
 // The closure of a set, and its number of passes (document 02, point 4).

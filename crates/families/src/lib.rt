@@ -3,7 +3,7 @@
 
 #![tactic(auto)]
 
-ghost use Rattle.std.specs.Prelude.{◌≡◌, ◌≤◌, ◌<◌};
+ghost use Rattle.std.specs.Prelude.{◌≡◌, ◌≤◌, ◌<◌, length};
 ghost use Rattle.std.specs.Int.Count.{ones};
 ghost use Rattle.families.specs.Inner.Family.{family_words, mask_bits, size, WordsFit, MinimalMembers, LeastBelow};
 ghost use Rattle.families.specs.Inner.Exact.{WordsFor};
@@ -116,12 +116,14 @@ pub fn minimal_members(f: &[u64; WORDS], n: usize, out: &mut [u64; WORDS])
 }
 
 // Keeps the family's minimal members alone. Each word is judged by itself and by words of smaller
-// numbers, so the last word goes first and no copy is needed.
-pub fn keep_minimal(f: &mut [u64; WORDS])
+// numbers, so the last word goes first and no copy is needed. The length stays a clause: the family may be
+// a part of a table, and that is a slice.
+pub fn keep_minimal(f: &mut [u64])
+    requires { length f.old ≡ family_words }
     ensures { MinimalMembers f.old f.new }
 {
     for b in (0..WORDS).rev() {
-        f[b] = least_word(f, b);
+        f[b] = least_word(f.first_chunk().unwrap(), b);
     }
 }
 

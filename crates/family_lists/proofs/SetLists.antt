@@ -7,7 +7,8 @@ use native.Mathlib.Nat.{lt_of_le_of_lt}
 use native.Mathlib.Numerals.{add-one}
 use native.Mathlib.Omega.{arith}
 use lib.Count.{ones, ones-le}
-use lib.ListN.{length, length-map}
+use lib.ListN.{length, take, length-map}
+use lib.Seq.{take_all}
 use Rattle.vertex_set.specs.Order.{Listed, Before, sum_over}
 use Rattle.vertex_set.proofs.Sets.{member_below, within-le}
 use Rattle.vertex_set.proofs.Sorted.{listed-map, listed-of-map, map_same, sorted-map, sorted-ordered}
@@ -93,6 +94,10 @@ module _ (N : ℕ → ℕ) (f entry out : List ℕ) (next s : ℕ) (w : AllWriti
   all_end e =
       let z : 15 - s ≡ 0 = omega arith in
       writing-end entry 0 _ _ out next (ap (λ (n : ℕ). map N (by_size (rising 0 f) s n)) z) w
+
+-- a family's words taken from its front are the family
+pub front_whole : (w f : List ℕ) → w ≡ take 256 f → length f ≡ 256 → w ≡ f
+front_whole w f e long = e ∙ take_all 256 f (omega arith)
 
 -- ---- set numbers as sums
 

@@ -158,13 +158,13 @@ fn put_all(f: &[u64; WORDS], sums: &MaskSums, out: &mut [u64]) -> usize
 
 // Writes the sets of the family's members to the front of `out`, fewer vertices first and then the
 // smaller set number, and gives the count of sets. The number of a set is the sum of its vertices'
-// powers of 2.
-pub fn write_sets(f: &[u64; WORDS], chosen: VertexSet, out: &mut [u64]) -> usize
+// powers of 2. The family may be a part of a table, so its length stays a clause.
+pub fn write_sets(f: &[u64], chosen: VertexSet, out: &mut [u64]) -> usize
     requires { Writable chosen.0 f.now (length out.old) }
     ensures { WroteSets chosen.0 f.now out.old result out.new }
 {
     let values = sums::singles();
     let weights = sums::weights_of(chosen, values);
     let sums = MaskSums::of(weights);
-    put_all(f, &sums, out)
+    put_all(f.first_chunk().unwrap(), &sums, out)
 }

@@ -8,7 +8,7 @@ use Prim.Native.Nat.{ℕ, ◌+◌, ◌-◌, ◌*◌, ◌/◌, ◌%◌, ◌^◌, 
 use native.Mathlib.Omega.{arith}
 use lib.Bits.{bit_and}
 use lib.Count.{ones, ones-le}
-use lib.ListN.{get_or}
+use lib.ListN.{length, get_or, take}
 use Rattle.vertex_set.specs.Set.{Member, Below, Iff}
 use Rattle.vertex_set.specs.Order.{Before}
 use Rattle.vertex_set.proofs.Cases.{less-or, same_or}
@@ -17,6 +17,7 @@ use Rattle.vertex_set.proofs.Sets.{in_and, in-not, none-in-zero}
 use Rattle.successors.specs.Inner.{LowestOf}
 use Rattle.families.specs.Inner.Family.{In, masks}
 use Rattle.family_lists.specs.Inner.Tables.{LanesOfSize}
+use Rattle.family_lists.proofs.SetLists.{front_whole}
 use Rattle.family_steps.specs.Inner.{LanesFrom, FirstOfSize, NextMember}
 
 -- ---- the lanes from a mask on
@@ -155,3 +156,7 @@ seeking-end f m from s h g =
       found = λ n e. cc;
       first = λ k l i b. absurd (let q = g.none k l i b in let p = ones-le 14 k (omega arith) in omega arith);
     }
+
+-- a family's words taken from its front are the family
+pub of_words : (w f : List ℕ) (m : ℕ) (r : Option ℕ) → w ≡ take 256 f → length f ≡ 256 → NextMember w m r → NextMember f m r
+of_words w f m r e long h = subst (λ (l : List ℕ). NextMember l m r) (front_whole w f e long) h

@@ -3,7 +3,7 @@
 
 #![tactic(auto)]
 
-ghost use Rattle.std.specs.Prelude.{◌<◌};
+ghost use Rattle.std.specs.Prelude.{◌≡◌, ◌<◌, length};
 ghost use Rattle.families.specs.Inner.Family.{family_words, masks};
 ghost use Rattle.families.specs.Inner.Masks.{SetOfMask};
 ghost use Rattle.family_steps.specs.Inner.{LanesFrom, FirstOfSize, NextMember};
@@ -45,15 +45,18 @@ fn first_of_size(f: &[u64; WORDS], s: usize, from: usize) -> Option<usize>
 }
 
 // The first member after the mask m. Of m's own size only larger masks come after it, of the sizes
-// above all do.
-pub fn next_member(f: &[u64; WORDS], m: usize) -> Option<usize>
-    requires { m < masks }
+// above all do. The length stays a clause, here and in `family_lists::write_sets`: the family may be a part of
+// a table.
+pub fn next_member(f: &[u64], m: usize) -> Option<usize>
+    requires f_len { length f.now ≡ family_words }
+    requires m_lt_masks { m < masks }
     ensures { NextMember f.now m result }
 {
+    let words = f.first_chunk().unwrap();
     let size = m.count_ones() as usize;
     let mut from = m + 1;
     for s in size..SIZES {
-        if let Some(next) = first_of_size(f, s, from) {
+        if let Some(next) = first_of_size(words, s, from) {
             return Some(next);
         }
         from = 0;

@@ -19,8 +19,10 @@ fn merged(any: bool, x: u64, y: u64) -> u64
 }
 
 // The part keeps only the masks that the other has too or, with `any`, gains those that the other
-// has.
-pub fn merge_in(any: bool, d: &mut [u64; PART], s: &[u64; PART])
+// has. The lengths stay clauses: either part may lie in a longer list.
+pub fn merge_in(any: bool, d: &mut [u64], s: &[u64])
+    requires d_len { length d.old ≡ part_words }
+    requires s_len { length s.now ≡ part_words }
     ensures { PartWhere (λ b i. Merged any (At d.old b i) (At s.now b i)) d.new }
 {
     for (b, y) in s.iter().enumerate() {

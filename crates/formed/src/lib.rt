@@ -7,7 +7,7 @@ ghost use Rattle.std.specs.Int.Count.{ones};
 ghost use Rattle.vertex_set.specs.Set.{Decides};
 ghost use Rattle.setup.specs.Setup.{unused_vertex, total};
 ghost use Rattle.formed.specs.WellFormed.{InRange, ValidVertex, WellFormed};
-ghost use Rattle.formed.specs.Inner.Parts.{VertexFits, RowsFit, MayNeed, EdgesFit, graph_of, GraphsFit, VerticesFit, HoldingFits};
+ghost use Rattle.formed.specs.Inner.Parts.{VertexFits, RowsFit, MayNeed, EdgesFit, GraphsFit, VerticesFit, HoldingFits};
 
 use setup::{Graph, Rows, Setup, Vertex};
 use vertex_set::VertexSet;
@@ -72,12 +72,12 @@ pub fn row_sizes(rows: Rows) -> u32
     rows.needs.iter().map(|row| row.count_ones()).sum()
 }
 
-fn graphs_fit(count: usize, graph: &[Rows; 64], recovery: &[Rows; 64]) -> bool
-    ensures { Decides (GraphsFit count (graph_of graph.now) (graph_of recovery.now)) result }
+fn graphs_fit(count: usize, graph: Graph, recovery: Graph) -> bool
+    ensures { Decides (GraphsFit count graph recovery) result }
 {
     let mut edges = 0;
-    for (v, rows) in graph.iter().enumerate() {
-        if !edges_fit(count, v, *rows, recovery[v]) {
+    for (v, rows) in graph.rows.iter().enumerate() {
+        if !edges_fit(count, v, *rows, recovery.rows[v]) {
             return false;
         }
         edges += row_sizes(*rows);
@@ -85,8 +85,8 @@ fn graphs_fit(count: usize, graph: &[Rows; 64], recovery: &[Rows; 64]) -> bool
     edges <= setup::MAX_EDGES as u32
 }
 
-fn vertices_fit(count: usize, vertices: &[Vertex; 64]) -> bool
-    ensures { Decides (VerticesFit count vertices.now) result }
+fn vertices_fit(count: usize, vertices: [Vertex; 64]) -> bool
+    ensures { Decides (VerticesFit count vertices) result }
 {
     let mut initial = 0;
     let mut losable = 0;
@@ -103,21 +103,22 @@ fn vertices_fit(count: usize, vertices: &[Vertex; 64]) -> bool
 // Are only vertices of the setup held, and is `opened` what they open? A test for a closed set
 // would let in a ring that holds itself up. Where nothing is held nothing is open, so most setups
 // need no passes.
-fn holding_fits(count: usize, graph: &Graph, held: VertexSet, opened: VertexSet) -> bool
-    ensures { Decides (HoldingFits count graph.now held.0 opened.0) result }
+fn holding_fits(count: usize, graph: Graph, held: VertexSet, opened: VertexSet) -> bool
+    ensures { Decides (HoldingFits count graph held.0 opened.0) result }
 {
     if held == VertexSet(0) {
         return opened == VertexSet(0);
     }
-    held.within(VertexSet::below(count)) && closures::closure(false, *graph, held).set == opened
+    held.within(VertexSet::below(count)) && closures::closure(false, graph, held).set == opened
 }
 
-// Question 12: is the setup one that an accepted sheet and a list of calls reach?
+// Question 12: is the setup one that an accepted sheet and a list of calls reach? Its parts go on by value: where
+// they were lent, the compiler copied the whole setup first.
 pub fn well_formed(s: Setup) -> bool
     ensures { Decides (WellFormed s) result }
 {
     (1..=setup::MAX_ITEMS).contains(&s.count)
-        && graphs_fit(s.count, &s.graph.rows, &s.recovery.rows)
-        && vertices_fit(s.count, &s.vertices)
-        && holding_fits(s.count, &s.graph, s.held, s.opened)
+        && graphs_fit(s.count, s.graph, s.recovery)
+        && vertices_fit(s.count, s.vertices)
+        && holding_fits(s.count, s.graph, s.held, s.opened)
 }

@@ -123,7 +123,8 @@ fn check_attempt(
     requires attempt_places { AttemptPlaces l.now (form_found (Ok form)) }
     ensures { ChecksAttempt keys.now.low keys.now.high keys.now.count l.now (form_found (Ok form)) student (line_found result) }
 {
-    let target = match by_name::item_of(&l[form.first + 1..form.second], keys) {
+    let name = &l[form.first + 1..form.second];
+    let target = match by_name::item_of(name, &keys.low, &keys.high, keys.count) {
         Ok(item) => item,
         Err(refusal) => return Err(no(refusal, 2)),
     };
@@ -132,7 +133,7 @@ fn check_attempt(
         None => return Err(no(Refusal::Form, 3)),
     };
     let start = form.third + 1;
-    let count = sets::check_handed(l, start, keys)?;
+    let count = sets::check_handed(l, start, &keys.low, &keys.high, keys.count)?;
     let attempt = AttemptRead {
         student,
         target,

@@ -18,15 +18,22 @@ pub const MAX_HANDED: usize = 16384;
 
 // Are all the fields sets? How many they are. Here and below line, place and keys are no struct: the keys are the
 // sheet's, and the place is of one line.
-fn check_sets(l: &[u8], start: usize, keys: &ItemKeys) -> Result<usize, FieldRefusal>
-    ensures { ChecksSets keys.now.low keys.now.high keys.now.count l.now start (checked result) }
+fn check_sets(
+    l: &[u8],
+    start: usize,
+    low: &[u64],
+    high: &[u64],
+    count: usize,
+) -> Result<usize, FieldRefusal>
+    requires { (count ≤ length low.now) × (count ≤ length high.now) × (count ≤ 64) }
+    ensures { ChecksSets low.now high.now count l.now start (checked result) }
 {
     let Some(rest) = l.get(start..) else {
         return Ok(0);
     };
     let mut n: usize = 0;
     for field in rest.split(|b| *b == SPACE) {
-        if let Err(refusal) = by_name::set_of(field, keys) {
+        if let Err(refusal) = by_name::set_among(field, low, high, count) {
             return Err(FieldRefusal {
                 refusal,
                 place: FIRST_SET + n as u64,
@@ -38,17 +45,24 @@ fn check_sets(l: &[u8], start: usize, keys: &ItemKeys) -> Result<usize, FieldRef
 }
 
 // The same, and last 7: are there at most as many as a line may have?
-pub fn check_handed(l: &[u8], start: usize, keys: &ItemKeys) -> Result<usize, FieldRefusal>
-    ensures { ChecksHanded keys.now.low keys.now.high keys.now.count l.now start (checked result) }
+pub fn check_handed(
+    l: &[u8],
+    start: usize,
+    low: &[u64],
+    high: &[u64],
+    count: usize,
+) -> Result<usize, FieldRefusal>
+    requires { (count ≤ length low.now) × (count ≤ length high.now) × (count ≤ 64) }
+    ensures { ChecksHanded low.now high.now count l.now start (checked result) }
 {
-    let count = check_sets(l, start, keys)?;
-    if MAX_HANDED < count {
+    let handed = check_sets(l, start, low, high, count)?;
+    if MAX_HANDED < handed {
         return Err(FieldRefusal {
             refusal: Refusal::Bound,
             place: 0,
         });
     }
-    Ok(count)
+    Ok(handed)
 }
 
 // Writes the sets to the start of the lent list, and tells how many they are. All of them have been

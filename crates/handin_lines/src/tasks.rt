@@ -33,12 +33,12 @@ pub fn task_of(sheet: &[u8], line: &[u8]) -> Task
 {
     let s = match sheet::read_sheet(sheet) {
         Ok(setup) => setup,
-        Err(refused) => return Task::Refuse(refused.refusal),
+        Err(refused) => return Task::Refuse(refused.refusal.number()),
     };
     let found = item_keys::keys_of(sheet, s.count);
     match lines::check_line(line, &found.keys) {
         Ok(LineRead::Withdrawal(student)) => Task::Withdraw(student),
         Ok(LineRead::Attempt(attempt, start)) => hand_over(s, line, attempt, start, &found.keys),
-        Err(no) => Task::Refuse(no.refusal),
+        Err(no) => Task::Refuse(no.refusal.number()),
     }
 }

@@ -27,16 +27,18 @@ fn part_of(w: &[u64; BLOCK], v: usize) -> &[u64; PART]
 }
 
 // The masks whose sets have every vertex of the row or, with `any`, some vertex of the row. The row
-// is not empty.
-fn scan(w: &[u64; BLOCK], row: u64, any: bool, out: &mut [u64; PART])
+// is not empty. The part is handed back: written to one that is lent, it went through memory, and a table
+// took twice the time.
+fn scan(w: &[u64; BLOCK], row: u64, any: bool) -> [u64; PART]
     requires { row ≡ 0 → ⊥ }
-    ensures { PartWhere (λ b i. Over any (Member row) (Lane w.now b i)) out.new }
+    ensures { PartWhere (λ b i. Over any (Member row) (Lane w.now b i)) result }
 {
     let first = successors::lowest(row);
-    out.copy_from_slice(part_of(w, first));
+    let mut part = *part_of(w, first);
     for v in successors::vertices_of(successors::without(row, first)) {
-        family_words::merge_in(any, out, part_of(w, v));
+        family_words::merge_in(any, &mut part, part_of(w, v));
     }
+    part
 }
 
 // Takes one colour in: the part gains the masks whose sets have the whole row or, with loss,
@@ -48,8 +50,7 @@ fn take_colour(w: &[u64; BLOCK], row: u64, loss: bool, out: &mut [u64; PART])
     if row == 0 {
         return;
     }
-    let mut part = [0u64; PART];
-    scan(w, row, loss, &mut part);
+    let part = scan(w, row, loss);
     family_words::merge_in(!loss, out, &part);
 }
 

@@ -121,6 +121,7 @@ module _ (s : Setup) (target initial : ℕ) (wf : WellFormed s) (word : initial 
   unfolding ones
   can-list places e =
       record {
+        words = f.words;
         few = omega arith;
         exact = record { below = λ x l i. l };
         room = let a = f.count in let b = f.counted in let c = longest-base false s s.graph target f.base wf f.is_base in omega arith;

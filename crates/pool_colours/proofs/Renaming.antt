@@ -99,6 +99,11 @@ pub record ColoursOfItem (es : List EdgeRow) (n : List ℕ) (s : ℕ) : Type 0 w
 pub record NewSoFar (start : ℕ) (second : Rows) (c s : ℕ) : Type 0 where
   pub each : (es fs : List EdgeRow) (n : List ℕ) → ColoursOfItem es n start → RowsOfItem fs n second → TakenBy es fs n c s
 
+-- The colours from the one that is asked for on add nothing.
+pub record NewUpTo (start : ℕ) (second : Rows) (colour b s : ℕ) : Type 0 where
+  pub before : b ≤ colour → NewSoFar start second b s
+  pub behind : colour ≤ b → NewSoFar start second colour s
+
 pub taken_none : (second : Rows) (s : ℕ) → NewSoFar s second 0 s
 unfolding is_taken
 taken_none second s = record { each = λ es fs n a b. record { each = a.each } }
@@ -172,3 +177,13 @@ module _ (start : ℕ) (second : Rows) (c s : ℕ) (u : NewSoFar start second c 
     pub new_is : (r : Option ℕ) → LowestFree s r → NewColour first second c r
     new_is None l = new_none None c (omega arith) l refl
     new_is (Some k) l = record { each = λ es fs n a b. new-of es fs n c s k (Some k) (u.each es fs n (own es n a) b) l refl }
+
+pub upto-none : (second : Rows) (colour s : ℕ) → NewUpTo s second colour 0 s
+upto-none second colour s = record { before = λ h. taken_none second s; behind = λ h. let e : colour ≡ 0 = omega (arith, h) in rw e (taken_none second s) }
+
+module _ (start : ℕ) (second : Rows) (colour b : ℕ) where
+  pub upto-more : (s : ℕ) → b < colour → NewSoFar start second (b + 1) s → NewUpTo start second colour (b + 1) s
+  upto-more s l n = record { before = λ h. n; behind = λ h. let e : colour ≡ b + 1 = omega (arith, h) in rw e n }
+
+  pub upto-over : (s : ℕ) → colour ≤ b → NewUpTo start second colour b s → NewUpTo start second colour (b + 1) s
+  upto-over s l u = record { before = λ h. absurd (omega (arith, h)); behind = λ h. u.behind l }

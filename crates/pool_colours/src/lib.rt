@@ -46,8 +46,8 @@ fn new_colour(first: &Rows, second: &Rows, colour: usize) -> Option<usize>
     ensures { NewColour first.now second.now colour result }
 {
     let mut taken = used_colours(first);
-    for needs in &second.needs[..colour] {
-        if *needs != 0 {
+    for (b, needs) in second.needs.iter().enumerate() {
+        if b < colour && *needs != 0 {
             let new = lowest_free(taken)?;
             taken = taken.insert(new);
         }

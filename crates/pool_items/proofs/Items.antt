@@ -2,7 +2,7 @@
 -- Assumes nothing.
 use mathlib.Core.Path.{◌≡◌, refl, sym, ap, ◌∙◌}
 use mathlib.Core.List.{List, [], ◌∷◌, ◌++◌, append-nil, append_assoc}
-use mathlib.Core.Bool.{Bool, true, false, not, cond}
+use mathlib.Core.Bool.{Bool, true, false, cond}
 use Rattle.std.specs.Option.{is_some}
 use mathlib.Core.Logic.{⊎_elim}
 use Prim.Native.Nat.{ℕ, suc, ◌+◌, ◌-◌, ◌≤◌, ◌<◌}
@@ -71,13 +71,13 @@ module _ (xs ys : List ItemRow) (j : ℕ) (y : ItemRow) (h : StandsAt ys j y) wh
       ap (λ (l : List ItemRow). remaining xs (take j ys) ++ l) (remaining-new xs y [] t)
 
 -- what the test of a place tells
-pub no-place : (o : Option ℕ) (r : Bool) → is_some o ≡ not r → r ≡ true → o ≡ None
-no-place None r e t = refl
-no-place (Some i) r e t = absurd (let k : true ≡ false = e ∙ ap not t in cc)
+pub no-place : (o : Option ℕ) → is_some o ≡ false → o ≡ None
+no-place None e = refl
+no-place (Some i) e = absurd (cc)
 
-pub some-place : (o : Option ℕ) (r : Bool) → is_some o ≡ not r → r ≡ false → (i : ℕ) × (o ≡ Some i)
-some-place None r e t = absurd (let k : false ≡ true = e ∙ ap not t in cc)
-some-place (Some i) r e t = (i, refl)
+pub some-place : (o : Option ℕ) → is_some o ≡ true → (i : ℕ) × (o ≡ Some i)
+some-place None e = absurd (cc)
+some-place (Some i) e = (i, refl)
 
 place-some : (b : Bool) (n i : ℕ) → cond b (Some n) None ≡ Some i → (b ≡ true) × (i ≡ n)
 place-some true n i e = (refl, cc)

@@ -105,7 +105,8 @@ impl Shared {
             bytes: 0,
         };
         for (j, place) in self.places[..self.count].iter().enumerate() {
-            if place.is_none() {
+            let remains = place.is_none();
+            if remains {
                 r = r.with(vertices[j], from[j + 1] - from[j]);
             }
         }

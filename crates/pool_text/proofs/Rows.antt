@@ -1,20 +1,18 @@
 -- Writing the second sheet's rows, one by one.
 -- Assumes nothing.
-use mathlib.Core.Path.{◌≡◌, refl, sym, ap, ◌∙◌}
+use mathlib.Core.Path.{◌≡◌, refl}
 use mathlib.Core.List.{List, [], ◌∷◌, ◌++◌}
 use mathlib.Core.Bool.{Bool, true, false, not, cond}
 use Prim.Native.Nat.{ℕ, zero, suc, ◌+◌, ◌-◌, ◌≤◌, ◌<◌}
 use native.Mathlib.Numerals.{add-one}
 use native.Mathlib.Omega.{arith}
-use lib.ListN.{length, get_or, take, drop, length-append, length-drop}
-use lib.Seq.{length-take-le}
+use lib.ListN.{length, get_or, take, drop, length-append}
 use Rattle.std.specs.Prelude.{Option, Some, None}
 use Rattle.std.specs.Option.{is_some}
 use Rattle.writing.specs.declared.Pen.{Pen}
 use Rattle.writing.specs.Inner.{RoomFor, Penned}
 use Rattle.writing.proofs.Pens.{penned_none, penned_then, room_then, PenWriting, pen_none, pen_part, pen_room}
 use Rattle.sheet_format.specs.Text.{lines_of}
-use Rattle.sheet_format.specs.Rows.{Each}
 use Rattle.sheet_fields.specs.Inner.Parts.{until}
 use Rattle.sheet_fields.proofs.Lines.{line_at, lines-over}
 use Rattle.sheet_fields.proofs.Slices.{rest_part}
@@ -49,11 +47,19 @@ module _ (l : List ℕ) (b : ℕ) (p q : Pen) (w : Penned p (take (length l - 3)
 -- ---- remaining rows
 
 -- a row is asked for where its item has no place
-pub asked-row : (o : Option ℕ) (fresh : Bool) (row : List ℕ) → is_some o ≡ not fresh → cond fresh row [] ≡ row_unless o row
+asked-row : (o : Option ℕ) (fresh : Bool) (row : List ℕ) → is_some o ≡ not fresh → cond fresh row [] ≡ row_unless o row
 asked-row None true row e = refl
 asked-row None false row e = absurd (cc)
 asked-row (Some i) true row e = absurd (cc)
 asked-row (Some i) false row e = refl
+
+-- the same of what the pen writes, whatever says whether the row is asked for
+module _ (o t : Option ℕ) (h : t ≡ o) (row : List ℕ) (p : Pen) (fresh : Bool) where
+  pub row-room : is_some t ≡ not fresh → RoomFor p (row_unless o row) → RoomFor p (cond fresh row [])
+  row-room e r = rw (asked-row o fresh row (rw h at e)) r
+
+  pub row-penned : (q : Pen) → is_some t ≡ not fresh → Penned p (cond fresh row []) q → Penned p (row_unless o row) q
+  row-penned q e w = rw (asked-row o fresh row (rw h at e)) at w
 
 module _ (s from : List ℕ) (places : List (Option ℕ)) where
   pub fresh-none : (p : Pen) → Penned p (fresh_rows s from places 0) p

@@ -10,6 +10,7 @@ use Rattle.std.proofs.Common.{get_or-take}
 use Rattle.std.specs.Array.{IsFirstChunk}
 use Rattle.setup.specs.declared.Rows.{Rows}
 use Rattle.setup.specs.declared.Graph.{Graph}
+use Rattle.setup.specs.declared.Setup.{Setup}
 use Rattle.setup.specs.Setup.{no_items}
 use Rattle.portal_words.specs.Words.{tabulate, word_at, SaysSetup, kind_in, value_in, vertex_in, rows_in, graph_in, spelt, setup_in}
 use Rattle.portal_words.proofs.Strict.{setup-spelt, setup-none}
@@ -73,5 +74,8 @@ module _ (words : List ℕ) where
     pub none-front : (SaysSetup front → ⊥) → no_items ≡ setup_in words
     none-front n = sym (setup-none words (λ s. n (subst SaysSetup (sym c.same) (front-says c.enough s))))
 
-  pub none-short : length words < 1283 → no_items ≡ setup_in words
-  none-short h = sym (setup-none words (λ s. let l = s.long in omega arith))
+  pub none-short : (r : Setup) → length words < 1283 → r ≡ no_items → r ≡ setup_in words
+  none-short r h e = e ∙ sym (setup-none words (λ s. let l = s.long in omega arith))
+
+-- what is answered to too few words
+pub ruleset short_answers = (none-short)

@@ -137,12 +137,14 @@ pub fn no_items() -> Setup
 }
 
 // The setup that the words say. Words behind those that say a setup are not looked at.
+#[tactic(auto, using(crate::proofs::Front::short_answers))]
 pub fn setup_in(words: &[u64]) -> Setup
     ensures { result ≡ setup_in words.now }
 {
-    let Some(front) = words.first_chunk::<SETUP_WORDS>() else {
+    if words.len() < SETUP_WORDS {
         return no_items();
-    };
+    }
+    let front = words.first_chunk().unwrap();
     if kinds_said(front) {
         return spell_out(front);
     }

@@ -10,6 +10,7 @@ use mir.Val.{bool_byte}
 use Rattle.std.specs.Prelude.{Result, Ok, Err}
 use Rattle.setup.specs.declared.Setup.{Setup}
 use Rattle.questions.specs.declared.Refusal.{Refusal}
+use Rattle.questions.specs.Refusals.{number}
 use Rattle.questions.specs.Questions.{asks12, asks13}
 use Rattle.questions.specs.Contract.{Outcome, gives, ends, turns_away, Answers, Fulfils}
 use Rattle.questions.proofs.Asks.{asks-retold}
@@ -32,7 +33,7 @@ module _ (s : Setup) (student target way : ℕ) (loss : Bool) (handed : List ℕ
   -- the task of a hand-in whose sets got this answer
   abbrev task_of : Result Marks Refusal → Task
   task_of (Ok m) = task.HandIn (record { student = student; target = target; way = way; right = m.right; repeated = m.repeated; shut = m.shut; loose = m.loose; missing = m.missing })
-  task_of (Err q) = task.Refuse q
+  task_of (Err q) = task.Refuse (number q)
 
   -- what was promised of the values stands in the five fields
   marked : (m n : Marks) → values m ≡ values n → AreMarks loss s target handed n → AreMarks loss s target handed m

@@ -20,7 +20,7 @@ withdraw ys used k = cond (eqb (length (without k (take used ys))) used) (hands_
 
 -- what is done with a slice that has the used records
 abbrev pub done_with : List Record → ℕ → Task → RegisterOutcome
-done_with ys used (task.Refuse q) = hands_back used ys (number q)
+done_with ys used (task.Refuse q) = hands_back used ys q
 done_with ys used (task.Withdraw k) = withdraw ys used k
 done_with ys used (task.HandIn n) = hand_in ys used n
 
@@ -38,7 +38,7 @@ Leaves a l o = with_slice a l ≡ o
 
 -- the number by which a task is refused, or 0
 abbrev pub refused_by : Task → ℕ
-refused_by (task.Refuse q) = number q
+refused_by (task.Refuse q) = q
 refused_by (task.Withdraw k) = 0
 refused_by (task.HandIn n) = 0
 

@@ -41,8 +41,8 @@ pub struct Registered {
 // What a call asks of the register.
 #[derive(Clone, Copy)]
 pub enum Task {
-    // Nothing: the call is refused before it comes to the register.
-    Refuse(Refusal),
+    // Nothing: the call is refused by this number, which may be any, before it comes to the register.
+    Refuse(u64),
     // To remove the records of a student.
     Withdraw(u64),
     // To lay down a record.
@@ -97,30 +97,31 @@ fn remove(records: &mut [Record], used: usize, student: u64) -> Result<usize, Re
     Ok(kept)
 }
 
-// Does what the task asks; 25 comes before the marking's own questions. How many records are used then.
-fn perform(records: &mut [Record], used: usize, task: Task) -> Result<usize, Refusal>
-    ensures { Leaves (registered used result) records.new (outcome_of records.old used task) }
+// How many records are used now, or why not, told as C gets it: a refusal leaves the count as it was.
+fn tell(used: usize, done: Result<usize, Refusal>) -> Registered
+    ensures { result ≡ registered used done }
 {
-    if records.len() < used {
-        return Err(Refusal::Overfull);
-    }
-    match task {
-        Task::Refuse(refusal) => Err(refusal),
-        Task::Withdraw(student) => remove(records, used, student),
-        Task::HandIn(new) => lay(records, used, new),
-    }
-}
-
-// The same, told as C gets it. A refusal leaves the slice and the count as they were.
-pub fn apply(records: &mut [Record], used: usize, task: Task) -> Registered
-    ensures { Leaves result records.new (outcome_of records.old used task) }
-{
-    match perform(records, used, task) {
+    match done {
         Ok(used) => Registered { number: 0, used },
         Err(refusal) => Registered {
             number: refusal.number(),
             used,
         },
+    }
+}
+
+// Does what the task asks; 25 comes before the number that the task is refused by. A refusal leaves the
+// slice and the count as they were.
+pub fn apply(records: &mut [Record], used: usize, task: Task) -> Registered
+    ensures { Leaves result records.new (outcome_of records.old used task) }
+{
+    if records.len() < used {
+        return tell(used, Err(Refusal::Overfull));
+    }
+    match task {
+        Task::Refuse(number) => Registered { number, used },
+        Task::Withdraw(student) => tell(used, remove(records, used, student)),
+        Task::HandIn(new) => tell(used, lay(records, used, new)),
     }
 }
 
@@ -150,6 +151,6 @@ pub fn attempt(s: Setup, student: u64, target: u64, loss: bool, handed: &[u64]) 
             loose: m.loose as u64,
             missing: m.missing as u64,
         }),
-        Err(refusal) => Task::Refuse(refusal),
+        Err(refusal) => Task::Refuse(refusal.number()),
     }
 }

@@ -1,5 +1,7 @@
 // The facts behind the report's rows, worked out once for the whole report.
+ghost use Rattle.std.specs.Prelude.{◌≡◌, length};
 ghost use Rattle.formed.specs.WellFormed.{WellFormed};
+ghost use Rattle.tables.specs.Inner.Table.{table_words};
 ghost use Rattle.report_facts.specs.Inner.Facts.{HasNames, FactsOf, TablesOf};
 ghost use Rattle.report_facts.specs.Inner.Figures.{BothScored, FindingsOf};
 
@@ -7,7 +9,6 @@ use super::{names, sets};
 use crate::Facts;
 use scores::{RecoverabilityScore, SecurityScore};
 use setup::{Graph, Setup};
-use tables::TABLE;
 use vertex_set::VertexSet;
 
 // The scores and risks of all vertices in one graph.
@@ -28,14 +29,11 @@ struct Findings {
 }
 
 // Fills the two tables for the graph, and reads all scores and risks from them. Here and below the tables are no
-// struct with the setup, and `WellFormed` stays a clause: `begin`, which is offered, is lent both tables.
-fn scores_with(
-    s: Setup,
-    graph: Graph,
-    opening: &mut [u64; TABLE],
-    lockout: &mut [u64; TABLE],
-) -> Scores
-    requires { WellFormed s }
+// struct with the setup, and `WellFormed` and their lengths stay clauses: `begin`, which is offered, is lent both
+// tables, and they may be parts of a longer list.
+fn scores_with(s: Setup, graph: Graph, opening: &mut [u64], lockout: &mut [u64]) -> Scores
+    requires formed { WellFormed s }
+    requires tables_len { (length opening.old ≡ table_words) × (length lockout.old ≡ table_words) }
     ensures { BothScored s graph opening.new lockout.new result }
 {
     let scores = report_scores::security_in(s, graph, opening);
@@ -45,8 +43,9 @@ fn scores_with(
 
 // Compares the scores and risks with those without recovery. The tables are filled without recovery
 // first, so that the ones with recovery are left in them.
-fn findings_of(s: Setup, opening: &mut [u64; TABLE], lockout: &mut [u64; TABLE]) -> Findings
-    requires { WellFormed s }
+fn findings_of(s: Setup, opening: &mut [u64], lockout: &mut [u64]) -> Findings
+    requires formed { WellFormed s }
+    requires tables_len { (length opening.old ≡ table_words) × (length lockout.old ≡ table_words) }
     ensures { FindingsOf s opening.new lockout.new result }
 {
     let graph = s.graph;
@@ -65,13 +64,9 @@ fn findings_of(s: Setup, opening: &mut [u64; TABLE], lockout: &mut [u64; TABLE])
 
 // The facts of a sheet's setup. Each of the four tables of closures is filled once and cut down to
 // the bases; the two with recovery are left in `opening` and `lockout`.
-pub fn facts_of(
-    sheet: &[u8],
-    s: Setup,
-    opening: &mut [u64; TABLE],
-    lockout: &mut [u64; TABLE],
-) -> Facts
-    requires { WellFormed s × HasNames sheet.now s }
+pub fn facts_of(sheet: &[u8], s: Setup, opening: &mut [u64], lockout: &mut [u64]) -> Facts
+    requires well_formed { WellFormed s × HasNames sheet.now s }
+    requires tables_len { (length opening.old ≡ table_words) × (length lockout.old ≡ table_words) }
     ensures { FactsOf sheet.now s result × TablesOf s result opening.new lockout.new }
 {
     let names = names::name_places(sheet, s.count);

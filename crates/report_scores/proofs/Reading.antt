@@ -17,7 +17,7 @@ use Rattle.setup.specs.declared.Setup.{Setup}
 use Rattle.setup.specs.Setup.{ChosenSet, Chosen}
 use Rattle.formed.specs.WellFormed.{WellFormed}
 use Rattle.derivations.specs.Both.{rule_of}
-use Rattle.families.specs.Inner.Family.{size, MinimalMembers, LeastBelow}
+use Rattle.families.specs.Inner.Family.{size, MinimalMembers}
 use Rattle.family_lists.specs.Inner.Lists.{ListOf, Writable, WroteSets, Summable, SumTables, LeastBy}
 use Rattle.family_lists.proofs.Order.{Words, size-bound}
 use Rattle.family_lists.proofs.MinimalSets.{least-of-minimal}
@@ -49,43 +49,40 @@ members-most w v e h words =
     omega arith
 
 -- the words that are put at a vertex are its words then, and those of other vertices are kept
-module _ (w d : List ℕ) (v : ℕ) (hw : length w ≡ 16384) (hv : v < 64) (hd : length d ≡ 256) where
-  fit : v * 256 + 256 ≤ length w
+module _ (w d : List ℕ) (v k : ℕ) (hw : length w ≡ 16384) (hv : v < 64) (hk : k ≡ 256) (hd : length d ≡ 256) where
+  fit : v * 256 + k ≤ length w
   fit = omega arith
 
-  table-long : length (put_mid (v * 256) 256 w d) ≡ 16384
-  table-long = put-length w d (v * 256) 256 fit hd ∙ hw
+  own-long : length d ≡ k
+  own-long = omega arith
 
-  words-put : words_at (put_mid (v * 256) 256 w d) v ≡ d
+  table-long : length (put_mid (v * 256) k w d) ≡ 16384
+  table-long = put-length w d (v * 256) k fit own-long ∙ hw
+
+  words-put : words_at (put_mid (v * 256) k w d) v ≡ d
   words-put =
-      ap (take 256) (drop_at (take (v * 256) w) (d ++ drop 256 (drop (v * 256) w)) (v * 256) (length-take-le (v * 256) w (omega arith)))
-      ∙ take_at d (drop 256 (drop (v * 256) w)) 256 hd
+      ap (take 256) (drop_at (take (v * 256) w) (d ++ drop k (drop (v * 256) w)) (v * 256) (length-take-le (v * 256) w (omega arith)))
+      ∙ take_at d (drop k (drop (v * 256) w)) 256 hd
 
-  words-kept : (u : ℕ) → u < 64 → (u ≡ v → ⊥) → words_at (put_mid (v * 256) 256 w d) u ≡ words_at w u
+  words-kept : (u : ℕ) → u < 64 → (u ≡ v → ⊥) → words_at (put_mid (v * 256) k w d) u ≡ words_at w u
   words-kept u hu n =
-      let long = words_long (put_mid (v * 256) 256 w d) u table-long hu in
-      ext_get_or 0 (words_at (put_mid (v * 256) 256 w d) u) (words_at w u) (long ∙ sym (words_long w u hw hu))
+      let long = words_long (put_mid (v * 256) k w d) u table-long hu in
+      ext_get_or 0 (words_at (put_mid (v * 256) k w d) u) (words_at w u) (long ∙ sym (words_long w u hw hu))
       (λ i l. let h : i < 256 = omega arith in
-      word_at (put_mid (v * 256) 256 w d) u i h ∙ put_other w d (v * 256) 256 fit hd (u * 256 + i) (⊎_elim (λ s. inl (omega arith)) (λ s. inr (omega (arith, n))) (less-or u v)) ∙ sym (word_at w u i h))
+      word_at (put_mid (v * 256) k w d) u i h ∙ put_other w d (v * 256) k fit own-long (u * 256 + i) (⊎_elim (λ s. inl (omega arith)) (λ s. inr (omega (arith, n))) (less-or u v)) ∙ sym (word_at w u i h))
 
--- the minimal members are put in the family's place, and their least sum is r
-pub kept_at : (w d base family low high : List ℕ) (v k r : ℕ) → length w ≡ 16384 → v < 64 → length base ≡ 256 → k ≡ 256 → d ≡ base → family ≡ words_at w v
-    → MinimalMembers family base → LeastBy base low high r → KeptAt w low high v r (put_mid (v * 256) k w d)
-kept_at w d base family low high v k r hw hv hb hk q e min least =
-    subst (λ (j : ℕ). KeptAt w low high v r (put_mid (v * 256) j w d)) (sym hk)
-    (subst (λ (x : List ℕ). KeptAt w low high v r (put_mid (v * 256) 256 w x)) (sym q)
-    (record {
-      words = table-long w base v hw hv hb;
-      own = record {
-        minimal = subst (MinimalMembers (words_at w v)) (sym (words-put w base v hw hv hb)) (subst (λ (f : List ℕ). MinimalMembers f base) e min);
-        least = subst (λ (f : List ℕ). LeastBy f low high r) (sym (words-put w base v hw hv hb)) least;
-      };
-      other = words-kept w base v hw hv hb;
-    }))
-
--- all words of a family have all its masks
-pub all-below : (f : List ℕ) → LeastBelow 256 f
-all-below f = record { place = omega arith; below = λ m h l. h }
+  -- the minimal members are put in the family's place, and their least sum is r
+  pub kept_at : (low high family : List ℕ) (r : ℕ) → MinimalMembers (take k (drop (v * 256) w)) d → family ≡ words_at (put_mid (v * 256) k w d) v
+      → LeastBy family low high r → KeptAt w low high v r (put_mid (v * 256) k w d)
+  kept_at low high family r min e least =
+      record {
+        words = table-long;
+        own = record {
+          minimal = subst (MinimalMembers (words_at w v)) (sym words-put) (subst (λ (n : ℕ). MinimalMembers (take n (drop (v * 256) w)) d) hk min);
+          least = subst (λ (f : List ℕ). LeastBy f low high r) e least;
+        };
+        other = words-kept;
+      }
 
 -- ---- all vertices
 
@@ -122,6 +119,7 @@ writable w chosen target family out e words c =
     let b = c.table.each target c.vertex in
     subst (λ (f : List ℕ). Writable chosen f (length out)) (sym e)
     (record {
+      words = words_long w target c.table.words c.vertex;
       few = c.few;
       exact = on-chosen c.loss c.graph target chosen b.family (words_at w target) b.is_family b.is_minimal;
       room = let m = members-most w target c.table.words c.vertex words in let l = c.room in omega arith;

@@ -8,13 +8,13 @@ ghost use Rattle.vertex_set.specs.Order.{sum_over};
 ghost use Rattle.formed.specs.WellFormed.{WellFormed};
 ghost use Rattle.scores.specs.Inner.Lists.{security_at, recoverability_at};
 ghost use Rattle.families.specs.Inner.Family.{family_words};
+ghost use Rattle.tables.specs.Inner.Table.{table_words};
 ghost use Rattle.report_scores.specs.Inner.Scores.{Scored, Numbers, CanRead, Listing, Summands, KeptAt, KeptAll};
 
 use families::WORDS;
 use scores::{RecoverabilityScore, SecurityScore};
 use setup::{Graph, Setup};
 use sums::MaskSums;
-use tables::TABLE;
 use vertex_set::VertexSet;
 
 // Room for any list: a family has no more members than there are masks.
@@ -49,23 +49,23 @@ pub fn set_sum(x: u64, values: &[u64]) -> u64
     sum
 }
 
-// Keeps the minimal members of the target's family in the table, and gives the least sum over them. They are
-// gathered in a family of their own: a part of a table is a slice, and `families` takes whole families. The
-// target's bound stays a clause: it is an index at once.
-fn keep_base(w: &mut [u64; TABLE], target: usize, sums: &MaskSums) -> u64
-    requires { target < 64 }
+// Keeps the minimal members of the target's family in the table, and gives the least sum over them. The
+// target's bound stays a clause: it is an index at once. Here and below the table's length does too: what
+// `report_writer::begin` is lent may be parts of a longer list.
+fn keep_base(w: &mut [u64], target: usize, sums: &MaskSums) -> u64
+    requires w_len { length w.old ≡ table_words }
+    requires target_bound { target < 64 }
     ensures { KeptAt w.old sums.now.low sums.now.high target result w.new }
 {
-    let mut base = [0u64; WORDS];
-    families::minimal_members(words_of(w, target), WORDS, &mut base);
     let from = target * WORDS;
-    w[from..from + WORDS].copy_from_slice(&base);
-    least_sums::least_by(&base, sums)
+    families::keep_minimal(&mut w[from..from + WORDS]);
+    least_sums::least_by(words_of(w, target), sums)
 }
 
 // Keeps the minimal members of every vertex's family in the table, and writes the least sums, which
 // are the scores, to `out`.
-fn keep_bases(w: &mut [u64; TABLE], sums: &MaskSums, out: &mut [u64; 64])
+fn keep_bases(w: &mut [u64], sums: &MaskSums, out: &mut [u64; 64])
+    requires { length w.old ≡ table_words }
     ensures { KeptAll w.old sums.now.low sums.now.high w.new out.new }
 {
     for (v, score) in out.iter_mut().enumerate() {
@@ -77,8 +77,9 @@ fn keep_bases(w: &mut [u64; TABLE], sums: &MaskSums, out: &mut [u64; 64])
 // it the table of their bases; out gets the scores of all vertices. The graph is the setup's, or
 // that without recovery. Here and below setup, graph and table are no struct, and `WellFormed` stays a clause: a
 // setup comes with either of two graphs, and with a table that is lent.
-fn scores_in(s: Setup, graph: Graph, loss: bool, w: &mut [u64; TABLE], out: &mut [u64; 64])
-    requires { WellFormed s }
+fn scores_in(s: Setup, graph: Graph, loss: bool, w: &mut [u64], out: &mut [u64; 64])
+    requires formed { WellFormed s }
+    requires w_len { length w.old ≡ table_words }
     ensures { Scored loss s graph w.new (λ (v : ℕ). get_or out.new v 0) }
 {
     let chosen = setup::chosen(s, loss);
@@ -89,8 +90,9 @@ fn scores_in(s: Setup, graph: Graph, loss: bool, w: &mut [u64; TABLE], out: &mut
 }
 
 // The security scores of all vertices in the graph; w becomes the table of their opening sets.
-pub fn security_in(s: Setup, graph: Graph, w: &mut [u64; TABLE]) -> [SecurityScore; 64]
-    requires { WellFormed s }
+pub fn security_in(s: Setup, graph: Graph, w: &mut [u64]) -> [SecurityScore; 64]
+    requires formed { WellFormed s }
+    requires w_len { length w.old ≡ table_words }
     ensures { Scored false s graph w.new (λ (v : ℕ). security_at result v) }
 {
     let mut numbers = [0u64; 64];
@@ -100,8 +102,9 @@ pub fn security_in(s: Setup, graph: Graph, w: &mut [u64; TABLE]) -> [SecuritySco
 
 // The recoverability scores of all vertices in the graph; w becomes the table of their lockout
 // sets.
-pub fn recoverability_in(s: Setup, graph: Graph, w: &mut [u64; TABLE]) -> [RecoverabilityScore; 64]
-    requires { WellFormed s }
+pub fn recoverability_in(s: Setup, graph: Graph, w: &mut [u64]) -> [RecoverabilityScore; 64]
+    requires formed { WellFormed s }
+    requires w_len { length w.old ≡ table_words }
     ensures { Scored true s graph w.new (λ (v : ℕ). recoverability_at result v) }
 {
     let mut numbers = [0u64; 64];

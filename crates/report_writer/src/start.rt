@@ -1,10 +1,11 @@
 // Where the report of a sheet begins.
+ghost use Rattle.std.specs.Prelude.{◌≡◌, length};
+ghost use Rattle.tables.specs.Inner.Table.{table_words};
 ghost use Rattle.report_writer.specs.Whole.{Begun};
 
 use crate::steps::Cursor;
 use report_facts::{Facts, figures};
 use scores::{RecoverabilityScore, SecurityScore};
-use tables::TABLE;
 use vertex_set::VertexSet;
 
 // The place where the report begins, and the facts that its rows tell.
@@ -38,8 +39,10 @@ fn no_facts() -> Facts {
 }
 
 // Reads the sheet, and works out what its report needs. The tables of closures are left in
-// `opening` and `lockout`; a refused sheet leaves both as they were.
-pub fn begin(sheet: &[u8], opening: &mut [u64; TABLE], lockout: &mut [u64; TABLE]) -> Report
+// `opening` and `lockout`; a refused sheet leaves both as they were. Their lengths stay clauses: both may be parts
+// of one longer list.
+pub fn begin(sheet: &[u8], opening: &mut [u64], lockout: &mut [u64]) -> Report
+    requires { (length opening.old ≡ table_words) × (length lockout.old ≡ table_words) }
     ensures { Begun sheet.now result opening.old lockout.old opening.new lockout.new }
 {
     match sheet::read_sheet(sheet) {

@@ -43,18 +43,35 @@ impl<K> Score<K> {
     {
         self.0
     }
+}
 
-    // The two comparisons are methods and no derives: a derive would offer equality and every other
-    // comparison too, and has no line that an edit could make wrong.
-    pub fn below(self, other: Score<K>) -> bool
+// The two comparisons are methods and no derives: a derive would offer equality and every other
+// comparison too, and has no line that an edit could make wrong. Each kind has its own: an edit makes those of
+// one kind wrong, and not those of the other.
+impl Score<Security> {
+    pub fn below(self, other: SecurityScore) -> bool
         ensures { Decides (self.0 < other.0) result }
     {
         self.0 < other.0
     }
 
-    pub fn at_most(self, other: Score<K>) -> bool
+    pub fn at_most(self, other: SecurityScore) -> bool
         ensures { Decides (self.0 ≤ other.0) result }
     {
         self.0 <= other.0
+    }
+}
+
+impl Score<Recoverability> {
+    pub fn below(self, than: RecoverabilityScore) -> bool
+        ensures { Decides (self.0 < than.0) result }
+    {
+        self.0 < than.0
+    }
+
+    pub fn at_most(self, than: RecoverabilityScore) -> bool
+        ensures { Decides (self.0 ≤ than.0) result }
+    {
+        self.0 <= than.0
     }
 }

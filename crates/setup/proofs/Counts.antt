@@ -13,11 +13,10 @@ use lib.Seq.{take-suc, take_all}
 use lib.Count.{ones, ones_cat}
 use lib.Bits.{bit_or, or_shifted_r}
 use Rattle.vertex_set.specs.Set.{Member, Iff, Inserted}
-use Rattle.vertex_set.proofs.Cases.{less-or, false-true}
+use Rattle.vertex_set.proofs.Cases.{less-or}
 use Rattle.vertex_set.proofs.Sets.{same_set, in-or, in_one, bounded-by-members}
 use Rattle.vertex_set.proofs.Taking.{taken_none, taken_more, taken-same}
 use Rattle.std.specs.Prelude.{Option, None, Some}
-use Rattle.std.specs.Option.{is_some}
 use Rattle.setup.specs.declared.Vertex.{Vertex}
 use Rattle.setup.specs.declared.Setup.{Setup}
 use Rattle.setup.specs.Setup.{total, given, value_of, unused_vertex, vertex_at, Chosen, chosen_count, ChosenSet}
@@ -37,15 +36,6 @@ pub total-set : {A : Type 0} (h : A → ℕ) (l : List A) (i : ℕ) (a d : A) �
 total-set h [] i a d b = absurd (omega arith)
 total-set h (x ∷ xs) zero a d b = omega arith
 total-set h (x ∷ xs) (suc i) a d b = let e = total-set h xs i a d (omega arith) in omega arith
-
--- a value counts as one, a blank as none
-pub given-some : (x : Option ℕ) → is_some x ≡ true → given x ≡ 1
-given-some None e = absurd (false-true e)
-given-some (Some n) e = refl
-
-pub given-none : (x : Option ℕ) → is_some x ≡ false → given x ≡ 0
-given-none None e = refl
-given-none (Some n) e = absurd (false-true (sym e))
 
 -- r holds the chosen vertices below v
 pub record ChosenBelow (loss : Bool) (s : Setup) (v r : ℕ) : Type 0 where

@@ -107,7 +107,8 @@ pub fn chosen(s: Setup, loss: bool) -> VertexSet
 {
     let mut r = VertexSet(0);
     for (v, vertex) in s.vertices.iter().enumerate() {
-        if value_of(loss, *vertex).is_some() {
+        let is_given = count_given(value_of(loss, *vertex)) == 1;
+        if is_given {
             r = r.insert(v);
         }
     }

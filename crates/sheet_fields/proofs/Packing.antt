@@ -1,55 +1,51 @@
--- Bytes packed into a number: how std makes it, and that it tells texts apart.
+-- Bytes packed into a number: it fits a word, a loop from the end makes it, and it tells texts apart.
 -- Assumes nothing.
 use mathlib.Core.Path.{◌≡◌, refl, sym, ap, ap₂, ◌∙◌}
 use mathlib.Core.List.{List, [], ◌∷◌, ◌++◌}
 use mathlib.Core.Logic.{⊎_elim}
-use Prim.Native.Nat.{ℕ, zero, suc, ◌+◌, ◌-◌, ◌*◌, ◌≤◌, ◌<◌, min}
-use native.Mathlib.Nat.{sub-zero}
+use Prim.Native.Nat.{ℕ, zero, suc, ◌+◌, ◌-◌, ◌*◌, ◌^◌, ◌≤◌, ◌<◌, min}
+use native.Mathlib.Nat.{pow-suc, not-suc-le-zero, le_of_suc-le-suc}
 use native.Mathlib.Omega.{arith}
-use lib.ListN.{length, length-append, length-replicate, get_or, take, drop, take-append-drop, drop_of_length-le}
-use lib.Seq.{take_all}
-use Rattle.std.specs.Prelude.{replicate}
-use Rattle.std.specs.Int.{w64, from_le_bytes}
+use lib.ListN.{length, get_or, take, drop, take-append-drop, drop_of_length-le, length-drop}
+use lib.Seq.{drop-cons, get_or-drop, take_all}
 use Rattle.vertex_set.proofs.Cases.{less-or}
 use Rattle.sheet_format.specs.Rows.{Each}
 use Rattle.sheet_fields.specs.declared.Key.{Key}
 use Rattle.sheet_fields.specs.Inner.Keys.{packed_bytes, key_of}
 
--- ---- eight bytes as one number
+-- Every element is a byte.
+abbrev pub Bytes : List ℕ → Type 0
+Bytes s = (i : ℕ) → get_or s i 0 < 256
 
-packed-zeros : (n : ℕ) → packed_bytes (replicate n 0) ≡ 0
+pub packed_lt : (k : ℕ) (s : List ℕ) → length s ≤ k → Bytes s → packed_bytes s < 256 ^ k
 unfolding packed_bytes
-packed-zeros zero = refl
-packed-zeros (suc n) = rw (packed-zeros n)
+packed_lt zero [] h b = omega arith
+packed_lt zero (x ∷ s) h b = absurd (not-suc-le-zero h)
+packed_lt (suc k) [] h b = let p = packed_lt k [] (omega arith) b in let q = pow-suc 256 k in omega arith
+packed_lt (suc k) (x ∷ s) h b =
+    let p = packed_lt k s (le_of_suc-le-suc h) (λ i. b (suc i)) in
+    let q = pow-suc 256 k in
+    omega (arith, b 0)
 
-pub packed-padded : (s : List ℕ) (n : ℕ) → packed_bytes (s ++ replicate n 0) ≡ packed_bytes s
+packed_step : (s : List ℕ) (i : ℕ) → i < length s → packed_bytes (drop i s) ≡ packed_bytes (drop (suc i) s) * 256 + get_or s i 0
 unfolding packed_bytes
-packed-padded [] n = packed-zeros n
-packed-padded (x ∷ s) n = rw (packed-padded s n)
+packed_step s i h = rw (drop-cons s i 0 h)
 
-packed-at : (s : List ℕ) (k : ℕ) → packed_bytes (drop k s) ≡ packed_bytes (drop (suc k) s) * 256 + get_or s k 0
+-- a turn of the loop from the end
+pub packed-back : (s : List ℕ) (i : ℕ) → 0 < i → i ≤ length s → packed_bytes (drop (i - 1) s) ≡ packed_bytes (drop i s) * 256 + get_or s (i - 1) 0
+packed-back s zero p h = absurd (not-suc-le-zero p)
+packed-back s (suc j) p h = let e : suc j - 1 ≡ j = omega arith in rw e (packed_step s j h)
+
+pub packed-fits : (s : List ℕ) (i : ℕ) → 0 < i → i ≤ length s → length s ≤ 8 → Bytes s → packed_bytes (drop i s) * 256 + get_or s (i - 1) 0 < 2 ^ 64
+packed-fits s i p h l b =
+    let e = packed-back s i p h in
+    let d = length-drop (i - 1) s in
+    let q = packed_lt 8 (drop (i - 1) s) (omega arith) (λ j. rw (get_or-drop (i - 1) s j 0) (b (i - 1 + j))) in
+    omega arith
+
+pub packed-end : (s : List ℕ) → 0 ≡ packed_bytes (drop (length s) s)
 unfolding packed_bytes
-packed-at [] zero = refl
-packed-at [] (suc k) = refl
-packed-at (x ∷ s) zero = refl
-packed-at (x ∷ s) (suc k) = packed-at s k
-
-pub packed-eight : (s : List ℕ) → length s ≡ 8 → from_le_bytes w64 s ≡ packed_bytes s
-packed-eight s l =
-    let e : packed_bytes (drop 8 s) ≡ 0 = ap packed_bytes (drop_of_length-le s {i = 8} (omega arith)) ∙ packed-zeros 0 in
-    omega (arith, packed-at s 0, packed-at s 1, packed-at s 2, packed-at s 3, packed-at s 4, packed-at s 5, packed-at s 6, packed-at s 7)
-
-drop-zeros : (n k : ℕ) → drop {A = ℕ} n (replicate k 0) ≡ replicate (k - n) 0
-drop-zeros zero k = rw (sub-zero k)
-drop-zeros (suc n) zero = let e : 0 - suc n ≡ 0 = omega arith in rw e
-drop-zeros (suc n) (suc k) = let e : suc k - suc n ≡ k - n = omega arith in rw e (drop-zeros n k)
-
--- at most eight bytes at the front of eight zeros
-pub packed-front : (f s : List ℕ) → s ≡ f → length f ≤ 8 → from_le_bytes w64 (s ++ drop {A = ℕ} (length f) (replicate 8 0)) ≡ packed_bytes f
-packed-front f s e h =
-    let z = drop-zeros (length f) 8 in
-    let l : length (s ++ drop {A = ℕ} (length f) (replicate 8 0)) ≡ 8 = rw (z, e, length-append f (replicate (8 - length f) 0), length-replicate {A = ℕ} (8 - length f) 0) (omega arith) in
-    packed-eight (s ++ drop {A = ℕ} (length f) (replicate 8 0)) l ∙ rw (z, e) (packed-padded f (8 - length f))
+packed-end s = rw (drop_of_length-le s {i = length s} (omega arith))
 
 -- a name of at most eight bytes, or a longer one, cut behind the eighth
 pub key-cut : (n a b : List ℕ) (m low high : ℕ) → m ≡ min (length n) 8 → a ≡ take m n → b ≡ drop m n → low ≡ packed_bytes a → high ≡ packed_bytes b

@@ -145,9 +145,13 @@ fn pack(f: &[u8]) -> u64
     requires { length f.now ≤ 8 }
     ensures { result ≡ packed_bytes f.now }
 {
-    let mut bytes = [0; WORD_BYTES];
-    bytes[..f.len()].copy_from_slice(f);
-    u64::from_le_bytes(bytes)
+    let mut n: u64 = 0;
+    // By index, from the last byte down: an array of eight bytes would be one more place in which the crates
+    // that write rows could build a row.
+    for i in (0..f.len()).rev() {
+        n = n * 256 + u64::from(f[i]);
+    }
+    n
 }
 
 fn key_of(name: &[u8]) -> Key

@@ -10,6 +10,7 @@ use lib.Seq.{length-take-le}
 use lib.Dec.{eqb, ltb, leb-suc-suc}
 use borrow.Author.Tests.{eq-eqb, lt-ltb, ltb-true, ltb-false}
 use Rattle.std.specs.Prelude.{Option, Some, None}
+use Rattle.std.specs.Option.{unwrap_or}
 use Rattle.std.specs.List.{position_or_len, zip}
 use Rattle.std.proofs.lemmas.Slice.Zip.{length-zip}
 use Rattle.vertex_set.proofs.Cases.{by_test}
@@ -63,6 +64,15 @@ found-none low high n key e =
     by_test (ltb (place_of (take n low) (take n high) key.low key.high) n)
     (λ t. absurd (let k : None ≡ Some (place_of (take n low) (take n high) key.low key.high) = rw t at e in cc))
     (λ t. ltb-false (place_of (take n low) (take n high) key.low key.high) n t)
+
+-- the place behind the last stands for a name that is not there
+pub place-over : (low high : List ℕ) (n : ℕ) (key : Key) (o : Option ℕ) → o ≡ place_in low high n key → (r : ℕ) → r ≡ unwrap_or o n → n ≤ r → None ≡ place_in low high n key
+place-over low high n key None e r u h = e
+place-over low high n key (Some i) e r u h = absurd (let f = found-some low high n key i e in omega (arith, f.1))
+
+pub place-within : (low high : List ℕ) (n : ℕ) (key : Key) (o : Option ℕ) → o ≡ place_in low high n key → (r : ℕ) → r ≡ unwrap_or o n → r < n → Some r ≡ place_in low high n key
+place-within low high n key None e r u h = absurd (omega (arith, u))
+place-within low high n key (Some i) e r u h = rw u e
 
 -- ---- what the place says
 

@@ -3,12 +3,14 @@
 use mathlib.Core.Path.{◌≡◌, sym, ap, ◌∙◌}
 use mathlib.Core.List.{List, [], ◌∷◌}
 use mathlib.Core.Bool.{true, false, not, ◌&&◌}
+use mathlib.Core.Logic.{⊎_elim, ◌⊎◌}
 use Prim.Native.Nat.{ℕ, suc, ◌+◌, ◌≤◌, ◌<◌}
 use native.Mathlib.Omega.{arith}
 use lib.ListN.{take}
 use lib.Dec.{leb, ltb}
 use borrow.Author.Tests.{leb-true, lt-ltb, le-ltb}
-use Rattle.std.specs.Prelude.{Some, None, Ok, Err}
+use Rattle.std.specs.Prelude.{Option, Some, None, Ok, Err}
+use Rattle.std.specs.Option.{unwrap_or}
 use Rattle.questions.specs.declared.Refusal.{Refusal}
 use Rattle.questions.specs.declared.Refusal.TheVariants.{NameUsed, Bound, NameUnknown}
 use Rattle.setup.specs.Bounds.{highest}
@@ -26,7 +28,7 @@ use Rattle.sheet_rows.specs.Inner.NameKeys.{NameKeys, place_of, place_in}
 use Rattle.sheet_rows.specs.Inner.Lines.{read_line, item_line, edge_line, TakesItem, TakesEdge}
 use Rattle.sheet_rows.proofs.Asks.{answer-yes, answer-no, no-first}
 use Rattle.sheet_rows.proofs.Items.{line-no, LineRead}
-use Rattle.sheet_rows.proofs.Tables.{found-some, found-none, table-place, known-test}
+use Rattle.sheet_rows.proofs.Tables.{found-some, found-none, place-over, table-place, known-test}
 
 pub item-name : (fs : List (List ℕ)) → question5_item fs ≡ true → is_name (item_of fs).name ≡ true
 unfolding question5_item item_of
@@ -182,7 +184,7 @@ module _ (l low high : List ℕ) (count : ℕ) where
     to-known : (xs : List ItemRow) → NameKeys xs low high count → is_known xs (edge_of gs).to ≡ ltb (place_of (take count low) (take count high) edge.to.low edge.to.high) count
     to-known xs t = known-test xs (edge_of gs).to ∙ rw (to-number xs t, t.size)
 
-    pub edge-no-from : None ≡ place_in low high count edge.from → TakesEdge l low high count (Err NameUnknown)
+    edge-no-from : None ≡ place_in low high count edge.from → TakesEdge l low high count (Err NameUnknown)
     unfolding question8 gs
     edge-no-from h =
         record {
@@ -194,7 +196,7 @@ module _ (l low high : List ℕ) (count : ℕ) where
       from_in : ltb (place_of (take count low) (take count high) edge.from.low edge.from.high) count ≡ true
       from_in = let f = found-some low high count edge.from i from in lt-ltb _ count (omega (arith, f.0, f.1))
 
-      pub edge-no-to : None ≡ place_in low high count edge.to → TakesEdge l low high count (Err NameUnknown)
+      edge-no-to : None ≡ place_in low high count edge.to → TakesEdge l low high count (Err NameUnknown)
       unfolding question8 gs
       edge-no-to h =
           record {
@@ -227,3 +229,10 @@ module _ (l low high : List ℕ) (count : ℕ) where
               rec = xr ∙ (let e : edge.rec ≡ (edge_of (fields_of l)).rec = rw reads.is in e);
             };
           }
+
+    pub edge-unknown : (o : Option ℕ) → o ≡ place_in low high count edge.from → (i : ℕ) → i ≡ unwrap_or o count → (p : Option ℕ) → p ≡ place_in low high count edge.to
+        → (j : ℕ) → j ≡ unwrap_or p count → (count ≤ i) ⊎ (count ≤ j) → TakesEdge l low high count (Err NameUnknown)
+    edge-unknown None e i u p f j v h = edge-no-from e
+    edge-unknown (Some k) e i u p f j v h =
+        let g = found-some low high count edge.from k e in
+        ⊎_elim (λ a. absurd (omega (arith, a, u, g.1))) (λ b. edge-no-to k e (place-over low high count edge.to p f j v b)) h

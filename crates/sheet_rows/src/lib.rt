@@ -194,8 +194,12 @@ pub fn take_edge(l: &[u8], keys: &ItemKeys) -> Result<TakenEdge, Refusal>
     ensures { TakesEdge l.now keys.now.low keys.now.high keys.now.count result }
 {
     let edge = read_edge(l)?;
-    let from = keys.find(edge.from).ok_or(Refusal::NameUnknown)?;
-    let to = keys.find(edge.to).ok_or(Refusal::NameUnknown)?;
+    // A name that no item has stands for the place behind the last item.
+    let from = keys.find(edge.from).unwrap_or(keys.count);
+    let to = keys.find(edge.to).unwrap_or(keys.count);
+    if keys.count <= from || keys.count <= to {
+        return Err(Refusal::NameUnknown);
+    }
     Ok(TakenEdge {
         from,
         to,

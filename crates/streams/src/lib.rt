@@ -19,24 +19,34 @@ pub struct Output {
     pub failure: Option<io::Error>,
 }
 
-// What a call did, by its answer: how many bytes it moved, and `None` where a signal came in between, so
-// that the call may be made again.
-fn moved_by(answer: io::Result<usize>) -> io::Result<Option<usize>>
+// What one call of `read` or `write` did. A failure is no case of it: it is the Err beside these.
+enum Moved {
+    // How many bytes: at least one, so that each such call brings a loop nearer to its end.
+    Bytes(usize),
+    // An answer of 0: a reader's end, or a writer that takes no more. To ask again would be of no use.
+    Nothing,
+    // A signal came in between, before any byte was moved, so that the call may be made again.
+    Interrupted,
+}
+
+// What a call did, by its answer.
+fn moved_by(answer: io::Result<usize>) -> io::Result<Moved>
     ensures { result ≡ moved_by answer }
 {
     match answer {
-        Ok(n) => Ok(Some(n)),
+        Ok(0) => Ok(Moved::Nothing),
+        Ok(n) => Ok(Moved::Bytes(n)),
         Err(error) => {
             if error.kind() != ErrorKind::Interrupted {
                 return Err(error);
             }
-            Ok(None)
+            Ok(Moved::Interrupted)
         }
     }
 }
 
 // One read into the rest of a buffer.
-fn read_once<R: Read>(reader: &mut R, rest: &mut [u8]) -> io::Result<Option<usize>>
+fn read_once<R: Read>(reader: &mut R, rest: &mut [u8]) -> io::Result<Moved>
     ensures moved { MovedOn (length rest.old) result }
     ensures bytes { TookFrom (R.remaining reader.old) (R.remaining reader.new) rest.new result }
 {
@@ -45,7 +55,7 @@ fn read_once<R: Read>(reader: &mut R, rest: &mut [u8]) -> io::Result<Option<usiz
 }
 
 // One write of the rest of some bytes.
-fn write_once<W: Write>(writer: &mut W, rest: &[u8]) -> io::Result<Option<usize>>
+fn write_once<W: Write>(writer: &mut W, rest: &[u8]) -> io::Result<Moved>
     ensures moved { MovedOn (length rest.now) result }
     ensures bytes { PutTo (W.contents writer.old) (W.contents writer.new) rest.now result }
 {
@@ -65,9 +75,9 @@ pub fn read_whole<R: Read>(reader: &mut R, buf: &mut [u8]) -> io::Result<usize>
     let mut asks = u64::MAX;
     while done < buf.len() {
         match read_once(reader, &mut buf[done..])? {
-            Some(0) => return Ok(done),
-            Some(n) => done += n,
-            None => {
+            Moved::Bytes(n) => done += n,
+            Moved::Nothing => return Ok(done),
+            Moved::Interrupted => {
                 if asks == 0 {
                     return Err(io::Error::from(ErrorKind::Interrupted));
                 }
@@ -92,9 +102,9 @@ fn write_on<W: Write>(writer: &mut W, bytes: &[u8], done: &mut usize) -> io::Res
     let mut asks = u64::MAX;
     while *done < bytes.len() {
         match write_once(writer, &bytes[*done..])? {
-            Some(0) => return Err(io::Error::from(ErrorKind::WriteZero)),
-            Some(n) => *done += n,
-            None => {
+            Moved::Bytes(n) => *done += n,
+            Moved::Nothing => return Err(io::Error::from(ErrorKind::WriteZero)),
+            Moved::Interrupted => {
                 if asks == 0 {
                     return Err(io::Error::from(ErrorKind::Interrupted));
                 }

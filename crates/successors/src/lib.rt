@@ -3,7 +3,7 @@
 
 #![tactic(auto, using(crate::proofs::Members::set_answers))]
 
-ghost use Rattle.std.specs.Prelude.{◌≡◌, ◌<◌, replicate};
+ghost use Rattle.std.specs.Prelude.{◌≡◌, ◌<◌, length, replicate};
 ghost use Rattle.std.specs.Iterator.{at_most};
 ghost use Rattle.successors.specs.Inner.{VertexOf, LowestOf, HighestOf, Without, Taken, Needed, Noted, Successors, AllSuccessors};
 
@@ -76,8 +76,9 @@ pub fn needed(rows: Rows) -> u64
 
 // Makes v a successor of each of the vertices that it needs. The bound of v stays a clause: it is how far a bit
 // is shifted, and nothing else.
-fn note(needed: u64, v: usize, out: &mut [u64; 64])
-    requires { v < 64 }
+fn note(needed: u64, v: usize, out: &mut [u64])
+    requires out_len { length out.old ≡ 64 }
+    requires v_bound { v < 64 }
     ensures { Noted needed v out.old out.new }
 {
     for f in vertices_of(needed) {
@@ -85,8 +86,9 @@ fn note(needed: u64, v: usize, out: &mut [u64; 64])
     }
 }
 
-// Writes the successors of each vertex to a list that has none yet.
-pub fn fill(graph: Graph, out: &mut [u64; 64])
+// Writes the successors of each vertex to a list that has none yet. The list may be a part of a longer one; its
+// clause says its length too.
+pub fn fill(graph: Graph, out: &mut [u64])
     requires { out.old ≡ replicate 64 0 }
     ensures { Successors graph out.new }
 {

@@ -5,12 +5,12 @@
 
 #![tactic(auto)]
 
-ghost use Rattle.std.specs.Prelude.{◌≡◌, ◌+◌, ◌*◌, ◌<◌, get_or};
+ghost use Rattle.std.specs.Prelude.{◌≡◌, ◌+◌, ◌*◌, ◌<◌, length, get_or};
 ghost use Rattle.derivations.specs.Both.{rule_of};
 ghost use Rattle.families.specs.Inner.Masks.{place_among, Picked};
 ghost use Rattle.successors.specs.Inner.{VertexOf, Successors};
 ghost use Rattle.family_words.specs.Inner.Words.{PartWhere};
-ghost use Rattle.tables.specs.Inner.Table.{Table};
+ghost use Rattle.tables.specs.Inner.Table.{table_words, Table};
 ghost use Rattle.tables.specs.Inner.Steps.{Stepped, way_on, Beyond, Quiet, Closed, Started, Extended};
 ghost use Rattle.tables.specs.Inner.Blocks.{block_bits, table_blocks, AtPlace, VertexAt, BlockOf, PutBlock, Block, TableBelow};
 
@@ -216,9 +216,11 @@ pub fn fill_block(graph: Graph, chosen: VertexSet, loss: bool, x: &mut [u64; BLO
     first_block(graph, chosen, loss, &list, x);
 }
 
-// Copies block b of the table w to x.
-fn take_block(w: &[u64; TABLE], b: usize, x: &mut [u64; BLOCK])
-    requires { b < table_blocks }
+// Copies block b of the table w to x. Here and below the table's length stays a clause: the table that `fill` is
+// lent may be a part of a longer list.
+fn take_block(w: &[u64], b: usize, x: &mut [u64; BLOCK])
+    requires w_len { length w.now ≡ table_words }
+    requires b_lt_table_blocks { b < table_blocks }
     ensures { BlockOf w.now b x.new }
 {
     for v in 0..VERTICES {
@@ -229,8 +231,9 @@ fn take_block(w: &[u64; TABLE], b: usize, x: &mut [u64; BLOCK])
 }
 
 // Makes x the block b of the table w.
-fn put_block(x: &[u64; BLOCK], b: usize, w: &mut [u64; TABLE])
-    requires { b < table_blocks }
+fn put_block(x: &[u64; BLOCK], b: usize, w: &mut [u64])
+    requires b_lt_table_blocks { b < table_blocks }
+    requires w_len { length w.old ≡ table_words }
     ensures { PutBlock x.now b w.old w.new }
 {
     for v in 0..VERTICES {
@@ -249,7 +252,7 @@ fn next_block(
     list: &[u64; 64],
     b: usize,
     x: &mut [u64; BLOCK],
-    w: &mut [u64; TABLE],
+    w: &mut [u64],
 )
     requires successors { Successors graph list.now }
     requires b_nonzero { (0 < b) × (b < table_blocks) }
@@ -266,8 +269,10 @@ fn next_block(
 
 // Fills the table of the graph and the chosen vertices. It says of each vertex and mask whether the
 // mask's set opens the vertex or, with loss, whether the loss of that set takes the vertex away.
-pub fn fill(graph: Graph, chosen: VertexSet, loss: bool, w: &mut [u64; TABLE])
-    ensures { Table (rule_of loss graph) chosen.0 w.new }
+pub fn fill(graph: Graph, chosen: VertexSet, loss: bool, w: &mut [u64])
+    requires { length w.old ≡ table_words }
+    ensures w_len { length w.new ≡ table_words }
+    ensures table { Table (rule_of loss graph) chosen.0 w.new }
 {
     let mut list = [0u64; 64];
     successors::fill(graph, &mut list);

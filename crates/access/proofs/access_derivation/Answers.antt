@@ -24,15 +24,15 @@ returns-in_default c =
     let call = way_call a.s a.target a.set.0 a.vertices.now a.colours.now in
     fulfilled call _ yes (given call Shut n.0 tt _ refl)
 
-pub returns-then-vertices-count : goal.returns-then-vertices-count
-returns-then-vertices-count c =
+pub returns-then-vertex_room-count : goal.returns-then-vertex_room-count
+returns-then-vertex_room-count c =
     let a = c.args in
     let yes = way-yes a.s _ c.well_formed-formed.ensures a.target a.set.0 _ c.in_ok-ask_way.ensures refl in
     let y = rw c.in-Some.is at c.follow_way-way.ensures in
     let n = y.2 in
     fulfilled (way_call a.s a.target a.set.0 a.vertices.now a.colours.now) _ yes
     (way-short a.s a.target a.set.0 y.0 y.1 a.vertices.now a.colours.now
-    (⊎_elim (λ l. inl (omega arith)) (λ l. let m = l.1 in inr (omega arith)) c.then-vertices-count.either))
+    (⊎_elim (λ l. inl (omega arith)) (λ l. let m = l.1 in inr (omega arith)) c.then-vertex_room-count.either))
 
 pub write_way-requires : goal.write_way-requires
 write_way-requires c =
@@ -46,4 +46,4 @@ returns c =
     let yes = way-yes a.s _ c.well_formed-formed.ensures a.target a.set.0 _ c.in_ok-ask_way.ensures refl in
     let y = rw c.in-Some.is at c.follow_way-way.ensures in
     fulfilled (way_call a.s a.target a.set.0 a.vertices.now a.colours.now) _ yes
-    (way-room a.s a.target a.set.0 y.0 y.1 a.vertices.now a.colours.now _ _ _ y.2 c.if-vertices-count.false c.if-colours-count.false c.write_way.ensures)
+    (way-room a.s a.target a.set.0 y.0 y.1 a.vertices.now a.colours.now _ _ _ y.2 c.if-vertex_room-count.false c.if-colour_room-count.false c.write_way.ensures)

@@ -27,6 +27,7 @@ write_sets-second-requires c =
     let l = c.base_family-m.ensures in
     let h = c.write_sets-first.ensures in
     record {
+      words = l.words;
       few = l.few;
       exact = l.exact;
       room = fits-behind c.write_sets-first.new.out c.base_family-m.new.out _ _ _ _ c.write_sets-first.auto.out l.count (h.count ∙ sym h.all ∙ o.count) c.if-out-n.false c.if-out-n-2.false;

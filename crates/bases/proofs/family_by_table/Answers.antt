@@ -10,4 +10,4 @@ pub returns : goal.returns
 returns c =
     let a = c.args in
     let all = copied c.fill.new.w (a.target * 256) 256 (a.target * 256 + 256 - a.target * 256) _ (omega arith) (omega (arith, c.requires)) c.copy_from_slice.ensures.after in
-    copied-family (rule_of a.loss a.graph) a.chosen.0 a.target _ _ c.requires c.fill.ensures all
+    copied-family (rule_of a.loss a.graph) a.chosen.0 a.target _ _ c.requires c.fill.ensures.table all

@@ -4,7 +4,7 @@ use Rattle.std.specs.Int.Count.{ones}
 use Rattle.vertex_set.specs.Set.{Member}
 use Rattle.vertex_set.specs.Order.{Listed, Ordered, sum_over}
 use Rattle.scores.specs.Never.{never}
-use Rattle.families.specs.Inner.Family.{In, size, mask_bits, masks}
+use Rattle.families.specs.Inner.Family.{In, size, family_words, mask_bits, masks}
 use Rattle.families.specs.Inner.Masks.{SetOfMask}
 use Rattle.families.specs.Inner.Exact.{OnChosen}
 use Rattle.family_lists.specs.Inner.Tables.{TablesFit, sum_by}
@@ -17,6 +17,7 @@ pub record ListOf (chosen : ℕ) (f l : List ℕ) : Type 0 where
 
 -- What write_sets asks for: a family on at most 14 chosen vertices, and room for all its members.
 pub record Writable (chosen : ℕ) (f : List ℕ) (places : ℕ) : Type 0 where
+  pub words : length f ≡ family_words
   pub few : ones chosen ≤ mask_bits
   pub exact : OnChosen chosen f
   pub room : size f ≤ places

@@ -5,4 +5,4 @@ use Rattle.family_steps.proofs.Steps.{Seeking}
 use Rattle.family_steps.proofs.next_member.Given as goal
 
 abbrev pub invariant-loop-s : goal.invariant-loop-s
-invariant-loop-s l = Seeking l.f l.m l.from l.s
+invariant-loop-s l = Seeking l.words l.m l.from l.s

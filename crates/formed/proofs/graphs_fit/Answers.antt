@@ -3,7 +3,6 @@ use lib.Count.{ones}
 use Rattle.vertex_set.proofs.Decisions.{decide-no}
 use Rattle.setup.specs.Setup.{total}
 use Rattle.setup.proofs.Counts.{total-more}
-use Rattle.formed.specs.Inner.Parts.{graph_of}
 use Rattle.formed.proofs.Edges.{graphs-by-edges}
 use Rattle.formed.proofs.graphs_fit.Goals as goal
 
@@ -13,7 +12,7 @@ returns-then-not-edges_fit c = decide-no (λ h. c.edges_fit.ensures.no c.if-not-
 pub loop-v-preserved : goal.loop-v-preserved
 loop-v-preserved c =
     let l = c.loop-v in
-    let rows = c.args.graph.now in
+    let rows = c.args.graph.rows in
     let long : length rows ≡ 64 = search rules in
     let m = total-more (λ r. total ones r.needs) rows l.v (record { needs = [] }) (omega arith) in
     let p = c.row_sizes-edges.ensures in
@@ -27,4 +26,4 @@ pub returns : goal.returns
 returns c =
     let a = c.args in
     let l = c.loop-v in
-    graphs-by-edges a.count (graph_of a.graph.now) (graph_of a.recovery.now) l.v l.edges (search rules) (omega arith) l.invariant.fit l.invariant.count
+    graphs-by-edges a.count a.graph a.recovery l.v l.edges (search rules) (omega arith) l.invariant.fit l.invariant.count

@@ -6,7 +6,7 @@ use Rattle.formed.proofs.vertices_fit.Goals as goal
 pub loop-v-preserved : goal.loop-v-preserved
 loop-v-preserved c =
     let l = c.loop-v in
-    let xs = c.args.vertices.now in
+    let xs = c.args.vertices in
     let long : length xs ≡ 64 = search rules in
     let i = total-more (λ x. given (value_of false x)) xs l.v unused_vertex (omega arith) in
     let o = total-more (λ x. given (value_of true x)) xs l.v unused_vertex (omega arith) in

@@ -32,10 +32,6 @@ pub record EdgesFit (count v : ℕ) (rows recovery : Rows) : Type 0 where
   pub long : length rows.needs ≡ 8
   pub long_marked : length recovery.needs ≡ 8
 
--- The graph with these rows.
-abbrev pub graph_of : List Rows → Graph
-graph_of rows = record { rows = rows }
-
 -- Every place's rows fit, and there are not too many edges.
 pub record GraphsFit (count : ℕ) (graph recovery : Graph) : Type 0 where
   pub each : (v : ℕ) → v < 64 → EdgesFit count v (rows_at graph v) (rows_at recovery v)

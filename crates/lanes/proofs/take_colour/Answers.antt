@@ -11,4 +11,4 @@ returns-then-row-eq0 c =
 pub returns : goal.returns
 returns c =
     let a = c.args in
-    take-one a.loss a.w.now a.row _ _ _ c.if-row-eq0.false c.scan.ensures c.merge_in.ensures
+    take-one a.loss a.w.now a.row _ _ _ c.if-row-eq0.false c.scan-part.ensures c.merge_in.ensures

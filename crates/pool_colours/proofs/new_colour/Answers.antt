@@ -1,48 +1,49 @@
-use mathlib.Core.Path.{◌≡◌, sym, subst}
-use Prim.Native.Nat.{◌+◌, ◌<◌, ◌≤◌}
-use lib.ListN.{length, length-take}
-use lib.Seq.{get_or-take}
-use Rattle.std.proofs.Common.{arith, rules}
+use mathlib.Core.Path.{sym, subst}
+use Prim.Native.Nat.{◌+◌, ◌≤◌, ◌<◌}
+use Rattle.std.proofs.Common.{arith}
 use Rattle.vertex_set.specs.declared.VertexSet.{VertexSet}
-use Rattle.pool_colours.proofs.Renaming.{NewSoFar, taken_none, taken-same, taken_more, new_none, new_is}
+use Rattle.pool_colours.proofs.Renaming.{NewUpTo, taken-same, taken_more, new_none, new_is, upto-none, upto-more, upto-over}
 use Rattle.pool_colours.proofs.new_colour.Goals as goal
-use Rattle.pool_colours.proofs.new_colour.Goals.{else-needs-ne0, then-needs-ne0+in_ok-new}
+use Rattle.pool_colours.proofs.new_colour.Goals.{then-b-colour+then-needs-ne0+in_ok-new, else-b-colour, else-b-colour-via-then-b-colour+else-needs-ne0, else-b-colour-via-else-b-colour}
 
-pub loop-needs-init : goal.loop-needs-init
-loop-needs-init c = taken_none _ _
+pub loop-b-init : goal.loop-b-init
+loop-b-init c = upto-none _ _ _
 
 pub returns-in_err-new : goal.returns-in_err-new
 returns-in_err-new c =
     let a = c.args in
-    let t = c.loop-needs-test.true in
-    let l = length-take a.colour a.second.now.needs in
-    let h : c.loop-needs.needs-index ≤ a.colour = omega arith in
+    let t = c.if-b-colour.true in
+    let h : c.loop-b.b ≤ a.colour = omega arith in
     rw c.from_residual.ensures
-    (new_none c.used_colours-taken.result.0 a.second.now c.loop-needs.needs-index c.loop-needs.taken.0 c.loop-needs.invariant a.first.now c.used_colours-taken.ensures c.lowest_free.result a.colour h c.lowest_free.ensures c.in_err-new.was)
+    (new_none c.used_colours-taken.result.0 a.second.now c.loop-b.b c.loop-b.taken.0 (c.loop-b.invariant.before h) a.first.now c.used_colours-taken.ensures c.lowest_free.result a.colour h c.lowest_free.ensures c.in_err-new.was)
 
-pub loop-needs-preserved : goal.loop-needs-preserved
-loop-needs-preserved c =
+pub loop-b-preserved : goal.loop-b-preserved
+loop-b-preserved c =
     let a = c.args in
     let s = c.used_colours-taken.result.0 in
-    let i = c.loop-needs.needs-index in
-    let t = c.loop-needs-test.true in
-    let l = length-take a.colour a.second.now.needs in
-    let h : c.loop-needs.needs-index < a.colour = omega arith in
-    let e = get_or-take a.colour a.second.now.needs c.loop-needs.needs-index 0 h in
-    elim c.if-needs-ne0.branch [
-      | then-needs-ne0+in_ok-new w ↦ subst (λ (x : VertexSet). NewSoFar s a.second.now (i + 1) x.0) (sym w.taken-is)
-          (taken_more s a.second.now i c.loop-needs.taken.0 c.loop-needs.invariant w.in_ok-new.new w.insert-taken.result.0 w.lowest_free.result (rw e at w.if-needs-ne0.true) w.lowest_free.ensures w.in_ok-new.was w.insert-taken.ensures)
-      | else-needs-ne0 w ↦ subst (λ (x : VertexSet). NewSoFar s a.second.now (i + 1) x.0) (sym w.taken-is)
-          (taken-same s a.second.now i c.loop-needs.taken.0 c.loop-needs.invariant (rw e at w.if-needs-ne0.false))
+    let i = c.loop-b.b in
+    elim c.if-b-colour.branch [
+      | then-b-colour+then-needs-ne0+in_ok-new w ↦
+          let h : i < a.colour = (let t = w.if-b-colour.true in omega arith) in
+          let n = c.loop-b.invariant.before (omega (arith, h)) in
+          subst (λ (x : VertexSet). NewUpTo s a.second.now a.colour (i + 1) x.0) (sym w.taken-is)
+          (upto-more s a.second.now a.colour i _ h
+          (taken_more s a.second.now i c.loop-b.taken.0 n w.in_ok-new.new w.insert-taken.result.0 w.lowest_free.result w.if-needs-ne0.true w.lowest_free.ensures w.in_ok-new.was w.insert-taken.ensures))
+      | else-b-colour w ↦
+          subst (λ (x : VertexSet). NewUpTo s a.second.now a.colour (i + 1) x.0) (sym w.taken-is)
+          (elim w.else-b-colour.branch [
+            | else-b-colour-via-then-b-colour+else-needs-ne0 v ↦
+                let h : i < a.colour = (let t = v.if-b-colour.true in omega arith) in
+                upto-more s a.second.now a.colour i _ h (taken-same s a.second.now i c.loop-b.taken.0 (c.loop-b.invariant.before (omega (arith, h))) v.if-needs-ne0.false)
+            | else-b-colour-via-else-b-colour v ↦
+                upto-over s a.second.now a.colour i _ (let t = v.if-b-colour.false in omega arith) c.loop-b.invariant
+          ])
     ]
 
 pub returns : goal.returns
 returns c =
     let a = c.args in
-    let l = length-take a.colour a.second.now.needs in
-    let k : length a.second.now.needs ≡ 8 = search rules in
-    let t = c.loop-needs-test.false in
-    let m = c.loop-needs.auto.needs-index-end in
+    let t = c.loop-b-test.false in
     let b = c.requires in
-    let e : c.loop-needs.needs-index ≡ a.colour = omega arith in
-    rw (← e) (new_is c.used_colours-taken.result.0 a.second.now c.loop-needs.needs-index c.loop-needs.taken.0 c.loop-needs.invariant a.first.now c.used_colours-taken.ensures c.lowest_free-2.result c.lowest_free-2.ensures)
+    let n = c.loop-b.invariant.behind (omega arith) in
+    new_is c.used_colours-taken.result.0 a.second.now a.colour c.loop-b.taken.0 n a.first.now c.used_colours-taken.ensures c.lowest_free-2.result c.lowest_free-2.ensures

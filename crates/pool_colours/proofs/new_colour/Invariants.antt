@@ -1,6 +1,6 @@
-use Rattle.pool_colours.proofs.Renaming.{NewSoFar}
+use Rattle.pool_colours.proofs.Renaming.{NewUpTo}
 use Rattle.pool_colours.proofs.new_colour.Given as goal
 
--- `taken` has the colours that are taken before this colour of the second sheet is renamed.
-abbrev pub invariant-loop-needs : goal.invariant-loop-needs
-invariant-loop-needs l = NewSoFar l.initial.taken.0 l.second l.needs-index l.taken.0
+-- `taken` has the colours that are taken before the colour b of the second sheet is renamed, or the one that is asked for.
+abbrev pub invariant-loop-b : goal.invariant-loop-b
+invariant-loop-b l = NewUpTo l.initial.taken.0 l.second l.colour l.b l.taken.0

@@ -10,4 +10,4 @@ returns-in-Ok c = attempts _ _ _ _ _ _ (c.from.ensures ∙ coded c.args.loss) (O
 pub returns-in-Err : goal.returns-in-Err
 returns-in-Err c =
     let a = c.args in
-    attempts a.s a.student a.target (way_code a.loss) a.loss a.handed.now refl (Err c.in-Err.refusal) _ c.mark.ensures c.in-Err.is
+    rw c.number.ensures (attempts a.s a.student a.target (way_code a.loss) a.loss a.handed.now refl (Err c.in-Err.refusal) _ c.mark.ensures c.in-Err.is)

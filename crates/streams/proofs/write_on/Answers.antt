@@ -7,12 +7,12 @@ use Rattle.std.proofs.KnownBytes.{Appends-trans}
 use Rattle.streams.proofs.Answers.{take-on}
 use Rattle.streams.proofs.write_on.Goals as goal
 
-pub loop-done-preserved-in-Some : goal.loop-done-preserved-in-Some
-loop-done-preserved-in-Some g c =
+pub loop-done-preserved-in-Bytes : goal.loop-done-preserved-in-Bytes
+loop-done-preserved-in-Bytes g c =
     let (before, out) = c.loop-done.invariant in
     let bytes = c.args.bytes.now in
     let done = c.loop-done.done in
-    let n = c.in-Some.n in
+    let n = c.in-Bytes.n in
     let rest = take (length bytes - done) (drop done bytes) in
     let room : done + n ≤ length bytes = search rules in
     let took : Appends (g.W.Write.contents c.loop-done.writer) (g.W.Write.contents c.write_once.new.writer) (take n rest) = search rules in

@@ -4,18 +4,18 @@ use Rattle.questions.proofs.Refusals.{number_some}
 use Rattle.handin_lines.proofs.Fields.{handed-no, handed-many, handed-all}
 use Rattle.handin_lines.proofs.sets.check_handed.Goals as goal
 
-pub returns-in_err-count : goal.returns-in_err-count
-returns-in_err-count c =
+pub returns-in_err-handed : goal.returns-in_err-handed
+returns-in_err-handed c =
     let a = c.args in
     let p = err_from_is_err_and c.from_residual.result c.from_residual.ensures.1 in
-    rw (p.1, p.2) (handed-no a.keys.now.low a.keys.now.high a.keys.now.count a.l.now a.start _ c.in_err-count.ensures (number_some _))
+    rw (p.1, p.2) (handed-no a.low.now a.high.now a.count a.l.now a.start _ c.in_err-handed.ensures (number_some _))
 
-pub returns-then-count-gt-MAX_HANDED : goal.returns-then-count-gt-MAX_HANDED
-returns-then-count-gt-MAX_HANDED c =
+pub returns-then-handed-gt-MAX_HANDED : goal.returns-then-handed-gt-MAX_HANDED
+returns-then-handed-gt-MAX_HANDED c =
     let a = c.args in
-    handed-many a.keys.now.low a.keys.now.high a.keys.now.count a.l.now a.start _ c.in_ok-count.ensures refl c.if-count-gt-MAX_HANDED.true
+    handed-many a.low.now a.high.now a.count a.l.now a.start _ c.in_ok-handed.ensures refl c.if-handed-gt-MAX_HANDED.true
 
 pub returns : goal.returns
 returns c =
     let a = c.args in
-    handed-all a.keys.now.low a.keys.now.high a.keys.now.count a.l.now a.start _ c.in_ok-count.ensures refl c.if-count-gt-MAX_HANDED.false
+    handed-all a.low.now a.high.now a.count a.l.now a.start _ c.in_ok-handed.ensures refl c.if-handed-gt-MAX_HANDED.false

@@ -16,10 +16,10 @@ use Rattle.handin_lines.proofs.sets.check_sets.Goals as goal
 pub returns-in_default : goal.returns-in_default
 returns-in_default c =
     let a = c.args in
-    checking-none a.keys.now.low a.keys.now.high a.keys.now.count a.l.now a.start (behind _ _ c.in_default.ensures.lookup.0)
+    checking-none a.low.now a.high.now a.count a.l.now a.start (behind _ _ c.in_default.ensures.lookup.0)
 
 pub loop-field-init : goal.loop-field-init
-loop-field-init c = let a = c.args in checking-first a.keys.now.low a.keys.now.high a.keys.now.count (split_from 32 a.start a.l.now)
+loop-field-init c = let a = c.args in checking-first a.low.now a.high.now a.count (split_from 32 a.start a.l.now)
 
 pub overflow_add-result : goal.overflow_add-result
 overflow_add-result c =
@@ -33,7 +33,7 @@ returns-in-Err c =
     let g = c.in-Some.ensures.lookup.0 in
     let t = YieldsList-turn (YieldsList-from_slice_split _ (λ b. eqb b 32) c.in-Some.rest.now (ap split_rest c.into_iter-field-iterator.ensures.into_iter_gives ∙ c.split-field-items.ensures.rest) (ap split_done c.into_iter-field-iterator.ensures.into_iter_gives ∙ c.split-field-items.ensures.done) (ap split_callee c.into_iter-field-iterator.ensures.into_iter_gives ∙ c.split-field-items.ensures.closure) (λ x b q k. search (rules, tests))) c.loop-field.yielded _ c.loop-field.yielded_by _ _ c.in-Some-field.field c.in-Some-field.is c.next.ensures.steps in
     let q = next_field a.l.now a.start c.in-Some.rest.now _ _ (rest-is a.l.now a.start c.in-Some.rest.now g.2) g.0 t in
-    checking-no a.keys.now.low a.keys.now.high a.keys.now.count a.l.now a.start (split_from 32 a.start a.l.now) c.loop-field.n _ c.loop-field.invariant _ _ q (set_field (Err c.in-Err.refusal)) c.in-Err.ensures refl _ (number_some _) refl refl
+    checking-no a.low.now a.high.now a.count a.l.now a.start (split_from 32 a.start a.l.now) c.loop-field.n _ c.loop-field.invariant _ _ q (set_field (Err c.in-Err.refusal)) c.in-Err.ensures refl _ (number_some _) refl refl
 
 pub overflow_add-n : goal.overflow_add-n
 overflow_add-n c =
@@ -48,7 +48,7 @@ loop-field-preserved c =
     let t = YieldsList-turn (YieldsList-from_slice_split _ (λ b. eqb b 32) c.in-Some.rest.now (ap split_rest c.into_iter-field-iterator.ensures.into_iter_gives ∙ c.split-field-items.ensures.rest) (ap split_done c.into_iter-field-iterator.ensures.into_iter_gives ∙ c.split-field-items.ensures.done) (ap split_callee c.into_iter-field-iterator.ensures.into_iter_gives ∙ c.split-field-items.ensures.closure) (λ x b q k. search (rules, tests))) c.loop-field.yielded _ c.loop-field.yielded_by _ _ c.in-Some-field.field c.in-Some-field.is c.next.ensures.steps in
     let q = next_field a.l.now a.start c.in-Some.rest.now _ _ (rest-is a.l.now a.start c.in-Some.rest.now g.2) g.0 t in
     rw (length_push c.loop-field.yielded c.in-Some-field.field)
-    (checking-next a.keys.now.low a.keys.now.high a.keys.now.count a.l.now a.start (split_from 32 a.start a.l.now) c.loop-field.n _ c.loop-field.invariant _ _ q (set_field (Ok c.in_default-set_of.field-0)) c.in_default-set_of.ensures refl)
+    (checking-next a.low.now a.high.now a.count a.l.now a.start (split_from 32 a.start a.l.now) c.loop-field.n _ c.loop-field.invariant _ _ q (set_field (Ok c.in_default-set_among.field-0)) c.in_default-set_among.ensures refl)
 
 pub returns : goal.returns
 returns c =
@@ -56,4 +56,4 @@ returns c =
     let g = c.in-Some.ensures.lookup.0 in
     let t = YieldsList-end (YieldsList-from_slice_split _ (λ b. eqb b 32) c.in-Some.rest.now (ap split_rest c.into_iter-field-iterator.ensures.into_iter_gives ∙ c.split-field-items.ensures.rest) (ap split_done c.into_iter-field-iterator.ensures.into_iter_gives ∙ c.split-field-items.ensures.done) (ap split_callee c.into_iter-field-iterator.ensures.into_iter_gives ∙ c.split-field-items.ensures.closure) (λ x b q k. search (rules, tests))) c.loop-field.yielded _ c.loop-field.yielded_by _ _ c.in-None.is c.next.ensures.steps in
     let q = no_field a.l.now a.start c.in-Some.rest.now _ (rest-is a.l.now a.start c.in-Some.rest.now g.2) g.0 t.1 in
-    checking-over a.keys.now.low a.keys.now.high a.keys.now.count a.l.now a.start (split_from 32 a.start a.l.now) c.loop-field.n _ c.loop-field.invariant q refl
+    checking-over a.low.now a.high.now a.count a.l.now a.start (split_from 32 a.start a.l.now) c.loop-field.n _ c.loop-field.invariant q refl

@@ -6,4 +6,4 @@ use Rattle.handin_lines.proofs.sets.check_sets.Given as goal
 -- The n fields so far are sets.
 abbrev pub invariant-loop-field : goal.invariant-loop-field
 invariant-loop-field l =
-    Checking l.keys.low l.keys.high l.keys.count (split_from 32 l.start l.l) l.n (drop (length l.yielded) (split_from 32 l.start l.l))
+    Checking l.low l.high l.count (split_from 32 l.start l.l) l.n (drop (length l.yielded) (split_from 32 l.start l.l))

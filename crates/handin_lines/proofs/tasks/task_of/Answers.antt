@@ -12,7 +12,7 @@ use Rattle.handin_lines.proofs.tasks.task_of.Goals as goal
 pub returns-in-Err : goal.returns-in-Err
 returns-in-Err c =
     let a = c.args in
-    task-no-sheet a.sheet.now a.line.now (reading (Err c.in-Err.refused)) c.in-Err.ensures _ (number_some _) refl
+    task-no-sheet a.sheet.now a.line.now (reading (Err c.in-Err.refused)) c.in-Err.ensures _ (number_some _) c.number.ensures
 
 pub keys_of-found-requires : goal.keys_of-found-requires
 keys_of-found-requires c = lines-there _ _ (accepts-of _ (reading (Ok c.in-Ok.setup)) c.in-Ok.ensures refl)
@@ -20,7 +20,7 @@ keys_of-found-requires c = lines-there _ _ (accepts-of _ (reading (Ok c.in-Ok.se
 pub returns-in-Err-check_line : goal.returns-in-Err-check_line
 returns-in-Err-check_line c =
     let a = c.args in
-    task-no-line a.sheet.now a.line.now (reading (Ok c.in-Ok.setup)) c.in-Ok.ensures refl c.keys_of-found.result c.keys_of-found.ensures (line_found (Err c.in-Err-check_line.no)) c.in-Err-check_line.ensures _ (number_some _) refl
+    task-no-line a.sheet.now a.line.now (reading (Ok c.in-Ok.setup)) c.in-Ok.ensures refl c.keys_of-found.result c.keys_of-found.ensures (line_found (Err c.in-Err-check_line.no)) c.in-Err-check_line.ensures _ (number_some _) c.number-in-Err-check_line.ensures
 
 pub returns-in-Ok-Withdrawal : goal.returns-in-Ok-Withdrawal
 returns-in-Ok-Withdrawal c =

@@ -12,7 +12,7 @@ use Rattle.report_writer.proofs.start.begin.Goals as goal
 pub facts_of-requires : goal.facts_of-requires
 facts_of-requires c =
     let y = accepted-yields _ (reading (Ok c.in-Ok.setup)) c.in-Ok.ensures refl in
-    (y.formed, y.names)
+    record { well_formed = (y.formed, y.names); tables_len = c.requires }
 
 pub returns-in-Ok : goal.returns-in-Ok
 returns-in-Ok c =

@@ -1,14 +1,14 @@
 -- How many values of a list are at or above a threshold, and the lowest value above one.
 -- Assumes nothing.
-use mathlib.Core.Path.{◌≡◌, refl, sym, ap}
+use mathlib.Core.Path.{◌≡◌, refl, sym, ap, ◌∙◌}
+use native.Mathlib.Numerals.{add-one}
 use mathlib.Core.List.{List, [], ◌∷◌, ◌++◌}
 use mathlib.Core.Logic.{◌⊎◌, inl, inr, ⊎_elim}
 use Prim.Native.Nat.{ℕ, zero, suc, ◌+◌, ◌≤◌, ◌<◌, max}
 use native.Mathlib.Omega.{arith}
 use lib.Dec.{eqb, leb}
-use lib.ListN.{length}
-use Rattle.std.specs.Prelude.{cond, count_by, nat_le}
-use Rattle.std.proofs.lemmas.List.Recursion.{is_count_by}
+use lib.ListN.{length, get_or, drop}
+use lib.Seq.{drop-cons, drop-length}
 use Rattle.vertex_set.specs.Order.{Listed}
 use Rattle.vertex_set.proofs.Cases.{by_test, less-or}
 use Rattle.vertex_set.proofs.Decisions.{decide-leb, decide-eqb}
@@ -121,13 +121,22 @@ at-least-all (x ∷ l) = let a = is-high 0 x (omega arith) in let r = at-least-a
 pub at-least-most : (l : List ℕ) (t : ℕ) → at_least l t ≤ length l
 at-least-most l t = let a = at-least-falls l 0 t (omega arith) in let b = at-least-all l in omega arith
 
--- ---- the values that pass the test, counted
+-- ---- the loop that counts: the values before i are counted, those from i on are not
 
-at-least-cons : (t x : ℕ) (l : List ℕ) → at_least (x ∷ l) t ≡ cond (nat_le t x) (1 + at_least l t) (at_least l t)
-at-least-cons t x l =
-    by_test (leb t x)
-    (λ e. let a = is-high t x ((decide-leb t x).yes e) in rw e (omega arith))
-    (λ e. let a = not-high t x (⊎_elim (λ h. h) (λ h. absurd ((decide-leb t x).no e h)) (less-or x t)) in rw e (omega arith))
+pub counting_more : (l : List ℕ) (t i n : ℕ) → i < length l → n + at_least (drop i l) t ≡ at_least l t → t ≤ get_or l i 0
+    → (n + 1) + at_least (drop (i + 1) l) t ≡ at_least l t
+counting_more l t i n h e k =
+    let a = is-high t (get_or l i 0) k in
+    let d = ap (λ (q : List ℕ). at_least q t) (drop-cons l i 0 h) in
+    rw (add-one i) (omega arith)
 
-pub counted : (l : List ℕ) (t : ℕ) → at_least l t ≡ count_by (λ x. nat_le t x) l
-counted l t = is_count_by (λ q. at_least q t) (λ x. nat_le t x) refl (at-least-cons t) l
+pub counting-same : (l : List ℕ) (t i n : ℕ) → i < length l → n + at_least (drop i l) t ≡ at_least l t → get_or l i 0 < t
+    → n + at_least (drop (i + 1) l) t ≡ at_least l t
+counting-same l t i n h e k =
+    let a = not-high t (get_or l i 0) k in
+    let d = ap (λ (q : List ℕ). at_least q t) (drop-cons l i 0 h) in
+    rw (add-one i) (omega arith)
+
+pub counting-end : (l : List ℕ) (t i n : ℕ) → i ≡ length l → n + at_least (drop i l) t ≡ at_least l t → n ≡ at_least l t
+counting-end l t i n h e =
+    let d = ap (λ (q : List ℕ). at_least q t) (ap (λ (j : ℕ). drop j l) h ∙ drop-length l) in omega arith

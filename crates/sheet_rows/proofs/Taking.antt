@@ -184,7 +184,7 @@ module _ (l low high : List ℕ) (count : ℕ) where
     to-known : (xs : List ItemRow) → NameKeys xs low high count → is_known xs (edge_of gs).to ≡ ltb (place_of (take count low) (take count high) edge.to.low edge.to.high) count
     to-known xs t = known-test xs (edge_of gs).to ∙ rw (to-number xs t, t.size)
 
-    edge-no-from : None ≡ place_in low high count edge.from → TakesEdge l low high count (Err NameUnknown)
+    pub edge-no-from : None ≡ place_in low high count edge.from → TakesEdge l low high count (Err NameUnknown)
     unfolding question8 gs
     edge-no-from h =
         record {
@@ -196,7 +196,7 @@ module _ (l low high : List ℕ) (count : ℕ) where
       from_in : ltb (place_of (take count low) (take count high) edge.from.low edge.from.high) count ≡ true
       from_in = let f = found-some low high count edge.from i from in lt-ltb _ count (omega (arith, f.0, f.1))
 
-      edge-no-to : None ≡ place_in low high count edge.to → TakesEdge l low high count (Err NameUnknown)
+      pub edge-no-to : None ≡ place_in low high count edge.to → TakesEdge l low high count (Err NameUnknown)
       unfolding question8 gs
       edge-no-to h =
           record {

@@ -20,6 +20,7 @@ use Rattle.derivations.proofs.Rules.{held, least, monotone, union}
 use Rattle.derivations.proofs.Both.{lawful}
 use Rattle.derivations.proofs.Admits.{admits-local, admits-derived, step-admits, admits-place}
 use Rattle.successors.specs.Inner.{Successors}
+use Rattle.family_words.specs.Inner.Words.{PartWhere}
 use Rattle.family_words.proofs.Families.{full-word, filled-part}
 use Rattle.lanes.specs.Inner.Lanes.{Lane}
 use Rattle.tables.specs.Inner.Steps.{Closed, Quiet, Extended}
@@ -44,10 +45,9 @@ pub record WithAll (v : ℕ) (w e : List ℕ) : Type 0 where
   pub words : length e ≡ 1024
   pub each : (b i u : ℕ) → b < 16 → i < 64 → Iff (Lane e b i u) (Lane w b i u ⊎ (u ≡ v))
 
-pub with_all : (v k : ℕ) (w part d : List ℕ) → length w ≡ 1024 → v < 64 → k ≡ 16 → length part ≡ k → d ≡ replicate (length part) (2 ^ 64 - 1)
-    → WithAll v w (put_mid (v * 16) k w d)
-with_all v k w part d hw hv hk long e =
-    let f = filled-part (2 ^ 64 - 1) part d (long ∙ hk) e in
+-- for any part that has all masks
+pub with_part : (v k : ℕ) (w d : List ℕ) → length w ≡ 1024 → v < 64 → k ≡ 16 → PartWhere (λ b i. Member (2 ^ 64 - 1) i) d → WithAll v w (put_mid (v * 16) k w d)
+with_part v k w d hw hv hk f =
     subst (λ (j : ℕ). WithAll v w (put_mid (v * 16) j w d)) (sym hk)
     (record {
       words = part_length w d v hw hv f.words;
@@ -58,6 +58,11 @@ with_all v k w part d hw hv hk long e =
           record { to = λ m. inl (t.to m); from = ⊎_elim (λ m. t.from m) (λ q. absurd (n q)) })
           (same_or u v);
     })
+
+-- for a part that is filled with the word that has all masks
+pub with_all : (v k : ℕ) (w part d : List ℕ) → length w ≡ 1024 → v < 64 → k ≡ 16 → length part ≡ k → d ≡ replicate (length part) (2 ^ 64 - 1)
+    → WithAll v w (put_mid (v * 16) k w d)
+with_all v k w part d hw hv hk long e = with_part v k w d hw hv hk (filled-part (2 ^ 64 - 1) part d (long ∙ hk) e)
 
 module _ (loss : Bool) (g : Graph) (v : ℕ) (w e : List ℕ) (a : WithAll v w e) where
   -- a vertex that does not need v is admitted by the same lanes as before
